@@ -1,0 +1,48 @@
+-- What the calls of a source and a sink do.
+use Rattle.std.specs.Prelude.{◌≡◌, ◌⊎◌, ℕ, ◌<◌, ◌≤◌, List, [], ◌++◌, length, take, drop, Result, OnErr}
+use Rattle.std.proofs.Common.{inl, inr, arith}
+
+-- a count of faults rose; at its type's end it stands still and counts as risen
+abbrev pub Rose : ℕ → ℕ → Type 0
+Rose old new = (old < new) ⊎ (0xffff_ffff_ffff_ffff ≤ old)
+
+-- a count of faults never falls, and an error comes only where it rose
+pub record Causes {T E : Type 0} (old new : ℕ) (result : Result T E) : Type 0 where
+  pub later : old ≤ new
+  pub rose : OnErr result (Rose old new)
+
+-- a read of n bytes changes only the front of the buffer
+pub record ReadsAtMost (n : ℕ) (old new : List ℕ) : Type 0 where
+  pub fits : n ≤ length old
+  pub rest : drop n new ≡ drop n old
+
+-- the first n bytes that were left stand in the buffer, and zero is the end
+pub record Consumes (old new buf : List ℕ) (n : ℕ) : Type 0 where
+  pub given : old ≡ take n buf ++ new
+  pub end : n ≡ 0 → old ≡ []
+
+-- some of them were taken
+pub record TakesSome (n : ℕ) (bytes : List ℕ) : Type 0 where
+  pub some : 0 < n
+  pub fits : n ≤ length bytes
+
+-- all the bytes were taken
+abbrev pub Appends : List ℕ → List ℕ → List ℕ → Type 0
+Appends old new bytes = new ≡ old ++ bytes
+
+-- the bytes are those that were taken and those that are left
+pub record Takes (old new bytes rest : List ℕ) : Type 0 where
+  pub done : List ℕ
+  pub given : bytes ≡ done ++ rest
+  pub appended : new ≡ old ++ done
+
+-- a first part of the bytes was taken, and not all
+pub record AppendsPart (old new bytes : List ℕ) : Type 0 where
+  pub rest : List ℕ
+  pub some : 0 < length rest
+  pub takes : Takes old new bytes rest
+
+-- a rise stays a rise, whatever comes before and after it
+pub rose_within : (a b c d : ℕ) → a ≤ b → b ≤ c → Rose b c → c ≤ d → Rose a d
+rose_within a b c d ab bc (inl less) cd = inl (omega arith)
+rose_within a b c d ab bc (inr full) cd = grind arith

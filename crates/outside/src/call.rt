@@ -1,0 +1,34 @@
+// What a disk in memory records of its calls.
+use crate::Bytes;
+
+/// A call of a disk that may change it, and whether it was done.
+#[derive(Drop, Debug)]
+pub enum Move {
+    Write {
+        place: u64,
+        bytes: Bytes,
+        done: bool,
+    },
+    Cut {
+        length: u64,
+        done: bool,
+    },
+    Sync {
+        done: bool,
+    },
+}
+
+/// A call, and which it was of all calls that may change the disk.
+#[derive(Drop, Debug)]
+pub struct Call {
+    pub number: u64,
+    pub act: Move,
+}
+
+/// What a stop makes of ranges that are not synced.
+#[derive(Clone, Copy, Debug, PartialEq, Eq)]
+pub enum Pick {
+    Kept,
+    Lost,
+    Filled(u8),
+}

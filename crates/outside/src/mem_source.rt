@@ -1,0 +1,88 @@
+// A source in memory.
+ghost use Rattle.std.specs.Prelude.{◌≡◌, ◌<◌, ◌≤◌, ◌+◌, ℕ, List, [], ◌++◌, length, min, take, drop, IfOk, OnErr};
+ghost use Rattle.outside.specs.Streams.{Causes, Consumes, ReadsAtMost};
+
+use crate::{Bytes, Failed, List, Source};
+use std::alloc::Global;
+
+/// What stands from a place on.
+pub fn rest_from(bytes: &[u8], place: usize) -> &[u8]
+    requires { place ≤ length bytes.now }
+    ensures { result.now ≡ drop place bytes.now }
+{
+    &bytes[place..]
+}
+
+/// Copies as many bytes as fit to the front of the buffer, and answers how many.
+pub fn copy_front(from: &[u8], buf: &mut [u8]) -> usize
+    ensures count { result ≡ min (length from.now) (length buf.old) }
+    ensures bytes { buf.new ≡ take result from.now ++ drop result buf.old }
+{
+    let n = from.len().min(buf.len());
+    buf[..n].copy_from_slice(&from[..n]);
+    n
+}
+
+/// Whether the list has the number of the call.
+pub(crate) fn is_failing(failing: &[u64], call: u64) -> bool {
+    failing.iter().any(|n| *n == call)
+}
+
+/// A source over bytes. Its calls whose numbers, counted from 1, the list `failing` has are to fail.
+#[derive(Drop, Debug)]
+pub struct MemSource {
+    bytes: Bytes,
+    place: usize,
+    failing: List<u64>,
+    calls: u64,
+    faults: u64,
+    ghost within: { place ≤ length bytes },
+}
+
+impl MemSource {
+    ghost use Rattle.outside.specs.MemSource.{source_left};
+
+    /// A source that has these bytes left. It takes no memory.
+    pub fn new(_alloc: Global, bytes: Bytes, failing: List<u64>) -> MemSource
+        ensures { source_left result ≡ bytes }
+    {
+        MemSource {
+            bytes,
+            place: 0,
+            failing,
+            calls: 0,
+            faults: 0,
+        }
+    }
+
+    /// What it has left.
+    pub fn left(&self) -> &[u8]
+        ensures { result.now ≡ source_left self.now }
+    {
+        &self.bytes.as_slice()[self.place..]
+    }
+}
+
+impl Source for MemSource {
+    ghost tells = { Unit {0} };
+
+    ghost left = { λ s. drop s.place s.bytes };
+
+    ghost count = { λ s. s.faults };
+
+    fn read(&mut self, buf: &mut [u8]) -> Result<usize, Failed> {
+        self.calls = self.calls.saturating_add(1);
+        if is_failing(self.failing.as_slice(), self.calls) {
+            self.faults = self.faults.saturating_add(1);
+            return Err(Failed);
+        }
+        let rest = rest_from(self.bytes.as_slice(), self.place);
+        let n = copy_front(rest, buf);
+        self.place += n;
+        Ok(n)
+    }
+
+    fn faults(&self) -> u64 {
+        self.faults
+    }
+}
