@@ -1,0 +1,13 @@
+//! Lines in, replies out: what a session's line asks for, and the bytes of its reply.
+#![tactic(auto)]
+
+mod lines;
+mod numbers;
+mod replies;
+#[cfg(test)]
+mod tests;
+mod words;
+
+pub use lines::{LINE_LIMIT, read_line, strip_carriage_return};
+pub use numbers::{NUMBER_LIMIT, read_number};
+pub use replies::print_reply;

@@ -1,0 +1,34 @@
+// The words of a line, which one space each separates.
+ghost use Rattle.std.specs.Prelude.{◌≡◌, ◌≢◌, ◌==◌, [], ◌∷◌, length, position, IfSome, IfNone};
+ghost use Rattle.std.specs.Option.{option_copied};
+ghost use Rattle.command_text.specs.Lines.{words_of, words_behind};
+
+// Where the first space stands.
+fn first_space(line: &[u8]) -> Option<usize>
+    ensures { result ≡ position (λ b. b == 32) line.now }
+{
+    line.iter().position(|b| *b == b' ')
+}
+
+/// The bytes before the first space, and those behind it where there is one.
+pub(crate) fn first_word(line: &[u8]) -> (&[u8], Option<&[u8]>)
+    ensures { words_of line.now ≡ result.0.now ∷ words_behind (option_copied result.1) }
+{
+    let Some(place) = first_space(line) else {
+        return (line, None);
+    };
+    (&line[..place], Some(&line[place + 1..]))
+}
+
+/// The words, where there are two.
+pub(crate) fn two_words(line: &[u8]) -> Option<(&[u8], &[u8])>
+    ensures words { IfSome result (λ w. words_of line.now ≡ w.0.now ∷ w.1.now ∷ []) }
+    ensures count { IfNone result (length (words_of line.now) ≢ 2) }
+{
+    let (first, rest) = first_word(line);
+    let (second, more) = first_word(rest?);
+    match more {
+        Some(_) => None,
+        None => Some((first, second)),
+    }
+}

@@ -1,0 +1,15 @@
+//! Versions of four numbers and application keys, read from bytes and printed.
+#![tactic(auto)]
+
+mod fault;
+mod identity;
+mod key;
+mod parts;
+#[cfg(test)]
+mod tests;
+mod version;
+
+pub use fault::PrintFault;
+pub use identity::Identity;
+pub use key::{Key, KeyFault, one_text_one_key, word_escape};
+pub use version::{Version, VersionFault};

@@ -1,0 +1,245 @@
+// Reading, from the left.
+ghost use Rattle.std.specs.Prelude.{◌≡◌, ℕ, ◌-◌, ◌<◌, ◌≤◌, length, take, drop, true, false, Ok, IfOk, IfErr, MatchOption};
+ghost use Rattle.std.specs.Int.{w16, w32, w64};
+ghost use Rattle.std.specs.Str.{is_utf8};
+ghost use Rattle.store_state.specs.declared.change.Change.{Change};
+ghost use Rattle.record_codec.specs.Codec.{change_text, IsChange};
+ghost use Rattle.record_codec.specs.Reading.{Gives, IsWithin, number_at, sized_at, text_at, key_at, version_at, boot_at, require_at, change_at, change_of};
+
+use crate::CodecFault;
+use identity::{Key, Version};
+use outside::Text;
+use std::alloc::Global;
+use store_state::Change;
+
+// The most bytes of a key's name, and of each of its other parts.
+const NAME_LIMIT: usize = 240;
+
+const SHORT_LIMIT: usize = 64;
+
+// The fault of the field that begins at the place.
+fn bad(place: usize) -> CodecFault
+    ensures { result ≡ CodecFault.Bad place }
+{
+    CodecFault::Bad {
+        place: place as u64,
+    }
+}
+
+// So many bytes from the place on, where they are there.
+fn front(bytes: &[u8], place: usize, size: usize) -> Option<&[u8]>
+    requires { place ≤ length bytes.now }
+    ensures { MatchOption result (length bytes.now - place < size) (λ s. (size ≤ length bytes.now - place) × (s.now ≡ take size (drop place bytes.now))) }
+{
+    let (_, rest) = bytes.split_at(place);
+    if rest.len() < size {
+        return None;
+    }
+    let (front, _) = rest.split_at(size);
+    Some(front)
+}
+
+/// The number in the two bytes at the place, the first the greater, and the place behind them. The fault is at the
+/// place, where fewer are there.
+pub fn read_u16(bytes: &[u8], place: usize) -> Result<(u16, usize), CodecFault>
+    requires { place ≤ length bytes.now }
+    ensures exact { Gives result (number_at w16 bytes.now place) }
+    ensures next { IfOk result (λ x. x.1 ≤ length bytes.now) }
+    ensures fault { IfErr result (IsWithin (length bytes.now)) }
+{
+    let Some(front) = front(bytes, place, 2) else {
+        return Err(bad(place));
+    };
+    let number = u16::from_be_bytes([front[0], front[1]]);
+    Ok((number, place + 2))
+}
+
+/// The number in the four bytes at the place, the first the greatest, and the place behind them. The fault is at the
+/// place, where fewer are there.
+pub fn read_u32(bytes: &[u8], place: usize) -> Result<(u32, usize), CodecFault>
+    requires { place ≤ length bytes.now }
+    ensures exact { Gives result (number_at w32 bytes.now place) }
+    ensures next { IfOk result (λ x. x.1 ≤ length bytes.now) }
+    ensures fault { IfErr result (IsWithin (length bytes.now)) }
+{
+    let Some(front) = front(bytes, place, 4) else {
+        return Err(bad(place));
+    };
+    let number = u32::from_be_bytes([front[0], front[1], front[2], front[3]]);
+    Ok((number, place + 4))
+}
+
+/// The number in the eight bytes at the place, the first the greatest, and the place behind them. The fault is at
+/// the place, where fewer are there.
+pub fn read_u64(bytes: &[u8], place: usize) -> Result<(u64, usize), CodecFault>
+    requires { place ≤ length bytes.now }
+    ensures exact { Gives result (number_at w64 bytes.now place) }
+    ensures next { IfOk result (λ x. x.1 ≤ length bytes.now) }
+    ensures fault { IfErr result (IsWithin (length bytes.now)) }
+{
+    let Some(front) = front(bytes, place, 8) else {
+        return Err(bad(place));
+    };
+    let number = u64::from_be_bytes([
+        front[0], front[1], front[2], front[3], front[4], front[5], front[6], front[7],
+    ]);
+    Ok((number, place + 8))
+}
+
+// The bytes as text, where they are UTF-8.
+fn utf8_of(bytes: &[u8]) -> Option<&str>
+    ensures { MatchOption result (is_utf8 bytes.now ≡ false) (λ s. (s.now ≡ bytes.now) × (is_utf8 bytes.now ≡ true)) }
+{
+    match str::from_utf8(bytes) {
+        Ok(text) => Some(text),
+        Err(_) => None,
+    }
+}
+
+// The text of so many bytes from the start on, which belongs to the field at the place.
+fn sized_text(
+    alloc: Global,
+    bytes: &[u8],
+    place: usize,
+    limit: usize,
+    size: usize,
+    start: usize,
+) -> Result<(Text, usize), CodecFault>
+    requires place { place ≤ length bytes.now }
+    requires start { start ≤ length bytes.now }
+    ensures exact { Gives result (sized_at limit bytes.now place size start) }
+    ensures next { IfOk result (λ x. x.1 ≤ length bytes.now) }
+    ensures fault { IfErr result (IsWithin (length bytes.now)) }
+{
+    if size == 0 || limit < size {
+        return Err(bad(place));
+    }
+    let Some(front) = front(bytes, start, size) else {
+        return Err(bad(place));
+    };
+    let Some(text) = utf8_of(front) else {
+        return Err(bad(place));
+    };
+    let text = String::from_str(alloc, text)?;
+    Ok((Text::from_string(text), start + size))
+}
+
+/// The text at the place, behind its length in four bytes, and the place behind it. The fault is at the place, where
+/// the bytes end before the text does, or it is empty, has more bytes than the limit or is no UTF-8.
+#[tactic(auto, unfolding(crate::specs::Reading::text_at))]
+pub fn read_text(
+    alloc: Global,
+    bytes: &[u8],
+    place: usize,
+    limit: usize,
+) -> Result<(Text, usize), CodecFault>
+    requires { place ≤ length bytes.now }
+    ensures exact { Gives result (text_at limit bytes.now place) }
+    ensures next { IfOk result (λ x. x.1 ≤ length bytes.now) }
+    ensures fault { IfErr result (IsWithin (length bytes.now)) }
+{
+    let (size, start) = read_u32(bytes, place)?;
+    sized_text(alloc, bytes, place, limit, size as usize, start)
+}
+
+/// The key at the place, its four parts as texts of at most 240 and 64 bytes, and the place behind it. The fault is
+/// that of the first part that cannot be read.
+#[tactic(auto, unfolding(crate::specs::Reading::key_at))]
+pub fn read_key(alloc: Global, bytes: &[u8], place: usize) -> Result<(Key, usize), CodecFault>
+    requires { place ≤ length bytes.now }
+    ensures exact { Gives result (key_at bytes.now place) }
+    ensures next { IfOk result (λ x. x.1 ≤ length bytes.now) }
+    ensures fault { IfErr result (IsWithin (length bytes.now)) }
+{
+    let (name, next) = read_text(alloc, bytes, place, NAME_LIMIT)?;
+    let (token, next) = read_text(alloc, bytes, next, SHORT_LIMIT)?;
+    let (language, next) = read_text(alloc, bytes, next, SHORT_LIMIT)?;
+    let (architecture, next) = read_text(alloc, bytes, next, SHORT_LIMIT)?;
+    let key = Key {
+        name,
+        token,
+        language,
+        architecture,
+    };
+    Ok((key, next))
+}
+
+/// The version at the place, its four numbers in two bytes each, and the place behind it. The fault is that of the
+/// first number that the bytes end before.
+#[tactic(auto, unfolding(crate::specs::Reading::version_at))]
+pub fn read_version(bytes: &[u8], place: usize) -> Result<(Version, usize), CodecFault>
+    requires { place ≤ length bytes.now }
+    ensures exact { Gives result (version_at bytes.now place) }
+    ensures next { IfOk result (λ x. x.1 ≤ length bytes.now) }
+    ensures fault { IfErr result (IsWithin (length bytes.now)) }
+{
+    let (a, next) = read_u16(bytes, place)?;
+    let (b, next) = read_u16(bytes, next)?;
+    let (c, next) = read_u16(bytes, next)?;
+    let (d, next) = read_u16(bytes, next)?;
+    Ok((Version { a, b, c, d }, next))
+}
+
+// The boot number at the place.
+#[tactic(auto, unfolding(crate::specs::Reading::boot_at))]
+fn read_boot(bytes: &[u8], place: usize) -> Result<(Change, usize), CodecFault>
+    requires { place ≤ length bytes.now }
+    ensures exact { Gives result (boot_at bytes.now place) }
+    ensures next { IfOk result (λ x. x.1 ≤ length bytes.now) }
+    ensures fault { IfErr result (IsWithin (length bytes.now)) }
+{
+    let (boot, next) = read_u64(bytes, place)?;
+    Ok((Change::Boot { boot }, next))
+}
+
+// The key and the version at the place.
+#[tactic(auto, unfolding(crate::specs::Reading::require_at))]
+fn read_require(alloc: Global, bytes: &[u8], place: usize) -> Result<(Change, usize), CodecFault>
+    requires { place ≤ length bytes.now }
+    ensures exact { Gives result (require_at bytes.now place) }
+    ensures next { IfOk result (λ x. x.1 ≤ length bytes.now) }
+    ensures fault { IfErr result (IsWithin (length bytes.now)) }
+{
+    let (key, next) = read_key(alloc, bytes, place)?;
+    let (version, next) = read_version(bytes, next)?;
+    Ok((Change::Require { key, version }, next))
+}
+
+// The change at the front.
+#[tactic(auto, unfolding(crate::specs::Reading::change_at))]
+fn read_change(alloc: Global, bytes: &[u8]) -> Result<(Change, usize), CodecFault>
+    ensures exact { Gives result (change_at bytes.now) }
+    ensures next { IfOk result (λ x. x.1 ≤ length bytes.now) }
+    ensures fault { IfErr result (IsWithin (length bytes.now)) }
+{
+    match bytes {
+        [0, ..] => read_boot(bytes, 1),
+        [1, ..] => read_require(alloc, bytes, 1),
+        _ => Err(bad(0)),
+    }
+}
+
+// The change that is all of the bytes.
+#[tactic(auto, unfolding(crate::specs::Reading::change_of))]
+fn read_all(alloc: Global, bytes: &[u8]) -> Result<Change, CodecFault>
+    ensures exact { Gives result (change_of bytes.now) }
+    ensures fault { IfErr result (IsWithin (length bytes.now)) }
+{
+    let (change, next) = read_change(alloc, bytes)?;
+    if next != bytes.len() {
+        return Err(bad(next));
+    }
+    Ok(change)
+}
+
+/// The change that the bytes encode. What is read is within its limits, and the bytes are its encoding. Bytes that
+/// encode a change are read, unless memory runs out. `Bad` names the place, at most their length, where the first
+/// field begins that cannot be read, or where bytes are left over.
+pub fn decode_change(alloc: Global, bytes: &[u8]) -> Result<Change, CodecFault>
+    ensures found { IfOk result (λ c. IsChange c × (bytes.now ≡ change_text c)) }
+    ensures only { (c : Change) → IsChange c → bytes.now ≡ change_text c → Gives result (Ok c) }
+    ensures exact { Gives result (change_of bytes.now) }
+    ensures fault { IfErr result (IsWithin (length bytes.now)) }
+{
+    read_all(alloc, bytes)
+}

@@ -1,0 +1,95 @@
+-- What each of the four calls leaves that put bytes behind a closed gate and then open it.
+use Rattle.std.proofs.Common.{◌≡◌, inl, inr, ℕ, ◌+◌, ◌≤◌, List, [], ◌∷◌, ◌++◌, length, drop, sym, ◌∙◌, ap, subst, arith, append_assoc, length-append}
+use Rattle.std.proofs.lemmas.Bool.{cases_eq}
+use Rattle.outside.specs.Disk.{put, Torn, Follows, Only, Elapses}
+use Rattle.outside.specs.Pieces.{torn_front, torn_around, put_behind, put_over}
+use Rattle.outside.specs.Moments.{LeavesOnly, Each, started, goes_on}
+use Rattle.store_log.specs.Log.{ClosedAfter}
+use Rattle.store_log.specs.Steps.{OpenAfter, IsBeforeOrAfter}
+
+-- the base, a gate that is not open yet, and the tail behind it
+pub record StagedAfter (base tail bytes : List ℕ) : Type 0 where
+  pub gate : ℕ
+  pub rest : List ℕ
+  pub split : bytes ≡ base ++ ((gate ∷ []) ++ (tail ++ rest))
+
+module _ (base tail : List ℕ) (end : ℕ) (is_end : end ≡ length base) where
+  behind : (gate : ℕ) → end + 1 ≡ length (base ++ gate ∷ [])
+  behind gate = omega (arith, is_end, length-append base (gate ∷ []))
+
+  -- nothing behind a closed gate counts
+  pub torn_behind : (d c : List ℕ) → ClosedAfter base d → Torn (end + 1) (length tail) d c → ClosedAfter base c
+  torn_behind d c closed torn =
+      let split : d ≡ (base ++ closed.gate ∷ []) ++ closed.rest = closed.split ∙ sym (append_assoc base (closed.gate ∷ []) closed.rest) in
+      let front = torn_front (base ++ closed.gate ∷ []) (end + 1) (behind closed.gate) closed.rest c (length tail) (subst (λ (l : List ℕ). Torn (end + 1) (length tail) l c) split torn) in
+      record { gate = closed.gate; rest = front.back; shut = closed.shut; split = front.split ∙ append_assoc base (closed.gate ∷ []) front.back }
+
+  staged : (d c : List ℕ) → ClosedAfter base d → c ≡ put (end + 1) tail d → StagedAfter base tail c
+  staged d c closed is =
+      let split : d ≡ (base ++ closed.gate ∷ []) ++ closed.rest = closed.split ∙ sym (append_assoc base (closed.gate ∷ []) closed.rest) in
+      let rest = drop (length tail) closed.rest in
+      record {
+        gate = closed.gate;
+        rest = rest;
+        split = is ∙ ap (put (end + 1) tail) split ∙ put_behind (base ++ closed.gate ∷ []) (end + 1) (behind closed.gate) tail closed.rest ∙ append_assoc base (closed.gate ∷ []) (tail ++ rest);
+      }
+
+  -- a gate that is torn is open or it is not
+  either : (middle rest c : List ℕ) → length middle ≡ 1 → c ≡ base ++ (middle ++ (tail ++ rest)) → IsBeforeOrAfter base tail c
+  either [] rest c size is = absurd (omega arith)
+  either (h ∷ g ∷ more) rest c size is = absurd (omega arith)
+  either (h ∷ []) rest c size is = elim (cases_eq h 1) [
+    | inl is_open ↦ inr (record { rest = rest; split = is ∙ ap (λ (k : ℕ). base ++ (k ∷ (tail ++ rest))) is_open })
+    | inr shut ↦ inl (record { gate = h; rest = tail ++ rest; shut = shut; split = is })
+  ]
+
+  torn_gate : (d c : List ℕ) → StagedAfter base tail d → Torn end 1 d c → IsBeforeOrAfter base tail c
+  torn_gate d c s torn =
+      let around = torn_around base end is_end (s.gate ∷ []) (tail ++ s.rest) c (subst (λ (l : List ℕ). Torn end 1 l c) s.split torn) in
+      either around.middle s.rest c around.size around.split
+
+  opened : (d c : List ℕ) → StagedAfter base tail d → c ≡ put end (1 ∷ []) d → OpenAfter base tail c
+  opened d c s is = record {
+    rest = s.rest;
+    split = is ∙ ap (put end (1 ∷ [])) s.split ∙ put_over base end is_end (1 ∷ []) (s.gate ∷ []) (tail ++ s.rest) (omega arith);
+  }
+
+  module _ {D : Type 0} (moment : D → ℕ) (left_at : D → ℕ → List ℕ → Type 0) (seen : D → List ℕ) (seen_left : (d : D) → left_at d (moment d) (seen d)) (d0 : D) (each0 : Each moment left_at d0 (ClosedAfter base)) where
+    abbrev Now : D → List ℕ → Type 0
+    Now d c = left_at d (moment d) c
+
+    abbrev Run : D → Type 0
+    Run d = LeavesOnly moment left_at d0 d (IsBeforeOrAfter base tail)
+
+    -- a call of the disk, as time sees it
+    abbrev Call : D → D → Type 0
+    Call old new = (moment old ≤ moment new) × (moment new ≤ moment old + 1) × Elapses (moment old) (left_at old) (left_at new)
+
+    step : (old new : D) → Run old → Call old new → Each moment left_at new (IsBeforeOrAfter base tail) → Run new
+    step old new run call here = goes_on moment left_at d0 old new (IsBeforeOrAfter base tail) run call.0 call.1 call.2 here
+
+    each1 : (d1 : D) → Follows (Torn (end + 1) (length tail)) (Now d0) (Now d1) → Each moment left_at d1 (ClosedAfter base)
+    each1 d1 follows c left = let from = follows c left in torn_behind from.0 c (each0 from.0 from.1) from.2
+
+    pub run1 : (d1 : D) → Follows (Torn (end + 1) (length tail)) (Now d0) (Now d1) → Call d0 d1 → Run d1
+    run1 d1 follows call =
+        step d0 d1 (started moment left_at d0 (IsBeforeOrAfter base tail) (λ c left. inl (each0 c left))) call (λ c left. inl (each1 d1 follows c left))
+
+    pub run2 : (d1 d2 : D) → Follows (Torn (end + 1) (length tail)) (Now d0) (Now d1) → Run d1 → ((c : List ℕ) → Now d2 c → Now d1 c) → Call d1 d2 → Run d2
+    run2 d1 d2 follows run fewer call = step d1 d2 run call (λ c left. inl (each1 d1 follows c (fewer c left)))
+
+    -- after the first sync the tail stands behind the gate in each image
+    pub staged2 : (d1 d2 : D) → seen d1 ≡ put (end + 1) tail (seen d0) → Only (seen d1) (Now d2) → Each moment left_at d2 (StagedAfter base tail)
+    staged2 d1 d2 written only c left = staged (seen d0) c (each0 (seen d0) (seen_left d0)) (only c left ∙ written)
+
+    each3 : (d2 d3 : D) → Each moment left_at d2 (StagedAfter base tail) → Follows (Torn end 1) (Now d2) (Now d3) → Each moment left_at d3 (IsBeforeOrAfter base tail)
+    each3 d2 d3 each2 follows c left = let from = follows c left in torn_gate from.0 c (each2 from.0 from.1) from.2
+
+    pub run3 : (d2 d3 : D) → Each moment left_at d2 (StagedAfter base tail) → Run d2 → Follows (Torn end 1) (Now d2) (Now d3) → Call d2 d3 → Run d3
+    run3 d2 d3 each2 run follows call = step d2 d3 run call (each3 d2 d3 each2 follows)
+
+    pub run4 : (d2 d3 d4 : D) → Each moment left_at d2 (StagedAfter base tail) → Follows (Torn end 1) (Now d2) (Now d3) → Run d3 → ((c : List ℕ) → Now d4 c → Now d3 c) → Call d3 d4 → Run d4
+    run4 d2 d3 d4 each2 follows run fewer call = step d3 d4 run call (λ c left. each3 d2 d3 each2 follows c (fewer c left))
+
+    pub open4 : (d2 d3 d4 : D) → Each moment left_at d2 (StagedAfter base tail) → seen d3 ≡ put end (1 ∷ []) (seen d2) → Only (seen d3) (Now d4) → Each moment left_at d4 (OpenAfter base tail)
+    open4 d2 d3 d4 each2 written only c left = opened (seen d2) c (each2 (seen d2) (seen_left d2)) (only c left ∙ written)

@@ -1,0 +1,8 @@
+mod Entries
+mod Gates
+mod HeadBlock
+mod Making
+mod NewStore
+mod Parse
+mod Reading
+pub mod Store

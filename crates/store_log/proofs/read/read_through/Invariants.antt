@@ -1,0 +1,15 @@
+use Rattle.std.proofs.Common.{◌≡◌, ◌≤◌, ◌-◌, ◌^◌, length, take, vec_len}
+use Rattle.outside.specs.Moments.{Untouched}
+use Rattle.store_log.proofs.read.read_through.Given as goal
+
+abbrev pub invariant-loop-bytes : goal.invariant-loop-bytes
+invariant-loop-bytes g l = record {
+  bytes : g.D.Disk.tells → l.bytes.items ≡ take (length l.bytes.items) (g.D.Disk.seen l.initial.disk);
+  still : g.D.Disk.tells → Untouched g.D.Disk.moment g.D.Disk.left_at g.D.Disk.seen l.initial.disk l.disk;
+  moment : g.D.Disk.moment l.disk ≡ g.D.Disk.moment l.initial.disk;
+  total : g.D.Disk.total l.disk ≡ g.D.Disk.total l.initial.disk;
+  count : g.D.Disk.count l.initial.disk ≤ g.D.Disk.count l.disk;
+}
+
+abbrev pub decreases-loop-bytes : goal.decreases-loop-bytes
+decreases-loop-bytes g l = 2 ^ 64 - vec_len l.bytes

@@ -1,0 +1,95 @@
+-- What the bytes of a journal stand for, and what a stop may leave of one.
+use Rattle.std.specs.Prelude.{◌≡◌, ◌≢◌, ◌⊎◌, ℕ, ◌+◌, ◌-◌, ◌<◌, ◌≤◌, ◌^◌, replicate, codes, List, [], ◌∷◌, ◌++◌, length, take, drop}
+use Rattle.std.specs.List.{flat_map}
+use Rattle.std.specs.Int.{to_be_bytes, w32, w64}
+use Rattle.outside.specs.Disk.{Torn, CutOff}
+use Rattle.outside.specs.Moments.{Each}
+use Rattle.store_log.specs.declared.log.Log.{Log}
+
+-- the four bytes of a length, the greatest first
+unfoldable pub size_bytes : ℕ → List ℕ
+size_bytes n = to_be_bytes w32 n
+
+-- a length and a change
+abbrev pub sized : List ℕ → List ℕ
+sized change = size_bytes (length change) ++ change
+
+-- behind an open gate
+abbrev pub entry_of : List ℕ → List ℕ
+entry_of change = 1 ∷ sized change
+
+-- a head and the entries of these changes
+abbrev pub log_of : List ℕ → List (List ℕ) → List ℕ
+log_of head changes = head ++ flat_map entry_of changes
+
+-- the bytes begin with the base, behind which a closed gate stands
+pub record ClosedAfter (base bytes : List ℕ) : Type 0 where
+  pub gate : ℕ
+  pub rest : List ℕ
+  pub shut : gate ≢ 1
+  pub split : bytes ≡ base ++ gate ∷ rest
+
+-- each change has a length that four bytes hold
+abbrev pub AreSmall : List (List ℕ) → Type 0
+AreSmall [] = Unit {0}
+AreSmall (change ∷ changes) = (length change < 2 ^ 32) × AreSmall changes
+
+-- The bytes are a log of these changes behind this head: entries one after another, and then a closed gate.
+pub record IsLog (head : List ℕ) (changes : List (List ℕ)) (bytes : List ℕ) : Type 0 where
+  pub closed : ClosedAfter (log_of head changes) bytes
+  pub small : AreSmall changes
+
+unfoldable pub zeros : ℕ → List ℕ
+zeros n = replicate n 0
+
+-- the head block before its gate: the sign, the number of blocks, the half's length, which is 0, and zeros
+unfoldable pub head_front : ℕ → List ℕ
+head_front blocks = codes "CLKSTOR0" ++ (to_be_bytes w64 blocks ++ (to_be_bytes w64 0 ++ zeros 40))
+
+-- the 4,096 bytes of a head block whose gate, at place 64, is this byte
+abbrev pub head_with : ℕ → ℕ → List ℕ
+head_with blocks gate = head_front blocks ++ gate ∷ zeros 4031
+
+-- the head block of a journal: its gate is open
+unfoldable pub head_of : ℕ → List ℕ
+head_of blocks = head_with blocks 1
+
+-- The bytes are a journal of this number of blocks and of these changes.
+pub record IsStore (blocks : ℕ) (changes : List (List ℕ)) (bytes : List ℕ) : Type 0 where
+  pub some : 1 ≤ blocks
+  pub limit : blocks ≤ 65536
+  pub log : IsLog (head_of blocks) changes bytes
+
+-- the bytes are no journal
+abbrev pub NoStore : List ℕ → Type 0
+NoStore bytes = (blocks : ℕ) (changes : List (List ℕ)) → IsStore blocks changes bytes → ⊥
+
+-- the bytes are the new journal, which has no change, or no journal at all
+abbrev pub IsNewOrNone : ℕ → List ℕ → Type 0
+IsNewOrNone blocks bytes = IsStore blocks [] bytes ⊎ NoStore bytes
+
+-- an old image, or what a cut to nothing makes of one before it is synced
+abbrev pub IsCutOrOld : (List ℕ → Type 0) → List ℕ → Type 0
+IsCutOrOld old bytes = old bytes ⊎ ((image : List ℕ) × old image × CutOff 0 image bytes)
+
+-- an old image, what a cut to nothing makes of one, or what the write of the 4,097 bytes of a new journal makes of
+-- nothing, before these are synced
+abbrev pub IsUnsynced : (List ℕ → Type 0) → List ℕ → Type 0
+IsUnsynced old bytes = IsCutOrOld old bytes ⊎ Torn 0 4097 [] bytes
+
+-- What stops leave over a format. Its first four calls, the last of which is the second sync, leave bytes that are
+-- old or not synced. From the second sync on a stop leaves the new journal or none.
+pub record Formats {D : Type 0} (moment : D → ℕ) (left_at : D → ℕ → List ℕ → Type 0) (old new : D) (blocks : ℕ) : Type 0 where
+  pub later : moment old ≤ moment new
+  pub past : (t : ℕ) (bytes : List ℕ) → t ≤ moment old → left_at new t bytes → left_at old t bytes
+  pub early : (t : ℕ) (bytes : List ℕ) → moment old ≤ t → t ≤ moment new → t ≤ moment old + 4 → left_at new t bytes → IsUnsynced (left_at old (moment old)) bytes
+  pub late : (t : ℕ) (bytes : List ℕ) → moment old + 4 < moment new → moment old + 4 ≤ t → t ≤ moment new → left_at new t bytes → IsNewOrNone blocks bytes
+
+-- The log ends behind these changes, which each stop now leaves behind this head.
+pub record IsOpen {D : Type 0} (moment : D → ℕ) (left_at : D → ℕ → List ℕ → Type 0) (log : Log) (head : List ℕ) (changes : List (List ℕ)) (disk : D) : Type 0 where
+  pub at : log.end ≡ length (log_of head changes)
+  pub each : Each moment left_at disk (IsLog head changes)
+
+-- a piece without the room for gates and a length: its first five bytes and its last one
+abbrev pub entry_in : List ℕ → List ℕ
+entry_in piece = take (length piece - 6) (drop 5 piece)

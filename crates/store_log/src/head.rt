@@ -1,0 +1,64 @@
+// The head block of a journal.
+ghost use Rattle.std.specs.Prelude.{◌≡◌, ◌↔◌, IsTrue, ◌<◌, ◌≤◌, ◌+◌, ◌^◌, ℕ, List, ◌++◌, length, drop, IfOk, IfSome, IfNone, OnOk};
+ghost use Rattle.store_log.specs.Log.{head_of, head_with, zeros};
+
+use std::alloc::{AllocError, Global};
+
+// The length of the head block.
+pub(crate) const HEAD: usize = 4096;
+
+// The most blocks that a journal may have.
+const MAX_BLOCKS: u64 = 65_536;
+
+fn push_zeros(bytes: &mut Vec<u8>, count: usize) -> Result<(), AllocError>
+    requires { count < 2 ^ 32 }
+    ensures { OnOk result (bytes.new.items ≡ bytes.old.items ++ zeros count) }
+{
+    let end = bytes.len() + count;
+    bytes.resize(end, 0)?;
+    Ok(())
+}
+
+// The head block for this number of blocks, with this byte as its gate.
+pub(crate) fn head_bytes(alloc: Global, blocks: u64, gate: u8) -> Result<Vec<u8>, AllocError>
+    ensures { IfOk result (λ head. head.items ≡ head_with blocks gate) }
+{
+    let half: u64 = 0;
+    let mut head = b"CLKSTOR0".to_vec(alloc)?;
+    head.extend_from_slice(&blocks.to_be_bytes())?;
+    head.extend_from_slice(&half.to_be_bytes())?;
+    push_zeros(&mut head, 40)?;
+    head.push(gate)?;
+    push_zeros(&mut head, 4031)?;
+    Ok(head)
+}
+
+fn is_same(a: &[u8], b: &[u8]) -> bool
+    ensures { IsTrue result ↔ (a.now ≡ b.now) }
+{
+    a == b
+}
+
+// The number of blocks, where the bytes begin with the head block of a journal.
+pub(crate) fn read_head(alloc: Global, bytes: &[u8]) -> Result<Option<u64>, AllocError>
+    ensures limits { IfOk result (λ o. IfSome o (λ blocks. (1 ≤ blocks) × (blocks ≤ 65536))) }
+    ensures found { IfOk result (λ o. IfSome o (λ blocks. (4096 ≤ length bytes.now) × (bytes.now ≡ head_of blocks ++ drop 4096 bytes.now))) }
+    ensures none { IfOk result (λ o. IfNone o ((blocks : ℕ) (rest : List ℕ) → 1 ≤ blocks → blocks ≤ 65536 → bytes.now ≡ head_of blocks ++ rest → ⊥)) }
+{
+    if bytes.len() < HEAD {
+        return Ok(None);
+    }
+    let blocks = u64::from_be_bytes([
+        bytes[8], bytes[9], bytes[10], bytes[11], bytes[12], bytes[13], bytes[14], bytes[15],
+    ]);
+    if blocks == 0 || blocks > MAX_BLOCKS {
+        return Ok(None);
+    }
+    let head = head_bytes(alloc, blocks, 1)?;
+    let (front, _) = bytes.split_at(HEAD);
+    if is_same(front, head.as_slice()) {
+        Ok(Some(blocks))
+    } else {
+        Ok(None)
+    }
+}

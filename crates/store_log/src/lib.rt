@@ -1,0 +1,14 @@
+//! A journal on a disk: a head, and a log of changes, each behind a gate.
+#![tactic(auto)]
+
+mod fault;
+mod format;
+mod gate;
+mod head;
+mod log;
+mod read;
+#[cfg(test)]
+mod tests;
+
+pub use fault::LogFault;
+pub use log::{Log, Recovered};

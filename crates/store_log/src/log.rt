@@ -1,0 +1,155 @@
+// The log of a journal: how it is made, read and added to.
+ghost use Rattle.std.specs.Prelude.{◌≡◌, ◌≢◌, ◌⊎◌, ◌<◌, ◌≤◌, ◌+◌, ◌-◌, ◌^◌, ℕ, List, [], ◌∷◌, ◌++◌, length, drop, IfOk, IfErr, OnOk, OnErr};
+ghost use Rattle.outside.specs.Streams.{Causes, Rose};
+ghost use Rattle.outside.specs.Disk.{Only};
+ghost use Rattle.outside.specs.Moments.{LeavesOnly, Each};
+ghost use Rattle.store_log.specs.declared.fault.LogFault.TheVariants.{DiskFault, Memory, NotALog};
+
+use crate::LogFault;
+use crate::format::{clear, closed_bytes, fill, open_head};
+use crate::gate::{frame, open_gate};
+use crate::read::{Found, read_all, read_log};
+use outside::{Bytes, Disk, List};
+use std::alloc::Global;
+
+/// An open log: it knows where its next entry goes.
+#[derive(Debug, Drop)]
+pub struct Log {
+    end: u64,
+    ghost gate_fits: { end + 1 < 2 ^ 64 },
+}
+
+/// What a journal holds.
+#[derive(Debug, Drop)]
+pub struct Recovered {
+    /// The number of blocks, 1 to 65,536.
+    pub blocks: u64,
+    /// The length of a half in bytes: 0, since this form has none.
+    pub half: u64,
+    /// The tables of a half: empty, since this form has none.
+    pub tables: Bytes,
+    /// The changes, the first of them first.
+    pub changes: List<Bytes>,
+}
+
+impl Log {
+    ghost use Rattle.store_log.specs.Log.{head_of, IsLog, IsStore, NoStore, Formats, IsOpen, entry_in};
+
+    /// Makes a new journal of this number of blocks, 1 to 65,536, and of no change. This form has no halves and no
+    /// tables: `half` is 0 and `tables` is empty. What stood on the disk is lost. A stop inside leaves what stood
+    /// there, bytes that are not synced, no journal or the new one. `DiskFault`: the disk failed. `Memory`: there
+    /// was none, and the disk is as it was.
+    pub fn format<D: Disk>(
+        alloc: Global,
+        disk: &mut D,
+        blocks: u64,
+        half: u64,
+        tables: &[u8],
+    ) -> Result<(), LogFault>
+        requires limits { (1 ≤ blocks) × (blocks ≤ 65536) }
+        requires form { (half ≡ 0) × (tables.now ≡ []) }
+
+        // From then on each stop leaves the new journal, and reads give it.
+        ensures ok { D.tells → OnOk result (Each D.moment D.left_at disk.new (IsStore blocks [])) }
+        ensures seen { D.tells → OnOk result (IsStore blocks [] (D.seen disk.new)) }
+        ensures durable { D.tells → OnOk result (Only (D.seen disk.new) (D.left_at disk.new (D.moment disk.new))) }
+
+        // What a stop at each moment of the call leaves.
+        ensures any_moment { D.tells → Formats D.moment D.left_at disk.old disk.new blocks }
+        ensures tick { OnOk result (D.moment disk.new ≡ D.moment disk.old + 6) }
+        ensures later { D.moment disk.old ≤ D.moment disk.new }
+        ensures within { D.moment disk.new ≤ D.moment disk.old + 6 }
+        ensures written { OnOk result (D.total disk.new ≡ D.total disk.old + 4098) }
+        ensures count { D.count disk.old ≤ D.count disk.new }
+        ensures cause { result ≡ Err DiskFault → Rose (D.count disk.old) (D.count disk.new) }
+        ensures memory { result ≡ Err Memory → disk.new ≡ disk.old }
+        ensures faults { IfErr result (λ e. (e ≡ DiskFault) ⊎ (e ≡ Memory)) }
+    {
+        let bytes = closed_bytes(alloc, blocks)?;
+        clear(disk)?;
+        fill(disk, &bytes)?;
+        open_head(disk)?;
+        Ok(())
+    }
+
+    /// Reads the journal that a stop left, and answers what it holds and the log, open behind its last change. It
+    /// begins with a sync, so that no later stop takes away what it read. `DiskFault`: the disk failed. `NotALog`:
+    /// the bytes are no journal. `Memory`: there was none. The time is linear in the disk's length.
+    pub fn recover<D: Disk>(alloc: Global, disk: &mut D) -> Result<(Log, Recovered), LogFault>
+        // What reads give is the journal that is answered, and where it is one that one is answered.
+        ensures found { D.tells → IfOk result (λ r. IsStore r.1.blocks r.1.changes (D.seen disk.old)) }
+        ensures same { D.tells → (blocks : ℕ) (changes : List (List ℕ)) → IsStore blocks changes (D.seen disk.old) → IfOk result (λ r. (r.1.blocks ≡ blocks) × (r.1.changes ≡ changes)) }
+        ensures not_a_log { D.tells → result ≡ Err NotALog → NoStore (D.seen disk.old) }
+        ensures limits { IfOk result (λ r. (1 ≤ r.1.blocks) × (r.1.blocks ≤ 65536)) }
+        ensures form { IfOk result (λ r. (r.1.half ≡ 0) × (r.1.tables ≡ [])) }
+        ensures opened { D.tells → IfOk result (λ r. IsOpen D.moment D.left_at r.0 (head_of r.1.blocks) r.1.changes disk.new) }
+
+        // Once the sync is done, each stop leaves what was read.
+        ensures durable { D.tells → OnOk result (Only (D.seen disk.old) (D.left_at disk.new (D.moment disk.new))) }
+        ensures durable_err { D.tells → IfErr result (λ e. e ≢ DiskFault → Only (D.seen disk.old) (D.left_at disk.new (D.moment disk.new))) }
+        ensures seen { D.tells → D.seen disk.new ≡ D.seen disk.old }
+
+        // A stop leaves what it could leave before the call.
+        ensures any_moment { D.tells → LeavesOnly D.moment D.left_at disk.old disk.new (D.left_at disk.old (D.moment disk.old)) }
+        ensures tick { OnOk result (D.moment disk.new ≡ D.moment disk.old + 1) }
+        ensures tick_err { IfErr result (λ e. e ≢ DiskFault → D.moment disk.new ≡ D.moment disk.old + 1) }
+        ensures later { D.moment disk.old ≤ D.moment disk.new }
+        ensures within { D.moment disk.new ≤ D.moment disk.old + 1 }
+        ensures written { D.total disk.new ≡ D.total disk.old }
+        ensures count { D.count disk.old ≤ D.count disk.new }
+        ensures cause { result ≡ Err DiskFault → Rose (D.count disk.old) (D.count disk.new) }
+        ensures faults { IfErr result (λ e. (e ≡ DiskFault) ⊎ ((e ≡ NotALog) ⊎ (e ≡ Memory))) }
+    {
+        disk.sync()?;
+        let bytes = read_all(alloc, disk)?;
+        match read_log(alloc, &bytes)? {
+            None => Err(LogFault::NotALog),
+            Some(found) => {
+                let Found {
+                    blocks,
+                    end,
+                    changes,
+                } = found;
+                Ok((
+                    Log { end: end as u64 },
+                    Recovered {
+                        blocks,
+                        half: 0,
+                        tables: Bytes::from_vec(Vec::new(alloc)),
+                        changes,
+                    },
+                ))
+            }
+        }
+    }
+
+    /// Adds a change, which is the piece without its first five bytes and its last one: these are room for the
+    /// log's own gate and length, and are overwritten. The piece has 7 to 4,294,967,301 bytes. After `Ok` no later
+    /// stop takes the change away. A stop inside keeps it or not. It takes no memory and copies nothing.
+    /// `DiskFault`: the disk failed; the journal is then to be recovered anew.
+    pub fn append<D: Disk>(&mut self, disk: &mut D, piece: &mut [u8]) -> Result<(), LogFault>
+        requires { (7 ≤ length piece.old) × (length piece.old ≤ 4294967301) }
+
+        // The log is open behind the new change, which each stop leaves.
+        ensures ok { D.tells → (head : List ℕ) (changes : List (List ℕ)) → IsOpen D.moment D.left_at self.old head changes disk.old
+            → OnOk result (IsOpen D.moment D.left_at self.new head (changes ++ entry_in piece.old ∷ []) disk.new) }
+        ensures durable { D.tells → OnOk result (Only (D.seen disk.new) (D.left_at disk.new (D.moment disk.new))) }
+
+        // A stop at any moment of the call leaves the changes from before it, with the new one or without.
+        ensures any_moment { D.tells → (head : List ℕ) (changes : List (List ℕ)) → IsOpen D.moment D.left_at self.old head changes disk.old
+            → LeavesOnly D.moment D.left_at disk.old disk.new (λ c. IsLog head changes c ⊎ IsLog head (changes ++ entry_in piece.old ∷ []) c) }
+        ensures kept { OnErr result (self.new ≡ self.old) }
+        ensures change { entry_in piece.new ≡ entry_in piece.old }
+        ensures tick { OnOk result (D.moment disk.new ≡ D.moment disk.old + 4) }
+        ensures later { D.moment disk.old ≤ D.moment disk.new }
+        ensures within { D.moment disk.new ≤ D.moment disk.old + 4 }
+        ensures written { OnOk result (D.total disk.new ≡ D.total disk.old + length piece.old) }
+        ensures cause { Causes (D.count disk.old) (D.count disk.new) result }
+        ensures faults { IfErr result (λ e. e ≡ DiskFault) }
+    {
+        frame(piece);
+        open_gate(disk, self.end, &piece[1..])?;
+        self.end += piece.len() as u64 - 1;
+        Ok(())
+    }
+}
