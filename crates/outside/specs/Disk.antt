@@ -5,6 +5,10 @@ use Rattle.std.specs.Prelude.{◌≡◌, ◌⊎◌, ℕ, ◌+◌, ◌-◌, ◌<�
 abbrev pub put : ℕ → List ℕ → List ℕ → List ℕ
 put place bytes old = take place old ++ (replicate (place - length old) 0 ++ (bytes ++ drop (place + length bytes) old))
 
+-- the range of n bytes at a place filled with one byte, and the gap before it where it begins past the end
+abbrev pub fill : ℕ → ℕ → ℕ → List ℕ → List ℕ
+fill place n byte old = take place old ++ (replicate (place + n - min place (length old)) byte ++ drop (place + n) old)
+
 -- after a write of n bytes that a stop cuts short: any bytes in the range and past the old end, the same elsewhere
 pub record Torn (place n : ℕ) (old new : List ℕ) : Type 0 where
   pub before : take (min place (length old)) new ≡ take place old

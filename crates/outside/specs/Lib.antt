@@ -1,4 +1,5 @@
 pub mod Disk
+pub mod History
 pub mod MemDisk
 pub mod MemSink
 pub mod MemSource

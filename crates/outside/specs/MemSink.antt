@@ -1,6 +1,18 @@
-use Rattle.std.specs.Prelude.{ℕ, List}
+use Rattle.std.specs.Prelude.{ℕ, ◌+◌, ◌==◌, List, Bool, min}
+use Rattle.std.specs.List.{list_any}
 use Rattle.outside.specs.declared.mem_sink.MemSink.{MemSink}
 
 -- what the sink has taken
 abbrev pub sink_taken : MemSink → List ℕ
 sink_taken s = s.taken
+
+abbrev pub sink_faults : MemSink → ℕ
+sink_faults s = s.faults
+
+-- the numbers of the calls that are to fail
+abbrev pub sink_failing : MemSink → List ℕ
+sink_failing s = s.failing
+
+-- whether the next call is one of them
+abbrev pub sink_fails : MemSink → Bool
+sink_fails s = list_any (λ n. n == min (s.calls + 1) 0xffff_ffff_ffff_ffff) s.failing

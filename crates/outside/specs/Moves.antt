@@ -6,7 +6,9 @@ use Rattle.std.proofs.lemmas.Bool.Decides.{nat_tests}
 use Rattle.outside.specs.declared.call.Call.{Call}
 use Rattle.outside.specs.declared.call.Move.{Move}
 use Rattle.outside.specs.declared.call.Move.TheVariants.{Write, Cut, Sync}
-use Rattle.outside.specs.Disk.{put, Torn, CutOff}
+use Rattle.outside.specs.declared.call.Pick.{Pick}
+use Rattle.outside.specs.declared.call.Pick.TheVariants.{Kept, Lost, Filled}
+use Rattle.outside.specs.Disk.{put, fill, Torn, CutOff}
 
 -- what reads give after one call
 abbrev pub moved : Move → List ℕ → List ℕ
@@ -32,6 +34,40 @@ Leaves (Sync false) reads old new = new ≡ old
 abbrev pub IsImage : List ℕ → List ℕ → List Move → List ℕ → Type 0
 IsImage reads image [] c = c ≡ image
 IsImage reads image (m ∷ moves) c = (d : List ℕ) × Leaves m reads image d × IsImage (moved m reads) d moves c
+
+-- an image with the range of a call filled with one byte
+abbrev pub filled : ℕ → Move → List ℕ → List ℕ
+filled byte (Write place bytes done) image = fill place (length bytes) byte image
+filled byte (Cut n done) image = take n image ++ replicate (length image - n) byte
+filled byte (Sync done) image = image
+
+-- what a pick makes of an image in a call that is not synced: its range is kept as it was written, lost, or filled
+abbrev pub unsynced : Pick → Move → List ℕ → List ℕ
+unsynced Kept m image = moved m image
+unsynced Lost m image = image
+unsynced (Filled byte) m image = filled byte m image
+
+-- what a pick makes of an image in one call, where reads gave these bytes before it
+abbrev pub picked : Pick → Move → List ℕ → List ℕ → List ℕ
+picked pick (Write place bytes done) reads image = unsynced pick (Write place bytes done) image
+picked pick (Cut n done) reads image = unsynced pick (Cut n done) image
+picked pick (Sync true) reads image = reads
+picked pick (Sync false) reads image = image
+
+-- and in all of these
+abbrev pub picked_after : Pick → List ℕ → List ℕ → List Move → List ℕ
+picked_after pick reads image [] = image
+picked_after pick reads image (m ∷ moves) = picked_after pick (moved m reads) (picked pick m reads image) moves
+
+-- a write ends where a place can be named
+abbrev pub fits : Move → Bool
+fits (Write place bytes done) = nat_le (place + length bytes) 0xffff_ffff_ffff_ffff
+fits (Cut length done) = true
+fits (Sync done) = true
+
+abbrev pub all_fit : List Call → Bool
+all_fit [] = true
+all_fit (x ∷ calls) = fits x.act && all_fit calls
 
 -- a call was recorded, or there was no room for it
 abbrev pub MayRecord : Call → List Call → List Call → Type 0

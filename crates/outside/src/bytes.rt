@@ -1,6 +1,7 @@
-ghost use Rattle.std.specs.Prelude.{◌≡◌, ◌==◌, [], ◌∷◌, ◌++◌, length, IfOk, OnOk, OnErr};
+ghost use Rattle.std.specs.Prelude.{◌≡◌, ◌==◌, ◌+◌, ◌-◌, ◌≤◌, ◌<◌, ◌^◌, min, [], ◌∷◌, ◌++◌, length, take, drop, replicate, IfOk, OnOk, OnErr};
 ghost use Rattle.std.proofs.Common.{rules};
 ghost use Rattle.std.specs.Cmp.Rules.{comparing};
+ghost use Rattle.outside.specs.Disk.{put, fill};
 ghost use lib.Pointwise.{pointwise};
 
 use crate::{CopyFault, Duplicate};
@@ -60,6 +61,87 @@ impl Bytes {
     {
         self.held.extend_from_slice(bytes)?;
         Ok(())
+    }
+}
+
+// Lengthens to at least a length, with zeros. An `Err` changes nothing.
+fn lengthen(held: &mut Vec<u8>, end: usize) -> Result<(), AllocError>
+    ensures ok { OnOk result (held.new.items ≡ held.old.items ++ replicate (end - length held.old.items) 0) }
+    ensures err { OnErr result (held.new.items ≡ held.old.items) }
+{
+    if end > held.len() {
+        held.resize(end, 0)?;
+    }
+    Ok(())
+}
+
+// Writes over the bytes that stand at a place.
+fn overwrite(held: &mut Vec<u8>, place: usize, piece: &[u8])
+    requires { place + length piece.now ≤ length held.old.items }
+    ensures { held.new.items ≡ take place held.old.items ++ (piece.now ++ drop (place + length piece.now) held.old.items) }
+{
+    held[place..place + piece.len()].copy_from_slice(piece);
+}
+
+// Writes one byte over a range.
+fn fill_range(bytes: &mut [u8], from: usize, to: usize, byte: u8)
+    requires start { from ≤ to }
+    requires end { to ≤ length bytes.old }
+    ensures { bytes.new ≡ take from bytes.old ++ (replicate (to - from) byte ++ drop to bytes.old) }
+{
+    bytes[from..to].fill(byte);
+}
+
+impl Bytes {
+    // A copy of these bytes.
+    pub(crate) fn from_slice(alloc: Global, bytes: &[u8]) -> Result<Bytes, AllocError>
+        ensures { IfOk result (λ made. made ≡ bytes.now) }
+    {
+        Ok(Bytes {
+            held: bytes.to_vec(alloc)?,
+        })
+    }
+
+    // Puts bytes at a place, with zeros in a gap before them. An `Err` changes nothing.
+    pub(crate) fn put(&mut self, place: usize, piece: &[u8]) -> Result<(), AllocError>
+        requires { place + length piece.now < 2 ^ 64 }
+        ensures ok { OnOk result (self.new ≡ put place piece.now self.old) }
+        ensures err { OnErr result (self.new ≡ self.old) }
+    {
+        lengthen(&mut self.held, place + piece.len())?;
+        overwrite(&mut self.held, place, piece);
+        Ok(())
+    }
+
+    // Fills a range with one byte, past the end too. An `Err` changes nothing.
+    pub(crate) fn fill(&mut self, place: usize, count: usize, byte: u8) -> Result<(), AllocError>
+        requires { place + count < 2 ^ 64 }
+        ensures ok { OnOk result (self.new ≡ fill place count byte self.old) }
+        ensures err { OnErr result (self.new ≡ self.old) }
+    {
+        let end = place + count;
+        let kept = place.min(self.held.len());
+        if end > self.held.len() {
+            self.held.resize(end, byte)?;
+        }
+        fill_range(self.held.as_mut_slice(), kept, end, byte);
+        Ok(())
+    }
+
+    // Drops what stands from a length on.
+    pub(crate) fn shorten(&mut self, length: u64)
+        ensures { self.new ≡ take length self.old }
+    {
+        self.held.truncate(length as usize);
+    }
+
+    // Fills what stands from a place on with one byte.
+    pub(crate) fn fill_from(&mut self, place: u64, byte: u8)
+        ensures { self.new ≡ take place self.old ++ replicate (length self.old - place) byte }
+    {
+        let end = self.held.len();
+        let kept = (place as usize).min(end);
+        fill_range(self.held.as_mut_slice(), kept, end, byte);
     }
 }
 

@@ -25,10 +25,13 @@ pub struct Call {
     pub act: Move,
 }
 
-/// What a stop makes of ranges that are not synced.
+/// What a stop makes of the ranges that were written or cut off and are not synced.
 #[derive(Clone, Copy, Debug, PartialEq, Eq)]
 pub enum Pick {
+    /// Each write and cut that was done is kept.
     Kept,
+    /// Each is lost: the bytes are those of the last sync.
     Lost,
+    /// Each range holds this byte, also that of a call that failed. A cut leaves the length.
     Filled(u8),
 }

@@ -6,6 +6,7 @@ mod call;
 mod disk;
 mod duplicate;
 mod failed;
+mod history;
 mod list;
 mod mem_disk;
 mod mem_sink;
@@ -13,6 +14,8 @@ mod mem_source;
 mod sink;
 mod source;
 mod stop;
+#[cfg(test)]
+mod tests;
 mod text;
 mod word;
 

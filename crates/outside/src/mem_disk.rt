@@ -1,100 +1,93 @@
-ghost use Rattle.std.specs.Prelude.{◌≡◌, ◌≢◌, ◌⊎◌, ◌<◌, ◌≤◌, ◌+◌, ◌^◌, ℕ, List, [], ◌∷◌, ◌++◌, length, take, drop, true, false, IfOk, IfErr, OnOk, OnErr};
+ghost use Rattle.std.specs.Prelude.{◌≡◌, ◌≢◌, ◌⊎◌, ◌<◌, ◌≤◌, ◌+◌, ◌^◌, ℕ, List, [], ◌∷◌, ◌++◌, ◌↔◌, ◌==◌, length, take, drop, min, true, false, IfOk, IfErr, IsErr, OnOk, OnErr, IsTrue, Err};
+ghost use Rattle.std.specs.List.{list_any};
 ghost use Rattle.outside.specs.declared.stop.StopFault.TheVariants.{LaterThanNow, Memory};
-ghost use Rattle.outside.specs.declared.call.Move.TheVariants.{Write, Cut, Sync};
-ghost use Rattle.outside.specs.Disk.{put};
-ghost use Rattle.outside.specs.Moves.{reads_after, acts, all_by, MayRecord};
+ghost use Rattle.outside.specs.Disk.{put, Torn, CutOff, Follows, Elapses, IsStill, Only, Ticks, Gives};
+ghost use Rattle.outside.specs.Streams.{Causes};
+ghost use Rattle.outside.specs.Moves.{all_by};
 
+use crate::history::History;
 use crate::mem_source::is_failing;
 use crate::stop::replay;
-use crate::{Bytes, Call, Disk, Failed, List, Move, Pick, StopFault, copy_front, rest_from};
-use std::alloc::{AllocError, Global};
+use crate::{Bytes, Disk, Failed, List, Pick, StopFault, copy_front, rest_from};
+use std::alloc::Global;
 
-/// A disk in memory.
+/// A disk in memory. It keeps a record of its calls, so that a stop at each moment can be tried. Its calls whose
+/// numbers, counted from 1 over all its calls, the list `failing` has are to fail. A call fails too where it finds no
+/// memory, where its range ends past 2^64, and where it would take a counter past its end. One that fails changes no
+/// byte.
 #[derive(Drop, Debug)]
 pub struct MemDisk {
     alloc: Global,
-    first: Bytes,
-    bytes: Bytes,
-    moves: List<Call>,
+    history: History,
     calls: u64,
     failing: List<u64>,
     turns: u64,
     written: u64,
     faults: u64,
-    ghost is_replay: { bytes ≡ reads_after first (acts moves) },
-    ghost numbered: { all_by calls moves ≡ true },
+    ghost numbered: { all_by calls history.moves.items ≡ true },
 }
 
 impl MemDisk {
-    ghost use Rattle.outside.specs.MemDisk.{disk_bytes, calls_of, left_of};
+    ghost use Rattle.outside.specs.MemDisk.{disk_bytes, calls_of, written_of, faults_of, failing_of, left_of, picked_of};
 
-    pub fn new(alloc: Global, bytes: Bytes, failing: List<u64>) -> Result<MemDisk, AllocError>
-        ensures { IfOk result (λ disk. disk_bytes disk ≡ bytes) }
+    /// A disk of these bytes, which count as synced. It takes no memory: the first call of `write_at`, `cut` or `sync`
+    /// keeps a copy of them.
+    pub fn new(alloc: Global, bytes: Bytes, failing: List<u64>) -> MemDisk
+        ensures bytes { disk_bytes result ≡ bytes }
+        ensures calls { calls_of result ≡ 0 }
+        ensures written { written_of result ≡ 0 }
+        ensures faults { faults_of result ≡ 0 }
+        ensures failing { failing_of result ≡ failing }
     {
-        let first = Bytes::from_vec(bytes.as_slice().to_vec(alloc)?);
-        Ok(MemDisk {
+        MemDisk {
             alloc,
-            first,
-            bytes,
-            moves: List::from_vec(Vec::new(alloc)),
+            history: History::new(alloc, bytes),
             calls: 0,
             failing,
             turns: 0,
             written: 0,
             faults: 0,
-        })
+        }
     }
 
-    /// A disk that a stop at that moment may leave.
-    pub fn stop(&self, moment: u64, pick: Pick) -> Result<MemDisk, StopFault>
+    /// The disk that a stop at that moment leaves with this pick. No call of it is to fail. It answers `LaterThanNow`
+    /// exactly where the moment has not come.
+    pub fn stop(&self, alloc: Global, moment: u64, pick: Pick) -> Result<MemDisk, StopFault>
         ensures image { IfOk result (λ disk. (moment ≤ calls_of self.now) × left_of self.now moment (disk_bytes disk)) }
+        ensures bytes { IfOk result (λ disk. disk_bytes disk ≡ picked_of pick self.now moment) }
+        ensures calls { IfOk result (λ disk. calls_of disk ≡ 0) }
+        ensures failing { IfOk result (λ disk. failing_of disk ≡ []) }
         ensures later { IfErr result (λ e. e ≢ Memory → (e ≡ LaterThanNow (calls_of self.now)) × (calls_of self.now < moment)) }
+        ensures too_late { calls_of self.now < moment → result ≡ Err (LaterThanNow (calls_of self.now)) }
     {
         if moment > self.calls {
             return Err(StopFault::LaterThanNow { calls: self.calls });
         }
         let image = replay(
-            self.alloc,
-            self.first.as_slice(),
-            self.moves.as_slice(),
+            alloc,
+            self.history.first(),
+            self.history.moves.as_slice(),
             moment,
             pick,
         )?;
-        Ok(MemDisk::new(self.alloc, image, List::from_vec(Vec::new(self.alloc)))?)
+        Ok(MemDisk::new(alloc, image, List::from_vec(Vec::new(alloc))))
     }
 
+    /// What reads give.
     pub fn bytes(&self) -> &[u8]
         ensures { result.now ≡ disk_bytes self.now }
     {
-        self.bytes.as_slice()
+        self.history.bytes.as_slice()
     }
 }
 
 // The next call, and whether it is to fail.
-fn next_turn(failing: &List<u64>, turns: &mut u64) -> bool {
+fn next_turn(failing: &List<u64>, turns: &mut u64) -> bool
+    ensures turns { turns.new ≡ min (turns.old + 1) 0xffff_ffff_ffff_ffff }
+    ensures fails { result ≡ list_any (λ n. n == turns.new) failing.now }
+{
     *turns = turns.saturating_add(1);
     is_failing(failing.as_slice(), *turns)
-}
-
-pub(crate) fn after_write(
-    alloc: Global,
-    bytes: &[u8],
-    place: u64,
-    piece: &[u8],
-) -> Result<Bytes, AllocError>
-    requires { place + length piece.now < 2 ^ 64 }
-    ensures { IfOk result (λ made. made ≡ put place piece.now bytes.now) }
-{
-    let place = place as usize;
-    let kept = place.min(bytes.len());
-    let mut next = bytes[..kept].to_vec(alloc)?;
-    next.resize(place, 0)?;
-    next.extend_from_slice(piece)?;
-    let end = place + piece.len();
-    if end < bytes.len() {
-        next.extend_from_slice(&bytes[end..])?;
-    }
-    Ok(Bytes::from_vec(next))
 }
 
 // Counts a call of so many bytes, if neither count ends.
@@ -110,163 +103,87 @@ fn count_call(calls: &mut u64, written: &mut u64, count: u64) -> bool
     true
 }
 
-// Writes, and records it. A call that fails changes nothing.
-fn write(
-    alloc: Global,
-    bytes: &mut Bytes,
-    moves: &mut List<Call>,
-    number: u64,
-    place: u64,
-    piece: &[u8],
-    fails: bool,
-) -> Result<(), Failed>
-    ensures fits { OnOk result (place + length piece.now < 2 ^ 64) }
-    ensures ok { OnOk result ((moves.new ≡ moves.old ++ record { number = number; act = Write place piece.now true } ∷ []) × (bytes.new ≡ put place piece.now bytes.old)) }
-    ensures err { OnErr result (MayRecord (record { number = number; act = Write place piece.now false }) moves.old moves.new × (bytes.new ≡ bytes.old)) }
-{
-    let Ok(copied) = piece.to_vec(alloc) else {
-        return Err(Failed);
-    };
-    if fails {
-        let _ = moves.push(Call {
-            number,
-            act: Move::Write {
-                place,
-                bytes: Bytes::from_vec(copied),
-                done: false,
-            },
-        });
-        return Err(Failed);
-    }
-    if (piece.len() as u64) > u64::MAX - place {
-        return Err(Failed);
-    }
-    let Ok(made) = after_write(alloc, bytes.as_slice(), place, piece) else {
-        return Err(Failed);
-    };
-    let done = Call {
-        number,
-        act: Move::Write {
-            place,
-            bytes: Bytes::from_vec(copied),
-            done: true,
-        },
-    };
-    if moves.push(done).is_err() {
-        return Err(Failed);
-    }
-    *bytes = made;
-    Ok(())
-}
-
-fn cut_off(
-    alloc: Global,
-    bytes: &mut Bytes,
-    moves: &mut List<Call>,
-    number: u64,
-    length: u64,
-    fails: bool,
-) -> Result<(), Failed>
-    ensures ok { OnOk result ((moves.new ≡ moves.old ++ record { number = number; act = Cut length true } ∷ []) × (bytes.new ≡ take length bytes.old)) }
-    ensures err { OnErr result (MayRecord (record { number = number; act = Cut length false }) moves.old moves.new × (bytes.new ≡ bytes.old)) }
-{
-    if fails {
-        let _ = moves.push(Call {
-            number,
-            act: Move::Cut {
-                length,
-                done: false,
-            },
-        });
-        return Err(Failed);
-    }
-    let Ok(made) = after_cut(alloc, bytes.as_slice(), length) else {
-        return Err(Failed);
-    };
-    let done = Call {
-        number,
-        act: Move::Cut { length, done: true },
-    };
-    if moves.push(done).is_err() {
-        return Err(Failed);
-    }
-    *bytes = made;
-    Ok(())
-}
-
-pub(crate) fn after_cut(alloc: Global, bytes: &[u8], length: u64) -> Result<Bytes, AllocError>
-    ensures { IfOk result (λ made. made ≡ take length bytes.now) }
-{
-    let kept = (length as usize).min(bytes.len());
-    Ok(Bytes::from_vec(bytes[..kept].to_vec(alloc)?))
-}
-
-fn keep(moves: &mut List<Call>, number: u64, fails: bool) -> Result<(), Failed>
-    ensures ok { OnOk result (moves.new ≡ moves.old ++ record { number = number; act = Sync true } ∷ []) }
-    ensures err { OnErr result (MayRecord (record { number = number; act = Sync false }) moves.old moves.new) }
-{
-    let call = Call {
-        number,
-        act: Move::Sync { done: !fails },
-    };
-    if moves.push(call).is_err() || fails {
-        return Err(Failed);
-    }
-    Ok(())
-}
-
 impl Disk for MemDisk {
+    ghost use Rattle.outside.specs.History.{first_of};
+    ghost use Rattle.outside.specs.MemDisk.{disk_bytes, calls_of, written_of, faults_of, failing_of, disk_fails, left_of};
     ghost use Rattle.outside.specs.Moves.{IsImage, until, reads_are_left};
 
     ghost tells = { Unit {0} };
 
-    ghost seen = { λ m. m.bytes };
+    ghost seen = { λ m. m.history.bytes };
 
     ghost moment = { λ m. m.calls };
 
-    ghost left_at = { λ m t c. IsImage m.first m.first (until t m.moves) c };
+    ghost left_at = { λ m t c. IsImage (first_of m.history) (first_of m.history) (until t m.history.moves.items) c };
 
     ghost total = { λ m. m.written };
 
     ghost count = { λ m. m.faults };
 
-    ghost seen_left = { λ m. reads_are_left m.first m.moves m.calls m.bytes m.is_replay m.numbered };
+    ghost seen_left = { λ m. reads_are_left (first_of m.history) m.history.moves.items m.calls m.history.bytes m.history.is_replay m.numbered };
 
-    fn length(&mut self) -> Result<u64, Failed> {
+    fn length(&mut self) -> Result<u64, Failed>
+        ensures bytes { IfOk result (λ n. n ≡ length (disk_bytes self.old)) }
+        ensures still { IsStill (calls_of self.old) (calls_of self.new) (written_of self.old) (written_of self.new) }
+        ensures seen { disk_bytes self.new ≡ disk_bytes self.old }
+        ensures time { Elapses (calls_of self.old) (left_of self.old) (left_of self.new) }
+        ensures cause { Causes (faults_of self.old) (faults_of self.new) result }
+        ensures fails { IsErr result ↔ IsTrue (disk_fails self.old) }
+        ensures failing { failing_of self.new ≡ failing_of self.old }
+        ensures quiet { OnOk result (faults_of self.new ≡ faults_of self.old) }
+    {
         if next_turn(&self.failing, &mut self.turns) {
             self.faults = self.faults.saturating_add(1);
             return Err(Failed);
         }
-        Ok(self.bytes.as_slice().len() as u64)
+        Ok(self.history.bytes.as_slice().len() as u64)
     }
 
-    fn read(&mut self, place: u64, buf: &mut [u8]) -> Result<usize, Failed> {
+    fn read(&mut self, place: u64, buf: &mut [u8]) -> Result<usize, Failed>
+        ensures within { IfOk result (λ n. n ≤ length buf.old) }
+        ensures bytes { IfOk result (λ n. Gives (disk_bytes self.old) place buf.old buf.new n) }
+        ensures still { IsStill (calls_of self.old) (calls_of self.new) (written_of self.old) (written_of self.new) }
+        ensures seen { disk_bytes self.new ≡ disk_bytes self.old }
+        ensures time { Elapses (calls_of self.old) (left_of self.old) (left_of self.new) }
+        ensures cause { Causes (faults_of self.old) (faults_of self.new) result }
+        ensures fails { IsErr result ↔ IsTrue (disk_fails self.old) }
+        ensures failing { failing_of self.new ≡ failing_of self.old }
+        ensures quiet { OnOk result (faults_of self.new ≡ faults_of self.old) }
+    {
         if next_turn(&self.failing, &mut self.turns) {
             self.faults = self.faults.saturating_add(1);
             return Err(Failed);
         }
-        let bytes = self.bytes.as_slice();
+        let bytes = self.history.bytes.as_slice();
         if place as usize > bytes.len() {
             return Ok(0);
         }
         Ok(copy_front(rest_from(bytes, place as usize), buf))
     }
 
-    fn write_at(&mut self, place: u64, bytes: &[u8]) -> Result<(), Failed> {
+    fn write_at(&mut self, place: u64, bytes: &[u8]) -> Result<(), Failed>
+        ensures fits { OnOk result (place + length bytes.now < 2 ^ 64) }
+        ensures seen { Torn place (length bytes.now) (disk_bytes self.old) (disk_bytes self.new) }
+        ensures written { OnOk result (disk_bytes self.new ≡ put place bytes.now (disk_bytes self.old)) }
+        ensures stop { Follows (Torn place (length bytes.now)) (left_of self.old (calls_of self.old)) (left_of self.new (calls_of self.new)) }
+        ensures none { calls_of self.new ≡ calls_of self.old → disk_bytes self.new ≡ disk_bytes self.old }
+        ensures tick { Ticks (calls_of self.old) (calls_of self.new) (written_of self.old) (written_of self.new) (length bytes.now) result }
+        ensures time { Elapses (calls_of self.old) (left_of self.old) (left_of self.new) }
+        ensures cause { Causes (faults_of self.old) (faults_of self.new) result }
+        ensures kept { OnErr result (disk_bytes self.new ≡ disk_bytes self.old) }
+        ensures fails { IsTrue (disk_fails self.old) → IsErr result }
+        ensures failing { failing_of self.new ≡ failing_of self.old }
+        ensures quiet { OnOk result (faults_of self.new ≡ faults_of self.old) }
+    {
         let fails = next_turn(&self.failing, &mut self.turns);
         if !count_call(&mut self.calls, &mut self.written, bytes.len() as u64) {
             self.faults = self.faults.saturating_add(1);
             return Err(Failed);
         }
-        match write(
-            self.alloc,
-            &mut self.bytes,
-            &mut self.moves,
-            self.calls,
-            place,
-            bytes,
-            fails,
-        ) {
+        match self
+            .history
+            .write(self.alloc, self.calls, place, bytes, fails)
+        {
             Ok(()) => Ok(()),
             Err(Failed) => {
                 self.faults = self.faults.saturating_add(1);
@@ -275,20 +192,26 @@ impl Disk for MemDisk {
         }
     }
 
-    fn cut(&mut self, length: u64) -> Result<(), Failed> {
+    fn cut(&mut self, size: u64) -> Result<(), Failed>
+        requires { size ≤ length (disk_bytes self.old) }
+        ensures seen { CutOff size (disk_bytes self.old) (disk_bytes self.new) }
+        ensures written { OnOk result (disk_bytes self.new ≡ take size (disk_bytes self.old)) }
+        ensures stop { Follows (CutOff size) (left_of self.old (calls_of self.old)) (left_of self.new (calls_of self.new)) }
+        ensures none { calls_of self.new ≡ calls_of self.old → disk_bytes self.new ≡ disk_bytes self.old }
+        ensures tick { Ticks (calls_of self.old) (calls_of self.new) (written_of self.old) (written_of self.new) 0 result }
+        ensures time { Elapses (calls_of self.old) (left_of self.old) (left_of self.new) }
+        ensures cause { Causes (faults_of self.old) (faults_of self.new) result }
+        ensures kept { OnErr result (disk_bytes self.new ≡ disk_bytes self.old) }
+        ensures fails { IsTrue (disk_fails self.old) → IsErr result }
+        ensures failing { failing_of self.new ≡ failing_of self.old }
+        ensures quiet { OnOk result (faults_of self.new ≡ faults_of self.old) }
+    {
         let fails = next_turn(&self.failing, &mut self.turns);
         if !count_call(&mut self.calls, &mut self.written, 0) {
             self.faults = self.faults.saturating_add(1);
             return Err(Failed);
         }
-        match cut_off(
-            self.alloc,
-            &mut self.bytes,
-            &mut self.moves,
-            self.calls,
-            length,
-            fails,
-        ) {
+        match self.history.cut(self.alloc, self.calls, size, fails) {
             Ok(()) => Ok(()),
             Err(Failed) => {
                 self.faults = self.faults.saturating_add(1);
@@ -297,13 +220,24 @@ impl Disk for MemDisk {
         }
     }
 
-    fn sync(&mut self) -> Result<(), Failed> {
+    fn sync(&mut self) -> Result<(), Failed>
+        ensures durable { OnOk result (Only (disk_bytes self.old) (left_of self.new (calls_of self.new))) }
+        ensures seen { disk_bytes self.new ≡ disk_bytes self.old }
+        ensures stop { (c : List ℕ) → left_of self.new (calls_of self.new) c → left_of self.old (calls_of self.old) c }
+        ensures none { calls_of self.new ≡ calls_of self.old → disk_bytes self.new ≡ disk_bytes self.old }
+        ensures tick { Ticks (calls_of self.old) (calls_of self.new) (written_of self.old) (written_of self.new) 0 result }
+        ensures time { Elapses (calls_of self.old) (left_of self.old) (left_of self.new) }
+        ensures cause { Causes (faults_of self.old) (faults_of self.new) result }
+        ensures fails { IsTrue (disk_fails self.old) → IsErr result }
+        ensures failing { failing_of self.new ≡ failing_of self.old }
+        ensures quiet { OnOk result (faults_of self.new ≡ faults_of self.old) }
+    {
         let fails = next_turn(&self.failing, &mut self.turns);
         if !count_call(&mut self.calls, &mut self.written, 0) {
             self.faults = self.faults.saturating_add(1);
             return Err(Failed);
         }
-        match keep(&mut self.moves, self.calls, fails) {
+        match self.history.sync(self.alloc, self.calls, fails) {
             Ok(()) => Ok(()),
             Err(Failed) => {
                 self.faults = self.faults.saturating_add(1);

@@ -1,5 +1,5 @@
 // A sink in memory.
-ghost use Rattle.std.specs.Prelude.{◌≡◌, ◌<◌, ◌≤◌, ℕ, List, [], ◌++◌, length, take, IfOk, OnErr};
+ghost use Rattle.std.specs.Prelude.{◌≡◌, ◌<◌, ◌≤◌, ℕ, List, [], ◌++◌, length, take, IfOk, IsErr, OnOk, OnErr, IsTrue};
 ghost use Rattle.outside.specs.Streams.{Appends, Causes, TakesSome};
 
 use crate::mem_source::is_failing;
@@ -17,11 +17,13 @@ pub struct MemSink {
 }
 
 impl MemSink {
-    ghost use Rattle.outside.specs.MemSink.{sink_taken};
+    ghost use Rattle.outside.specs.MemSink.{sink_taken, sink_faults, sink_failing};
 
     /// A sink that has taken these bytes. It takes no memory.
     pub fn new(_alloc: Global, taken: Bytes, failing: List<u64>) -> MemSink
-        ensures { sink_taken result ≡ taken }
+        ensures taken { sink_taken result ≡ taken }
+        ensures faults { sink_faults result ≡ 0 }
+        ensures failing { sink_failing result ≡ failing }
     {
         MemSink {
             taken,
@@ -40,13 +42,27 @@ impl MemSink {
 }
 
 impl Sink for MemSink {
+    ghost use Rattle.outside.specs.MemSink.{sink_taken, sink_faults, sink_failing, sink_fails};
+
     ghost tells = { Unit {0} };
 
     ghost taken = { λ s. s.taken };
 
     ghost count = { λ s. s.faults };
 
-    fn write(&mut self, bytes: &[u8]) -> Result<usize, Failed> {
+    fn write(&mut self, bytes: &[u8]) -> Result<usize, Failed>
+        requires { 0 < length bytes.now }
+        ensures within { IfOk result (λ n. TakesSome n bytes.now) }
+        ensures bytes { IfOk result (λ n. Appends (sink_taken self.old) (sink_taken self.new) (take n bytes.now)) }
+        ensures kept { OnErr result (sink_taken self.new ≡ sink_taken self.old) }
+        ensures cause { Causes (sink_faults self.old) (sink_faults self.new) result }
+
+        // It fails where its number is in the list, else only for want of memory, and the count rises only where it
+        // fails.
+        ensures fails { IsTrue (sink_fails self.old) → IsErr result }
+        ensures failing { sink_failing self.new ≡ sink_failing self.old }
+        ensures quiet { OnOk result (sink_faults self.new ≡ sink_faults self.old) }
+    {
         self.calls = self.calls.saturating_add(1);
         if is_failing(self.failing.as_slice(), self.calls) || self.taken.extend(bytes).is_err() {
             self.faults = self.faults.saturating_add(1);

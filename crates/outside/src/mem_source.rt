@@ -1,5 +1,6 @@
 // A source in memory.
-ghost use Rattle.std.specs.Prelude.{◌≡◌, ◌<◌, ◌≤◌, ◌+◌, ℕ, List, [], ◌++◌, length, min, take, drop, IfOk, OnErr};
+ghost use Rattle.std.specs.Prelude.{◌≡◌, ◌==◌, ◌<◌, ◌≤◌, ◌+◌, ◌↔◌, ℕ, List, [], ◌++◌, length, min, take, drop, IfOk, IsOk, IsErr, OnOk, OnErr, IsTrue};
+ghost use Rattle.std.specs.List.{list_any};
 ghost use Rattle.outside.specs.Streams.{Causes, Consumes, ReadsAtMost};
 
 use crate::{Bytes, Failed, List, Source};
@@ -24,7 +25,9 @@ pub fn copy_front(from: &[u8], buf: &mut [u8]) -> usize
 }
 
 /// Whether the list has the number of the call.
-pub(crate) fn is_failing(failing: &[u64], call: u64) -> bool {
+pub(crate) fn is_failing(failing: &[u64], call: u64) -> bool
+    ensures { result ≡ list_any (λ n. n == call) failing.now }
+{
     failing.iter().any(|n| *n == call)
 }
 
@@ -40,11 +43,13 @@ pub struct MemSource {
 }
 
 impl MemSource {
-    ghost use Rattle.outside.specs.MemSource.{source_left};
+    ghost use Rattle.outside.specs.MemSource.{source_left, source_faults, source_failing};
 
     /// A source that has these bytes left. It takes no memory.
     pub fn new(_alloc: Global, bytes: Bytes, failing: List<u64>) -> MemSource
-        ensures { source_left result ≡ bytes }
+        ensures left { source_left result ≡ bytes }
+        ensures faults { source_faults result ≡ 0 }
+        ensures failing { source_failing result ≡ failing }
     {
         MemSource {
             bytes,
@@ -64,13 +69,27 @@ impl MemSource {
 }
 
 impl Source for MemSource {
+    ghost use Rattle.outside.specs.MemSource.{source_left, source_faults, source_failing, source_fails};
+
     ghost tells = { Unit {0} };
 
     ghost left = { λ s. drop s.place s.bytes };
 
     ghost count = { λ s. s.faults };
 
-    fn read(&mut self, buf: &mut [u8]) -> Result<usize, Failed> {
+    fn read(&mut self, buf: &mut [u8]) -> Result<usize, Failed>
+        requires { 0 < length buf.old }
+        ensures within { IfOk result (λ n. ReadsAtMost n buf.old buf.new) }
+        ensures bytes { IfOk result (λ n. Consumes (source_left self.old) (source_left self.new) buf.new n) }
+        ensures kept { OnErr result (source_left self.new ≡ source_left self.old) }
+        ensures cause { Causes (source_faults self.old) (source_faults self.new) result }
+
+        // It fails exactly where its number is in the list, and the count rises only where it fails.
+        ensures fails { IsErr result ↔ IsTrue (source_fails self.old) }
+        ensures failing { source_failing self.new ≡ source_failing self.old }
+        ensures quiet { OnOk result (source_faults self.new ≡ source_faults self.old) }
+        ensures never { source_failing self.old ≡ [] → IsOk result }
+    {
         self.calls = self.calls.saturating_add(1);
         if is_failing(self.failing.as_slice(), self.calls) {
             self.faults = self.faults.saturating_add(1);

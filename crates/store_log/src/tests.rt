@@ -9,7 +9,7 @@ use std::test::Fail;
 fn disk_of(alloc: Global, bytes: &[u8], failing: u64) -> Result<MemDisk, AllocError> {
     let bytes = Bytes::from_vec(bytes.to_vec(alloc)?);
     let failing = List::from_vec(vec![in alloc; failing]?);
-    MemDisk::new(alloc, bytes, failing)
+    Ok(MemDisk::new(alloc, bytes, failing))
 }
 
 fn recovered(alloc: Global, disk: &mut MemDisk) -> Result<Recovered, LogFault> {

@@ -1,48 +1,43 @@
 use Rattle.std.proofs.Common.{◌≡◌, ◌+◌, true, false, refl, inr}
 use Rattle.outside.specs.declared.call.Call.{Call}
 use Rattle.outside.specs.declared.call.Move.TheVariants.{Cut}
+use Rattle.outside.specs.History.{first_of}
 use Rattle.outside.specs.Moves.{cut_same}
-use Rattle.outside.proofs.Recording.{reads_done, reads_failed, all_new, stop_done, stop_failed, elapses}
+use Rattle.outside.proofs.Recording.{all_new, stop_done, stop_failed, elapses}
 use Rattle.outside.proofs.mem_disk.MemDiskDisk.cut.Goals as goal
 
 pub invariant_of-self-in-Ok : goal.invariant_of-self-in-Ok
 invariant_of-self-in-Ok c =
     let tick : c.count_call.new.calls ≡ c.args.self.now.calls + 1 = (c.count_call.ensures.counted c.if-not-count_call.false).0 in
-    let x : Call = record { number = c.count_call.new.calls; act = Cut c.args.length true } in
-    record {
-      is_replay = reads_done c.args.self.now.first c.args.self.now.moves c.cut_off.new.moves x c.args.self.now.calls c.count_call.new.calls tick refl c.args.self.now.numbered c.args.self.now.bytes c.cut_off.new.bytes c.args.self.now.is_replay c.in-Ok.ensures.ok.0 c.in-Ok.ensures.ok.1;
-      numbered = all_new c.args.self.now.first c.args.self.now.moves c.cut_off.new.moves x c.args.self.now.calls c.count_call.new.calls tick refl c.args.self.now.numbered (inr c.in-Ok.ensures.ok.0);
-    }
+    let x : Call = record { number = c.count_call.new.calls; act = Cut c.args.size true } in
+    record { numbered = all_new (first_of c.args.self.now.history) (first_of c.cut.new.self) c.cut.ensures.first c.args.self.now.history.moves.items c.cut.new.self.moves.items x c.args.self.now.calls c.count_call.new.calls tick refl c.args.self.now.numbered (inr c.in-Ok.ensures.ok.0) }
 
 pub invariant_of-self-in-Err : goal.invariant_of-self-in-Err
 invariant_of-self-in-Err c =
     let tick : c.count_call.new.calls ≡ c.args.self.now.calls + 1 = (c.count_call.ensures.counted c.if-not-count_call.false).0 in
-    let x : Call = record { number = c.count_call.new.calls; act = Cut c.args.length false } in
-    record {
-      is_replay = reads_failed c.args.self.now.first c.args.self.now.moves c.cut_off.new.moves x c.args.self.now.calls c.count_call.new.calls tick refl c.args.self.now.numbered c.args.self.now.bytes c.cut_off.new.bytes c.args.self.now.is_replay c.in-Err.ensures.err.0 refl c.in-Err.ensures.err.1;
-      numbered = all_new c.args.self.now.first c.args.self.now.moves c.cut_off.new.moves x c.args.self.now.calls c.count_call.new.calls tick refl c.args.self.now.numbered c.in-Err.ensures.err.0;
-    }
+    let x : Call = record { number = c.count_call.new.calls; act = Cut c.args.size false } in
+    record { numbered = all_new (first_of c.args.self.now.history) (first_of c.cut.new.self) c.cut.ensures.first c.args.self.now.history.moves.items c.cut.new.self.moves.items x c.args.self.now.calls c.count_call.new.calls tick refl c.args.self.now.numbered c.in-Err.ensures.err.0 }
 
 pub returns-in-Ok-clause-time : goal.returns-in-Ok-clause-time
-returns-in-Ok-clause-time c = λ _.
+returns-in-Ok-clause-time c =
     let tick : c.count_call.new.calls ≡ c.args.self.now.calls + 1 = (c.count_call.ensures.counted c.if-not-count_call.false).0 in
-    let x : Call = record { number = c.count_call.new.calls; act = Cut c.args.length true } in
-    elapses c.args.self.now.first c.args.self.now.moves c.cut_off.new.moves x c.args.self.now.calls c.count_call.new.calls tick refl c.args.self.now.numbered (inr c.in-Ok.ensures.ok.0)
+    let x : Call = record { number = c.count_call.new.calls; act = Cut c.args.size true } in
+    elapses (first_of c.args.self.now.history) (first_of c.cut.new.self) c.cut.ensures.first c.args.self.now.history.moves.items c.cut.new.self.moves.items x c.args.self.now.calls c.count_call.new.calls tick refl c.args.self.now.numbered (inr c.in-Ok.ensures.ok.0)
 
 pub returns-in-Err-clause-time : goal.returns-in-Err-clause-time
-returns-in-Err-clause-time c = λ _.
+returns-in-Err-clause-time c =
     let tick : c.count_call.new.calls ≡ c.args.self.now.calls + 1 = (c.count_call.ensures.counted c.if-not-count_call.false).0 in
-    let x : Call = record { number = c.count_call.new.calls; act = Cut c.args.length false } in
-    elapses c.args.self.now.first c.args.self.now.moves c.cut_off.new.moves x c.args.self.now.calls c.count_call.new.calls tick refl c.args.self.now.numbered c.in-Err.ensures.err.0
+    let x : Call = record { number = c.count_call.new.calls; act = Cut c.args.size false } in
+    elapses (first_of c.args.self.now.history) (first_of c.cut.new.self) c.cut.ensures.first c.args.self.now.history.moves.items c.cut.new.self.moves.items x c.args.self.now.calls c.count_call.new.calls tick refl c.args.self.now.numbered c.in-Err.ensures.err.0
 
 pub returns-in-Ok-clause-stop : goal.returns-in-Ok-clause-stop
-returns-in-Ok-clause-stop c = λ _.
+returns-in-Ok-clause-stop c =
     let tick : c.count_call.new.calls ≡ c.args.self.now.calls + 1 = (c.count_call.ensures.counted c.if-not-count_call.false).0 in
-    let x : Call = record { number = c.count_call.new.calls; act = Cut c.args.length true } in
-    stop_done c.args.self.now.first c.args.self.now.moves c.cut_off.new.moves x c.args.self.now.calls c.count_call.new.calls tick refl c.args.self.now.numbered c.in-Ok.ensures.ok.0
+    let x : Call = record { number = c.count_call.new.calls; act = Cut c.args.size true } in
+    stop_done (first_of c.args.self.now.history) (first_of c.cut.new.self) c.cut.ensures.first c.args.self.now.history.moves.items c.cut.new.self.moves.items x c.args.self.now.calls c.count_call.new.calls tick refl c.args.self.now.numbered c.in-Ok.ensures.ok.0
 
 pub returns-in-Err-clause-stop : goal.returns-in-Err-clause-stop
-returns-in-Err-clause-stop c = λ _. λ d.
+returns-in-Err-clause-stop c = λ d.
     let tick : c.count_call.new.calls ≡ c.args.self.now.calls + 1 = (c.count_call.ensures.counted c.if-not-count_call.false).0 in
-    let x : Call = record { number = c.count_call.new.calls; act = Cut c.args.length false } in
-    stop_failed c.args.self.now.first c.args.self.now.moves c.cut_off.new.moves x c.args.self.now.calls c.count_call.new.calls tick refl c.args.self.now.numbered c.in-Err.ensures.err.0 d (cut_same c.args.length d)
+    let x : Call = record { number = c.count_call.new.calls; act = Cut c.args.size false } in
+    stop_failed (first_of c.args.self.now.history) (first_of c.cut.new.self) c.cut.ensures.first c.args.self.now.history.moves.items c.cut.new.self.moves.items x c.args.self.now.calls c.count_call.new.calls tick refl c.args.self.now.numbered c.in-Err.ensures.err.0 d (cut_same c.args.size d)

@@ -2,52 +2,47 @@ use Rattle.std.proofs.Common.{◌≡◌, ◌+◌, ℕ, List, true, false, refl, 
 use Rattle.outside.specs.declared.call.Call.{Call}
 use Rattle.outside.specs.declared.call.Move.TheVariants.{Write}
 use Rattle.outside.specs.Disk.{Torn}
+use Rattle.outside.specs.History.{first_of}
 use Rattle.outside.specs.Moves.{torn_put, torn_same}
-use Rattle.outside.proofs.Recording.{reads_done, reads_failed, all_new, stop_done, stop_failed, elapses}
+use Rattle.outside.proofs.Recording.{all_new, stop_done, stop_failed, elapses}
 use Rattle.outside.proofs.mem_disk.MemDiskDisk.write_at.Goals as goal
 
 pub invariant_of-self-in-Ok : goal.invariant_of-self-in-Ok
 invariant_of-self-in-Ok c =
     let tick : c.count_call.new.calls ≡ c.args.self.now.calls + 1 = (c.count_call.ensures.counted c.if-not-count_call.false).0 in
     let x : Call = record { number = c.count_call.new.calls; act = Write c.args.place c.args.bytes.now true } in
-    record {
-      is_replay = reads_done c.args.self.now.first c.args.self.now.moves c.write.new.moves x c.args.self.now.calls c.count_call.new.calls tick refl c.args.self.now.numbered c.args.self.now.bytes c.write.new.bytes c.args.self.now.is_replay c.in-Ok.ensures.ok.0 c.in-Ok.ensures.ok.1;
-      numbered = all_new c.args.self.now.first c.args.self.now.moves c.write.new.moves x c.args.self.now.calls c.count_call.new.calls tick refl c.args.self.now.numbered (inr c.in-Ok.ensures.ok.0);
-    }
+    record { numbered = all_new (first_of c.args.self.now.history) (first_of c.write.new.self) c.write.ensures.first c.args.self.now.history.moves.items c.write.new.self.moves.items x c.args.self.now.calls c.count_call.new.calls tick refl c.args.self.now.numbered (inr c.in-Ok.ensures.ok.0) }
 
 pub invariant_of-self-in-Err : goal.invariant_of-self-in-Err
 invariant_of-self-in-Err c =
     let tick : c.count_call.new.calls ≡ c.args.self.now.calls + 1 = (c.count_call.ensures.counted c.if-not-count_call.false).0 in
     let x : Call = record { number = c.count_call.new.calls; act = Write c.args.place c.args.bytes.now false } in
-    record {
-      is_replay = reads_failed c.args.self.now.first c.args.self.now.moves c.write.new.moves x c.args.self.now.calls c.count_call.new.calls tick refl c.args.self.now.numbered c.args.self.now.bytes c.write.new.bytes c.args.self.now.is_replay c.in-Err.ensures.err.0 refl c.in-Err.ensures.err.1;
-      numbered = all_new c.args.self.now.first c.args.self.now.moves c.write.new.moves x c.args.self.now.calls c.count_call.new.calls tick refl c.args.self.now.numbered c.in-Err.ensures.err.0;
-    }
+    record { numbered = all_new (first_of c.args.self.now.history) (first_of c.write.new.self) c.write.ensures.first c.args.self.now.history.moves.items c.write.new.self.moves.items x c.args.self.now.calls c.count_call.new.calls tick refl c.args.self.now.numbered c.in-Err.ensures.err.0 }
 
 pub returns-in-Ok-clause-time : goal.returns-in-Ok-clause-time
-returns-in-Ok-clause-time c = λ _.
+returns-in-Ok-clause-time c =
     let tick : c.count_call.new.calls ≡ c.args.self.now.calls + 1 = (c.count_call.ensures.counted c.if-not-count_call.false).0 in
     let x : Call = record { number = c.count_call.new.calls; act = Write c.args.place c.args.bytes.now true } in
-    elapses c.args.self.now.first c.args.self.now.moves c.write.new.moves x c.args.self.now.calls c.count_call.new.calls tick refl c.args.self.now.numbered (inr c.in-Ok.ensures.ok.0)
+    elapses (first_of c.args.self.now.history) (first_of c.write.new.self) c.write.ensures.first c.args.self.now.history.moves.items c.write.new.self.moves.items x c.args.self.now.calls c.count_call.new.calls tick refl c.args.self.now.numbered (inr c.in-Ok.ensures.ok.0)
 
 pub returns-in-Err-clause-time : goal.returns-in-Err-clause-time
-returns-in-Err-clause-time c = λ _.
+returns-in-Err-clause-time c =
     let tick : c.count_call.new.calls ≡ c.args.self.now.calls + 1 = (c.count_call.ensures.counted c.if-not-count_call.false).0 in
     let x : Call = record { number = c.count_call.new.calls; act = Write c.args.place c.args.bytes.now false } in
-    elapses c.args.self.now.first c.args.self.now.moves c.write.new.moves x c.args.self.now.calls c.count_call.new.calls tick refl c.args.self.now.numbered c.in-Err.ensures.err.0
+    elapses (first_of c.args.self.now.history) (first_of c.write.new.self) c.write.ensures.first c.args.self.now.history.moves.items c.write.new.self.moves.items x c.args.self.now.calls c.count_call.new.calls tick refl c.args.self.now.numbered c.in-Err.ensures.err.0
 
 pub returns-in-Ok-clause-stop : goal.returns-in-Ok-clause-stop
-returns-in-Ok-clause-stop c = λ _.
+returns-in-Ok-clause-stop c =
     let tick : c.count_call.new.calls ≡ c.args.self.now.calls + 1 = (c.count_call.ensures.counted c.if-not-count_call.false).0 in
     let x : Call = record { number = c.count_call.new.calls; act = Write c.args.place c.args.bytes.now true } in
-    stop_done c.args.self.now.first c.args.self.now.moves c.write.new.moves x c.args.self.now.calls c.count_call.new.calls tick refl c.args.self.now.numbered c.in-Ok.ensures.ok.0
+    stop_done (first_of c.args.self.now.history) (first_of c.write.new.self) c.write.ensures.first c.args.self.now.history.moves.items c.write.new.self.moves.items x c.args.self.now.calls c.count_call.new.calls tick refl c.args.self.now.numbered c.in-Ok.ensures.ok.0
 
 pub returns-in-Err-clause-stop : goal.returns-in-Err-clause-stop
-returns-in-Err-clause-stop c = λ _. λ d.
+returns-in-Err-clause-stop c = λ d.
     let tick : c.count_call.new.calls ≡ c.args.self.now.calls + 1 = (c.count_call.ensures.counted c.if-not-count_call.false).0 in
     let x : Call = record { number = c.count_call.new.calls; act = Write c.args.place c.args.bytes.now false } in
-    stop_failed c.args.self.now.first c.args.self.now.moves c.write.new.moves x c.args.self.now.calls c.count_call.new.calls tick refl c.args.self.now.numbered c.in-Err.ensures.err.0 d (torn_same c.args.place (length c.args.bytes.now) d)
+    stop_failed (first_of c.args.self.now.history) (first_of c.write.new.self) c.write.ensures.first c.args.self.now.history.moves.items c.write.new.self.moves.items x c.args.self.now.calls c.count_call.new.calls tick refl c.args.self.now.numbered c.in-Err.ensures.err.0 d (torn_same c.args.place (length c.args.bytes.now) d)
 
 pub returns-in-Ok-clause-seen : goal.returns-in-Ok-clause-seen
-returns-in-Ok-clause-seen c = λ _.
-    subst (λ (b : List ℕ). Torn c.args.place (length c.args.bytes.now) c.args.self.now.bytes b) (sym c.in-Ok.ensures.ok.1) (torn_put c.args.place c.args.bytes.now c.args.self.now.bytes)
+returns-in-Ok-clause-seen c =
+    subst (λ (b : List ℕ). Torn c.args.place (length c.args.bytes.now) c.args.self.now.history.bytes b) (sym c.in-Ok.ensures.ok.1) (torn_put c.args.place c.args.bytes.now c.args.self.now.history.bytes)
