@@ -1,5 +1,5 @@
 -- What requiring a version of a key leaves.
-use Rattle.std.proofs.Common.{◌≡◌, ℕ, suc, ◌+◌, ◌<◌, Bool, true, false, cond, List, [], ◌∷◌, length, get_or, set, take, drop, Option, Some, None, IfSome, Ok, Err, HoldsAt, refl, sym, ap, subst, ◌∙◌, arith}
+use Rattle.std.proofs.Common.{◌≡◌, ℕ, suc, ◌+◌, ◌<◌, ◌≤◌, Bool, true, false, cond, List, [], ◌∷◌, length, get_or, set, take, drop, Option, Some, None, IfSome, Ok, Err, HoldsAt, refl, sym, ap, subst, ◌∙◌, arith}
 use Rattle.std.specs.Prelude.{option_and_then}
 use Rattle.std.specs.Cmp.Lexicographic.{slice_cmp}
 use Rattle.std.specs.List.{insert}
@@ -92,6 +92,28 @@ length_new key version (app ∷ apps) new = new_at (key_cmp app.key key) key ver
 -- an unknown key leaves one more
 pub length-require_new : (key : Key) (version : Version) (apps : List AppState) → entry_of key apps ≡ None → length (require key version apps) ≡ length apps + 1
 length-require_new key version apps new = omega (arith, length_new key version apps new)
+
+-- ---- whether there is room
+
+pub room_few : (key : Key) (version : Version) (apps : List AppState) → length apps < 256 → length (require key version apps) ≤ 256
+room_few key version apps few = grow (entry_of key apps) refl
+  where
+    grow : (entry : Option AppState) → entry_of key apps ≡ entry → length (require key version apps) ≤ 256
+    grow None is = omega (arith, length-require_new key version apps is)
+    grow (Some app) is = omega (arith, length-require_known key version apps app is)
+
+pub room_many : (key : Key) (version : Version) (apps : List AppState) → 256 < length apps → length (require key version apps) ≤ 256 → ⊥
+room_many key version apps many room = grow (entry_of key apps) refl
+  where
+    grow : (entry : Option AppState) → entry_of key apps ≡ entry → ⊥
+    grow None is = omega (arith, length-require_new key version apps is)
+    grow (Some app) is = omega (arith, length-require_known key version apps app is)
+
+pub room_known : (key : Key) (version : Version) (apps : List AppState) (app : AppState) → length apps ≤ 256 → Some app ≡ entry_of key apps → length (require key version apps) ≤ 256
+room_known key version apps app room is = omega (arith, length-require_known key version apps app (sym is))
+
+pub room_new : (key : Key) (version : Version) (apps : List AppState) → 256 ≤ length apps → None ≡ entry_of key apps → length (require key version apps) ≤ 256 → ⊥
+room_new key version apps full is room = omega (arith, length-require_new key version apps (sym is))
 
 -- ---- the minimum that holds
 

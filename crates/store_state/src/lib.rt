@@ -15,4 +15,7 @@ pub use command::{Command, LineFault};
 pub use event::{Event, Heard};
 pub use reply::{Limit, Reply};
 pub use report::{Report, ReportLine};
-pub use state::{StateFault, StoreState};
+pub use state::{APPLICATION_LIMIT, BOOT_LIMIT, StateFault, StoreState};
+
+#[cfg(test)]
+mod tests;

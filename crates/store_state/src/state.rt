@@ -1,10 +1,13 @@
 // The tables in memory.
-ghost use Rattle.std.specs.Prelude.{◌≡◌, ◌+◌, ◌<◌, ◌≤◌, length, Ok, Some, slice_set, IfOk, OnOk, OnErr, IfErr};
+ghost use Rattle.std.specs.Prelude.{◌≡◌, ◌+◌, ◌<◌, ◌≤◌, length, Ok, Some, slice_set, IfOk, OnOk, OnErr, IsTrue, ◌↔◌, ◌^◌};
 ghost use Rattle.std.specs.Cmp.Lexicographic.{slice_cmp};
 ghost use Rattle.std.specs.List.{insert, remove, HoldsAt};
 ghost use Rattle.std.specs.List.Sorted.{IsBinarySearchResult, IsSearchInRange};
 ghost use Rattle.std.specs.Option.{option_copied};
 ghost use Rattle.std.specs.Ordering.{nat_cmp};
+ghost use Rattle.identity.specs.declared.version.Version.{Version};
+ghost use Rattle.identity.specs.Version.{IsVersion};
+ghost use Rattle.identity.specs.Key.{IsKey};
 ghost use Rattle.store_state.specs.Store.{empty, entry_of, require, raised, raised_app};
 ghost use Rattle.store_state.specs.Change.{Fits, IsBoot, effect};
 
@@ -15,6 +18,12 @@ use std::alloc::Global;
 use std::cmp::Ordering;
 use std::marker::Model;
 use std::mem::replace;
+
+/// The most applications of a store.
+pub const APPLICATION_LIMIT: usize = 256;
+
+/// The greatest boot number.
+pub const BOOT_LIMIT: u64 = 1 << 62;
 
 /// Why a call on the tables failed.
 #[derive(Clone, Copy, Debug, PartialEq, Eq)]
@@ -169,6 +178,41 @@ impl StoreState {
         match place_of(self.keys.as_slice(), text.as_bytes()) {
             Ok(place) => Ok(Some(&self.apps.as_slice()[place])),
             Err(_) => Ok(None),
+        }
+    }
+
+    /// Whether the change may be made: a boot number is at most 2 ^ 62, a key's parts are within their limits, and there
+    /// are at most 256 applications then. It prints a key only where 256 are there, and fails only for want of memory.
+    pub fn fits(&self, alloc: Global, change: &Change) -> Result<bool, StateFault>
+        ensures { IfOk result (λ b. IsTrue b ↔ Fits self.now change.now) }
+    {
+        match change {
+            Change::Boot { boot } => Ok(*boot <= BOOT_LIMIT),
+            Change::Require { key, version } => self.fits_require(alloc, key, *version),
+        }
+    }
+
+    // Whether that version may be required of the key.
+    fn fits_require(&self, alloc: Global, key: &Key, version: Version) -> Result<bool, StateFault>
+        ensures { IfOk result (λ b. IsTrue b ↔ (IsKey key.now × IsVersion version × (length (require key.now version self.now.apps) ≤ 256))) }
+    {
+        Ok(key.is_key() && self.has_room(alloc, key)?)
+    }
+
+    // Whether a version may be required of the key.
+    fn has_room(&self, alloc: Global, key: &Key) -> Result<bool, StateFault>
+        ensures { IfOk result (λ b. (version : Version) → (IsTrue b ↔ (length (require key.now version self.now.apps) ≤ 256))) }
+    {
+        let count = self.count();
+        if count < APPLICATION_LIMIT {
+            return Ok(true);
+        }
+        if APPLICATION_LIMIT < count {
+            return Ok(false);
+        }
+        match self.entry(alloc, key)? {
+            Some(_) => Ok(true),
+            None => Ok(false),
         }
     }
 

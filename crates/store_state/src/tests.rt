@@ -1,0 +1,105 @@
+use crate::{AppState, BOOT_LIMIT, Change, StoreState};
+use identity::{Key, Version};
+use outside::Text;
+use std::alloc::Global;
+use std::test::Fail;
+
+fn version(a: u16, b: u16) -> Version {
+    Version { a, b, c: 0, d: 0 }
+}
+
+// Makes the change, where it fits.
+fn make(alloc: Global, state: &mut StoreState, change: Change) -> Result<bool, Fail> {
+    if !state.fits(alloc, &change)? {
+        return Ok(false);
+    }
+    state.apply(alloc, change)?;
+    Ok(true)
+}
+
+fn require(
+    alloc: Global,
+    state: &mut StoreState,
+    word: &str,
+    version: Version,
+) -> Result<bool, Fail> {
+    let key = Key::read(alloc, word.as_bytes())?;
+    make(alloc, state, Change::Require { key, version })
+}
+
+fn minimum(alloc: Global, state: &StoreState, word: &str) -> Result<Option<Version>, Fail> {
+    let key = Key::read(alloc, word.as_bytes())?;
+    match state.entry(alloc, &key)? {
+        Some(app) => Ok(app.minimum),
+        None => Ok(None),
+    }
+}
+
+#[test]
+fn the_empty_store(rt: HostRuntime) -> Result<(), Fail> {
+    let state = StoreState::empty(rt.alloc())?;
+    assert_eq!(rt; state.boot, 0);
+    assert_eq!(rt; state.count(), 0);
+    assert_eq!(rt; minimum(rt.alloc(), &state, "n,t,l,a")?, None);
+    Ok(())
+}
+
+#[test]
+fn applications_stand_in_order(rt: HostRuntime) -> Result<(), Fail> {
+    let mut state = StoreState::empty(rt.alloc())?;
+    // `,` is below `b`, and both below the `~` that stands for itself.
+    for word in ["b,t,l,a", "ab,t,l,a", "a~,t,l,a", "a,t,l,a"] {
+        assert!(rt; require(rt.alloc(), &mut state, word, version(1, 0))?);
+    }
+    let mut names = String::new(rt.alloc());
+    for app in state.apps.as_slice() {
+        names.push_str(app.key.name.as_str())?;
+        names.push(' ')?;
+    }
+    assert_eq!(rt; names.as_str(), "a ab a~ b ");
+    Ok(())
+}
+
+#[test]
+fn a_minimum_only_rises(rt: HostRuntime) -> Result<(), Fail> {
+    let mut state = StoreState::empty(rt.alloc())?;
+    for (a, b, held) in [(1, 5, 5), (1, 4, 5), (1, 6, 6)] {
+        assert!(rt; require(rt.alloc(), &mut state, "n,t,l,a", version(a, b))?);
+        assert_eq!(rt;
+            minimum(rt.alloc(), &state, "n,t,l,a")?,
+            Some(version(1, held))
+        );
+    }
+    assert_eq!(rt; minimum(rt.alloc(), &state, "n,t,l,b")?, None);
+    assert_eq!(rt; state.count(), 1);
+    Ok(())
+}
+
+#[test]
+fn boot_numbers(rt: HostRuntime) -> Result<(), Fail> {
+    let mut state = StoreState::empty(rt.alloc())?;
+    assert!(rt; make(rt.alloc(), &mut state, Change::Boot { boot: BOOT_LIMIT })?);
+    assert_eq!(rt; state.boot, 4_611_686_018_427_387_904);
+    let above = Change::Boot {
+        boot: 4_611_686_018_427_387_905,
+    };
+    assert!(rt; !make(rt.alloc(), &mut state, above)?);
+    Ok(())
+}
+
+#[test]
+fn there_are_256_at_most(rt: HostRuntime) -> Result<(), Fail> {
+    let mut state = StoreState::empty(rt.alloc())?;
+    for i in 0..256u32 {
+        let word = format!(in rt.alloc(); "k{i},t,l,a")?;
+        assert!(rt; require(rt.alloc(), &mut state, word.as_str(), version(1, 0))?);
+    }
+    assert_eq!(rt; state.count(), 256);
+    assert!(rt; !require(rt.alloc(), &mut state, "k256,t,l,a", version(1, 0))?);
+    assert!(rt; require(rt.alloc(), &mut state, "k255,t,l,a", version(2, 0))?);
+    assert_eq!(rt;
+        minimum(rt.alloc(), &state, "k255,t,l,a")?,
+        Some(version(2, 0))
+    );
+    Ok(())
+}
