@@ -1,0 +1,11 @@
+use Rattle.std.specs.Prelude.{ℕ}
+use Rattle.outside_real.specs.declared.file_disk.FileDisk.{FileDisk}
+
+abbrev pub disk_calls : {R Dir : Type 0} → FileDisk R Dir → ℕ
+disk_calls d = d.calls
+
+abbrev pub disk_written : {R Dir : Type 0} → FileDisk R Dir → ℕ
+disk_written d = d.written
+
+abbrev pub disk_faults : {R Dir : Type 0} → FileDisk R Dir → ℕ
+disk_faults d = d.faults

@@ -1,0 +1,3 @@
+pub mod FileDisk
+pub mod StdSink
+pub mod StdSource

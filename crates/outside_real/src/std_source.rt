@@ -1,0 +1,61 @@
+// Standard input as a source.
+ghost use Rattle.std.specs.Prelude.{◌≡◌, ◌<◌, ◌≤◌, [], length, IfOk, OnOk, OnErr};
+ghost use Rattle.outside.specs.Streams.{Causes, ReadsAtMost};
+
+use crate::counted::counted;
+use outside::{Failed, Source, copy_front};
+use std::io::Read;
+
+const CHUNK: usize = 16384;
+
+/// The standard input of a runtime. It tells no content. A call that the system fails is a failed one; zero bytes are
+/// the end.
+#[derive(Drop)]
+pub struct StdSource<R: Input> {
+    reader: R::Reader,
+    faults: u64,
+}
+
+impl<R: Input + Drop> StdSource<R> {
+    ghost use Rattle.outside_real.specs.StdSource.{source_faults};
+
+    /// It reads nothing yet.
+    pub fn new(rt: R) -> StdSource<R>
+        ensures { source_faults result ≡ 0 }
+    {
+        StdSource {
+            reader: rt.reader(),
+            faults: 0,
+        }
+    }
+}
+
+// What one system call gives, and at most a chunk of it. A read into the buffer itself may leave anything behind
+// what it gave.
+pub(crate) fn read_some<I: Read>(reader: &mut I, buf: &mut [u8]) -> Result<usize, Failed>
+    ensures { IfOk result (λ n. ReadsAtMost n buf.old buf.new) }
+{
+    let mut chunk = [0; CHUNK];
+    let room = buf.len().min(CHUNK);
+    match reader.read(&mut chunk[..room]) {
+        Ok(n) => Ok(copy_front(&chunk[..n], buf)),
+        Err(_) => Err(Failed),
+    }
+}
+
+impl<R: Input> Source for StdSource<R> {
+    ghost tells = { ⊥ };
+
+    ghost left = { λ _. [] };
+
+    ghost count = { λ s. s.faults };
+
+    fn read(&mut self, buf: &mut [u8]) -> Result<usize, Failed> {
+        let done = read_some(&mut self.reader, buf);
+        counted(&mut self.faults, done)
+    }
+
+    fn faults(&self) -> u64 {
+        self.faults
+    }
+}
