@@ -1,0 +1,5 @@
+pub mod Keeping
+pub mod Loading
+pub mod Recovering
+pub mod Requiring
+pub mod Standing

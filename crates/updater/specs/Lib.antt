@@ -1,0 +1,5 @@
+pub mod Moments
+pub mod Replay
+pub mod Requirement
+pub mod Stands
+pub mod Updater

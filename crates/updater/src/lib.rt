@@ -1,0 +1,13 @@
+//! The commands over a disk: each is one step of the machine, and durable once it is answered.
+#![tactic(auto)]
+
+mod fault;
+mod piece;
+mod replay;
+mod requirement;
+#[cfg(test)]
+mod tests;
+mod updater;
+
+pub use fault::RecoverFault;
+pub use updater::Updater;

@@ -1,0 +1,88 @@
+// The top call.
+ghost use Rattle.std.specs.Prelude.{◌≡◌, ◌≢◌, ◌⊎◌, ◌↔◌, ◌+◌, ◌<◌, ◌≤◌, ℕ, List, [], None, Some};
+ghost use Rattle.outside.specs.Streams.{Rose};
+ghost use Rattle.updater.specs.Stands.{StandsForNone};
+ghost use Rattle.updater_cli.specs.declared.status.Status.TheVariants as exit;
+ghost use Rattle.updater_cli.specs.Format.{Renews, IsNew};
+ghost use Rattle.updater_cli.specs.Headline.{HeadlineLines, HeadlineRun, HeadlineStop, IsNothing};
+ghost use Rattle.updater_cli.specs.Words.{request_of, ForSession, ForFormat};
+
+use crate::opening::session;
+use crate::status::Status;
+use crate::words::{Request, read_words};
+use outside::{Disk, Sink, Source, Word};
+use std::alloc::Global;
+use store_log::{Log, LogFault};
+use store_state::Report;
+
+// A new store of so many blocks.
+fn format<D: Disk>(alloc: Global, disk: &mut D, blocks: u64) -> Status
+    requires { (1 ≤ blocks) × (blocks ≤ 65536) }
+    ensures done { D.tells → result ≡ exit.Done → IsNew D.moment D.left_at D.seen blocks disk.new }
+    ensures stop { D.tells → Renews D.moment D.left_at disk.old disk.new blocks }
+    ensures calls { result ≡ exit.Done → (D.moment disk.new ≡ D.moment disk.old + 6) × (D.total disk.new ≡ D.total disk.old + 4098) }
+    ensures memory { result ≡ exit.Memory → disk.new ≡ disk.old }
+    ensures statuses { (result ≡ exit.Done) ⊎ ((result ≡ exit.DiskFault) ⊎ (result ≡ exit.Memory)) }
+    ensures cause { result ≡ exit.DiskFault → Rose (D.count disk.old) (D.count disk.new) }
+{
+    match Log::format(alloc, disk, blocks, 0, &[]) {
+        Ok(()) => Status::Done,
+        Err(LogFault::Memory) => Status::Memory,
+        Err(_) => Status::DiskFault,
+    }
+}
+
+/// Does what the words ask for and answers the exit status.
+///
+/// `format --blocks N` makes a new store of N blocks, 1 to 65,536, on the disk. `session --boot N --now N` answers
+/// the lines of the source on the sink over the store on the disk; the numbers are at most 2^62, and `now` is in
+/// seconds. The report then has what the session did.
+///
+/// The status is 0 where all was done, 1 where the words are none of these, 2 where the source failed, 3 the sink,
+/// 4 the disk, 5 where the disk holds no store, 6 where there was no memory, and 8 where a session's input has more
+/// than 65,536 bytes.
+pub fn run<S: Source, K: Sink, D: Disk>(
+    alloc: Global,
+    words: &[Word],
+    source: &mut S,
+    sink: &mut K,
+    disk: &mut D,
+    report: &mut Report,
+) -> u8
+    // The lines of a session are those of the input, one event after another.
+    ensures headline_lines { ForSession (request_of words.now) (λ boot now. HeadlineLines S.tells D.tells D.seen D.moment boot now result (S.left source.old) (S.left source.new) disk.old disk.new report.new) }
+
+    // They are a run from the store that stood, the sink took their replies, and the disk holds what they lead to.
+    ensures headline_run { ForSession (request_of words.now) (λ boot now. HeadlineRun K.tells D.tells D.seen D.moment result (K.taken sink.old) (K.taken sink.new) disk.old disk.new report.new) }
+
+    // A stop at any moment leaves a store that holds every acknowledged line.
+    ensures headline_stop { ForSession (request_of words.now) (λ boot now. D.tells → HeadlineStop D.moment D.left_at D.seen result disk.old disk.new report.new) }
+
+    // A new store stands, and a stop while it is made leaves what is said of it.
+    ensures format { ForFormat (request_of words.now) (λ blocks. D.tells → result ≡ 0 → IsNew D.moment D.left_at D.seen blocks disk.new) }
+    ensures format_stop { ForFormat (request_of words.now) (λ blocks. D.tells → Renews D.moment D.left_at disk.old disk.new blocks) }
+    ensures format_calls { ForFormat (request_of words.now) (λ blocks. result ≡ 0 → (D.moment disk.new ≡ D.moment disk.old + 6) × (D.total disk.new ≡ D.total disk.old + 4098)) }
+    ensures format_memory { ForFormat (request_of words.now) (λ blocks. result ≡ 6 → disk.new ≡ disk.old) }
+    ensures format_others { ForFormat (request_of words.now) (λ blocks. (source.new ≡ source.old) × (sink.new ≡ sink.old) × (report.new ≡ report.old)) }
+
+    // When each status comes.
+    ensures statuses { (result ≤ 8) × (result ≢ 7) }
+    ensures format_statuses { ForFormat (request_of words.now) (λ blocks. (result ≡ 0) ⊎ ((result ≡ 4) ⊎ (result ≡ 6))) }
+    ensures words { (result ≡ 1) ↔ (request_of words.now ≡ None) }
+    ensures nothing { result ≡ 1 → (source.new ≡ source.old) × (sink.new ≡ sink.old) × (disk.new ≡ disk.old) × (report.new ≡ report.old) }
+    ensures source_fault { result ≡ 2 → Rose (S.count source.old) (S.count source.new) }
+    ensures sink_fault { result ≡ 3 → Rose (K.count sink.old) (K.count sink.new) }
+    ensures disk_fault { result ≡ 4 → Rose (D.count disk.old) (D.count disk.new) }
+    ensures not_a_store { D.tells → result ≡ 5 → StandsForNone (D.seen disk.old) }
+    ensures unopened { result ≡ 5 → (source.new ≡ source.old) × (sink.new ≡ sink.old) × (D.total disk.new ≡ D.total disk.old) × IsNothing report.new }
+    ensures unopened_reads { D.tells → result ≡ 5 → D.seen disk.new ≡ D.seen disk.old }
+    ensures no_store { ForSession (request_of words.now) (λ boot now. D.tells → StandsForNone (D.seen disk.old) → (result ≡ 5) ⊎ ((result ≡ 4) ⊎ (result ≡ 6))) }
+{
+    match read_words(words) {
+        None => Status::Words.code(),
+        Some(Request::Format { blocks }) => format(alloc, disk, blocks).code(),
+        Some(Request::Session { boot, now }) => {
+            session(alloc, boot, now, source, sink, disk, report).code()
+        }
+    }
+}
