@@ -1,0 +1,9 @@
+pub mod Cuts
+pub mod Faults
+pub mod Flat
+pub mod Nested
+pub mod Numbers
+pub mod Runs
+pub mod Scans
+pub mod Steps
+pub mod Texts

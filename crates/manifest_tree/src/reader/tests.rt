@@ -1,0 +1,73 @@
+use super::*;
+use std::test::*;
+
+fn fault_of(rt: &impl AllocGlobal, text: &[u8]) -> Option<TreeFault> {
+    match read_tree(rt.alloc(), text) {
+        Err(TreeError::Refused { fault }) => Some(fault),
+        _ => None,
+    }
+}
+
+#[test]
+fn faults_at_their_places(rt: HostRuntime) {
+    for (text, kind, place) in [
+        ("<a><b></a>", TreeKind::TagMismatch, 6u64),
+        ("<a x=\"1\" x=\"2\"/>", TreeKind::AttributeTwice, 9),
+        ("<a>&nbsp;</a>", TreeKind::Entity, 3),
+        ("<a>", TreeKind::Syntax, 3),
+        ("<a></b<", TreeKind::TagMismatch, 3),
+        ("<ab></a", TreeKind::TagMismatch, 4),
+        ("<a x=\"1\" x", TreeKind::AttributeTwice, 9),
+        ("<a></", TreeKind::Syntax, 5),
+        ("<a>&am", TreeKind::Entity, 3),
+        ("<a &>", TreeKind::Syntax, 3),
+        ("&lt;<a/>", TreeKind::Syntax, 0),
+        ("<a/>&x;", TreeKind::Syntax, 4),
+        ("<a/></a>", TreeKind::Syntax, 5),
+        ("<a/><?xml ?>", TreeKind::Syntax, 9),
+        ("\u{fefe}<a/>", TreeKind::Syntax, 2),
+        ("", TreeKind::Syntax, 0),
+    ] {
+        let fault = fault_of(&rt, text.as_bytes());
+        assert_eq!(rt; fault, Some(TreeFault { kind, place }), "at {text}");
+    }
+    let fault = fault_of(&rt, &[255]);
+    let kind = TreeKind::NotUtf8;
+    assert_eq!(rt; fault, Some(TreeFault { kind, place: 0 }));
+}
+
+#[test]
+fn a_level_too_many(rt: HostRuntime) -> Result<(), Fail> {
+    let mut text = Vec::new(rt.alloc());
+    for _ in 0..64u8 {
+        text.extend_from_slice(b"<a>")?;
+    }
+    text.extend_from_slice(b"<b<")?;
+    let kind = TreeKind::TooDeep;
+    assert_eq!(rt;
+        fault_of(&rt, text.as_slice()),
+        Some(TreeFault { kind, place: 192 })
+    );
+    Ok(())
+}
+
+#[test]
+fn a_tree(rt: HostRuntime) -> Result<(), Fail> {
+    let text =
+        "\u{feff}<?xml version=\"1.0\"?><!-- & --><a x='1\r\n\t2'>h<b>no</b>&#105;\r\n<?p <?></a>\n";
+    let root = read_tree(rt.alloc(), text.as_bytes())
+        .ok()
+        .ok_or("the text spells a tree")?;
+    assert_eq!(rt; root.name.as_str(), "a");
+    assert_eq!(rt; root.text.as_str(), "hi\n");
+    for attribute in root.attributes.as_slice() {
+        assert_eq!(rt; attribute.name.as_str(), "x");
+        assert_eq!(rt; attribute.value.as_str(), "1  2");
+    }
+    assert_eq!(rt; root.attributes.as_slice().len(), 1);
+    assert_eq!(rt; root.children.len(), 1);
+    for child in &root.children {
+        assert_eq!(rt; child.text.as_str(), "no");
+    }
+    Ok(())
+}
