@@ -33,12 +33,12 @@ pub record Elapses (before : ℕ) (past since : ℕ → List ℕ → Type 0) : T
   pub same : (t : ℕ) (c : List ℕ) → t ≤ before → since t c → past t c
   pub keeps : (t : ℕ) (c : List ℕ) → t ≤ before → past t c → since t c
 
--- the count of calls goes on by one and that of bytes by n; only where one of them would pass its end both stay
+-- the count of calls goes on by one and that of bytes by n, where neither passes its end; else both stay
 pub record Ticks {T E : Type 0} (old new total_old total_new n : ℕ) (result : Result T E) : Type 0 where
   pub later : old ≤ new
   pub once : new ≤ old + 1
   pub ok : OnOk result (new ≡ old + 1)
-  pub exact : ((new ≡ old + 1) × (total_new ≡ total_old + n)) ⊎ ((new ≡ old) × (total_new ≡ total_old) × ((0xffff_ffff_ffff_ffff ≤ old) ⊎ (0xffff_ffff_ffff_ffff < total_old + n)))
+  pub exact : ((new ≡ old + 1) × (total_new ≡ total_old + n) × (old < 0xffff_ffff_ffff_ffff) × (total_old + n ≤ 0xffff_ffff_ffff_ffff)) ⊎ ((new ≡ old) × (total_new ≡ total_old) × ((0xffff_ffff_ffff_ffff ≤ old) ⊎ (0xffff_ffff_ffff_ffff < total_old + n)))
 
 pub record IsStill (moment_old moment_new total_old total_new : ℕ) : Type 0 where
   pub moment : moment_new ≡ moment_old

@@ -46,7 +46,7 @@ impl<R: Files<File = File> + Drop> FileDisk<R> {
 
 // Counts a call of so many bytes, if neither count ends.
 fn count_call(calls: &mut u64, written: &mut u64, count: u64) -> bool
-    ensures counted { result ≡ true → (calls.new ≡ calls.old + 1) × (written.new ≡ written.old + count) }
+    ensures counted { result ≡ true → (calls.new ≡ calls.old + 1) × (written.new ≡ written.old + count) × (calls.old < 0xffff_ffff_ffff_ffff) × (written.old + count ≤ 0xffff_ffff_ffff_ffff) }
     ensures full { result ≡ false → (calls.new ≡ calls.old) × (written.new ≡ written.old) × ((0xffff_ffff_ffff_ffff ≤ calls.old) ⊎ (0xffff_ffff_ffff_ffff < written.old + count)) }
 {
     if *calls == u64::MAX || count > u64::MAX - *written {

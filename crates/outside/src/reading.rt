@@ -1,0 +1,51 @@
+// Reading a source to its end.
+ghost use Rattle.std.specs.Prelude.{◌≡◌, ◌<◌, ◌≤◌, ◌++◌, ◌+◌, List, ℕ, length, take, drop, IfOk, IfErr, OnErr};
+ghost use Rattle.outside.specs.Streams.{Rose};
+ghost use Rattle.outside.specs.declared.reading.ReadFault.TheVariants.{Failed as source_failed};
+
+use crate::Source;
+use std::alloc::{AllocError, Global};
+
+/// Why a source was not read to its end.
+#[derive(Clone, Copy, Debug, PartialEq, Eq)]
+pub enum ReadFault {
+    /// The source failed: its count rose.
+    Failed,
+    /// There was no memory for the bytes.
+    Memory,
+}
+
+/// How many bytes are asked of the source at a time.
+const PIECE: usize = 65_536;
+
+/// Reads the source up to its end, and at most so many bytes.
+pub fn read_all<S: Source>(
+    alloc: Global,
+    source: &mut S,
+    limit: usize,
+) -> Result<Vec<u8>, ReadFault>
+    ensures bytes { S.tells → IfOk result (λ v. v.items ≡ take limit (S.left source.old)) }
+    ensures left { S.tells → IfOk result (λ v. S.left source.new ≡ drop limit (S.left source.old)) }
+    ensures within { IfOk result (λ v. length v.items ≤ limit) }
+    ensures count { S.count source.old ≤ S.count source.new }
+    ensures cause { result ≡ Err source_failed → Rose (S.count source.old) (S.count source.new) }
+{
+    let mut bytes: Vec<u8> = Vec::new(alloc);
+    let mut piece = [0; PIECE];
+    while bytes.len() < limit {
+        let wanted = PIECE.min(limit - bytes.len());
+        let Ok(n) = source.read(&mut piece[..wanted]) else {
+            return Err(ReadFault::Failed);
+        };
+        if n == 0 {
+            return Ok(bytes);
+        }
+        let Ok(()) = bytes.extend_from_slice(&piece[..n]) else {
+            return Err(ReadFault::Memory);
+        };
+    }
+    Ok(bytes)
+}
+
+#[cfg(test)]
+mod tests;
