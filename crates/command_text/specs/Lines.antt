@@ -17,8 +17,8 @@ use Rattle.store_state.specs.declared.command.LineFault.TheVariants.{LineTooLong
 use Rattle.store_state.specs.declared.command.LineFault.TheVariants as fault
 use Rattle.store_state.specs.declared.event.Event.{Event}
 use Rattle.store_state.specs.declared.event.Event.TheVariants.{Line, Unread}
-use Rattle.store_state.specs.declared.reply.Limit.{Limit}
-use Rattle.store_state.specs.declared.reply.Limit.TheVariants.{Applications}
+use Rattle.outside.specs.declared.limit.Limit.{Limit}
+use Rattle.outside.specs.declared.limit.Limit.TheVariants.{Applications, Views, Files, Locals, Hashes, Links, Jobs}
 use Rattle.store_state.specs.declared.reply.Reply.{Reply}
 use Rattle.store_state.specs.declared.reply.Reply.TheVariants.{Minimum, TooMany}
 use Rattle.store_state.specs.declared.reply.Reply.TheVariants as reply
@@ -93,6 +93,12 @@ fault_text fault.Memory = codes "no memory\n"
 
 abbrev pub limit_name : Limit → List ℕ
 limit_name Applications = codes "applications"
+limit_name Views = codes "views"
+limit_name Files = codes "files"
+limit_name Locals = codes "locals"
+limit_name Hashes = codes "hashes"
+limit_name Links = codes "links"
+limit_name Jobs = codes "jobs"
 
 -- the bytes of a reply
 unfoldable pub reply_text : Reply → List ℕ

@@ -72,6 +72,12 @@ fn name_of(what: Limit) -> &'static [u8]
 {
     match what {
         Limit::Applications => b"applications",
+        Limit::Views => b"views",
+        Limit::Files => b"files",
+        Limit::Locals => b"locals",
+        Limit::Hashes => b"hashes",
+        Limit::Links => b"links",
+        Limit::Jobs => b"jobs",
     }
 }
 

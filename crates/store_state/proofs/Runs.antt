@@ -4,7 +4,7 @@ use Rattle.store_state.specs.declared.command.Command.{Command}
 use Rattle.store_state.specs.declared.command.Command.TheVariants.{Require}
 use Rattle.store_state.specs.declared.event.Event.{Event}
 use Rattle.store_state.specs.declared.event.Event.TheVariants.{Boot, Line, Unread}
-use Rattle.store_state.specs.declared.reply.Limit.TheVariants.{Applications}
+use Rattle.outside.specs.declared.limit.Limit.TheVariants.{Applications, Views, Files, Locals, Hashes, Links, Jobs}
 use Rattle.store_state.specs.declared.reply.Reply.{Reply}
 use Rattle.store_state.specs.declared.reply.Reply.TheVariants as reply
 use Rattle.store_state.specs.Store.{Session}
@@ -20,6 +20,12 @@ run_push old mid new (first ∷ events) (answer ∷ replies) event reply run ste
 -- a command and its reply lead to one session
 answers_same : (old a b : Session) (command : Command) (r : Reply) → Answers old command r a → Answers old command r b → a ≡ b
 answers_same old a b (Require key version) (reply.TooMany Applications limit) first second = first.2 ∙ sym second.2
+answers_same old a b (Require key version) (reply.TooMany Views limit) first second = absurd first
+answers_same old a b (Require key version) (reply.TooMany Files limit) first second = absurd first
+answers_same old a b (Require key version) (reply.TooMany Locals limit) first second = absurd first
+answers_same old a b (Require key version) (reply.TooMany Hashes limit) first second = absurd first
+answers_same old a b (Require key version) (reply.TooMany Links limit) first second = absurd first
+answers_same old a b (Require key version) (reply.TooMany Jobs limit) first second = absurd first
 answers_same old a b (Require key version) (reply.Minimum minimum) first second = first.1 ∙ sym second.1
 answers_same old a b (Require key version) reply.Memory first second = first ∙ sym second
 answers_same old a b (Require key version) (reply.Line fault) first second = absurd first

@@ -4,7 +4,7 @@ use Rattle.store_state.specs.declared.command.Command.{Command}
 use Rattle.store_state.specs.declared.command.Command.TheVariants.{Require}
 use Rattle.store_state.specs.declared.event.Event.{Event}
 use Rattle.store_state.specs.declared.event.Event.TheVariants.{Boot, Line, Unread}
-use Rattle.store_state.specs.declared.reply.Limit.TheVariants.{Applications}
+use Rattle.outside.specs.declared.limit.Limit.TheVariants.{Applications, Views, Files, Locals, Hashes, Links, Jobs}
 use Rattle.store_state.specs.declared.reply.Reply.{Reply}
 use Rattle.store_state.specs.declared.reply.Reply.TheVariants as reply
 use Rattle.store_state.specs.Store.{Session, require, minimum_of}
@@ -14,6 +14,13 @@ abbrev pub Answers : Session → Command → Reply → Session → Type 0
 -- one application more than may be is refused
 Answers old (Require key version) (reply.TooMany Applications limit) new =
     (256 < length (require key version old.store.apps)) × (limit ≡ 256) × (new ≡ old)
+-- of nothing else can it make too many
+Answers old (Require key version) (reply.TooMany Views limit) new = ⊥
+Answers old (Require key version) (reply.TooMany Files limit) new = ⊥
+Answers old (Require key version) (reply.TooMany Locals limit) new = ⊥
+Answers old (Require key version) (reply.TooMany Hashes limit) new = ⊥
+Answers old (Require key version) (reply.TooMany Links limit) new = ⊥
+Answers old (Require key version) (reply.TooMany Jobs limit) new = ⊥
 -- else the minimum is raised, and the one that then holds is shown
 Answers old (Require key version) (reply.Minimum minimum) new =
     (length (require key version old.store.apps) ≤ 256)

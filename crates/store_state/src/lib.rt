@@ -13,7 +13,8 @@ pub use app::AppState;
 pub use change::Change;
 pub use command::{Command, LineFault};
 pub use event::{Event, Heard};
-pub use reply::{Limit, Reply};
+pub use outside::Limit;
+pub use reply::Reply;
 pub use report::{Report, ReportLine};
 pub use state::{APPLICATION_LIMIT, BOOT_LIMIT, StateFault, StoreState};
 

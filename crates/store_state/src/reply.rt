@@ -1,12 +1,7 @@
 // What a line answers.
 use crate::LineFault;
 use identity::Version;
-
-/// What there may be too many of.
-#[derive(Clone, Copy, Debug, PartialEq, Eq)]
-pub enum Limit {
-    Applications,
-}
+use outside::Limit;
 
 /// The answer of a line.
 #[derive(Clone, Copy, Debug, PartialEq, Eq)]
