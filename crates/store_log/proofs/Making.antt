@@ -2,8 +2,8 @@
 use Rattle.std.proofs.Common.{◌≡◌, inl, inr, ℕ, ◌+◌, ◌≤◌, List, [], length, sym, ◌∙◌, ap, subst, arith}
 use Rattle.outside.specs.Disk.{Torn, CutOff, Follows, Only, Elapses}
 use Rattle.outside.specs.Moves.{torn_same}
-use Rattle.outside.specs.Moments.{LeavesOnly, Each, started, goes_on, then_on, weaker}
-use Rattle.store_log.specs.Log.{IsNewOrNone, IsCutOrOld, IsUnsynced, Formats}
+use Rattle.outside.specs.Moments.{LeavesOnly, Each, started, goes_on}
+use Rattle.store_log.specs.Log.{IsNewOrNone, IsCutOrOld, IsClosedNew, Formats}
 use Rattle.store_log.specs.Steps.{new_with}
 use Rattle.store_log.proofs.NewStore.{length-new_with, torn_head, no_new}
 
@@ -41,35 +41,60 @@ module _ {D : Type 0} (moment : D → ℕ) (left_at : D → ℕ → List ℕ →
   pub head_new : (d0 d1 : D) (blocks : ℕ) → 1 ≤ blocks → blocks ≤ 65536 → Only (new_with blocks 0) (Now d0) → Follows (Torn 64 1) (Now d0) (Now d1) → Each moment left_at d1 (IsNewOrNone blocks)
   head_new d0 d1 blocks some limit closed follows c left = let from = follows c left in torn_head blocks from.0 c some limit (closed from.0 from.1) from.2
 
-  -- a clear that is done or cut short
-  pub cleared : (d0 d1 : D) → LeavesOnly moment left_at d0 d1 (IsCutOrOld (Now d0)) → LeavesOnly moment left_at d0 d1 (IsUnsynced (Now d0))
-  cleared d0 d1 run = weaker moment left_at d0 d1 (IsCutOrOld (Now d0)) (IsUnsynced (Now d0)) (λ c is. inl is) run
+  -- what stands at a moment of a disk
+  at : (d : D) (t : ℕ) (c : List ℕ) → t ≡ moment d → left_at d t c → Now d c
+  at d t c is left = subst (λ (n : ℕ). left_at d n c) is left
 
-  -- and behind it a fill with a new journal
-  pub filled : (d0 d1 d2 : D) (bytes : List ℕ) (blocks : ℕ) → bytes ≡ new_with blocks 0 → LeavesOnly moment left_at d0 d1 (IsCutOrOld (Now d0)) → LeavesOnly moment left_at d1 d2 (Torn 0 (length bytes) [])
-      → LeavesOnly moment left_at d0 d2 (IsUnsynced (Now d0))
-  filled d0 d1 d2 bytes blocks is first second =
+  -- the write of a new journal
+  pub written : (d0 d1 : D) (bytes : List ℕ) (blocks : ℕ) → bytes ≡ new_with blocks 0 → LeavesOnly moment left_at d0 d1 (Torn 0 (length bytes) []) → LeavesOnly moment left_at d0 d1 (Torn 0 4097 [])
+  written d0 d1 bytes blocks is run =
       let size : length bytes ≡ 4097 = ap length is ∙ length-new_with blocks 0 in
-      then_on moment left_at d0 d1 d2 (IsUnsynced (Now d0)) (cleared d0 d1 first)
-      (weaker moment left_at d1 d2 (Torn 0 (length bytes) []) (IsUnsynced (Now d0)) (λ c torn. inr (subst (λ (n : ℕ). Torn 0 n [] c) size torn)) second)
+      subst (λ (n : ℕ). LeavesOnly moment left_at d0 d1 (Torn 0 n [])) size run
 
-  -- a format that ended before its head gate was written
-  pub formats_early : (old new : D) (blocks : ℕ) → LeavesOnly moment left_at old new (IsUnsynced (Now old)) → moment new ≤ moment old + 4 → Formats moment left_at old new blocks
-  formats_early old new blocks run short = record {
+  -- a format that ended before its first sync was done
+  pub formats_cut : (old new : D) (blocks : ℕ) → LeavesOnly moment left_at old new (IsCutOrOld (Now old)) → moment new ≤ moment old + 2 → Formats moment left_at old new blocks
+  formats_cut old new blocks run short = record {
     later = run.later;
     past = run.past;
-    early = λ t c from to within left. run.each t c from to left;
-    late = λ t c long from to left. absurd (omega arith);
+    first = λ t c from to within left. run.each t c from to left;
+    empty = λ c long left. absurd (omega arith);
+    second = λ t c after to within left. absurd (omega arith);
+    closed = λ c long left. absurd (omega arith);
+    third = λ t c after to left. absurd (omega arith);
   }
 
   pub formats_none : (disk : D) (blocks : ℕ) → Formats moment left_at disk disk blocks
-  formats_none disk blocks = formats_early disk disk blocks (started moment left_at disk (IsUnsynced (Now disk)) (λ c left. inl (inl left))) (omega arith)
+  formats_none disk blocks = formats_cut disk disk blocks (started moment left_at disk (IsCutOrOld (Now disk)) (λ c left. inl left)) (omega arith)
 
-  pub formats_late : (old mid new : D) (blocks : ℕ) → LeavesOnly moment left_at old mid (IsUnsynced (Now old)) → moment mid ≡ moment old + 4 → LeavesOnly moment left_at mid new (IsNewOrNone blocks)
-      → Formats moment left_at old new blocks
-  formats_late old mid new blocks first four second = record {
-    later = omega (arith, first.later, second.later);
-    past = λ t c le left. first.past t c le (second.past t c (omega (arith, first.later)) left);
-    early = λ t c from to within left. let by_mid : t ≤ moment mid = omega (arith, four) in first.each t c from by_mid (second.past t c by_mid left);
-    late = λ t c long from to left. second.each t c (omega (arith, four)) to left;
+  -- one that ended before its second sync was done
+  pub formats_filled : (old mid new : D) (blocks : ℕ) → LeavesOnly moment left_at old mid (IsCutOrOld (Now old)) → moment mid ≡ moment old + 2 → Only [] (Now mid)
+      → LeavesOnly moment left_at mid new (Torn 0 4097 []) → moment new ≤ moment mid + 2 → Formats moment left_at old new blocks
+  formats_filled old mid new blocks clear two empty fill short = record {
+    later = omega (arith, clear.later, fill.later);
+    past = λ t c le left. clear.past t c le (fill.past t c (omega (arith, clear.later)) left);
+    first = λ t c from to within left. let by_mid : t ≤ moment mid = omega (arith, two) in clear.each t c from by_mid (fill.past t c by_mid left);
+    empty = λ c long left. empty c (at mid (moment old + 2) c (sym two) (fill.past (moment old + 2) c (omega (arith, two)) left));
+    second = λ t c after to within left. fill.each t c (omega (arith, two)) to left;
+    closed = λ c long left. absurd (omega (arith, two));
+    third = λ t c after to left. absurd (omega (arith, two));
   }
+
+  -- one whose second sync was done
+  pub formats_opened : (old mid end new : D) (blocks : ℕ) → LeavesOnly moment left_at old mid (IsCutOrOld (Now old)) → moment mid ≡ moment old + 2 → Only [] (Now mid)
+      → LeavesOnly moment left_at mid end (Torn 0 4097 []) → moment end ≡ moment mid + 2 → Only (new_with blocks 0) (Now end)
+      → LeavesOnly moment left_at end new (IsNewOrNone blocks) → Formats moment left_at old new blocks
+  formats_opened old mid end new blocks clear two empty fill four closed gate = record {
+    later = omega (arith, so_far.later, gate.later);
+    past = λ t c le left. so_far.past t c le (gate.past t c (omega (arith, so_far.later)) left);
+    first = λ t c from to within left. let by_end : t ≤ moment end = omega (arith, two, four) in so_far.first t c from by_end within (gate.past t c by_end left);
+    empty = λ c long left. so_far.empty c (omega (arith, two, four)) (gate.past (moment old + 2) c (omega (arith, two, four)) left);
+    second = λ t c after to within left. let by_end : t ≤ moment end = omega (arith, two, four) in so_far.second t c after by_end within (gate.past t c by_end left);
+    closed = λ c long left. new_closed c (closed c (at end (moment old + 4) c (omega (arith, two, four)) (gate.past (moment old + 4) c (omega (arith, two, four)) left)));
+    third = λ t c after to left. gate.each t c (omega (arith, two, four)) to left;
+  }
+    where
+      so_far : Formats moment left_at old end blocks
+      so_far = formats_filled old mid end blocks clear two empty fill (omega (arith, four))
+
+      new_closed : (c : List ℕ) → c ≡ new_with blocks 0 → IsClosedNew blocks c
+      new_closed c is = record { is = is; none = no_new blocks 0 c (omega arith) is }

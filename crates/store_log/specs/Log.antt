@@ -72,18 +72,23 @@ IsNewOrNone blocks bytes = IsStore blocks [] bytes ⊎ NoStore bytes
 abbrev pub IsCutOrOld : (List ℕ → Type 0) → List ℕ → Type 0
 IsCutOrOld old bytes = old bytes ⊎ ((image : List ℕ) × old image × CutOff 0 image bytes)
 
--- an old image, what a cut to nothing makes of one, or what the write of the 4,097 bytes of a new journal makes of
--- nothing, before these are synced
-abbrev pub IsUnsynced : (List ℕ → Type 0) → List ℕ → Type 0
-IsUnsynced old bytes = IsCutOrOld old bytes ⊎ Torn 0 4097 [] bytes
+-- the bytes are the new journal with its head gate still closed, and so no journal
+pub record IsClosedNew (blocks : ℕ) (bytes : List ℕ) : Type 0 where
+  pub is : bytes ≡ head_with blocks 0 ++ 0 ∷ []
+  pub none : NoStore bytes
 
--- What stops leave over a format. Its first four calls, the last of which is the second sync, leave bytes that are
--- old or not synced. From the second sync on a stop leaves the new journal or none.
+-- What stops leave over a format. It makes six calls: a cut and a sync, the write of 4,097 bytes and a sync, the write
+-- of the head gate and a sync. A stop leaves an old image or a cut one, until the first sync is done; then nothing
+-- stands there, and at the write what it makes of nothing; once the second sync is done the new journal with its head
+-- gate closed; and from then on the new journal or none.
 pub record Formats {D : Type 0} (moment : D → ℕ) (left_at : D → ℕ → List ℕ → Type 0) (old new : D) (blocks : ℕ) : Type 0 where
   pub later : moment old ≤ moment new
   pub past : (t : ℕ) (bytes : List ℕ) → t ≤ moment old → left_at new t bytes → left_at old t bytes
-  pub early : (t : ℕ) (bytes : List ℕ) → moment old ≤ t → t ≤ moment new → t ≤ moment old + 4 → left_at new t bytes → IsUnsynced (left_at old (moment old)) bytes
-  pub late : (t : ℕ) (bytes : List ℕ) → moment old + 4 < moment new → moment old + 4 ≤ t → t ≤ moment new → left_at new t bytes → IsNewOrNone blocks bytes
+  pub first : (t : ℕ) (bytes : List ℕ) → moment old ≤ t → t ≤ moment new → t ≤ moment old + 2 → left_at new t bytes → IsCutOrOld (left_at old (moment old)) bytes
+  pub empty : (bytes : List ℕ) → moment old + 2 < moment new → left_at new (moment old + 2) bytes → bytes ≡ []
+  pub second : (t : ℕ) (bytes : List ℕ) → moment old + 2 < t → t ≤ moment new → t ≤ moment old + 4 → left_at new t bytes → Torn 0 4097 [] bytes
+  pub closed : (bytes : List ℕ) → moment old + 4 < moment new → left_at new (moment old + 4) bytes → IsClosedNew blocks bytes
+  pub third : (t : ℕ) (bytes : List ℕ) → moment old + 4 < t → t ≤ moment new → left_at new t bytes → IsNewOrNone blocks bytes
 
 -- The log ends behind these changes, which each stop now leaves behind this head.
 pub record IsOpen {D : Type 0} (moment : D → ℕ) (left_at : D → ℕ → List ℕ → Type 0) (log : Log) (head : List ℕ) (changes : List (List ℕ)) (disk : D) : Type 0 where

@@ -2,6 +2,7 @@
 #![tactic(auto)]
 
 mod fault;
+mod laws;
 mod piece;
 mod replay;
 mod requirement;
@@ -10,4 +11,5 @@ mod tests;
 mod updater;
 
 pub use fault::RecoverFault;
+pub use laws::one_image_one_store;
 pub use updater::Updater;

@@ -1,29 +1,31 @@
 use Rattle.std.proofs.Common.{◌≡◌, ◌∙◌, length, arith, ap}
 use Rattle.store_log.proofs.NewStore.{length-new_with}
-use Rattle.store_log.proofs.Making.{filled, formats_early, formats_late}
+use Rattle.store_log.proofs.Making.{written, formats_filled, formats_opened}
 use Rattle.store_log.proofs.log.Log.format.Goals as goal
 
 pub returns-in_err-fill-clause-any_moment : goal.returns-in_err-fill-clause-any_moment
 returns-in_err-fill-clause-any_moment g c = λ told.
-    formats_early g.D.Disk.moment g.D.Disk.left_at c.args.disk.now c.fill.new.disk c.args.blocks
-    (filled g.D.Disk.moment g.D.Disk.left_at c.args.disk.now c.clear.new.disk c.fill.new.disk c.deref.result.now c.args.blocks (c.deref.ensures.value ∙ c.in_ok-bytes.ensures)
-    (c.clear.ensures.any_moment told) (c.fill.ensures.any_moment told (c.in_ok-clear.ensures.ok told)))
-    (omega (arith, c.clear.ensures.within, c.fill.ensures.within))
+    formats_filled g.D.Disk.moment g.D.Disk.left_at c.args.disk.now c.clear.new.disk c.fill.new.disk c.args.blocks
+    (c.clear.ensures.any_moment told) c.in_ok-clear.ensures.tick (c.in_ok-clear.ensures.ok told)
+    (written g.D.Disk.moment g.D.Disk.left_at c.clear.new.disk c.fill.new.disk c.deref.result.now c.args.blocks (c.deref.ensures.value ∙ c.in_ok-bytes.ensures) (c.fill.ensures.any_moment told (c.in_ok-clear.ensures.ok told)))
+    c.fill.ensures.within
 
 pub returns-in_err-open_head-clause-any_moment : goal.returns-in_err-open_head-clause-any_moment
 returns-in_err-open_head-clause-any_moment g c = λ told.
-    formats_late g.D.Disk.moment g.D.Disk.left_at c.args.disk.now c.fill.new.disk c.open_head.new.disk c.args.blocks
-    (filled g.D.Disk.moment g.D.Disk.left_at c.args.disk.now c.clear.new.disk c.fill.new.disk c.deref.result.now c.args.blocks (c.deref.ensures.value ∙ c.in_ok-bytes.ensures)
-    (c.clear.ensures.any_moment told) (c.fill.ensures.any_moment told (c.in_ok-clear.ensures.ok told)))
-    (omega (arith, c.in_ok-clear.ensures.tick, c.in_ok-fill.ensures.tick))
+    formats_opened g.D.Disk.moment g.D.Disk.left_at c.args.disk.now c.clear.new.disk c.fill.new.disk c.open_head.new.disk c.args.blocks
+    (c.clear.ensures.any_moment told) c.in_ok-clear.ensures.tick (c.in_ok-clear.ensures.ok told)
+    (written g.D.Disk.moment g.D.Disk.left_at c.clear.new.disk c.fill.new.disk c.deref.result.now c.args.blocks (c.deref.ensures.value ∙ c.in_ok-bytes.ensures) (c.fill.ensures.any_moment told (c.in_ok-clear.ensures.ok told)))
+    c.in_ok-fill.ensures.tick
+    (λ bytes left. c.in_ok-fill.ensures.ok told (c.in_ok-clear.ensures.ok told) bytes left ∙ (c.deref.ensures.value ∙ c.in_ok-bytes.ensures))
     (c.open_head.ensures.any_moment told c.args.blocks c.requires.limits.0 c.requires.limits.1 (λ bytes left. c.in_ok-fill.ensures.ok told (c.in_ok-clear.ensures.ok told) bytes left ∙ (c.deref.ensures.value ∙ c.in_ok-bytes.ensures)))
 
 pub returns-clause-any_moment : goal.returns-clause-any_moment
 returns-clause-any_moment g c = λ told.
-    formats_late g.D.Disk.moment g.D.Disk.left_at c.args.disk.now c.fill.new.disk c.open_head.new.disk c.args.blocks
-    (filled g.D.Disk.moment g.D.Disk.left_at c.args.disk.now c.clear.new.disk c.fill.new.disk c.deref.result.now c.args.blocks (c.deref.ensures.value ∙ c.in_ok-bytes.ensures)
-    (c.clear.ensures.any_moment told) (c.fill.ensures.any_moment told (c.in_ok-clear.ensures.ok told)))
-    (omega (arith, c.in_ok-clear.ensures.tick, c.in_ok-fill.ensures.tick))
+    formats_opened g.D.Disk.moment g.D.Disk.left_at c.args.disk.now c.clear.new.disk c.fill.new.disk c.open_head.new.disk c.args.blocks
+    (c.clear.ensures.any_moment told) c.in_ok-clear.ensures.tick (c.in_ok-clear.ensures.ok told)
+    (written g.D.Disk.moment g.D.Disk.left_at c.clear.new.disk c.fill.new.disk c.deref.result.now c.args.blocks (c.deref.ensures.value ∙ c.in_ok-bytes.ensures) (c.fill.ensures.any_moment told (c.in_ok-clear.ensures.ok told)))
+    c.in_ok-fill.ensures.tick
+    (λ bytes left. c.in_ok-fill.ensures.ok told (c.in_ok-clear.ensures.ok told) bytes left ∙ (c.deref.ensures.value ∙ c.in_ok-bytes.ensures))
     (c.open_head.ensures.any_moment told c.args.blocks c.requires.limits.0 c.requires.limits.1 (λ bytes left. c.in_ok-fill.ensures.ok told (c.in_ok-clear.ensures.ok told) bytes left ∙ (c.deref.ensures.value ∙ c.in_ok-bytes.ensures)))
 
 pub returns-clause-written : goal.returns-clause-written
