@@ -1,20 +1,20 @@
 -- Where the parts of a text may be cut, it stays UTF-8.
-use Rattle.std.proofs.Common.{◌≡◌, ℕ, zero, suc, ◌+◌, ◌-◌, ◌*◌, ◌<◌, ◌≤◌, Bool, true, false, not, cond, eqb, ltb, leb, List, [], ◌∷◌, ◌++◌, length, take, drop, get_or, Option, Some, None, Result, Ok, Err, refl, sym, ap, subst, ◌∙◌, append_assoc, arith, inl, inr, ◌⊎◌}
-use Rattle.std.specs.Prelude.{◌==◌, nat_eq, nat_le, ◌||◌, ◌&&◌, option_and_then}
+use Rattle.std.proofs.Common.{◌≡◌, ℕ, zero, suc, ◌+◌, ◌-◌, ◌*◌, ◌<◌, ◌≤◌, Bool, true, false, not, cond, eqb, List, [], ◌∷◌, ◌++◌, length, drop, get_or, Option, Some, None, Ok, Err, refl, sym, ap, subst, ◌∙◌, append_assoc, arith, inl, inr, ◌⊎◌}
+use Rattle.std.specs.Prelude.{nat_eq, nat_le, ◌||◌, ◌&&◌, option_and_then}
 use Rattle.std.specs.List.{starts_with}
 use Rattle.std.specs.Str.{IsUtf8}
 use Rattle.std.specs.Char.{IsScalar, encode_utf8}
 use Rattle.std.specs.Cmp.Lexicographic.{pointwise}
-use Rattle.std.proofs.lemmas.Bool.{both_ways, cases_Bool, cases_lt, ne_eqb, eqb-true, leb-false, leb-true, or_cases, or_parts, and_parts, true≢false}
+use Rattle.std.proofs.lemmas.Bool.{cases_Bool, cases_lt, ne_eqb, eqb-true, leb-false, leb-true, or_cases, or_parts, and_parts}
 use Rattle.std.proofs.lemmas.Bool.Decides.{Decides-eqb}
 use Rattle.std.proofs.lemmas.Slice.Eq.{starts_is}
 use Rattle.std.proofs.lemmas.List.{append-nil, take_at, drop_at, length-append}
 use Rattle.std.proofs.lemmas.Str.{IsUtf8-take, IsUtf8-drop, IsUtf8-append, IsUtf8-encode, IsUtf8-nil, IsUtf8-from_ascii, IsUtf8-past_char, IsCharBoundary-before_ascii, IsCharBoundary-after_ascii}
-use Rattle.manifest_tree.specs.declared.fault.TreeKind.TheVariants.{Syntax, Entity}
-use Rattle.manifest_tree.specs.Lexis.{Fault, Read, white, allowed, name_first, name_byte, front, past, has_name, name_at, aside, begin, past_mark, past_declaration, past_white_mark, comment, target, instruction, upto, unit_at, referred, reference_at, numbered_at, number_at, digits_on, digit_of, base_of, is_character, character_of, named_at, plain, past_line_feed, quote_in, quote_at, expect, ◌>>=◌}
+use Rattle.manifest_tree.specs.declared.fault.TreeKind.TheVariants.{Syntax}
+use Rattle.manifest_tree.specs.Lexis.{Fault, Read, white, allowed, name_first, name_byte, front, past, has_name, aside, begin, past_mark, past_declaration, past_white_mark, comment, target, instruction, upto, unit_at, referred, reference_at, numbered_at, number_at, digits_on, digit_of, base_of, is_character, character_of, named_at, plain, past_line_feed, quote_in, quote_at, expect, ◌>>=◌}
 use Rattle.manifest_tree.proofs.Runs.{front-past}
 
-chosen : {A : Type 0} (b : Bool) (x y z : A) → cond b x y ≡ z → ((b ≡ true) × (x ≡ z)) ⊎ ((b ≡ false) × (y ≡ z))
+pub chosen : {A : Type 0} (b : Bool) (x y z : A) → cond b x y ≡ z → ((b ≡ true) × (x ≡ z)) ⊎ ((b ≡ false) × (y ≡ z))
 chosen true x y z e = inl (refl, e)
 chosen false x y z e = inr (refl, e)
 
@@ -107,19 +107,19 @@ utf8_past_name a u = (utf8_split a u).1
 
 -- ---- spellings and marks
 
-abbrev ok_of : {A : Type 0} → A → Read A
+abbrev pub ok_of : {A : Type 0} → A → Read A
 ok_of x = Ok x
 
-abbrev err_of : {A : Type 0} → Fault → Read A
+abbrev pub err_of : {A : Type 0} → Fault → Read A
 err_of fault = Err fault
 
-ok_is : {A : Type 0} (x y : A) → ok_of x ≡ ok_of y → x ≡ y
+pub ok_is : {A : Type 0} (x y : A) → ok_of x ≡ ok_of y → x ≡ y
 ok_is x y e = cc
 
-err_ok : {A : Type 0} (fault : Fault) (x : A) → err_of fault ≡ ok_of x → ⊥
+pub err_ok : {A : Type 0} (fault : Fault) (x : A) → err_of fault ≡ ok_of x → ⊥
 err_ok fault x e = cc
 
-bind_ok : {A B : Type 0} (r : Read A) (f : A → Read B) (y : B) → (r >>= f) ≡ Ok y → (x : A) × (r ≡ Ok x) × (f x ≡ Ok y)
+pub bind_ok : {A B : Type 0} (r : Read A) (f : A → Read B) (y : B) → (r >>= f) ≡ Ok y → (x : A) × (r ≡ Ok x) × (f x ≡ Ok y)
 bind_ok (Ok x) f y e = (x, refl, e)
 bind_ok (Err d) f y e = absurd (err_ok d y e)
 
@@ -132,7 +132,7 @@ expect_split (m ∷ ms) (c ∷ cs) r e =
       | inr p ↦ absurd (err_ok _ r p.1)
     ]
 
-starts_split : (a mark : List ℕ) → starts_with nat_eq a mark ≡ true → a ≡ mark ++ drop (length mark) a
+pub starts_split : (a mark : List ℕ) → starts_with nat_eq a mark ≡ true → a ≡ mark ++ drop (length mark) a
 starts_split a mark is = (starts_is Decides-eqb a mark (starts_with nat_eq a mark) refl).0 is
 
 upto_split : (mark a r : List ℕ) → upto mark a ≡ Ok r → (inside : List ℕ) × (a ≡ inside ++ (mark ++ r))
@@ -270,17 +270,17 @@ pub record Names (code : ℕ) (rest : List ℕ) : Type 0 where
   pub scalar : IsScalar code
   pub utf8 : IsUtf8 rest
 
-some_same : {A : Type 0} (x y : A) → Some x ≡ Some y → x ≡ y
+pub some_same : {A : Type 0} (x y : A) → Some x ≡ Some y → x ≡ y
 some_same x y e = cc
 
-none_is : {A : Type 0} (y : A) → None ≡ Some y → ⊥
+pub none_is : {A : Type 0} (y : A) → None ≡ Some y → ⊥
 none_is y e = cc
 
-then_some : {A B : Type 0} (o : Option A) (f : A → Option B) (y : B) → option_and_then f o ≡ Some y → (x : A) × (o ≡ Some x) × (f x ≡ Some y)
+pub then_some : {A B : Type 0} (o : Option A) (f : A → Option B) (y : B) → option_and_then f o ≡ Some y → (x : A) × (o ≡ Some x) × (f x ≡ Some y)
 then_some (Some x) f y e = (x, refl, e)
 then_some None f y e = absurd (none_is y e)
 
-abbrev some_of : ℕ → Option ℕ
+abbrev pub some_of : ℕ → Option ℕ
 some_of n = Some n
 
 digit_ascii : (hexadecimal : Bool) (c d : ℕ) → digit_of hexadecimal c ≡ Some d → c < 128
@@ -298,7 +298,7 @@ digit_ascii hexadecimal c d e =
       ]
     ]
 
-abbrev number_some : ℕ → List ℕ → Option (ℕ × List ℕ)
+abbrev pub number_some : ℕ → List ℕ → Option (ℕ × List ℕ)
 number_some n rest = Some (n, rest)
 
 utf8_digits : (hexadecimal : Bool) (more n : ℕ) (a : List ℕ) (found : ℕ × List ℕ) → digits_on hexadecimal more n a ≡ Some found → IsUtf8 a → IsUtf8 found.1

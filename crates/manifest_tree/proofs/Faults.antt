@@ -1,5 +1,5 @@
 -- Where reading stops, and why.
-use Rattle.std.proofs.Common.{◌≡◌, ℕ, zero, suc, ◌+◌, ◌-◌, ◌<◌, ◌≤◌, Bool, true, false, not, cond, eqb, List, [], ◌∷◌, ◌++◌, length, drop, Option, Some, None, Result, Ok, Err, refl, sym, ap, subst, ◌∙◌, arith, inl, inr, ◌⊎◌}
+use Rattle.std.proofs.Common.{◌≡◌, ℕ, ◌-◌, ◌≤◌, Bool, true, false, not, cond, eqb, List, [], ◌∷◌, ◌++◌, length, drop, Option, Some, None, Ok, Err, refl, sym, ap, subst, ◌∙◌, arith, inl, inr, ◌⊎◌}
 use Rattle.std.specs.Prelude.{◌==◌, nat_eq, nat_lt, ◌||◌}
 use Rattle.std.specs.List.{starts_with}
 use Rattle.std.specs.Str.{bytes_eq, IsUtf8}
@@ -13,10 +13,14 @@ use Rattle.manifest_tree.specs.declared.fault.TreeKind.{TreeKind}
 use Rattle.manifest_tree.specs.declared.fault.TreeKind.TheVariants.{Syntax, Entity, TooDeep, TagMismatch, AttributeTwice}
 use Rattle.manifest_tree.specs.declared.node.Attribute.{Attribute}
 use Rattle.manifest_tree.specs.Lexis.{Fault, Read, white, allowed, name_byte, past, has_name, name_at, aside, begin, past_mark, past_declaration, past_white_mark, comment, target, instruction, upto, unit_at, referred, reference_at, plain, past_line_feed, quote_in, quote_at, is_among, TagTurn, attribute, opens, closes, tag_turn, turn_at, attribute_at, end_at, expect, ◌>>=◌}
-use Rattle.manifest_tree.specs.Tree.{Tree, tree, none}
-use Rattle.manifest_tree.specs.Refusals.{Stands, InTag, InValue, IsBehind, IsFault, entity, entity_in_value, mismatch, twice, deep, IsRefusal, other, syntax, Refuses}
-use Rattle.manifest_tree.specs.Reading.{Spot, start, before, inside, in_tag, in_value, behind, Next, go, stop, done, onward, OpenTree, finished, with_text, opened, names_of, placed, next, root_step, before_step, markup_step, apart_step, inside_step, turned, tag_step, value_step, behind_apart, behind_step, Reads, Stops}
+use Rattle.manifest_tree.specs.Tree.{Tree}
+use Rattle.manifest_tree.specs.Refusals.{Stands, InTag, InValue, IsFault, entity, entity_in_value, mismatch, twice, deep, IsRefusal, other, syntax, Refuses}
+use Rattle.manifest_tree.specs.Reading.{Spot, start, before, inside, in_tag, in_value, behind, Next, go, stop, done, onward, OpenTree, finished, with_text, names_of, placed, next, root_step, before_step, markup_step, apart_step, inside_step, turned, tag_step, value_step, behind_apart, behind_step, Stops}
+use Rattle.manifest_tree.proofs.Flat.{one_fault}
+use Rattle.manifest_tree.proofs.Fronts.{sticks_lost}
 use Rattle.manifest_tree.proofs.Nested.{Holds, steps_hold}
+use Rattle.manifest_tree.proofs.Sticking.{stops_stick}
+use Rattle.manifest_tree.proofs.Stopping.{fault_stops, fault_other}
 
 chosen : {A : Type 0} (b : Bool) (x y z : A) → cond b x y ≡ z → ((b ≡ true) × (x ≡ z)) ⊎ ((b ≡ false) × (y ≡ z))
 chosen true x y z e = inl (refl, e)
@@ -359,10 +363,15 @@ module _ (whole : List ℕ) where
 
 -- ---- the refusal
 
+form_refused : (bytes : List ℕ) (left place : ℕ) → length bytes ≤ 4194304 → IsUtf8 bytes → Stops start bytes (Syntax, left) → place ≡ length bytes - left → IsRefusal bytes Syntax place
+form_refused bytes left place short utf8 p place_is =
+    syntax short utf8 (sticks_lost bytes left place (stops_stick bytes left p) place_is)
+    (λ kind rest fault. absurd (fault_other bytes fault (ap (λ (f : Fault). f.0) (one_fault bytes (kind, length rest) (Syntax, left) (fault_stops bytes fault) p))))
+
 pub refused_at : (bytes : List ℕ) (kind : TreeKind) (left place : ℕ) → length bytes ≤ 4194304 → IsUtf8 bytes → Stops start bytes (kind, left) → place ≡ length bytes - left → IsRefusal bytes kind place
 refused_at bytes kind left place short utf8 p place_is =
     elim (stops_say bytes (kind, left) p) [
-      | inl form ↦ subst (λ (k : TreeKind). IsRefusal bytes k place) (sym form) (syntax short utf8 (subst (λ (k : TreeKind). Stops start bytes (k, left)) form p) place_is)
+      | inl form ↦ subst (λ (k : TreeKind). IsRefusal bytes k place) (sym form) (form_refused bytes left place short utf8 (subst (λ (k : TreeKind). Stops start bytes (k, left)) form p) place_is)
       | inr x ↦ other short utf8 x.1 (place_is ∙ ap (λ (n : ℕ). length bytes - n) x.2)
     ]
 

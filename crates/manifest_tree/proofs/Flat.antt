@@ -1,15 +1,14 @@
 -- What is in the grammar is read.
-use Rattle.std.proofs.Common.{◌≡◌, ℕ, zero, suc, ◌+◌, ◌<◌, ◌≤◌, Bool, true, false, cond, eqb, List, [], ◌∷◌, ◌++◌, length, Option, Some, None, Result, Ok, Err, refl, sym, ap, subst, ◌∙◌, append_assoc, arith, inl, inr}
-use Rattle.std.specs.Prelude.{◌==◌, map, nat_lt}
-use Rattle.std.specs.Str.{bytes_eq}
+use Rattle.std.proofs.Common.{◌≡◌, ℕ, suc, ◌<◌, true, false, eqb, List, [], ◌∷◌, ◌++◌, length, Some, None, Ok, refl, sym, ap, subst, ◌∙◌, append_assoc, arith, inl, inr}
+use Rattle.std.specs.Prelude.{◌==◌}
 use Rattle.std.specs.Cmp.Lexicographic.{bytes_decides}
 use Rattle.std.proofs.lemmas.Bool.{both_ways, eqb-true, eq-eqb, lt-ltb, cases_Bool}
 use Rattle.std.proofs.lemmas.List.{append-nil, map-append}
 use Rattle.manifest_tree.specs.declared.node.Attribute.{Attribute}
-use Rattle.manifest_tree.specs.Lexis.{Fault, Read, white, name_first, name_byte, past, has_name, name_at, aside, begin, unit_at, quote_at, is_among, TagTurn, attribute, opens, closes, tag_turn, turn_at, attribute_at, end_at, expect, ◌>>=◌}
+use Rattle.manifest_tree.specs.Lexis.{Fault, white, name_first, name_byte, past, has_name, name_at, aside, begin, unit_at, quote_at, is_among, attribute, opens, closes, tag_turn, turn_at, attribute_at, end_at}
 use Rattle.manifest_tree.specs.Tree.{Tree, Trees, tree, none, more, with_last, joined}
 use Rattle.manifest_tree.specs.Grammar.{Misc, nothing, space, note, Units, no_unit, one_unit, IsAttribute, Attributes, no_attribute, one_attribute, IsStart, IsEnd, Element, empty, full, Content, no_content, data_unit, note_inside, child, SpellsTree}
-use Rattle.manifest_tree.specs.Reading.{Spot, start, before, inside, in_tag, in_value, behind, Next, go, stop, done, onward, OpenTree, finished, with_child, with_text, opened, names_of, placed, next, root_step, before_step, markup_step, apart_step, inside_step, turned, tag_step, value_step, behind_apart, behind_step, Reads, here, step, Stops}
+use Rattle.manifest_tree.specs.Reading.{Spot, start, before, inside, in_tag, in_value, behind, go, stop, done, onward, OpenTree, finished, with_child, with_text, opened, names_of, placed, next, root_step, before_step, markup_step, apart_step, inside_step, turned, tag_step, value_step, behind_apart, behind_step, Reads, here, step, Stops}
 use Rattle.manifest_tree.proofs.Steps.{reads_join, reads_then, goes_on}
 
 -- ---- before and behind the root
@@ -34,7 +33,7 @@ behind_note : (t : Tree) (bytes : List ℕ) → next (behind t) (60 ∷ bytes) �
 unfolding behind_step
 behind_note t bytes = rw sixty_is_solid refl
 
-misc_before : {a b : List ℕ} → Misc a b → Reads before a before b
+pub misc_before : {a b : List ℕ} → Misc a b → Reads before a before b
 misc_before nothing = here
 misc_before (space {c = c} {bytes = bytes} blank p) = step (before_blank c bytes blank) (misc_before p)
 misc_before (note {bytes = bytes} {after = after} is p) = reads_join (goes_on (aside bytes) (Some after) (root_step bytes) here (before_note bytes) is refl) (misc_before p)
@@ -54,34 +53,34 @@ attribute_turn names w quote after of named of_is new quoted =
     rw (named, new_too, quoted, ← of_is) refl
 
 -- a byte that a name begins with is none that it does not
-not_first : (c k : ℕ) → name_first c ≡ true → name_first k ≡ false → eqb c k ≡ false
+pub not_first : (c k : ℕ) → name_first c ≡ true → name_first k ≡ false → eqb c k ≡ false
 not_first c k named other =
     elim (cases_Bool (eqb c k)) [
       | inl same ↦ absurd (both_ways (name_first k) other (ap name_first (sym (eqb-true c k same)) ∙ named))
       | inr differ ↦ differ
     ]
 
-bang : name_first 33 ≡ false
+pub bang : name_first 33 ≡ false
 unfolding name_first
 bang = refl
 
-slash : name_first 47 ≡ false
+pub slash : name_first 47 ≡ false
 unfolding name_first
 slash = refl
 
-greater : name_first 62 ≡ false
+pub greater : name_first 62 ≡ false
 unfolding name_first
 greater = refl
 
-question : name_first 63 ≡ false
+pub question : name_first 63 ≡ false
 unfolding name_first
 question = refl
 
-named_aside : (tag : List ℕ) → has_name tag ≡ true → aside tag ≡ Ok None
+pub named_aside : (tag : List ℕ) → has_name tag ≡ true → aside tag ≡ Ok None
 named_aside [] named = absurd (both_ways false refl named)
 named_aside (c ∷ cs) named = rw (not_first c 33 named bang, not_first c 63 named question) refl
 
-named_turn : (names : List (List ℕ)) (w : List ℕ) (quote : ℕ) (after of : List ℕ) → has_name w ≡ true → of ≡ name_at w → is_among names of ≡ false → quote_at (past name_byte w) ≡ Ok (quote, after)
+pub named_turn : (names : List (List ℕ)) (w : List ℕ) (quote : ℕ) (after of : List ℕ) → has_name w ≡ true → of ≡ name_at w → is_among names of ≡ false → quote_at (past name_byte w) ≡ Ok (quote, after)
     → turn_at names false w ≡ Ok (attribute of quote, after)
 named_turn names [] quote after of named of_is new quoted = absurd (both_ways false refl named)
 named_turn names (c ∷ cs) quote after of named of_is new quoted =
@@ -98,7 +97,7 @@ module _ (name : List ℕ) (around : List OpenTree) where
   unfolding value_step
   value_end attributes of quote value cs = rw (eq-eqb quote quote refl) refl
 
-  units_read : (attributes : List Attribute) (of : List ℕ) {quote : ℕ} (value : List ℕ) {a v b : List ℕ} → Units quote a v b
+  pub units_read : (attributes : List Attribute) (of : List ℕ) {quote : ℕ} (value : List ℕ) {a v b : List ℕ} → Units quote a v b
       → Reads (in_value name attributes of quote value around) a (in_value name attributes of quote (value ++ v) around) b
   units_read attributes of {quote} value {a} {v} {b} no_unit =
       subst (λ (l : List ℕ). Reads (in_value name attributes of quote value around) a (in_value name attributes of quote l around) a) (sym (append-nil value)) here
@@ -107,7 +106,7 @@ module _ (name : List ℕ) (around : List OpenTree) where
       let all = reads_join first (units_read attributes of (value ++ piece) p) in
       subst (λ (l : List ℕ). Reads (in_value name attributes of quote value around) (c ∷ cs) (in_value name attributes of quote l around) b) (append_assoc value piece w ∙ ap (λ (l : List ℕ). value ++ l) (sym is)) all
 
-  tag_next : (attributes : List Attribute) (bytes : List ℕ) → next (in_tag name attributes around) bytes ≡ onward (tag_turn (names_of attributes) bytes) (turned name attributes around)
+  pub tag_next : (attributes : List Attribute) (bytes : List ℕ) → next (in_tag name attributes around) bytes ≡ onward (tag_turn (names_of attributes) bytes) (turned name attributes around)
   unfolding tag_step
   tag_next attributes bytes = refl
 
@@ -130,7 +129,7 @@ module _ (name : List ℕ) (around : List OpenTree) where
       subst (λ (l : List Attribute). Reads (in_tag name attributes around) a (in_tag name l around) b) (append_assoc attributes (x ∷ []) others)
       (reads_join first (attributes_read (attributes ++ x ∷ []) names_then p))
 
-  opens_read : (attributes : List Attribute) (a b : List ℕ) → past white a ≡ 62 ∷ b → Reads (in_tag name attributes around) a (inside (opened name attributes) around) b
+  pub opens_read : (attributes : List Attribute) (a b : List ℕ) → past white a ≡ 62 ∷ b → Reads (in_tag name attributes around) a (inside (opened name attributes) around) b
   opens_read attributes a b is =
       let turn : turn_at (names_of attributes) (length (past white a) == length a) (past white a) ≡ Ok (opens, b) = rw is refl in
       goes_on (tag_turn (names_of attributes) a) (opens, b) (turned name attributes around) here (tag_next attributes a) turn refl
@@ -149,7 +148,7 @@ pub record ElementRead (level : ℕ) (a : List ℕ) (t : Tree) (b : List ℕ) (a
   pub named : has_name tag ≡ true
   pub reads : Reads (in_tag (name_at tag) [] around) (past name_byte tag) (placed t around) b
 
-inside_next : (o : OpenTree) (around : List OpenTree) (bytes : List ℕ) → next (inside o around) (60 ∷ bytes) ≡ onward (aside bytes) (apart_step o around bytes)
+pub inside_next : (o : OpenTree) (around : List OpenTree) (bytes : List ℕ) → next (inside o around) (60 ∷ bytes) ≡ onward (aside bytes) (apart_step o around bytes)
 unfolding inside_step
 inside_next o around bytes = refl
 
@@ -176,7 +175,7 @@ markup_start : (o : OpenTree) (around : List OpenTree) (tag : List ℕ) → has_
 markup_start o around [] named shallow = absurd (both_ways false refl named)
 markup_start o around (c ∷ cs) named shallow = rw (not_first c 47 named slash, named, lt-ltb _ _ shallow) refl
 
-inside_start : (o : OpenTree) (around : List OpenTree) (tag : List ℕ) → has_name tag ≡ true → length around < 63 → Reads (inside o around) (60 ∷ tag) (in_tag (name_at tag) [] (o ∷ around)) (past name_byte tag)
+pub inside_start : (o : OpenTree) (around : List OpenTree) (tag : List ℕ) → has_name tag ≡ true → length around < 63 → Reads (inside o around) (60 ∷ tag) (in_tag (name_at tag) [] (o ∷ around)) (past name_byte tag)
 inside_start o around tag named shallow =
     goes_on (aside tag) None (apart_step o around tag) here (inside_next o around tag) (named_aside tag named) (markup_start o around tag named shallow)
 
@@ -221,7 +220,7 @@ content_text o piece text ts = ap (λ (l : List ℕ). record { name = o.name; at
 content_child : (o : OpenTree) (t : Tree) (ts : Trees) (text : List ℕ) → with_content (with_child o t) ts text ≡ with_content o (more t ts) text
 content_child o t ts text = ap (λ (us : Trees). record { name = o.name; attributes = o.attributes; children = us; text = o.text ++ text }) (last_joined o.children t ts)
 
-tag_read : (level : ℕ) (b name after : List ℕ) (attributes : List Attribute) (around : List OpenTree) → IsStart b name attributes after → Reads (in_tag (name_at b) [] around) (past name_byte b) (in_tag name attributes around) after
+pub tag_read : (level : ℕ) (b name after : List ℕ) (attributes : List Attribute) (around : List OpenTree) → IsStart b name attributes after → Reads (in_tag (name_at b) [] around) (past name_byte b) (in_tag name attributes around) after
 tag_read level b name after attributes around is =
     subst (λ (n : List ℕ). Reads (in_tag (name_at b) [] around) (past name_byte b) (in_tag n attributes around) after) (sym is.name_is) (attributes_read (name_at b) around [] refl is.attributes_are)
 
@@ -250,7 +249,7 @@ mutual
             (reads_join (content_read within (opened name attributes) around (ap suc level_is)) (inside_end (with_content (opened name attributes) children text) around end rest ends)));
       }
 
-  content_read : {level : ℕ} {a b text : List ℕ} {ts : Trees} → Content level a ts text b → (o : OpenTree) (around : List OpenTree) → level ≡ suc (suc (length around)) → Reads (inside o around) a (inside (with_content o ts text) around) b
+  pub content_read : {level : ℕ} {a b text : List ℕ} {ts : Trees} → Content level a ts text b → (o : OpenTree) (around : List OpenTree) → level ≡ suc (suc (length around)) → Reads (inside o around) a (inside (with_content o ts text) around) b
   content_read no_content o around level_is = inside_to o (with_content o none []) around (sym (content_none o)) here
   content_read (data_unit {bytes = bytes} {after = after} {piece = piece} {text = text} {whole = whole} {rest = rest} {children = ts} read p is) o around level_is =
       inside_to (with_content (with_text o piece) ts text) (with_content o ts whole) around (content_text o piece text ts ∙ ap (with_content o ts) (sym is))
@@ -262,7 +261,7 @@ mutual
 
 -- ---- the whole text
 
-before_start : (tag : List ℕ) → has_name tag ≡ true → Reads before (60 ∷ tag) (in_tag (name_at tag) [] []) (past name_byte tag)
+pub before_start : (tag : List ℕ) → has_name tag ≡ true → Reads before (60 ∷ tag) (in_tag (name_at tag) [] []) (past name_byte tag)
 before_start tag named = goes_on (aside tag) None (root_step tag) here (before_note tag) (named_aside tag named) (rw named refl)
 
 root_read : (a b : List ℕ) (t : Tree) → Element 1 a t b → Reads before a (behind t) b

@@ -1,11 +1,10 @@
 -- Steps of reading, one behind the other.
-use Rattle.std.proofs.Common.{◌≡◌, ℕ, zero, suc, Bool, true, false, cond, eqb, List, [], ◌∷◌, ◌++◌, length, Result, Ok, Err, Option, Some, None, refl, sym, ap, subst, ◌∙◌, append_assoc, arith}
-use Rattle.std.specs.Prelude.{◌==◌, IsSome, IfSome, ◌↔◌, ◌+◌, ◌<◌, ◌≤◌, map}
+use Rattle.std.proofs.Common.{◌≡◌, ℕ, zero, suc, true, false, List, [], ◌∷◌, ◌++◌, length, Result, Ok, Err, Option, Some, None, refl, sym, ap, subst, ◌∙◌, append_assoc, arith}
+use Rattle.std.specs.Prelude.{IsSome, IfSome, ◌↔◌, ◌+◌, ◌<◌, ◌≤◌, map}
 use Rattle.std.proofs.lemmas.Bool.{both_ways, ne_eqb, eq-eqb, lt-ltb, le-ltb}
 use Rattle.std.proofs.lemmas.List.{map-append, length-map, length-reverse, append-nil, nil_from_length}
 use Rattle.manifest_tree.specs.declared.fault.Stop.{Stop}
 use Rattle.manifest_tree.specs.declared.fault.Stop.TheVariants as stops
-use Rattle.manifest_tree.specs.declared.fault.TreeKind.{TreeKind}
 use Rattle.manifest_tree.specs.declared.fault.TreeKind.TheVariants.{Syntax, TooDeep}
 use Rattle.manifest_tree.specs.declared.node.Attribute.{Attribute}
 use Rattle.std.specs.Borrow.{Bor}
@@ -14,9 +13,9 @@ use Rattle.manifest_tree.specs.declared.tag.Turn.TheVariants as turns
 use Rattle.manifest_tree.specs.Lexis.{Fault, Read, unit_at, TagTurn, attribute, opens, closes, tag_turn, white, name_byte, past, has_name, name_at, aside, end_at, begin}
 use Rattle.manifest_tree.specs.Pieces.{turn_in, open_tree, opens_of}
 use Rattle.manifest_tree.specs.declared.opened.Opened.{Opened}
-use Rattle.manifest_tree.specs.Tree.{Tree, Trees, tree, none, more, trees, with_last, tree_of}
+use Rattle.manifest_tree.specs.Tree.{Tree, tree, none, more, trees, with_last, tree_of}
 use Rattle.manifest_tree.specs.declared.node.Node.{Node}
-use Rattle.manifest_tree.specs.Reading.{Spot, Next, go, stop, done, OpenTree, start, with_text, inside, in_tag, in_value, next, onward, before, behind, finished, value_step, inside_step, apart_step, markup_step, before_step, root_step, behind_step, behind_apart, tag_step, turned, opened, placed, names_of, Reads, here, step, Stops}
+use Rattle.manifest_tree.specs.Reading.{Spot, Next, go, stop, OpenTree, start, with_text, inside, in_tag, in_value, next, onward, before, behind, finished, value_step, inside_step, apart_step, markup_step, before_step, root_step, behind_step, behind_apart, tag_step, turned, opened, placed, names_of, Reads, here, step, Stops}
 use Rattle.manifest_tree.specs.Outcome.{Fails, FailsText, Gives, GivesText, TextsAt, StopsBy, Leads, maybe}
 use Rattle.std.specs.Str.{IsUtf8}
 use Rattle.std.proofs.lemmas.Str.{IsUtf8-nil}
@@ -298,6 +297,9 @@ pub only_memory : {A : Type 0} (s : Spot) (a : List ℕ) (x : A) (e : Stop) → 
 only_memory s a x stops.Memory fails = tt
 only_memory s a x stops.NotText fails = absurd fails
 only_memory s a x (stops.Fault kind left) fails = absurd cc
+
+pub memory_stops : (s : Spot) (a : List ℕ) (e : Stop) → e ≡ stops.Memory → StopsBy s a e
+memory_stops s a e is = subst (StopsBy s a) (sym is) tt
 
 pub to_spot : {s t u : Spot} {a b : List ℕ} → Reads s a t b → u ≡ t → Reads s a u b
 to_spot {s} {t} {u} {a} {b} p is = subst (λ (v : Spot). Reads s a v b) (sym is) p

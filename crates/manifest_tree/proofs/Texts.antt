@@ -1,17 +1,16 @@
 -- In a text that is UTF-8, names, values and character data are UTF-8.
-use Rattle.std.proofs.Common.{◌≡◌, ℕ, zero, suc, ◌+◌, ◌<◌, Bool, true, false, List, [], ◌∷◌, ◌++◌, length, Option, Some, None, Result, Ok, Err, refl, sym, ap, subst, ◌∙◌, append_assoc, arith}
-use Rattle.std.specs.Prelude.{◌==◌}
+use Rattle.std.proofs.Common.{◌≡◌, ℕ, ◌<◌, true, false, List, [], ◌∷◌, ◌++◌, refl, sym, ap, subst, ◌∙◌, append_assoc, arith}
 use Rattle.std.specs.Str.{IsUtf8}
 use Rattle.std.proofs.lemmas.List.{append-nil}
 use Rattle.std.proofs.lemmas.Str.{IsUtf8-append}
 use Rattle.manifest_tree.specs.declared.node.Attribute.{Attribute}
-use Rattle.manifest_tree.specs.Lexis.{white, name_byte, past, has_name, name_at, aside, begin, unit_at, quote_at}
+use Rattle.manifest_tree.specs.Lexis.{white, name_byte, past}
 use Rattle.manifest_tree.specs.Tree.{Tree, Trees}
 use Rattle.manifest_tree.specs.Grammar.{Misc, nothing, space, note, Units, no_unit, one_unit, IsAttribute, Attributes, no_attribute, one_attribute, IsStart, IsEnd, Element, empty, full, Content, no_content, data_unit, note_inside, child}
-use Rattle.manifest_tree.specs.Refusals.{Stands, outside, within, InTag, InValue}
-use Rattle.manifest_tree.specs.Reading.{Spot, start, before, inside, in_tag, in_value, behind, OpenTree, Reads}
+use Rattle.manifest_tree.specs.Refusals.{Stands, outside, within, InTag}
+use Rattle.manifest_tree.specs.Reading.{Spot, start, before, inside, in_tag, in_value, behind, OpenTree}
 use Rattle.manifest_tree.specs.Outcome.{TextsAt, NoText}
-use Rattle.manifest_tree.proofs.Cuts.{utf8_front, utf8_back, utf8_tail, utf8_past, utf8_white, utf8_name, utf8_past_name, utf8_aside, utf8_begin, utf8_unit, opens_value, white_ascii}
+use Rattle.manifest_tree.proofs.Cuts.{utf8_front, utf8_tail, utf8_past, utf8_white, utf8_name, utf8_past_name, utf8_aside, utf8_begin, utf8_unit, opens_value, white_ascii}
 use Rattle.manifest_tree.proofs.Nested.{Holds, steps_hold}
 
 misc_utf8 : {a b : List ℕ} → Misc a b → IsUtf8 a → IsUtf8 b

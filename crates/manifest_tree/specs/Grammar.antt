@@ -1,5 +1,5 @@
 -- What a text spells. In each relation the first list of bytes begins with the part, and the last is what stands behind it.
-use Rattle.std.specs.Prelude.{◌≡◌, ℕ, suc, ◌+◌, ◌<◌, ◌≤◌, Bool, true, false, ◌==◌, List, [], ◌∷◌, ◌++◌, length, map, Option, Some, None, Result, Ok, Err}
+use Rattle.std.specs.Prelude.{◌≡◌, ℕ, suc, ◌<◌, ◌≤◌, true, false, ◌==◌, List, [], ◌∷◌, ◌++◌, length, Some, Ok}
 use Rattle.std.specs.Str.{IsUtf8}
 use Rattle.manifest_tree.specs.declared.node.Attribute.{Attribute}
 use Rattle.manifest_tree.specs.declared.node.Node.{Node}

@@ -1,7 +1,9 @@
 pub mod Grammar
 pub mod Lexis
+pub mod Loose
 pub mod Outcome
 pub mod Pieces
 pub mod Reading
 pub mod Refusals
 pub mod Tree
+pub mod Writing

@@ -1,11 +1,10 @@
 -- What a function of the reader answers, against what the definitions give. Memory may always run out.
-use Rattle.std.specs.Prelude.{◌≡◌, ℕ, List, [], ◌∷◌, Option, Some, None, Result, Ok, Err, option_map}
+use Rattle.std.specs.Prelude.{◌≡◌, ℕ, List, ◌∷◌, Option, Result, Ok, Err, option_map}
 use Rattle.std.specs.Borrow.{Bor}
 use Rattle.std.specs.Str.{IsUtf8}
-use Rattle.manifest_tree.specs.declared.fault.TreeKind.{TreeKind}
 use Rattle.manifest_tree.specs.declared.fault.Stop.{Stop}
 use Rattle.manifest_tree.specs.declared.fault.Stop.TheVariants as stops
-use Rattle.manifest_tree.specs.Lexis.{Fault, Read}
+use Rattle.manifest_tree.specs.Lexis.{Read}
 use Rattle.manifest_tree.specs.Reading.{Spot, start, before, inside, in_tag, in_value, behind, Reads, Stops}
 
 -- the same fault, or want of memory

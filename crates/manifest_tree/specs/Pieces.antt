@@ -1,6 +1,9 @@
 -- What the reader's own types stand for.
-use Rattle.std.specs.Prelude.{◌≡◌, ℕ, Bool, true, false, List, [], ◌∷◌, ◌++◌, map, reverse, Option, Some, None, encode_utf8, if◌then◌else◌}
+use Rattle.std.specs.Prelude.{◌≡◌, ℕ, Bool, ◌&&◌, not, ◌==◌, nat_le, List, [], ◌∷◌, map, reverse, drop, Option, Some, None, is_some, encode_utf8, if◌then◌else◌}
 use Rattle.std.specs.Borrow.{Bor}
+use Rattle.std.specs.BTreeMap.{BTreeMap, get_by}
+use Rattle.std.specs.Cmp.Lexicographic.{slice_cmp}
+use Rattle.std.specs.Ordering.{nat_cmp}
 use Rattle.manifest_tree.specs.declared.node.Attribute.{Attribute}
 use Rattle.manifest_tree.specs.declared.units.Piece.{Piece}
 use Rattle.manifest_tree.specs.declared.units.Piece.TheVariants as pieces
@@ -11,8 +14,8 @@ use Rattle.manifest_tree.specs.declared.opened.Opened.{Opened}
 use Rattle.manifest_tree.specs.declared.opened.Stack.{Stack}
 use Rattle.manifest_tree.specs.declared.opened.Position.{Position}
 use Rattle.manifest_tree.specs.declared.opened.Position.TheVariants as positions
-use Rattle.manifest_tree.specs.Lexis.{TagTurn, attribute, opens, closes}
-use Rattle.manifest_tree.specs.Reading.{Spot, inside, behind, OpenTree, opened, placed}
+use Rattle.manifest_tree.specs.Lexis.{TagTurn, attribute, opens, closes, is_among}
+use Rattle.manifest_tree.specs.Reading.{Spot, inside, behind, OpenTree, opened, names_of, placed}
 use Rattle.manifest_tree.specs.Tree.{tree, none, trees, tree_of}
 
 abbrev pub piece_of : Piece → List ℕ
@@ -21,6 +24,10 @@ piece_of (pieces.Character c) = encode_utf8 c
 
 abbrev pub piece_and_rest : Piece × Bor (List ℕ) → List ℕ × List ℕ
 piece_and_rest found = (piece_of found.0, found.1.now)
+
+-- a byte that stands for itself in character data and in a value, and is not the one that ends the run
+unfoldable pub itself : ℕ → ℕ → Bool
+itself until c = nat_le 32 c && not (c == 60) && not (c == 38) && not (c == until)
 
 abbrev pub turn_in : Turn → TagTurn
 turn_in (turns.Attribute name quote) = attribute name.now quote
@@ -48,6 +55,14 @@ around_of (Some s) = open_tree s.top ∷ below_of s
 abbrev pub spot_of : Position → Spot
 spot_of (positions.Inside s) = inside (open_tree s.top) (below_of s)
 spot_of (positions.Behind node) = behind (tree_of node)
+
+-- whether a map of names has this one
+abbrev pub has_late : {X : Type 0} → BTreeMap (Bor (List ℕ)) X → List ℕ → Bool
+has_late late name = is_some (get_by (λ k. slice_cmp nat_cmp name k.now) late)
+
+-- the map has the names of the attributes behind the first eight
+abbrev pub HasLate : {X : Type 0} → BTreeMap (Bor (List ℕ)) X → List Attribute → Type 0
+HasLate late attributes = (name : List ℕ) → has_late late name ≡ is_among (names_of (drop 8 attributes)) name
 
 -- where a start tag leads
 abbrev pub tag_spot : Tag → List OpenTree → Spot

@@ -1,10 +1,9 @@
 -- Reading a text from front to back, with the elements that are open.
-use Rattle.std.specs.Prelude.{◌≡◌, ℕ, ◌+◌, Bool, true, false, ◌==◌, nat_lt, List, [], ◌∷◌, ◌++◌, length, map, Option, Some, None, Result, Ok, Err, if◌then◌else◌}
-use Rattle.manifest_tree.specs.declared.fault.TreeKind.{TreeKind}
+use Rattle.std.specs.Prelude.{◌≡◌, ℕ, true, false, ◌==◌, nat_lt, List, [], ◌∷◌, ◌++◌, length, map, Option, Some, None, Ok, Err, if◌then◌else◌}
 use Rattle.manifest_tree.specs.declared.fault.TreeKind.TheVariants.{Syntax, TooDeep}
 use Rattle.manifest_tree.specs.declared.node.Attribute.{Attribute}
 use Rattle.manifest_tree.specs.Lexis.{Fault, Read, white, name_byte, past, has_name, name_at, aside, begin, unit_at, TagTurn, attribute, opens, closes, tag_turn, end_at}
-use Rattle.manifest_tree.specs.Tree.{Tree, Trees, tree, none, more, with_last}
+use Rattle.manifest_tree.specs.Tree.{Tree, Trees, tree, none, with_last}
 
 -- an element whose end tag has not come, attributes far attributes it was read
 pub record OpenTree : Type 0 where

@@ -1,5 +1,5 @@
 -- The fault of a text: its kind, and where it stands.
-use Rattle.std.specs.Prelude.{◌≡◌, ℕ, suc, ◌+◌, ◌-◌, ◌<◌, ◌≤◌, Bool, true, false, ◌==◌, List, [], ◌∷◌, ◌++◌, length, Option, Some, None, Result, Ok, Err}
+use Rattle.std.specs.Prelude.{◌≡◌, ℕ, suc, ◌-◌, ◌<◌, ◌≤◌, true, false, ◌==◌, List, [], ◌∷◌, length, None, Result, Ok, Err}
 use Rattle.std.specs.Str.{IsUtf8, IsValidUpTo, bytes_eq}
 use Rattle.manifest_tree.specs.declared.fault.TreeKind.{TreeKind}
 use Rattle.manifest_tree.specs.declared.fault.TreeKind.TheVariants.{NotUtf8, Syntax, Entity, TagMismatch, AttributeTwice, TooDeep, TooLong}
@@ -9,8 +9,9 @@ use Rattle.manifest_tree.specs.declared.node.Attribute.{Attribute}
 use Rattle.manifest_tree.specs.Lexis.{white, name_byte, past, has_name, name_at, begin, quote_at, is_among, reference_at}
 use Rattle.manifest_tree.specs.declared.node.Node.{Node}
 use Rattle.manifest_tree.specs.Tree.{Tree, Trees, tree_of}
-use Rattle.manifest_tree.specs.Grammar.{Misc, Units, Attributes, IsStart, Element, Content}
-use Rattle.manifest_tree.specs.Reading.{OpenTree, names_of, start, Stops}
+use Rattle.manifest_tree.specs.Grammar.{Misc, Units, IsStart, Element, Content}
+use Rattle.manifest_tree.specs.Loose.{IsLost}
+use Rattle.manifest_tree.specs.Reading.{OpenTree, names_of}
 
 module _ (whole : List ℕ) where
   -- Reading stands in the content of these elements, from the innermost to the root, and these bytes are left; where no
@@ -72,8 +73,10 @@ pub data IsRefusal (bytes : List ℕ) : TreeKind → ℕ → Type 0 where
   -- the place is that of the first byte that is no UTF-8
   not_utf8 : {place : ℕ} → length bytes ≤ 4194304 → (IsUtf8 bytes → ⊥) → IsValidUpTo bytes place → IsRefusal bytes NotUtf8 place
   other : {kind : TreeKind} {rest : List ℕ} {place : ℕ} → length bytes ≤ 4194304 → IsUtf8 bytes → IsFault bytes kind rest → place ≡ length bytes - length rest → IsRefusal bytes kind place
-  -- reading cannot go on: at a byte, or at the end
-  syntax : {left place : ℕ} → length bytes ≤ 4194304 → IsUtf8 bytes → Stops start bytes (Syntax, left) → place ≡ length bytes - left → IsRefusal bytes Syntax place
+  -- the place is that of the first byte with which the bytes so far begin no text, or the end, and no other fault stands
+  -- there or before it
+  syntax : {place : ℕ} → length bytes ≤ 4194304 → IsUtf8 bytes → IsLost bytes place → ((kind : TreeKind) (rest : List ℕ) → IsFault bytes kind rest → place < length bytes - length rest)
+      → IsRefusal bytes Syntax place
 
 abbrev pub Refuses : List ℕ → TreeError → Type 0
 Refuses bytes errors.Memory = Unit {0}

@@ -27,7 +27,7 @@ fn read_element(alloc: Global, stack: Stack, bytes: &[u8]) -> Result<(Position, 
     };
     if *first == b'/' {
         let rest = end_tag(tail, stack.top.name.as_bytes(), bytes.len() + 1)?;
-        let position = close(alloc, stack)?;
+        let position = close(stack)?;
         return Ok((position, rest));
     }
     if !has_name(bytes) {
@@ -67,6 +67,6 @@ pub(crate) fn read_turn(
     ensures shorter { IfOk result (λ x. length x.1.now < length bytes.now) }
 {
     let (run, markup) = read_data(alloc, bytes)?;
-    let stack = add_text(stack, run.as_slice())?;
+    let stack = add_text(stack, run)?;
     read_markup(alloc, stack, markup)
 }

@@ -12,8 +12,10 @@ mod reference;
 mod scan;
 mod tag;
 mod units;
+mod write;
 
 pub use fault::{TreeError, TreeFault, TreeKind};
-pub use laws::one_tree;
+pub use laws::{one_refusal, one_tree};
 pub use node::{Attribute, Node};
 pub use reader::read_tree;
+pub use write::{WriteFault, is_writable, write_tree};

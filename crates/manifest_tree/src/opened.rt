@@ -1,5 +1,5 @@
 // Elements whose end tag has not come.
-ghost use Rattle.std.specs.Prelude.{◌≡◌, [], List, map, Ok};
+ghost use Rattle.std.specs.Prelude.{◌≡◌, [], List, ◌++◌, map, Ok};
 ghost use Rattle.manifest_tree.specs.Reading.{finished, with_child as child_added, with_text as text_added, opened as begun, placed};
 ghost use Rattle.manifest_tree.specs.Outcome.{Gives, GivesText};
 ghost use Rattle.manifest_tree.specs.Tree.{tree_of};
@@ -8,7 +8,7 @@ ghost use Rattle.manifest_tree.specs.Pieces.{open_tree, below_of, around_of, spo
 use crate::fault::Stop;
 use crate::node::{Attribute, Node};
 use crate::tag::Tag;
-use crate::units::text_of;
+use crate::units::into_text;
 use outside::{List, Text};
 use std::alloc::Global;
 
@@ -46,7 +46,7 @@ fn open(alloc: Global, name: Text, attributes: Vec<Attribute>) -> Opened
     }
 }
 
-fn finish(alloc: Global, opened: Opened) -> Result<Node, Stop>
+fn finish(opened: Opened) -> Result<Node, Stop>
     ensures { GivesText opened.text.items tree_of result (Ok (finished (open_tree opened))) }
 {
     let Opened {
@@ -55,7 +55,7 @@ fn finish(alloc: Global, opened: Opened) -> Result<Node, Stop>
         children,
         text,
     } = opened;
-    let text = text_of(alloc, text.as_slice())?;
+    let text = into_text(text)?;
     let attributes = List::from_vec(attributes);
     Ok(Node {
         name,
@@ -83,16 +83,27 @@ fn with_child(opened: Opened, child: Node) -> Result<Opened, Stop>
     })
 }
 
-fn with_text(opened: Opened, run: &[u8]) -> Result<Opened, Stop>
-    ensures { Gives open_tree result (Ok (text_added (open_tree opened) run.now)) }
+// The bytes and a run behind them; a first run is not copied.
+fn extended(mut text: Vec<u8>, run: Vec<u8>) -> Result<Vec<u8>, Stop>
+    ensures { Gives (λ t. t.items) result (Ok (text.items ++ run.items)) }
+{
+    if text.is_empty() {
+        return Ok(run);
+    }
+    text.extend_from_slice(run.as_slice())?;
+    Ok(text)
+}
+
+fn with_text(opened: Opened, run: Vec<u8>) -> Result<Opened, Stop>
+    ensures { Gives open_tree result (Ok (text_added (open_tree opened) run.items)) }
 {
     let Opened {
         name,
         attributes,
         children,
-        mut text,
+        text,
     } = opened;
-    text.extend_from_slice(run)?;
+    let text = extended(text, run)?;
     Ok(Opened {
         name,
         attributes,
@@ -102,8 +113,8 @@ fn with_text(opened: Opened, run: &[u8]) -> Result<Opened, Stop>
 }
 
 // The stack with more text in the innermost element.
-pub(crate) fn add_text(stack: Stack, run: &[u8]) -> Result<Stack, Stop>
-    ensures top { Gives (λ s. open_tree s.top) result (Ok (text_added (open_tree stack.top) run.now)) }
+pub(crate) fn add_text(stack: Stack, run: Vec<u8>) -> Result<Stack, Stop>
+    ensures top { Gives (λ s. open_tree s.top) result (Ok (text_added (open_tree stack.top) run.items)) }
     ensures below { Gives (λ s. below_of s) result (Ok (below_of stack)) }
 {
     let Stack { top, below } = stack;
@@ -157,7 +168,7 @@ pub(crate) fn start(alloc: Global, around: Option<Stack>, tag: Tag) -> Result<Po
     } = tag;
     let opened = open(alloc, name, attributes);
     if closed {
-        let element = finish(alloc, opened)?;
+        let element = finish(opened)?;
         return place(element, around);
     }
     let stack = push(alloc, around, opened)?;
@@ -165,11 +176,11 @@ pub(crate) fn start(alloc: Global, around: Option<Stack>, tag: Tag) -> Result<Po
 }
 
 // Behind the end tag of the innermost element.
-pub(crate) fn close(alloc: Global, stack: Stack) -> Result<Position, Stop>
+pub(crate) fn close(stack: Stack) -> Result<Position, Stop>
     ensures { GivesText stack.top.text.items spot_of result (Ok (placed (finished (open_tree stack.top)) (below_of stack))) }
 {
     let Stack { top, mut below } = stack;
-    let element = finish(alloc, top)?;
+    let element = finish(top)?;
     match below.pop() {
         None => place(element, None),
         Some(outer) => place(element, Some(Stack { top: outer, below })),

@@ -13,6 +13,11 @@ fn faults_at_their_places(rt: HostRuntime) {
     for (text, kind, place) in [
         ("<a><b></a>", TreeKind::TagMismatch, 6u64),
         ("<a x=\"1\" x=\"2\"/>", TreeKind::AttributeTwice, 9),
+        (
+            "<a b='' c='' d='' e='' f='' g='' h='' i='' j='' j=''/>",
+            TreeKind::AttributeTwice,
+            48,
+        ),
         ("<a>&nbsp;</a>", TreeKind::Entity, 3),
         ("<a>", TreeKind::Syntax, 3),
         ("<a></b<", TreeKind::TagMismatch, 3),

@@ -1,4 +1,4 @@
-use Rattle.std.proofs.Common.{◌≡◌, ◌∙◌, ◌∷◌, ◌<◌, ◌≤◌, ap, sym, refl, Err, length, arith}
+use Rattle.std.proofs.Common.{◌∙◌, ◌∷◌, ◌<◌, ap, sym, refl, Err, length, arith}
 use Rattle.std.proofs.lemmas.Result.{err_from_is_err_and}
 use Rattle.manifest_tree.specs.Pieces.{open_tree, below_of, tag_spot}
 use Rattle.manifest_tree.specs.Reading.{here, placed, finished}

@@ -1,6 +1,4 @@
-use Rattle.std.proofs.Common.{ap, sym, Ok, Result}
-use Rattle.manifest_tree.specs.Lexis.{Read}
-use Rattle.manifest_tree.specs.Reading.{OpenTree}
+use Rattle.std.proofs.Common.{ap, sym}
 use Rattle.manifest_tree.specs.Tree.{Trees}
 use Rattle.manifest_tree.proofs.Steps.{child_trees, open_ok}
 use Rattle.manifest_tree.proofs.opened.with_child.Goals as goal

@@ -1,4 +1,4 @@
-use Rattle.std.proofs.Common.{◌∙◌, ap, sym, Err, arith, []}
+use Rattle.std.proofs.Common.{◌∙◌, ap, Err, []}
 use Rattle.std.proofs.lemmas.Result.{err_from_is_err_and}
 use Rattle.manifest_tree.proofs.Steps.{leads_err, leads_after, to_spot, ok_same}
 use Rattle.manifest_tree.proofs.reader.read_root.Goals as goal

@@ -1,4 +1,4 @@
-use Rattle.std.proofs.Common.{◌∙◌, ap, sym, Err, arith, []}
+use Rattle.std.proofs.Common.{◌∙◌, ap, Err}
 use Rattle.std.proofs.lemmas.Result.{err_from_is_err_and}
 use Rattle.manifest_tree.specs.Tree.{tree_of}
 use Rattle.manifest_tree.proofs.Steps.{leads_err, reads_join, stops_by_after, begun_goes, begun_fails}

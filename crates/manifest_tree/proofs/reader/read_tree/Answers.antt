@@ -1,4 +1,4 @@
-use Rattle.std.proofs.Common.{ap, sym, subst, ◌≡◌, ℕ, arith}
+use Rattle.std.proofs.Common.{sym, subst}
 use Rattle.std.specs.Str.{IsValidUpTo}
 use Rattle.manifest_tree.specs.declared.fault.TreeKind.TheVariants.{NotUtf8, TooLong}
 use Rattle.manifest_tree.specs.Refusals.{too_long, not_utf8}

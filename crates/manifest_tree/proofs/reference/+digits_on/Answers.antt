@@ -1,4 +1,4 @@
-use Rattle.std.proofs.Common.{◌≡◌, ℕ, suc, ◌-◌, arith, ◌∙◌, sym}
+use Rattle.std.proofs.Common.{◌≡◌, suc, ◌-◌, arith, ◌∙◌, sym}
 use Rattle.manifest_tree.proofs.Numbers.{number_step, number_fits, one_less, digits_more}
 use Rattle.manifest_tree.proofs.reference.+digits_on.Goals as goal
 

@@ -1,4 +1,3 @@
-use Rattle.std.proofs.Common.{arith}
 use Rattle.manifest_tree.specs.Lexis.{name_byte}
 use Rattle.manifest_tree.proofs.Runs.{take_front}
 use Rattle.manifest_tree.proofs.scan.split_name.Goals as goal

@@ -1,7 +1,6 @@
-use Rattle.std.proofs.Common.{sym, ◌∙◌, arith}
-use Rattle.manifest_tree.proofs.Scans.{among_found}
+use Rattle.std.proofs.Common.{refl, sym, ◌∙◌}
+use Rattle.manifest_tree.proofs.LateNames.{among_late}
 use Rattle.manifest_tree.proofs.tag.is_taken.Goals as goal
 
-pub returns-then-eq : goal.returns-then-eq
-returns-then-eq c =
-    sym (among_found c.args.seen.now c.args.name.now c.loop-attribute.attribute-index c.attribute-item.result c.as_bytes.result.now (omega arith) c.attribute-item.is c.as_bytes.ensures.value (sym c.eq.ensures ∙ c.if-eq.true)) ∙ c.loop-attribute.invariant
+pub returns-else-is_one_of : goal.returns-else-is_one_of
+returns-else-is_one_of c = among_late c.args.late.now c.args.seen.now _ c.args.name.now c.contains_key.result c.requires refl (sym c.is_one_of-2.ensures ∙ c.if-is_one_of.false) c.contains_key.ensures

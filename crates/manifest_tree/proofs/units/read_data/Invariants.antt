@@ -1,4 +1,4 @@
-use Rattle.std.proofs.Common.{◌≡◌, ◌≤◌, ℕ, List, [], length}
+use Rattle.std.proofs.Common.{◌≤◌, List, length}
 use Rattle.manifest_tree.specs.Reading.{OpenTree, Reads, inside, with_text}
 use Rattle.manifest_tree.proofs.units.read_data.Given as goal
 

@@ -1,0 +1,7 @@
+use Rattle.std.proofs.Common.{◌≡◌, ◌+◌, length, drop}
+use Rattle.std.specs.List.{flat_map}
+use Rattle.manifest_tree.proofs.Pushes.{node_text}
+use Rattle.manifest_tree.proofs.write.measure.+count_element.Given as goal
+
+abbrev pub invariant-loop-child : goal.invariant-loop-child
+invariant-loop-child l = l.count + length (flat_map node_text (drop l.child-index l.child-items)) ≡ l.initial.count + length (flat_map node_text l.child-items)

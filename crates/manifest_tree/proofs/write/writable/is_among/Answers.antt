@@ -1,0 +1,7 @@
+use Rattle.std.proofs.Common.{sym, ◌∙◌, arith}
+use Rattle.manifest_tree.proofs.Scans.{among_found}
+use Rattle.manifest_tree.proofs.write.writable.is_among.Goals as goal
+
+pub returns-then-eq : goal.returns-then-eq
+returns-then-eq c =
+    sym (among_found c.args.attributes.now c.args.name.now c.loop-attribute.attribute-index c.attribute-item.result c.as_bytes.result.now (omega arith) c.attribute-item.is c.as_bytes.ensures.value (sym c.eq.ensures ∙ c.if-eq.true)) ∙ c.loop-attribute.invariant

@@ -1,0 +1,7 @@
+use Rattle.std.proofs.Common.{◌≡◌, drop}
+use Rattle.manifest_tree.specs.Lexis.{is_among}
+use Rattle.manifest_tree.specs.Reading.{names_of}
+use Rattle.manifest_tree.proofs.write.writable.is_among.Given as goal
+
+abbrev pub invariant-loop-attribute : goal.invariant-loop-attribute
+invariant-loop-attribute l = is_among (names_of (drop l.attribute-index l.attributes)) l.name ≡ is_among (names_of l.attributes) l.name

@@ -1,0 +1,88 @@
+// The text of a tree.
+ghost use Rattle.std.specs.Prelude.{◌≡◌, ◌<◌, ◌^◌, length, IsTrue, OnOk, IfOk, IfErr, Err};
+ghost use Rattle.std.specs.Str.{IsUtf8};
+ghost use Rattle.manifest_tree.specs.declared.write.WriteFault.TheVariants.{Memory};
+ghost use Rattle.manifest_tree.specs.Grammar.{Spells};
+ghost use Rattle.manifest_tree.specs.Tree.{tree_of};
+ghost use Rattle.manifest_tree.specs.Writing.{element_text, written, is_writable as can_be_written, IsUnwritten};
+
+mod escape;
+mod measure;
+mod node;
+mod writable;
+
+use crate::node::Node;
+use measure::count_element;
+use node::push_element;
+use outside::Bytes;
+use std::alloc::{AllocError, Global};
+pub use writable::is_writable;
+
+// The greatest length of a text, in bytes.
+const LIMIT: u64 = 4_194_304;
+
+// What stands before the element.
+const DECLARATION: &[u8; 39] = b"<?xml version=\"1.0\" encoding=\"utf-8\"?>\n";
+
+// What stands behind it.
+const END: &[u8; 1] = b"\n";
+
+/// Why a tree is not written.
+#[derive(Clone, Copy, Debug, PartialEq, Eq)]
+pub enum WriteFault {
+    /// The text has more than 4,194,304 bytes: how many.
+    TooLong { length: u64 },
+    /// Memory ran out, or the text has 2^64 bytes or more, which no memory holds.
+    Memory,
+}
+
+impl From<AllocError> for WriteFault {
+    ghost from_gives = { λ _ e. e ≡ Memory };
+
+    fn from(_: AllocError) -> Self {
+        WriteFault::Memory
+    }
+}
+
+// The text, which is so long.
+fn text_of(alloc: Global, node: &Node, length: u64) -> Result<Bytes, AllocError>
+    ensures text { IfOk result (λ text. text ≡ written (tree_of node.now)) }
+    ensures utf8 { OnOk result (IsUtf8 (element_text (tree_of node.now))) }
+{
+    let mut text = Bytes::from_vec(Vec::with_capacity(alloc, length as usize)?);
+    text.extend(DECLARATION)?;
+    push_element(&mut text, node)?;
+    text.extend(END)?;
+    Ok(text)
+}
+
+/// The text of a tree of names and characters that a text may have, of at most 64 levels, in which no element has two
+/// attributes of one name: `is_writable` tells. Reading the text gives the node.
+///
+/// # Errors
+///
+/// `TooLong` has the text's length where that is above 4,194,304 bytes. `Memory` says that memory ran out; it is answered
+/// too where the text has 2^64 bytes or more.
+pub fn write_tree(alloc: Global, node: &Node) -> Result<Bytes, WriteFault>
+    requires { IsTrue (can_be_written (tree_of node.now)) }
+    ensures text { IfOk result (λ text. text ≡ written (tree_of node.now)) }
+    // The text spells the node.
+    ensures read_back { IfOk result (λ text. Spells text node.now) }
+    // A text that is too long is told as such, with its length.
+    ensures too_long { let count = length (written (tree_of node.now)) in
+        4194304 < count → count < 2 ^ 64 → result ≡ Err (WriteFault.TooLong count) }
+    // No other is.
+    ensures fault { IfErr result (IsUnwritten (written (tree_of node.now))) }
+{
+    let around = DECLARATION.len() as u64 + END.len() as u64;
+    let Some(length) = count_element(around, node) else {
+        return Err(WriteFault::Memory);
+    };
+    if length > LIMIT {
+        return Err(WriteFault::TooLong { length });
+    }
+    Ok(text_of(alloc, node, length)?)
+}
+
+#[cfg(test)]
+mod tests;
