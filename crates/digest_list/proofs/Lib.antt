@@ -1,0 +1,4 @@
+pub mod DifferenceLemmas
+pub mod HasherLemmas
+pub mod MatchLemmas
+pub mod TextLemmas

@@ -1,0 +1,20 @@
+ghost use Rattle.std.specs.Prelude.{◌≡◌};
+
+use std::alloc::AllocError;
+
+/// Why printing failed.
+#[derive(Clone, Copy, Debug, PartialEq, Eq)]
+pub enum PrintFault {
+    /// There was no memory for the text.
+    Memory,
+}
+
+impl From<AllocError> for PrintFault {
+    ghost use Rattle.digest_list.specs.declared.fault.PrintFault.TheVariants.{Memory};
+
+    ghost from_gives = { λ _ e. e ≡ Memory };
+
+    fn from(_: AllocError) -> PrintFault {
+        PrintFault::Memory
+    }
+}

@@ -1,0 +1,22 @@
+//! Digests of known algorithms: their texts, and whether bytes match a list of them.
+#![tactic(auto)]
+
+mod algorithm;
+mod checker;
+mod difference;
+mod digest;
+mod fault;
+mod hashers;
+mod list;
+mod matching;
+mod room;
+#[cfg(test)]
+mod tests;
+
+pub use algorithm::Algorithm;
+pub use checker::{CheckFault, Checker};
+pub use difference::Difference;
+pub use digest::{Digest, DigestFault};
+pub use fault::PrintFault;
+pub use list::DigestList;
+pub use matching::matches;

@@ -1,0 +1,33 @@
+ghost use Rattle.std.specs.Prelude.{◌≡◌, ◌≤◌, [], length, vec_capacity};
+
+use outside::Bytes;
+use std::alloc::{AllocError, Global};
+
+// The length of the longest digests in bytes.
+const LONGEST: usize = 64;
+
+// An empty vector with room for the longest digest.
+#[derive(Drop)]
+pub(crate) struct Room {
+    bytes: Vec<u8>,
+    ghost empty: { bytes.items ≡ [] },
+    ghost enough: { vec_capacity bytes ≡ 64 },
+}
+
+impl Room {
+    pub(crate) fn new(alloc: Global) -> Result<Room, AllocError> {
+        Ok(Room {
+            bytes: Vec::with_capacity(alloc, LONGEST)?,
+        })
+    }
+
+    // The digest in that room. It takes no memory.
+    pub(crate) fn fill(self, digest: &[u8]) -> Bytes
+        requires { length digest.now ≤ 64 }
+        ensures { result ≡ digest.now }
+    {
+        let Room { mut bytes } = self;
+        bytes.extend_from_slice(digest).unwrap();
+        Bytes::from_vec(bytes)
+    }
+}
