@@ -1,0 +1,4 @@
+pub mod AddressLemmas
+pub mod BaseLemmas
+pub mod NameLemmas
+pub mod ReferenceLemmas

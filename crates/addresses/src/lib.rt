@@ -1,0 +1,14 @@
+//! Network addresses of a published application: of its manifests and of its files.
+#![tactic(auto)]
+
+mod address;
+mod fault;
+mod join;
+mod laws;
+#[cfg(test)]
+mod tests;
+
+pub use address::{URL_LIMIT, target_of};
+pub use fault::UrlFault;
+pub use join::{app_target, file_target};
+pub use laws::{bases_are_http, names_are_joined};
