@@ -1,0 +1,4 @@
+pub mod Elements
+pub mod Outcome
+pub mod Parts
+pub mod Values

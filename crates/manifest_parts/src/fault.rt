@@ -1,0 +1,61 @@
+// Why a manifest is refused.
+ghost use Rattle.std.specs.Prelude.{◌≡◌};
+ghost use Rattle.manifest_parts.specs.declared.fault.ManifestFault.TheVariants.{Memory};
+
+use identity::Version;
+use manifest_tree::TreeFault;
+use outside::{CopyFault, Limit, Text};
+use std::alloc::{AllocError, AllocFailed};
+
+/// Why a manifest is refused.
+#[derive(Drop, Debug, PartialEq, Eq)]
+pub enum ManifestFault {
+    /// The bytes are no text of the profile.
+    Tree(TreeFault),
+    /// An element or an attribute is missing. Names are local.
+    Missing { what: Text },
+    /// An element stands twice.
+    Twice { what: Text },
+    /// A value is out of its form or its limit.
+    BadValue { what: Text },
+    /// There is an element `Signature`.
+    Signed,
+    /// No digest of the file is of a known algorithm.
+    NoDigest { file: Text },
+    /// The name is no name of an installed file.
+    BadName { file: Text },
+    /// Two files have the name.
+    TwiceNamed { file: Text },
+    /// The minimum is above the version.
+    MinimumAboveVersion { minimum: Version, version: Version },
+    /// The application is not to be installed.
+    OnlineOnly,
+    /// There are more than are allowed.
+    TooMany { what: Limit },
+    /// There was no memory.
+    Memory,
+}
+
+impl From<AllocError> for ManifestFault {
+    ghost from_gives = { λ _ e. e ≡ Memory };
+
+    fn from(_: AllocError) -> Self {
+        ManifestFault::Memory
+    }
+}
+
+impl<T: Drop> From<AllocFailed<T>> for ManifestFault {
+    ghost from_gives = { λ _ e. e ≡ Memory };
+
+    fn from(_: AllocFailed<T>) -> Self {
+        ManifestFault::Memory
+    }
+}
+
+impl From<CopyFault> for ManifestFault {
+    ghost from_gives = { λ _ e. e ≡ Memory };
+
+    fn from(_: CopyFault) -> Self {
+        ManifestFault::Memory
+    }
+}
