@@ -1,0 +1,10 @@
+pub mod Chains
+pub mod FoundLemmas
+pub mod Limits
+pub mod KnownFiles
+pub mod NameLemmas
+pub mod FileSteps
+pub mod CountLemmas
+pub mod ReleaseLemmas
+pub mod ListingLemmas
+pub mod FilesLaw

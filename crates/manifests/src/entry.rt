@@ -1,0 +1,123 @@
+// One file of an application manifest.
+ghost use Rattle.std.specs.Prelude.{◌≡◌, ◌&&◌, not};
+ghost use Rattle.manifest_parts.specs.Outcome.{Gives};
+ghost use Rattle.manifests.specs.Applications as spec;
+ghost use Rattle.manifests.specs.Listings.{listed};
+
+use crate::FileEntry;
+use crate::files::Files;
+use crate::listing::Listing;
+use manifest_parts::{
+    ManifestFault, bad_name, digests_of, needed, size, truth, twice_named, within,
+};
+use outside::{Limit, Name, NameFault, Text};
+use std::alloc::Global;
+
+/// The most bytes of a file.
+const FILE_LIMIT: u64 = 67_108_864;
+
+/// The most bytes of a data file's name.
+const DATA_NAME_LIMIT: usize = 235;
+
+/// The most bytes of a group's name.
+const GROUP_LIMIT: usize = 240;
+
+/// The most files.
+const FILES: usize = 16_384;
+
+/// The most data files.
+const DATA_FILES: usize = 256;
+
+// Whether a file of the name may be installed.
+fn is_listed(local: bool, name: &Name) -> bool
+    ensures { result ≡ spec.is_listed_name local name.now }
+{
+    !name.is_below_pre() && (!local || name.as_bytes().len() <= DATA_NAME_LIMIT)
+}
+
+// The name that the value spells, where it may be installed.
+fn read_name(alloc: Global, local: bool, value: &Text) -> Result<Name, ManifestFault>
+    ensures { Gives (λ n. n) result (spec.listed_name local value.now) }
+{
+    match Name::read(alloc, value.as_bytes()) {
+        Err(NameFault::Memory) => Err(ManifestFault::Memory),
+        Err(NameFault::Bad) => bad_name(alloc, value.as_str()),
+        Ok(name) => {
+            if is_listed(local, &name) {
+                return Ok(name);
+            }
+            bad_name(alloc, value.as_str())
+        }
+    }
+}
+
+// The name of the file, which no earlier one has.
+fn file_name(alloc: Global, before: &Files, listing: &Listing<'_>) -> Result<Name, ManifestFault>
+    ensures { Gives (λ n. n) result (spec.file_name before.now (listed listing.now)) }
+{
+    let value = needed(alloc, listing.what, listing.name)?;
+    let name = read_name(alloc, listing.local, value)?;
+    if before.has(&name) {
+        return twice_named(alloc, name.as_str());
+    }
+    Ok(name)
+}
+
+// The group that is kept: that of an optional program file, of one byte or more.
+fn kept_group(optional: bool, local: bool, group: Text) -> Option<Text>
+    ensures { result ≡ spec.in_group (optional && not local) group }
+{
+    if !optional || local || group.as_bytes().is_empty() {
+        return None;
+    }
+    Some(group)
+}
+
+// The group of the file.
+fn group_of(alloc: Global, listing: &Listing<'_>) -> Result<Option<Text>, ManifestFault>
+    ensures { Gives (λ g. g) result (spec.group_of (listed listing.now)) }
+{
+    let optional = truth(alloc, "optional", false, listing.optional)?;
+    let group = within(alloc, GROUP_LIMIT, "group", listing.group)?;
+    Ok(kept_group(optional, listing.local, group))
+}
+
+// The file, where there may be one more.
+fn counted(before: &Files, entry: FileEntry) -> Result<FileEntry, ManifestFault>
+    ensures { Gives (λ e. e) result (spec.counted before.now entry) }
+{
+    if before.count() >= FILES {
+        return Err(ManifestFault::TooMany { what: Limit::Files });
+    }
+    if entry.local && before.count_data() >= DATA_FILES {
+        return Err(ManifestFault::TooMany {
+            what: Limit::Locals,
+        });
+    }
+    Ok(entry)
+}
+
+/// The file that is listed behind these.
+pub(crate) fn file_of(
+    alloc: Global,
+    before: &Files,
+    listing: &Listing<'_>,
+) -> Result<FileEntry, ManifestFault>
+    ensures { Gives (λ e. e) result (spec.file_of before.now (listed listing.now)) }
+{
+    let name = file_name(alloc, before, listing)?;
+    let size = size(alloc, FILE_LIMIT, listing.size)?;
+    let list = digests_of(alloc, name.as_str(), listing.hashed)?;
+    let group = group_of(alloc, listing)?;
+    let local = listing.local;
+    counted(
+        before,
+        FileEntry {
+            name,
+            size,
+            list,
+            group,
+            local,
+        },
+    )
+}
