@@ -1,0 +1,74 @@
+// Inspecting a manifest.
+ghost use Rattle.std.specs.Prelude.{◌≡◌, ◌⊎◌, ◌≤◌, drop};
+ghost use Rattle.outside.specs.Streams.{Rose};
+ghost use Rattle.inspection.specs.declared.manifest.End.TheVariants as ends;
+ghost use Rattle.inspection.specs.Inspection.{code_of as status_of, Inspects};
+
+use crate::lines::lines_of;
+use outside::{ReadFault, Sink, Source, read_all, write_all};
+use std::alloc::Global;
+
+/// Which manifest is read.
+#[derive(Clone, Copy, Debug, PartialEq, Eq)]
+pub enum Kind {
+    Deployment,
+    Application,
+}
+
+/// How inspecting ends.
+#[derive(Clone, Copy, Debug, PartialEq, Eq)]
+pub enum End {
+    /// The facts were written.
+    Done,
+    /// The manifest is refused, and the refusal was written.
+    Refused,
+    /// The source failed.
+    SourceFault,
+    /// The sink failed.
+    SinkFault,
+    /// There was no memory.
+    Memory,
+}
+
+impl End {
+    /// The exit status: 0 done, 7 refused, 2 the source failed, 3 the sink, 6 no memory.
+    pub fn code(self) -> u8
+        ensures { result ≡ status_of self }
+    {
+        match self {
+            End::Done => 0,
+            End::Refused => 7,
+            End::SourceFault => 2,
+            End::SinkFault => 3,
+            End::Memory => 6,
+        }
+    }
+}
+
+/// The most bytes that are read: one more than a manifest may have.
+const MOST: usize = 4_194_305;
+
+/// Reads a manifest of the kind from the source, at most 4,194,305 bytes, and writes what it says to the sink, or
+/// why it is refused. Where the source fails, or memory runs out, nothing is written.
+pub fn inspect<S: Source, K: Sink>(alloc: Global, kind: Kind, source: &mut S, sink: &mut K) -> End
+    ensures says { Inspects kind S.tells K.tells (S.left source.old) (K.taken sink.old) (K.taken sink.new) (status_of result) }
+    ensures left { S.tells → (result ≡ ends.Done) ⊎ ((result ≡ ends.Refused) ⊎ (result ≡ ends.SinkFault)) → S.left source.new ≡ drop 4194305 (S.left source.old) }
+    ensures nothing { (result ≡ ends.SourceFault) ⊎ (result ≡ ends.Memory) → sink.new ≡ sink.old }
+    ensures source_count { S.count source.old ≤ S.count source.new }
+    ensures sink_count { K.count sink.old ≤ K.count sink.new }
+    ensures source_cause { result ≡ ends.SourceFault → Rose (S.count source.old) (S.count source.new) }
+    ensures sink_cause { result ≡ ends.SinkFault → Rose (K.count sink.old) (K.count sink.new) }
+{
+    let bytes = match read_all(alloc, source, MOST) {
+        Ok(bytes) => bytes,
+        Err(ReadFault::Failed) => return End::SourceFault,
+        Err(ReadFault::Memory) => return End::Memory,
+    };
+    let Some((lines, how)) = lines_of(alloc, kind, bytes.as_slice()) else {
+        return End::Memory;
+    };
+    let Ok(()) = write_all(sink, lines.as_slice()) else {
+        return End::SinkFault;
+    };
+    how
+}
