@@ -1,15 +1,17 @@
 // The top call.
-ghost use Rattle.std.specs.Prelude.{◌≡◌, ◌≢◌, ◌⊎◌, ◌↔◌, ◌+◌, ◌<◌, ◌≤◌, ℕ, List, [], None, Some};
+ghost use Rattle.std.specs.Prelude.{◌≡◌, ◌≢◌, ◌⊎◌, ◌↔◌, ◌+◌, ◌<◌, ◌≤◌, ℕ, List, [], None, Some, drop};
 ghost use Rattle.outside.specs.Streams.{Rose};
 ghost use Rattle.updater.specs.Stands.{StandsForNone};
 ghost use Rattle.updater_cli.specs.declared.status.Status.TheVariants as exit;
 ghost use Rattle.updater_cli.specs.Format.{Renews, IsNew};
 ghost use Rattle.updater_cli.specs.Headline.{HeadlineLines, HeadlineRun, HeadlineStop, IsNothing};
-ghost use Rattle.updater_cli.specs.Words.{request_of, ForSession, ForFormat};
+ghost use Rattle.updater_cli.specs.Words.{request_of, ForSession, ForFormat, ForInspect};
+ghost use Rattle.inspection.specs.Inspection.{Inspects};
 
 use crate::opening::session;
 use crate::status::Status;
 use crate::words::{Request, read_words};
+use inspection::inspect;
 use outside::{Disk, Sink, Source, Word};
 use std::alloc::Global;
 use store_log::{Log, LogFault};
@@ -36,11 +38,12 @@ fn format<D: Disk>(alloc: Global, disk: &mut D, blocks: u64) -> Status
 ///
 /// `format --blocks N` makes a new store of N blocks, 1 to 65,536, on the disk. `session --boot N --now N` answers
 /// the lines of the source on the sink over the store on the disk; the numbers are at most 2^62, and `now` is in
-/// seconds. The report then has what the session did.
+/// seconds. The report then has what the session did. `inspect deployment` and `inspect application` read a manifest
+/// from the source, at most 4,194,305 bytes, and write what it says, or why it is refused, to the sink.
 ///
 /// The status is 0 where all was done, 1 where the words are none of these, 2 where the source failed, 3 the sink,
-/// 4 the disk, 5 where the disk holds no store, 6 where there was no memory, and 8 where a session's input has more
-/// than 65,536 bytes.
+/// 4 the disk, 5 where the disk holds no store, 6 where there was no memory, 7 where a manifest is refused, and 8
+/// where a session's input has more than 65,536 bytes.
 pub fn run<S: Source, K: Sink, D: Disk>(
     alloc: Global,
     words: &[Word],
@@ -65,8 +68,16 @@ pub fn run<S: Source, K: Sink, D: Disk>(
     ensures format_memory { ForFormat (request_of words.now) (λ blocks. result ≡ 6 → disk.new ≡ disk.old) }
     ensures format_others { ForFormat (request_of words.now) (λ blocks. (source.new ≡ source.old) × (sink.new ≡ sink.old) × (report.new ≡ report.old)) }
 
+    // What a manifest says was written, or why it is refused.
+    ensures inspect { ForInspect (request_of words.now) (λ kind. Inspects kind S.tells K.tells (S.left source.old) (K.taken sink.old) (K.taken sink.new) result) }
+    ensures inspect_left { ForInspect (request_of words.now) (λ kind. S.tells → (result ≡ 0) ⊎ ((result ≡ 7) ⊎ (result ≡ 3)) → S.left source.new ≡ drop 4194305 (S.left source.old)) }
+    ensures inspect_nothing { ForInspect (request_of words.now) (λ kind. (result ≡ 2) ⊎ (result ≡ 6) → sink.new ≡ sink.old) }
+    ensures inspect_others { ForInspect (request_of words.now) (λ kind. (disk.new ≡ disk.old) × (report.new ≡ report.old)) }
+    ensures inspect_statuses { ForInspect (request_of words.now) (λ kind. (result ≡ 0) ⊎ ((result ≡ 7) ⊎ ((result ≡ 2) ⊎ ((result ≡ 3) ⊎ (result ≡ 6))))) }
+
     // When each status comes.
-    ensures statuses { (result ≤ 8) × (result ≢ 7) }
+    ensures statuses { result ≤ 8 }
+    ensures session_statuses { ForSession (request_of words.now) (λ boot now. result ≢ 7) }
     ensures format_statuses { ForFormat (request_of words.now) (λ blocks. (result ≡ 0) ⊎ ((result ≡ 4) ⊎ (result ≡ 6))) }
     ensures words { (result ≡ 1) ↔ (request_of words.now ≡ None) }
     ensures nothing { result ≡ 1 → (source.new ≡ source.old) × (sink.new ≡ sink.old) × (disk.new ≡ disk.old) × (report.new ≡ report.old) }
@@ -84,5 +95,6 @@ pub fn run<S: Source, K: Sink, D: Disk>(
         Some(Request::Session { boot, now }) => {
             session(alloc, boot, now, source, sink, disk, report).code()
         }
+        Some(Request::Inspect { kind }) => inspect(alloc, kind, source, sink).code(),
     }
 }

@@ -1,10 +1,11 @@
 // The words of the command line.
 ghost use Rattle.std.specs.Prelude.{◌≡◌, length, IfSome};
 ghost use Rattle.std.specs.Str.{bytes_eq};
-ghost use Rattle.updater_cli.specs.Words.{request_of, format_of, session_of, IsRequest};
+ghost use Rattle.updater_cli.specs.Words.{request_of, format_of, session_of, kind_of, IsRequest};
 ghost use Rattle.command_text.specs.Numbers.{number_of};
 
 use command_text::read_number;
+use inspection::Kind;
 use outside::Word;
 
 /// What the words ask for.
@@ -14,6 +15,8 @@ pub(crate) enum Request {
     Format { blocks: u64 },
     /// A session with this boot number, which begins at this moment in seconds.
     Session { boot: u64, now: u64 },
+    /// What a manifest of this kind says.
+    Inspect { kind: Kind },
 }
 
 // A format of so many blocks.
@@ -43,6 +46,36 @@ fn is_word(word: &Word, text: &[u8]) -> bool
     ensures { result ≡ bytes_eq word.now text.now }
 {
     word.as_slice() == text
+}
+
+// Which manifest is inspected.
+fn read_kind(word: &Word) -> Option<Request>
+    ensures request { result ≡ kind_of word.now }
+    ensures small { IfSome result IsRequest }
+{
+    if is_word(word, b"deployment") {
+        return Some(Request::Inspect {
+            kind: Kind::Deployment,
+        });
+    }
+    if is_word(word, b"application") {
+        return Some(Request::Inspect {
+            kind: Kind::Application,
+        });
+    }
+    None
+}
+
+// Two words.
+fn read_two(words: &[Word]) -> Option<Request>
+    requires { length words.now ≡ 2 }
+    ensures request { result ≡ request_of words.now }
+    ensures small { IfSome result IsRequest }
+{
+    if !is_word(&words[0], b"inspect") {
+        return None;
+    }
+    read_kind(&words[1])
 }
 
 // Three words.
@@ -78,11 +111,15 @@ fn read_five(words: &[Word]) -> Option<Request>
     read_session(words[2].as_slice(), words[4].as_slice())
 }
 
-/// What the words ask for: `format --blocks N` with N from 1 to 65,536, or `session --boot N --now N`.
+/// What the words ask for: `format --blocks N` with N from 1 to 65,536, `session --boot N --now N`,
+/// `inspect deployment` or `inspect application`.
 pub(crate) fn read_words(words: &[Word]) -> Option<Request>
     ensures request { result ≡ request_of words.now }
     ensures small { IfSome result IsRequest }
 {
+    if words.len() == 2 {
+        return read_two(words);
+    }
     if words.len() == 3 {
         return read_three(words);
     }
