@@ -15,9 +15,11 @@ STORE is the file of the store, and FOLDER a folder of published files.
 
   format --blocks N            makes an empty store of N blocks, 1 to 65536
   session --boot N --now N     answers the lines of the input: `require KEY V`
+  inspect deployment           says what the deployment manifest in the input says
+  inspect application          the same for an application manifest
 
 Status: 0 done, 1 other words, 2 input failed, 3 output failed, 4 disk failed,
-5 no store, 6 no memory, 8 more input than a session takes.
+5 no store, 6 no memory, 7 refused manifest, 8 more input than a session takes.
 ";
 
 const VERSION: &[u8] = b"clickstore 0.1.0\n";
