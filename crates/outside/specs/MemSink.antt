@@ -9,6 +9,10 @@ sink_taken s = s.taken
 abbrev pub sink_faults : MemSink → ℕ
 sink_faults s = s.faults
 
+-- how many calls there were
+abbrev pub sink_calls : MemSink → ℕ
+sink_calls s = s.calls
+
 -- the numbers of the calls that are to fail
 abbrev pub sink_failing : MemSink → List ℕ
 sink_failing s = s.failing

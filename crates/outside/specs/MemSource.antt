@@ -9,6 +9,10 @@ source_left s = drop s.place s.bytes
 abbrev pub source_faults : MemSource → ℕ
 source_faults s = s.faults
 
+-- how many calls there were
+abbrev pub source_calls : MemSource → ℕ
+source_calls s = s.calls
+
 -- the numbers of the calls that are to fail
 abbrev pub source_failing : MemSource → List ℕ
 source_failing s = s.failing

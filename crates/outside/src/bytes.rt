@@ -54,6 +54,15 @@ impl Bytes {
         Ok(())
     }
 
+    /// A copy of these bytes.
+    pub fn from_slice(alloc: Global, bytes: &[u8]) -> Result<Bytes, AllocError>
+        ensures { IfOk result (λ made. made ≡ bytes.now) }
+    {
+        Ok(Bytes {
+            held: bytes.to_vec(alloc)?,
+        })
+    }
+
     /// Adds bytes at the end. An `Err` changes nothing.
     pub fn extend(&mut self, bytes: &[u8]) -> Result<(), AllocError>
         ensures ok { OnOk result (self.new ≡ self.old ++ bytes.now) }
@@ -93,15 +102,6 @@ fn fill_range(bytes: &mut [u8], from: usize, to: usize, byte: u8)
 }
 
 impl Bytes {
-    // A copy of these bytes.
-    pub(crate) fn from_slice(alloc: Global, bytes: &[u8]) -> Result<Bytes, AllocError>
-        ensures { IfOk result (λ made. made ≡ bytes.now) }
-    {
-        Ok(Bytes {
-            held: bytes.to_vec(alloc)?,
-        })
-    }
-
     // Puts bytes at a place, with zeros in a gap before them. An `Err` changes nothing.
     pub(crate) fn put(&mut self, place: usize, piece: &[u8]) -> Result<(), AllocError>
         requires { place + length piece.now < 2 ^ 64 }

@@ -28,7 +28,7 @@ pub struct MemDisk {
 }
 
 impl MemDisk {
-    ghost use Rattle.outside.specs.MemDisk.{disk_bytes, calls_of, written_of, faults_of, failing_of, left_of, picked_of};
+    ghost use Rattle.outside.specs.MemDisk.{disk_bytes, calls_of, written_of, faults_of, failing_of, turns_of, left_of, picked_of};
 
     /// A disk of these bytes, which count as synced. It takes no memory: the first call of `write_at`, `cut` or `sync`
     /// keeps a copy of them.
@@ -38,6 +38,7 @@ impl MemDisk {
         ensures written { written_of result ≡ 0 }
         ensures faults { faults_of result ≡ 0 }
         ensures failing { failing_of result ≡ failing }
+        ensures turns { turns_of result ≡ 0 }
     {
         MemDisk {
             alloc,
@@ -57,6 +58,7 @@ impl MemDisk {
         ensures bytes { IfOk result (λ disk. disk_bytes disk ≡ picked_of pick self.now moment) }
         ensures calls { IfOk result (λ disk. calls_of disk ≡ 0) }
         ensures failing { IfOk result (λ disk. failing_of disk ≡ []) }
+        ensures turns { IfOk result (λ disk. turns_of disk ≡ 0) }
         ensures later { IfErr result (λ e. e ≢ Memory → (e ≡ LaterThanNow (calls_of self.now)) × (calls_of self.now < moment)) }
         ensures too_late { calls_of self.now < moment → result ≡ Err (LaterThanNow (calls_of self.now)) }
     {
@@ -105,7 +107,7 @@ fn count_call(calls: &mut u64, written: &mut u64, count: u64) -> bool
 
 impl Disk for MemDisk {
     ghost use Rattle.outside.specs.History.{first_of};
-    ghost use Rattle.outside.specs.MemDisk.{disk_bytes, calls_of, written_of, faults_of, failing_of, disk_fails, left_of};
+    ghost use Rattle.outside.specs.MemDisk.{disk_bytes, calls_of, written_of, faults_of, failing_of, turns_of, disk_fails, left_of};
     ghost use Rattle.outside.specs.Moves.{IsImage, until, reads_are_left};
 
     ghost tells = { Unit {0} };
@@ -129,8 +131,10 @@ impl Disk for MemDisk {
         ensures time { Elapses (calls_of self.old) (left_of self.old) (left_of self.new) }
         ensures cause { Causes (faults_of self.old) (faults_of self.new) result }
         ensures fails { IsErr result ↔ IsTrue (disk_fails self.old) }
+        ensures turns { turns_of self.new ≡ min (turns_of self.old + 1) 0xffff_ffff_ffff_ffff }
         ensures failing { failing_of self.new ≡ failing_of self.old }
         ensures quiet { OnOk result (faults_of self.new ≡ faults_of self.old) }
+        ensures raised { OnErr result (faults_of self.new ≡ min (faults_of self.old + 1) 0xffff_ffff_ffff_ffff) }
     {
         if next_turn(&self.failing, &mut self.turns) {
             self.faults = self.faults.saturating_add(1);
@@ -147,8 +151,10 @@ impl Disk for MemDisk {
         ensures time { Elapses (calls_of self.old) (left_of self.old) (left_of self.new) }
         ensures cause { Causes (faults_of self.old) (faults_of self.new) result }
         ensures fails { IsErr result ↔ IsTrue (disk_fails self.old) }
+        ensures turns { turns_of self.new ≡ min (turns_of self.old + 1) 0xffff_ffff_ffff_ffff }
         ensures failing { failing_of self.new ≡ failing_of self.old }
         ensures quiet { OnOk result (faults_of self.new ≡ faults_of self.old) }
+        ensures raised { OnErr result (faults_of self.new ≡ min (faults_of self.old + 1) 0xffff_ffff_ffff_ffff) }
     {
         if next_turn(&self.failing, &mut self.turns) {
             self.faults = self.faults.saturating_add(1);
@@ -172,8 +178,10 @@ impl Disk for MemDisk {
         ensures cause { Causes (faults_of self.old) (faults_of self.new) result }
         ensures kept { OnErr result (disk_bytes self.new ≡ disk_bytes self.old) }
         ensures fails { IsTrue (disk_fails self.old) → IsErr result }
+        ensures turns { turns_of self.new ≡ min (turns_of self.old + 1) 0xffff_ffff_ffff_ffff }
         ensures failing { failing_of self.new ≡ failing_of self.old }
         ensures quiet { OnOk result (faults_of self.new ≡ faults_of self.old) }
+        ensures raised { OnErr result (faults_of self.new ≡ min (faults_of self.old + 1) 0xffff_ffff_ffff_ffff) }
     {
         let fails = next_turn(&self.failing, &mut self.turns);
         if !count_call(&mut self.calls, &mut self.written, bytes.len() as u64) {
@@ -203,8 +211,10 @@ impl Disk for MemDisk {
         ensures cause { Causes (faults_of self.old) (faults_of self.new) result }
         ensures kept { OnErr result (disk_bytes self.new ≡ disk_bytes self.old) }
         ensures fails { IsTrue (disk_fails self.old) → IsErr result }
+        ensures turns { turns_of self.new ≡ min (turns_of self.old + 1) 0xffff_ffff_ffff_ffff }
         ensures failing { failing_of self.new ≡ failing_of self.old }
         ensures quiet { OnOk result (faults_of self.new ≡ faults_of self.old) }
+        ensures raised { OnErr result (faults_of self.new ≡ min (faults_of self.old + 1) 0xffff_ffff_ffff_ffff) }
     {
         let fails = next_turn(&self.failing, &mut self.turns);
         if !count_call(&mut self.calls, &mut self.written, 0) {
@@ -229,8 +239,10 @@ impl Disk for MemDisk {
         ensures time { Elapses (calls_of self.old) (left_of self.old) (left_of self.new) }
         ensures cause { Causes (faults_of self.old) (faults_of self.new) result }
         ensures fails { IsTrue (disk_fails self.old) → IsErr result }
+        ensures turns { turns_of self.new ≡ min (turns_of self.old + 1) 0xffff_ffff_ffff_ffff }
         ensures failing { failing_of self.new ≡ failing_of self.old }
         ensures quiet { OnOk result (faults_of self.new ≡ faults_of self.old) }
+        ensures raised { OnErr result (faults_of self.new ≡ min (faults_of self.old + 1) 0xffff_ffff_ffff_ffff) }
     {
         let fails = next_turn(&self.failing, &mut self.turns);
         if !count_call(&mut self.calls, &mut self.written, 0) {

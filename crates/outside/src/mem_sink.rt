@@ -1,5 +1,5 @@
 // A sink in memory.
-ghost use Rattle.std.specs.Prelude.{◌≡◌, ◌<◌, ◌≤◌, ℕ, List, [], ◌++◌, length, take, IfOk, IsErr, OnOk, OnErr, IsTrue};
+ghost use Rattle.std.specs.Prelude.{◌≡◌, ◌<◌, ◌≤◌, ◌+◌, ℕ, List, [], ◌++◌, length, min, take, IfOk, IsErr, OnOk, OnErr, IsTrue};
 ghost use Rattle.outside.specs.Streams.{Appends, Causes, TakesSome};
 
 use crate::mem_source::is_failing;
@@ -17,13 +17,14 @@ pub struct MemSink {
 }
 
 impl MemSink {
-    ghost use Rattle.outside.specs.MemSink.{sink_taken, sink_faults, sink_failing};
+    ghost use Rattle.outside.specs.MemSink.{sink_taken, sink_faults, sink_failing, sink_calls};
 
     /// A sink that has taken these bytes. It takes no memory.
     pub fn new(_alloc: Global, taken: Bytes, failing: List<u64>) -> MemSink
         ensures taken { sink_taken result ≡ taken }
         ensures faults { sink_faults result ≡ 0 }
         ensures failing { sink_failing result ≡ failing }
+        ensures calls { sink_calls result ≡ 0 }
     {
         MemSink {
             taken,
@@ -42,7 +43,7 @@ impl MemSink {
 }
 
 impl Sink for MemSink {
-    ghost use Rattle.outside.specs.MemSink.{sink_taken, sink_faults, sink_failing, sink_fails};
+    ghost use Rattle.outside.specs.MemSink.{sink_taken, sink_faults, sink_failing, sink_calls, sink_fails};
 
     ghost tells = { Unit {0} };
 
@@ -57,11 +58,13 @@ impl Sink for MemSink {
         ensures kept { OnErr result (sink_taken self.new ≡ sink_taken self.old) }
         ensures cause { Causes (sink_faults self.old) (sink_faults self.new) result }
 
-        // It fails where its number is in the list, else only for want of memory, and the count rises only where it
-        // fails.
+        // It fails where its number is in the list, else only for want of memory, and the count rises by one where it
+        // fails, and else not.
         ensures fails { IsTrue (sink_fails self.old) → IsErr result }
+        ensures calls { sink_calls self.new ≡ min (sink_calls self.old + 1) 0xffff_ffff_ffff_ffff }
         ensures failing { sink_failing self.new ≡ sink_failing self.old }
         ensures quiet { OnOk result (sink_faults self.new ≡ sink_faults self.old) }
+        ensures raised { OnErr result (sink_faults self.new ≡ min (sink_faults self.old + 1) 0xffff_ffff_ffff_ffff) }
     {
         self.calls = self.calls.saturating_add(1);
         if is_failing(self.failing.as_slice(), self.calls) || self.taken.extend(bytes).is_err() {

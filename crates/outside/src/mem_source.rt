@@ -3,6 +3,7 @@ ghost use Rattle.std.specs.Prelude.{◌≡◌, ◌==◌, ◌<◌, ◌≤◌, ◌
 ghost use Rattle.std.specs.List.{list_any};
 ghost use Rattle.outside.specs.Streams.{Causes, Consumes, ReadsAtMost};
 
+use crate::parts::copy_from;
 use crate::{Bytes, Failed, List, Source};
 use std::alloc::Global;
 
@@ -25,7 +26,7 @@ pub fn copy_front(from: &[u8], buf: &mut [u8]) -> usize
 }
 
 /// Whether the list has the number of the call.
-pub(crate) fn is_failing(failing: &[u64], call: u64) -> bool
+pub fn is_failing(failing: &[u64], call: u64) -> bool
     ensures { result ≡ list_any (λ n. n == call) failing.now }
 {
     failing.iter().any(|n| *n == call)
@@ -43,13 +44,14 @@ pub struct MemSource {
 }
 
 impl MemSource {
-    ghost use Rattle.outside.specs.MemSource.{source_left, source_faults, source_failing};
+    ghost use Rattle.outside.specs.MemSource.{source_left, source_faults, source_failing, source_calls};
 
     /// A source that has these bytes left. It takes no memory.
     pub fn new(_alloc: Global, bytes: Bytes, failing: List<u64>) -> MemSource
         ensures left { source_left result ≡ bytes }
         ensures faults { source_faults result ≡ 0 }
         ensures failing { source_failing result ≡ failing }
+        ensures calls { source_calls result ≡ 0 }
     {
         MemSource {
             bytes,
@@ -69,7 +71,7 @@ impl MemSource {
 }
 
 impl Source for MemSource {
-    ghost use Rattle.outside.specs.MemSource.{source_left, source_faults, source_failing, source_fails};
+    ghost use Rattle.outside.specs.MemSource.{source_left, source_faults, source_failing, source_calls, source_fails};
 
     ghost tells = { Unit {0} };
 
@@ -84,10 +86,12 @@ impl Source for MemSource {
         ensures kept { OnErr result (source_left self.new ≡ source_left self.old) }
         ensures cause { Causes (source_faults self.old) (source_faults self.new) result }
 
-        // It fails exactly where its number is in the list, and the count rises only where it fails.
+        // It fails exactly where its number is in the list, and the count rises by one where it fails, and else not.
         ensures fails { IsErr result ↔ IsTrue (source_fails self.old) }
+        ensures calls { source_calls self.new ≡ min (source_calls self.old + 1) 0xffff_ffff_ffff_ffff }
         ensures failing { source_failing self.new ≡ source_failing self.old }
         ensures quiet { OnOk result (source_faults self.new ≡ source_faults self.old) }
+        ensures raised { OnErr result (source_faults self.new ≡ min (source_faults self.old + 1) 0xffff_ffff_ffff_ffff) }
         ensures never { source_failing self.old ≡ [] → IsOk result }
     {
         self.calls = self.calls.saturating_add(1);
@@ -95,10 +99,7 @@ impl Source for MemSource {
             self.faults = self.faults.saturating_add(1);
             return Err(Failed);
         }
-        let rest = rest_from(self.bytes.as_slice(), self.place);
-        let n = copy_front(rest, buf);
-        self.place += n;
-        Ok(n)
+        Ok(copy_from(self.bytes.as_slice(), &mut self.place, buf))
     }
 
     fn faults(&self) -> u64 {

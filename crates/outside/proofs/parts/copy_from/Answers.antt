@@ -1,4 +1,4 @@
-use Rattle.std.proofs.Common.{◌≡◌, length, drop, ◌+◌, ℕ, List, min, ap, ◌∙◌, subst}
+use Rattle.std.proofs.Common.{◌≡◌, drop, ◌+◌, ℕ, List, ap, ◌∙◌, subst}
 use Rattle.std.proofs.lemmas.List.{drop_min}
 use Rattle.outside.specs.Streams.{Consumes}
 use Rattle.outside.proofs.Front.{consumes}

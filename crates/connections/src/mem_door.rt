@@ -1,0 +1,210 @@
+// A host's connections in memory.
+ghost use Rattle.std.specs.Prelude.{◌≡◌, ◌≢◌, ◌+◌, ◌<◌, ◌≤◌, ℕ, List, [], ◌∷◌, ◌++◌, length, take, min, false, IfOk, IsOk, IsErr, OnOk, OnErr, IsTrue, IfSome, IfNone};
+ghost use Rattle.std.specs.Bool.{OnTrue, OnFalse};
+ghost use Rattle.connections.specs.Door.{Accepts, ReceivesOnLast, SendsOnLast};
+ghost use Rattle.connections.specs.Receiving.{ReceivesAt};
+ghost use Rattle.outside.specs.Streams.{Causes, ReadsAtMost, TakesSome};
+ghost use Rattle.connections.specs.Wire.{SendsLast};
+
+use crate::Door;
+use crate::parts::send_last;
+use outside::{Bytes, Failed, List, copy_from, is_failing};
+use std::alloc::Global;
+
+/// Connections that request texts, one text a connection. Its calls whose numbers, counted from 1, the list `failing`
+/// has are to fail. An `accept` for which no text is left, or for which it finds no memory, fails too and leaves the
+/// present connection as it is. So do a `receive` and a `send` before the first connection, and a `send` for which it
+/// finds no memory.
+#[derive(Drop, Debug)]
+pub struct MemDoor {
+    alloc: Global,
+    requests: List<Bytes>,
+    // How much of the request of each accepted connection was received.
+    places: Vec<usize>,
+    sent: List<Bytes>,
+    failing: List<u64>,
+    calls: u64,
+    missed: u64,
+    faults: u64,
+    ghost paired: { length places.items ≡ length sent },
+    ghost known: { length places.items ≤ length requests },
+}
+
+// Adds a connection on which nothing was received or sent, if there is memory. Else nothing changes.
+fn open(alloc: Global, places: &mut Vec<usize>, sent: &mut List<Bytes>) -> bool
+    ensures place { OnTrue result (places.new.items ≡ places.old.items ++ 0 ∷ []) }
+    ensures sent { OnTrue result (sent.new ≡ sent.old ++ [] ∷ []) }
+    ensures places_kept { OnFalse result (places.new.items ≡ places.old.items) }
+    ensures sent_kept { OnFalse result (sent.new ≡ sent.old) }
+{
+    if places.reserve(1).is_err() {
+        return false;
+    }
+    if sent.push(Bytes::from_vec(Vec::new(alloc))).is_err() {
+        return false;
+    }
+    places.push_reserved(0);
+    true
+}
+
+// Receives from the last of the requests that have a place, if one has.
+fn receive_last(requests: &[Bytes], places: &mut Vec<usize>, buf: &mut [u8]) -> Option<usize>
+    requires room { 0 < length buf.old }
+    requires known { length places.old.items ≤ length requests.now }
+    ensures within { IfSome result (λ n. ReadsAtMost n buf.old buf.new) }
+    ensures bytes { IfSome result (λ n. ReceivesAt requests.now places.old.items places.new.items buf.new n) }
+    ensures none { IfNone result (places.old.items ≡ []) }
+    ensures kept { IfNone result (places.new.items ≡ places.old.items) }
+{
+    let mut place = places.pop()?;
+    let request = requests[places.len()].as_slice();
+    let n = copy_from(request, &mut place, buf);
+    places.push_reserved(place);
+    Some(n)
+}
+
+impl MemDoor {
+    ghost use Rattle.connections.specs.MemDoor.{door_accepted, door_requests, door_sent, door_missed, door_faults, door_failing, door_calls};
+
+    /// Connections that request these texts, in order. It takes no memory.
+    pub fn new(alloc: Global, requests: List<Bytes>, failing: List<u64>) -> MemDoor
+        ensures accepted { door_accepted result ≡ [] }
+        ensures requests { door_requests result ≡ requests }
+        ensures sent { door_sent result ≡ [] }
+        ensures missed { door_missed result ≡ 0 }
+        ensures faults { door_faults result ≡ 0 }
+        ensures failing { door_failing result ≡ failing }
+        ensures calls { door_calls result ≡ 0 }
+    {
+        MemDoor {
+            alloc,
+            requests,
+            places: Vec::new(alloc),
+            sent: List::from_vec(Vec::new(alloc)),
+            failing,
+            calls: 0,
+            missed: 0,
+            faults: 0,
+        }
+    }
+
+    /// What was sent, one text a connection.
+    pub fn sent(&self) -> &List<Bytes>
+        ensures { result.now ≡ door_sent self.now }
+    {
+        &self.sent
+    }
+}
+
+impl Door for MemDoor {
+    ghost use Rattle.connections.specs.Receiving.{accepted_of};
+    ghost use Rattle.connections.specs.MemDoor.{door_accepted, door_requests, door_sent, door_missed, door_faults, door_failing, door_calls, door_fails, AcceptsNext};
+
+    ghost tells = { Unit {0} };
+
+    ghost accepted = { λ d. accepted_of d.places.items d.requests d.sent };
+
+    ghost count = { λ d. d.faults };
+
+    ghost misses = { λ d. d.missed };
+
+    fn accept(&mut self) -> Result<(), Failed>
+        ensures made { OnOk result (Accepts (door_accepted self.old) (door_accepted self.new)) }
+        ensures kept { OnErr result (door_accepted self.new ≡ door_accepted self.old) }
+        ensures cause { Causes (door_missed self.old) (door_missed self.new) result }
+        ensures count_kept { door_faults self.new ≡ door_faults self.old }
+
+        // The new connection is that of the next request, and nothing was sent on it.
+        ensures next { OnOk result (AcceptsNext self.old self.new) }
+        ensures sent { OnOk result (door_sent self.new ≡ door_sent self.old ++ [] ∷ []) }
+        ensures requests_kept { OnErr result (door_requests self.new ≡ door_requests self.old) }
+        ensures sent_kept { OnErr result (door_sent self.new ≡ door_sent self.old) }
+
+        // It fails where its number is in the list and where no request is left, else only for want of memory. The count
+        // rises by one where it fails, and else not.
+        ensures fails { IsTrue (door_fails self.old) → IsErr result }
+        ensures end { door_requests self.old ≡ [] → IsErr result }
+        ensures calls { door_calls self.new ≡ min (door_calls self.old + 1) 0xffff_ffff_ffff_ffff }
+        ensures failing { door_failing self.new ≡ door_failing self.old }
+        ensures quiet { OnOk result (door_missed self.new ≡ door_missed self.old) }
+        ensures raised { OnErr result (door_missed self.new ≡ min (door_missed self.old + 1) 0xffff_ffff_ffff_ffff) }
+    {
+        self.calls = self.calls.saturating_add(1);
+        if is_failing(self.failing.as_slice(), self.calls)
+            || self.places.len() >= self.requests.as_slice().len()
+            || !open(self.alloc, &mut self.places, &mut self.sent)
+        {
+            self.missed = self.missed.saturating_add(1);
+            return Err(Failed);
+        }
+        Ok(())
+    }
+
+    fn receive(&mut self, buf: &mut [u8]) -> Result<usize, Failed>
+        requires { 0 < length buf.old }
+        ensures within { IfOk result (λ n. ReadsAtMost n buf.old buf.new) }
+        ensures bytes { IfOk result (λ n. ReceivesOnLast (door_accepted self.old) (door_accepted self.new) buf.new n) }
+        ensures kept { OnErr result (door_accepted self.new ≡ door_accepted self.old) }
+        ensures cause { Causes (door_faults self.old) (door_faults self.new) result }
+        ensures misses_kept { door_missed self.new ≡ door_missed self.old }
+
+        // It fails exactly where its number is in the list and, by `bytes`, before the first connection. The count rises
+        // by one where it fails, and else not.
+        ensures fails { IsTrue (door_fails self.old) → IsErr result }
+        ensures works { door_fails self.old ≡ false → door_accepted self.old ≢ [] → IsOk result }
+        ensures requests_kept { door_requests self.new ≡ door_requests self.old }
+        ensures sent_kept { door_sent self.new ≡ door_sent self.old }
+        ensures calls { door_calls self.new ≡ min (door_calls self.old + 1) 0xffff_ffff_ffff_ffff }
+        ensures failing { door_failing self.new ≡ door_failing self.old }
+        ensures quiet { OnOk result (door_faults self.new ≡ door_faults self.old) }
+        ensures raised { OnErr result (door_faults self.new ≡ min (door_faults self.old + 1) 0xffff_ffff_ffff_ffff) }
+    {
+        self.calls = self.calls.saturating_add(1);
+        if is_failing(self.failing.as_slice(), self.calls) {
+            self.faults = self.faults.saturating_add(1);
+            return Err(Failed);
+        }
+        let Some(n) = receive_last(self.requests.as_slice(), &mut self.places, buf) else {
+            self.faults = self.faults.saturating_add(1);
+            return Err(Failed);
+        };
+        Ok(n)
+    }
+
+    fn send(&mut self, bytes: &[u8]) -> Result<usize, Failed>
+        requires { 0 < length bytes.now }
+        ensures within { IfOk result (λ n. TakesSome n bytes.now) }
+        ensures bytes { IfOk result (λ n. SendsOnLast (door_accepted self.old) (door_accepted self.new) (take n bytes.now)) }
+        ensures kept { OnErr result (door_accepted self.new ≡ door_accepted self.old) }
+        ensures cause { Causes (door_faults self.old) (door_faults self.new) result }
+        ensures misses_kept { door_missed self.new ≡ door_missed self.old }
+
+        // It fails where its number is in the list and, by `bytes`, before the first connection, else only for want of
+        // memory. The count rises by one where it fails, and else not.
+        ensures fails { IsTrue (door_fails self.old) → IsErr result }
+        ensures sent { IfOk result (λ n. SendsLast (door_sent self.old) (door_sent self.new) (take n bytes.now)) }
+        ensures sent_kept { OnErr result (door_sent self.new ≡ door_sent self.old) }
+        ensures requests_kept { door_requests self.new ≡ door_requests self.old }
+        ensures calls { door_calls self.new ≡ min (door_calls self.old + 1) 0xffff_ffff_ffff_ffff }
+        ensures failing { door_failing self.new ≡ door_failing self.old }
+        ensures quiet { OnOk result (door_faults self.new ≡ door_faults self.old) }
+        ensures raised { OnErr result (door_faults self.new ≡ min (door_faults self.old + 1) 0xffff_ffff_ffff_ffff) }
+    {
+        self.calls = self.calls.saturating_add(1);
+        if is_failing(self.failing.as_slice(), self.calls)
+            || !send_last(self.alloc, &mut self.sent, bytes)
+        {
+            self.faults = self.faults.saturating_add(1);
+            return Err(Failed);
+        }
+        Ok(bytes.len())
+    }
+
+    fn missed(&self) -> u64 {
+        self.missed
+    }
+
+    fn faults(&self) -> u64 {
+        self.faults
+    }
+}

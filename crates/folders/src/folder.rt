@@ -1,0 +1,86 @@
+// Where files stand.
+ghost use Rattle.std.specs.Prelude.{◌≡◌, ℕ, List, true, IfOk, OnOk, OnErr};
+ghost use Rattle.folders.specs.declared.folder.Held.{Held};
+ghost use Rattle.folders.specs.declared.folder.FolderFault.TheVariants.{Memory};
+ghost use Rattle.folders.specs.Files.{file_in, distinct, IsNames, Puts};
+ghost use Rattle.folders.specs.Folder.{FailsCounted};
+
+use outside::{Bytes, CopyFault, List, Name};
+use std::alloc::{AllocError, AllocFailed, Global};
+
+/// A file: its name and its bytes.
+#[derive(Drop, Debug)]
+pub struct Held {
+    pub name: Name,
+    pub bytes: Bytes,
+}
+
+/// Why a call on a folder failed.
+#[derive(Clone, Copy, Debug, PartialEq, Eq)]
+pub enum FolderFault {
+    /// The folder failed: its count of faults rose.
+    Failed,
+    /// There was no memory for it. The count of faults stays.
+    Memory,
+}
+
+impl From<AllocError> for FolderFault {
+    ghost from_gives = { λ _ e. e ≡ Memory };
+
+    fn from(_: AllocError) -> FolderFault {
+        FolderFault::Memory
+    }
+}
+
+impl<T: Drop> From<AllocFailed<T>> for FolderFault {
+    ghost from_gives = { λ _ e. e ≡ Memory };
+
+    fn from(_: AllocFailed<T>) -> FolderFault {
+        FolderFault::Memory
+    }
+}
+
+impl From<CopyFault> for FolderFault {
+    ghost from_gives = { λ _ e. e ≡ Memory };
+
+    fn from(_: CopyFault) -> FolderFault {
+        FolderFault::Memory
+    }
+}
+
+/// Files by their names, which differ. One that tells says what stands in it.
+pub trait Folder {
+    /// Whether it tells what stands in it.
+    ghost tells: { Type 0 };
+
+    /// What stands in it.
+    ghost held: { Self → List Held };
+
+    /// How often it failed.
+    ghost count: { Self → ℕ };
+
+    /// The names of the files, in byte order.
+    fn list(&mut self, alloc: Global) -> Result<List<Name>, FolderFault>
+        ensures names { tells → IfOk result (IsNames (held self.old)) }
+        ensures kept { tells → held self.new ≡ held self.old }
+        ensures cause { FailsCounted (count self.old) (count self.new) result };
+
+    /// The bytes of the file of this name, or `None` exactly where there is none.
+    fn get(&mut self, alloc: Global, name: &Name) -> Result<Option<Bytes>, FolderFault>
+        ensures found { tells → IfOk result (λ bytes. bytes ≡ file_in name.now (held self.old)) }
+        ensures kept { tells → held self.new ≡ held self.old }
+        ensures cause { FailsCounted (count self.old) (count self.new) result };
+
+    /// Makes these bytes the file of this name, in place of one that stands there. A call that fails changes nothing.
+    fn put(&mut self, name: &Name, bytes: &[u8]) -> Result<(), FolderFault>
+        ensures put { tells → OnOk result (Puts (held self.old) (held self.new) name.now bytes.now) }
+        ensures kept { tells → OnErr result (held self.new ≡ held self.old) }
+        ensures cause { FailsCounted (count self.old) (count self.new) result };
+
+    /// How often it failed. The count never falls.
+    fn faults(&self) -> u64
+        ensures { result ≡ count self.now };
+
+    /// The names of what stands in it differ.
+    ghost names_differ: { (f : Self) → tells → distinct (held f) ≡ true };
+}

@@ -1,0 +1,10 @@
+//! Files by their names: the folder as a trait, and folders in memory.
+#![tactic(auto)]
+
+mod folder;
+#[cfg(test)]
+mod folder_tests;
+mod mem_folder;
+
+pub use folder::{Folder, FolderFault, Held};
+pub use mem_folder::{MemFolder, are_distinct};

@@ -1,0 +1,231 @@
+// A folder in memory.
+ghost use Rattle.std.specs.Prelude.{◌≡◌, ◌≢◌, ◌==◌, ◌+◌, ◌≤◌, List, [], ◌∷◌, ◌++◌, true, false, not, min, find, filter, vec_len, vec_capacity, Err, IfOk, OnOk, OnErr, IsTrue};
+ghost use Rattle.std.specs.List.{list_any};
+ghost use Rattle.std.specs.Option.{option_copied};
+ghost use Rattle.folders.specs.declared.folder.FolderFault.TheVariants.{Failed, Memory};
+ghost use Rattle.folders.specs.Files.{is_named, file_in, names_of, distinct, IsNames, Puts};
+ghost use Rattle.folders.specs.Folder.{FailsCounted};
+
+use crate::{Folder, FolderFault, Held};
+use outside::{Bytes, Duplicate, List, Name, is_failing};
+use std::alloc::Global;
+use std::mem::replace;
+
+// Whether a file has this name.
+fn has_file(files: &[Held], name: &Name) -> bool
+    ensures { result ≡ list_any (is_named name.now) files.now }
+{
+    files.iter().any(|file| has_name(file, name))
+}
+
+/// Whether the names of the files differ.
+pub fn are_distinct(files: &[Held]) -> bool
+    ensures { result ≡ distinct files.now }
+{
+    match files.split_first() {
+        None => true,
+        Some((first, rest)) => !has_file(rest, &first.name) && are_distinct(rest),
+    }
+}
+
+// Whether the file has this name.
+fn has_name(file: &Held, name: &Name) -> bool
+    ensures { result ≡ is_named name.now file.now }
+{
+    file.name == *name
+}
+
+// The file of this name.
+fn find_file<'a>(files: &'a [Held], name: &Name) -> Option<&'a Held>
+    ensures { option_copied result ≡ find (is_named name.now) files.now }
+{
+    files.iter().find(|file| has_name(file, name))
+}
+
+// Drops the file of this name, if there is one.
+fn drop_file(files: &mut Vec<Held>, name: &Name)
+    ensures items { files.new.items ≡ filter (λ file. not (is_named name.now file)) files.old.items }
+    ensures shorter { vec_len files.new ≤ vec_len files.old }
+    ensures capacity { vec_capacity files.new ≡ vec_capacity files.old }
+{
+    files.retain(|file| !has_name(file, name));
+}
+
+// Copies of the names of the files.
+fn copied_names(alloc: Global, files: &[Held]) -> Result<Vec<Name>, FolderFault>
+    ensures names { IfOk result (λ names. names.items ≡ names_of files.now) }
+    ensures memory { OnErr result (result ≡ Err Memory) }
+{
+    let mut made = Vec::new(alloc);
+    for file in files {
+        made.push(file.name.copy(alloc)?)?;
+    }
+    Ok(made)
+}
+
+// Puts the file in place of one of its name, if there is memory. Else nothing changes.
+fn replace_file(files: &mut Vec<Held>, file: Held) -> Result<(), FolderFault>
+    ensures put { OnOk result (Puts files.old.items files.new.items file.name file.bytes) }
+    ensures differ { distinct files.old.items ≡ true → distinct files.new.items ≡ true }
+    ensures err { OnErr result (files.new.items ≡ files.old.items) }
+    ensures memory { OnErr result (result ≡ Err Memory) }
+{
+    files.reserve(1)?;
+    drop_file(files, &file.name);
+    files.push_reserved(file);
+    Ok(())
+}
+
+/// Files in memory. Its calls whose numbers, counted from 1, the list `failing` has are to fail. A call for which it
+/// finds no memory answers `Memory`.
+#[derive(Drop, Debug)]
+pub struct MemFolder {
+    alloc: Global,
+    files: List<Held>,
+    failing: List<u64>,
+    calls: u64,
+    faults: u64,
+    ghost differ: { distinct files ≡ true },
+}
+
+impl MemFolder {
+    ghost use Rattle.folders.specs.MemFolder.{folder_held, folder_faults, folder_failing, folder_calls, folder_fails};
+
+    /// A folder of these files, whose names differ: `are_distinct` tells. It takes no memory.
+    pub fn new(alloc: Global, files: List<Held>, failing: List<u64>) -> MemFolder
+        requires { distinct files ≡ true }
+        ensures held { folder_held result ≡ files }
+        ensures faults { folder_faults result ≡ 0 }
+        ensures failing { folder_failing result ≡ failing }
+        ensures calls { folder_calls result ≡ 0 }
+    {
+        MemFolder {
+            alloc,
+            files,
+            failing,
+            calls: 0,
+            faults: 0,
+        }
+    }
+
+    /// What stands in it.
+    pub fn files(&self) -> &List<Held>
+        ensures { result.now ≡ folder_held self.now }
+    {
+        &self.files
+    }
+
+    // Counts a call, which fails where its number is in the list.
+    fn begin(&mut self) -> Result<(), FolderFault>
+        ensures fails { OnErr result ((result ≡ Err Failed) × IsTrue (folder_fails self.old)) }
+        ensures works { OnOk result (folder_fails self.old ≡ false) }
+        ensures cause { FailsCounted (folder_faults self.old) (folder_faults self.new) result }
+        ensures calls { folder_calls self.new ≡ min (folder_calls self.old + 1) 0xffff_ffff_ffff_ffff }
+        ensures quiet { OnOk result (folder_faults self.new ≡ folder_faults self.old) }
+        ensures raised { OnErr result (folder_faults self.new ≡ min (folder_faults self.old + 1) 0xffff_ffff_ffff_ffff) }
+        ensures held { folder_held self.new ≡ folder_held self.old }
+        ensures failing { folder_failing self.new ≡ folder_failing self.old }
+    {
+        self.calls = self.calls.saturating_add(1);
+        if is_failing(self.failing.as_slice(), self.calls) {
+            self.faults = self.faults.saturating_add(1);
+            return Err(FolderFault::Failed);
+        }
+        Ok(())
+    }
+
+    // Puts a copy of the bytes under the name, if there is memory. Else nothing changes.
+    fn put_copy(&mut self, name: &Name, bytes: &[u8]) -> Result<(), FolderFault>
+        ensures put { OnOk result (Puts (folder_held self.old) (folder_held self.new) name.now bytes.now) }
+        ensures kept { OnErr result (folder_held self.new ≡ folder_held self.old) }
+        ensures memory { OnErr result (result ≡ Err Memory) }
+        ensures faults { folder_faults self.new ≡ folder_faults self.old }
+        ensures calls { folder_calls self.new ≡ folder_calls self.old }
+        ensures failing { folder_failing self.new ≡ folder_failing self.old }
+    {
+        let file = Held {
+            name: name.copy(self.alloc)?,
+            bytes: Bytes::from_slice(self.alloc, bytes)?,
+        };
+        let empty = List::from_vec(Vec::new(self.alloc));
+        let mut files = replace(&mut self.files, empty).into_vec();
+        let done = replace_file(&mut files, file);
+        self.files = List::from_vec(files);
+        done
+    }
+}
+
+impl Folder for MemFolder {
+    ghost use Rattle.folders.specs.MemFolder.{folder_held, folder_faults, folder_failing, folder_calls, folder_fails};
+
+    ghost tells = { Unit {0} };
+
+    ghost held = { λ f. f.files };
+
+    ghost count = { λ f. f.faults };
+
+    fn list(&mut self, alloc: Global) -> Result<List<Name>, FolderFault>
+        ensures names { IfOk result (IsNames (folder_held self.old)) }
+        ensures kept { folder_held self.new ≡ folder_held self.old }
+        ensures cause { FailsCounted (folder_faults self.old) (folder_faults self.new) result }
+
+        // It answers `Failed` exactly where its number is in the list, and the count rises by one there, and else not.
+        ensures fails { IsTrue (folder_fails self.old) → result ≡ Err Failed }
+        ensures works { folder_fails self.old ≡ false → result ≢ Err Failed }
+        ensures calls { folder_calls self.new ≡ min (folder_calls self.old + 1) 0xffff_ffff_ffff_ffff }
+        ensures failing { folder_failing self.new ≡ folder_failing self.old }
+        ensures quiet { folder_fails self.old ≡ false → folder_faults self.new ≡ folder_faults self.old }
+        ensures raised { IsTrue (folder_fails self.old) → folder_faults self.new ≡ min (folder_faults self.old + 1) 0xffff_ffff_ffff_ffff }
+        ensures never { folder_failing self.old ≡ [] → folder_faults self.new ≡ folder_faults self.old }
+    {
+        self.begin()?;
+        let mut names = copied_names(alloc, self.files.as_slice())?;
+        names.sort_unstable();
+        Ok(List::from_vec(names))
+    }
+
+    fn get(&mut self, alloc: Global, name: &Name) -> Result<Option<Bytes>, FolderFault>
+        ensures found { IfOk result (λ bytes. bytes ≡ file_in name.now (folder_held self.old)) }
+        ensures kept { folder_held self.new ≡ folder_held self.old }
+        ensures cause { FailsCounted (folder_faults self.old) (folder_faults self.new) result }
+
+        // It answers `Failed` exactly where its number is in the list, and the count rises by one there, and else not.
+        ensures fails { IsTrue (folder_fails self.old) → result ≡ Err Failed }
+        ensures works { folder_fails self.old ≡ false → result ≢ Err Failed }
+        ensures calls { folder_calls self.new ≡ min (folder_calls self.old + 1) 0xffff_ffff_ffff_ffff }
+        ensures failing { folder_failing self.new ≡ folder_failing self.old }
+        ensures quiet { folder_fails self.old ≡ false → folder_faults self.new ≡ folder_faults self.old }
+        ensures raised { IsTrue (folder_fails self.old) → folder_faults self.new ≡ min (folder_faults self.old + 1) 0xffff_ffff_ffff_ffff }
+        ensures never { folder_failing self.old ≡ [] → folder_faults self.new ≡ folder_faults self.old }
+    {
+        self.begin()?;
+        let Some(file) = find_file(self.files.as_slice(), name) else {
+            return Ok(None);
+        };
+        Ok(Some(file.bytes.copy(alloc)?))
+    }
+
+    fn put(&mut self, name: &Name, bytes: &[u8]) -> Result<(), FolderFault>
+        ensures put { OnOk result (Puts (folder_held self.old) (folder_held self.new) name.now bytes.now) }
+        ensures kept { OnErr result (folder_held self.new ≡ folder_held self.old) }
+        ensures cause { FailsCounted (folder_faults self.old) (folder_faults self.new) result }
+
+        // It answers `Failed` exactly where its number is in the list, and the count rises by one there, and else not.
+        ensures fails { IsTrue (folder_fails self.old) → result ≡ Err Failed }
+        ensures works { folder_fails self.old ≡ false → result ≢ Err Failed }
+        ensures calls { folder_calls self.new ≡ min (folder_calls self.old + 1) 0xffff_ffff_ffff_ffff }
+        ensures failing { folder_failing self.new ≡ folder_failing self.old }
+        ensures quiet { folder_fails self.old ≡ false → folder_faults self.new ≡ folder_faults self.old }
+        ensures raised { IsTrue (folder_fails self.old) → folder_faults self.new ≡ min (folder_faults self.old + 1) 0xffff_ffff_ffff_ffff }
+        ensures never { folder_failing self.old ≡ [] → folder_faults self.new ≡ folder_faults self.old }
+    {
+        self.begin()?;
+        self.put_copy(name, bytes)
+    }
+
+    fn faults(&self) -> u64 {
+        self.faults
+    }
+
+    ghost names_differ = { λ f told. f.differ };
+}
