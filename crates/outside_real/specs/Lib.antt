@@ -1,3 +1,6 @@
 pub mod FileDisk
+pub mod RealFolder
 pub mod StdSink
 pub mod StdSource
+pub mod TcpDoor
+pub mod TcpWire

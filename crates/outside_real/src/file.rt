@@ -8,6 +8,11 @@ use std::os::unix::fs::FileExt;
 use std::path::Path;
 use std::rt::Files;
 
+// Makes the entries of a folder durable.
+pub(crate) fn sync_folder<R: Files<File = File>>(rt: &R, folder: &str) -> io::Result<()> {
+    File::open(rt, folder)?.sync_all()
+}
+
 // Makes the file's entry in its folder durable.
 fn sync_entry<R: Files<File = File>>(rt: &R, path: &str) -> io::Result<()> {
     let Some(folder) = Path::new(path).parent() else {
@@ -15,7 +20,7 @@ fn sync_entry<R: Files<File = File>>(rt: &R, path: &str) -> io::Result<()> {
     };
     let folder = folder.as_str();
     let folder = if folder.is_empty() { "." } else { folder };
-    File::open(rt, folder)?.sync_all()
+    sync_folder(rt, folder)
 }
 
 // Opens the file, or makes an empty one, and takes its lock. An empty file may be a new one, so its entry is made

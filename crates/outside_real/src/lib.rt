@@ -1,4 +1,5 @@
-//! The devices of a program: standard input, standard output and a disk in a file. They tell no content.
+//! The devices of a program: standard input, standard output, a disk in a file, a folder and the
+//! connections of a client and of a host. They tell no content.
 #![tactic(auto)]
 
 mod counted;
@@ -6,11 +7,26 @@ mod file;
 mod file_disk;
 #[cfg(test)]
 mod file_tests;
+mod folder_get;
+mod folder_list;
+mod folder_path;
+mod folder_put;
+#[cfg(test)]
+mod folder_tests;
+mod real_folder;
 mod std_sink;
 mod std_source;
+mod stream;
 #[cfg(test)]
 mod stream_tests;
+mod tcp_door;
+#[cfg(test)]
+mod tcp_tests;
+mod tcp_wire;
 
 pub use file_disk::FileDisk;
+pub use real_folder::RealFolder;
 pub use std_sink::StdSink;
 pub use std_source::StdSource;
+pub use tcp_door::TcpDoor;
+pub use tcp_wire::TcpWire;

@@ -1,0 +1,79 @@
+// What stands at a path below a folder. No symbolic link is followed.
+use folders::FolderFault;
+use std::alloc::Global;
+use std::fs::Metadata;
+use std::io::ErrorKind;
+use std::os::unix::fs::MetadataExt;
+use std::rt::Files;
+use std::{fs, io};
+
+// What stands at a path. A file is told from others by its device and its number there.
+#[derive(Clone, Copy, Debug, PartialEq, Eq)]
+pub(crate) enum Standing {
+    Nothing,
+    Folder,
+    File { device: u64, number: u64 },
+    Other,
+}
+
+// The fault that an error of the system is.
+pub(crate) fn fault_of(error: &io::Error) -> FolderFault {
+    if error.kind() == ErrorKind::OutOfMemory {
+        FolderFault::Memory
+    } else {
+        FolderFault::Failed
+    }
+}
+
+// Whether the error says that nothing stands at the path.
+fn says_absent(error: &io::Error) -> bool {
+    let kind = error.kind();
+    kind == ErrorKind::NotFound || kind == ErrorKind::NotADirectory
+}
+
+// What has these facts.
+pub(crate) fn standing_of(facts: &Metadata) -> Standing {
+    if facts.is_dir() {
+        return Standing::Folder;
+    }
+    if facts.is_file() {
+        return Standing::File {
+            device: facts.dev(),
+            number: facts.ino(),
+        };
+    }
+    Standing::Other
+}
+
+// What stands at the path. A symbolic link at its end stands for itself.
+pub(crate) fn standing_at<R: Files>(rt: &R, path: &str) -> Result<Standing, FolderFault> {
+    match fs::symlink_metadata(rt, path) {
+        Ok(facts) => Ok(standing_of(&facts)),
+        Err(error) => {
+            if says_absent(&error) {
+                Ok(Standing::Nothing)
+            } else {
+                Err(fault_of(&error))
+            }
+        }
+    }
+}
+
+// The path of a name below a folder. A folder of an empty path would be the root of all files.
+pub(crate) fn path_below(alloc: Global, folder: &str, name: &str) -> Result<String, FolderFault> {
+    if folder.is_empty() {
+        return Err(FolderFault::Failed);
+    }
+    let mut path = String::from_str(alloc, folder)?;
+    path.push('/')?;
+    path.push_str(name)?;
+    Ok(path)
+}
+
+// The part of a name before its last slash, if it has one.
+pub(crate) fn folder_part(name: &str) -> Option<&str> {
+    match name.rsplit_once('/') {
+        Some((folder, _)) => Some(folder),
+        None => None,
+    }
+}

@@ -1,0 +1,249 @@
+// Writing a file below a folder, whole or not at all. The bytes are written and made durable beside the file, under a
+// name that no file of a folder can have.
+use crate::file::sync_folder;
+use crate::folder_path::{Standing, fault_of, folder_part, path_below, standing_at, standing_of};
+use folders::FolderFault;
+use outside::Name;
+use std::alloc::{AllocError, Global};
+use std::fs::File;
+use std::io::ErrorKind;
+use std::os::unix::fs::FileExt;
+use std::rt::Files;
+use std::{fs, io};
+
+// What the name of a file ends with while it is written. The colon is a byte of no name.
+const UNFINISHED: &str = ":unfinished";
+
+// Whether a file of this name was never finished.
+pub(crate) fn is_unfinished(name: &str) -> bool {
+    name.ends_with(UNFINISHED)
+}
+
+// Where a file goes.
+#[derive(Drop)]
+struct Place {
+    folder: String,
+    file: String,
+    unfinished: String,
+}
+
+fn unfinished_path(alloc: Global, file: &str) -> Result<String, AllocError> {
+    let mut path = String::from_str(alloc, file)?;
+    path.push_str(UNFINISHED)?;
+    Ok(path)
+}
+
+fn place_of(alloc: Global, root: &str, name: &str) -> Result<Place, FolderFault> {
+    let file = path_below(alloc, root, name)?;
+    let folder = match folder_part(name) {
+        Some(folder) => path_below(alloc, root, folder)?,
+        None => String::from_str(alloc, root)?,
+    };
+    Ok(Place {
+        folder,
+        unfinished: unfinished_path(alloc, file.as_str())?,
+        file,
+    })
+}
+
+// Makes a folder in another one, and its entry durable.
+fn make_folder<R: Files<File = File>>(rt: &R, parent: &str, path: &str) -> Result<(), FolderFault> {
+    match fs::create_dir(rt, path) {
+        Ok(()) => {}
+        Err(error) => return Err(fault_of(&error)),
+    }
+    match sync_folder(rt, parent) {
+        Ok(()) => Ok(()),
+        Err(error) => Err(fault_of(&error)),
+    }
+}
+
+// Makes those of these folders that do not stand. What stands there and is no folder fails, a symbolic link too.
+fn make_folders<R: Files<File = File>>(
+    rt: &R,
+    alloc: Global,
+    root: &str,
+    folders: &str,
+) -> Result<(), FolderFault> {
+    let mut path = String::from_str(alloc, root)?;
+    for part in folders.split('/') {
+        let next = path_below(alloc, path.as_str(), part)?;
+        match standing_at(rt, next.as_str())? {
+            Standing::Folder => {}
+            Standing::Nothing => make_folder(rt, path.as_str(), next.as_str())?,
+            Standing::File { .. } | Standing::Other => return Err(FolderFault::Failed),
+        }
+        path = next;
+    }
+    Ok(())
+}
+
+// Makes an empty file at the path, and takes its lock.
+fn create<R: Files<File = File>>(rt: &R, path: &str) -> io::Result<File> {
+    let file = File::create_new(rt, path)?;
+    if file.try_lock().is_err() {
+        let _ = fs::remove_file(rt, path);
+        return Err(io::Error::from(ErrorKind::AlreadyExists));
+    }
+    Ok(file)
+}
+
+// Whether the open file is the one that stands at the path. What is no file there is none.
+fn stands_there<R: Files<File = File>>(rt: &R, path: &str, file: &File) -> bool {
+    let Ok(facts) = file.metadata() else {
+        return false;
+    };
+    match standing_at(rt, path) {
+        Ok(seen) => seen == standing_of(&facts),
+        Err(_) => false,
+    }
+}
+
+// Whether a file stands at the path, and no link or folder.
+fn is_file_at<R: Files<File = File>>(rt: &R, path: &str) -> bool {
+    matches!(standing_at(rt, path), Ok(Standing::File { .. }))
+}
+
+// Removes the file that an earlier run has left at the path, unless another one is still writing it.
+fn clear<R: Files<File = File>>(rt: &R, path: &str) -> io::Result<()> {
+    if !is_file_at(rt, path) {
+        return Err(io::Error::from(ErrorKind::AlreadyExists));
+    }
+    let left = File::open(rt, path)?;
+    if left.try_lock().is_err() || !stands_there(rt, path, &left) {
+        return Err(io::Error::from(ErrorKind::AlreadyExists));
+    }
+    fs::remove_file(rt, path)
+}
+
+// Makes an empty file at the path, in place of one that an earlier run has left there.
+fn begin<R: Files<File = File>>(rt: &R, path: &str) -> io::Result<File> {
+    match create(rt, path) {
+        Err(error) if error.kind() == ErrorKind::AlreadyExists => {
+            clear(rt, path)?;
+            create(rt, path)
+        }
+        made => made,
+    }
+}
+
+// Writes the bytes to an empty file, and makes them durable.
+fn fill(file: &File, bytes: &[u8]) -> io::Result<()> {
+    file.write_all_at(bytes, 0)?;
+    file.sync_data()
+}
+
+// Makes a file of these bytes at the path, and nothing where that fails. The file is locked while it is held.
+fn write_unfinished<R: Files<File = File>>(rt: &R, path: &str, bytes: &[u8]) -> io::Result<File> {
+    let file = begin(rt, path)?;
+    if let Err(error) = fill(&file, bytes) {
+        let _ = fs::remove_file(rt, path);
+        return Err(error);
+    }
+    Ok(file)
+}
+
+// Whether the error may say that the file system has no second names for a file.
+fn has_no_links(error: &io::Error) -> bool {
+    let kind = error.kind();
+    kind == ErrorKind::PermissionDenied || kind == ErrorKind::Unsupported
+}
+
+// Gives the finished file its name, where none of that name was seen. A file that has come there since is kept, and
+// the call fails; but where the file system knows no second name for a file, it is replaced.
+fn finish_new<R: Files<File = File>>(rt: &R, place: &Place) -> io::Result<()> {
+    match fs::hard_link(rt, place.unfinished.as_str(), place.file.as_str()) {
+        Ok(()) => {
+            let _ = fs::remove_file(rt, place.unfinished.as_str());
+            Ok(())
+        }
+        Err(error) if has_no_links(&error) => {
+            fs::rename(rt, place.unfinished.as_str(), place.file.as_str())
+        }
+        Err(error) => Err(error),
+    }
+}
+
+// Gives the finished file its name. Where that fails, nothing is left of it.
+fn finish<R: Files<File = File>>(rt: &R, place: &Place, is_new: bool) -> io::Result<()> {
+    let done = if is_new {
+        finish_new(rt, place)
+    } else {
+        fs::rename(rt, place.unfinished.as_str(), place.file.as_str())
+    };
+    if done.is_err() {
+        let _ = fs::remove_file(rt, place.unfinished.as_str());
+    }
+    done
+}
+
+// Makes the entries of the folder that was written last durable, if it is another one than this.
+fn leave<R: Files<File = File>>(rt: &R, last: &mut Option<String>, folder: &str) -> io::Result<()> {
+    let Some(left) = last else {
+        return Ok(());
+    };
+    if left.as_str() == folder {
+        return Ok(());
+    }
+    match sync_folder(rt, left.as_str()) {
+        Err(error) if error.kind() != ErrorKind::NotFound => Err(error),
+        _ => {
+            *last = None;
+            Ok(())
+        }
+    }
+}
+
+// Makes the entry of the file in its folder durable. A new file whose entry cannot be made durable is removed.
+fn settle<R: Files<File = File>>(rt: &R, place: &Place, is_new: bool) -> io::Result<()> {
+    let done = sync_folder(rt, place.folder.as_str());
+    if done.is_err() && is_new {
+        let _ = fs::remove_file(rt, place.file.as_str());
+    }
+    done
+}
+
+// Writes the file, durably but for the entry of a new file in the folder that was written last.
+fn write_file<R: Files<File = File>>(
+    rt: &R,
+    last: &mut Option<String>,
+    place: Place,
+    is_new: bool,
+    bytes: &[u8],
+) -> io::Result<()> {
+    leave(rt, last, place.folder.as_str())?;
+    let held = write_unfinished(rt, place.unfinished.as_str(), bytes)?;
+    finish(rt, &place, is_new)?;
+    drop(held);
+    if last.is_some() && is_new {
+        return Ok(());
+    }
+    settle(rt, &place, is_new)?;
+    *last = Some(place.folder);
+    Ok(())
+}
+
+// Makes these bytes the file of this name below the root. What stands there and is no file fails. `last` is the folder
+// that was written last, whose new entries may not be durable yet.
+pub(crate) fn put_file<R: Files<File = File>>(
+    rt: &R,
+    alloc: Global,
+    root: &str,
+    last: &mut Option<String>,
+    name: &str,
+    bytes: &[u8],
+) -> Result<(), FolderFault> {
+    let place = place_of(alloc, root, name)?;
+    if let Some(folders) = folder_part(name) {
+        make_folders(rt, alloc, root, folders)?;
+    }
+    let is_new = match standing_at(rt, place.file.as_str())? {
+        Standing::Nothing => true,
+        Standing::File { .. } => false,
+        Standing::Folder | Standing::Other => return Err(FolderFault::Failed),
+    };
+    match write_file(rt, last, place, is_new, bytes) {
+        Ok(()) => Ok(()),
+        Err(error) => Err(fault_of(&error)),
+    }
+}

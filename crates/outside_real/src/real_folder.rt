@@ -1,0 +1,103 @@
+// A folder of the file system.
+ghost use Rattle.std.specs.Prelude.{◌≡◌, ◌+◌, [], true, min, IfOk, IfErr, OnOk, OnErr};
+ghost use Rattle.std.proofs.Common.{refl};
+ghost use Rattle.folders.specs.Files.{file_in, distinct, IsNames, Puts};
+ghost use Rattle.folders.specs.Folder.{FailsCounted};
+ghost use Rattle.folders.specs.declared.folder.FolderFault.TheVariants.{Failed};
+
+use crate::counted::raise;
+use crate::folder_get::get_file;
+use crate::folder_list::list_files;
+use crate::folder_put::put_file;
+use folders::{Folder, FolderFault};
+use outside::{Bytes, List, Name};
+use std::alloc::Global;
+use std::fs::File;
+use std::rt::Files;
+
+// Counts a call that failed, and none for which there was no memory.
+fn counted<T: Drop>(faults: &mut u64, done: Result<T, FolderFault>) -> Result<T, FolderFault>
+    ensures result { result ≡ done }
+    ensures cause { FailsCounted faults.old faults.new result }
+    ensures quiet { OnOk result (faults.new ≡ faults.old) }
+    ensures raised { IfErr result (λ e. e ≡ Failed → faults.new ≡ min (faults.old + 1) 0xffff_ffff_ffff_ffff) }
+{
+    if let Err(FolderFault::Failed) = done {
+        raise(faults);
+    }
+    done
+}
+
+/// A folder of the file system and all folders below it, over a runtime's files. It tells no content. Names have `/`
+/// between their parts. It follows no symbolic link below the folder: a call that meets one fails, and so does one that
+/// meets anything else that is neither a file nor a folder. Whether a link stands at a part of a path is looked at
+/// before the path is used, so that a link which another process makes between the two may be followed.
+#[derive(Drop)]
+pub struct RealFolder<R: Files<File = File> + AllocGlobal + Clone + Drop> {
+    rt: R,
+    path: String,
+    last: Option<String>,
+    faults: u64,
+}
+
+impl<R: Files<File = File> + AllocGlobal + Clone + Drop> RealFolder<R> {
+    ghost use Rattle.outside_real.specs.RealFolder.{real_faults};
+
+    /// The folder at this path, which is looked at by each call and not before. At an empty path each call fails, and
+    /// where no folder stands only `get` does not: it finds nothing.
+    pub fn new(rt: R, path: String) -> RealFolder<R>
+        ensures { real_faults result ≡ 0 }
+    {
+        RealFolder {
+            rt,
+            path,
+            last: None,
+            faults: 0,
+        }
+    }
+}
+
+impl<R: Files<File = File> + AllocGlobal + Clone + Drop> Folder for RealFolder<R> {
+    ghost tells = { ⊥ };
+
+    ghost held = { λ _. [] };
+
+    ghost count = { λ f. f.faults };
+
+    ghost names_differ = { λ f told. refl };
+
+    /// The names of the files, in byte order. It fails where a name is not UTF-8, holds a backslash or is no file
+    /// name, of a folder too. Files whose names end in `:unfinished`, which are what `put` left where it was stopped,
+    /// are passed over.
+    fn list(&mut self, alloc: Global) -> Result<List<Name>, FolderFault> {
+        let done = match list_files(&self.rt, alloc, self.path.as_str()) {
+            Ok(names) => Ok(List::from_vec(names)),
+            Err(fault) => Err(fault),
+        };
+        counted(&mut self.faults, done)
+    }
+
+    /// The bytes of the file of this name, or `None` where none stands there, as where a folder does.
+    fn get(&mut self, alloc: Global, name: &Name) -> Result<Option<Bytes>, FolderFault> {
+        let done = get_file(&self.rt, alloc, self.path.as_str(), name.as_str());
+        counted(&mut self.faults, done)
+    }
+
+    /// Makes these bytes the file of this name, and the folders that it wants. They are written beside it under its
+    /// name with `:unfinished` behind it, locked from others, and made durable, before the file gets its name, so that a stop leaves the
+    /// file as it was or as it is to be. A file that comes to stand there in the meantime is never replaced, where the
+    /// file system has hard links; one that stood there before is. An entry is made durable at once where it is the
+    /// first in its folder since a file went elsewhere or where it replaces one; else before a file goes to another
+    /// folder. A call that fails may leave new folders, and where it fails because the entry of a file that it
+    /// replaced cannot be made durable, the file is replaced.
+    fn put(&mut self, name: &Name, bytes: &[u8]) -> Result<(), FolderFault> {
+        let alloc = self.rt.alloc();
+        let path = self.path.as_str();
+        let done = put_file(&self.rt, alloc, path, &mut self.last, name.as_str(), bytes);
+        counted(&mut self.faults, done)
+    }
+
+    fn faults(&self) -> u64 {
+        self.faults
+    }
+}

@@ -1,0 +1,128 @@
+// One connection of a network.
+ghost use Rattle.std.specs.Prelude.{◌≤◌, length, IfOk};
+ghost use Rattle.outside.specs.Streams.{ReadsAtMost, TakesSome};
+
+use crate::std_source::read_some;
+use outside::Failed;
+use std::io;
+use std::io::{Read, Write};
+use std::net::{Net, OpenStream, Shutdown, TcpStream, ToSocketAddrs};
+use std::rt::Clock;
+use std::time::{Duration, Instant};
+
+// The seconds that the other side of a connection that was accepted may take for all that it sends, and those that one
+// call waits until it takes anything.
+pub(crate) const HOST_PATIENCE: u64 = 10;
+
+// The seconds that the other side of such a connection may take until it has the whole answer.
+const ANSWER_PATIENCE: u64 = 3600;
+
+// The seconds that a client waits for one address, and for the next byte or until any is taken.
+pub(crate) const CLIENT_PATIENCE: u64 = 30;
+
+// How many reads at most follow the last answer.
+const MOST_READS: u64 = 4096;
+
+// A connection that was accepted, and since when.
+#[derive(Drop)]
+pub(crate) struct Guest<S> {
+    pub(crate) stream: S,
+    pub(crate) since: Instant,
+}
+
+// Sends each piece at once, and waits no longer than so many seconds for some of one to be taken.
+pub(crate) fn prepare<S: OpenStream>(stream: &S, patience: u64) -> io::Result<()> {
+    stream.set_nodelay(true)?;
+    stream.set_write_timeout(Some(Duration::from_secs(patience)))
+}
+
+// The host without the brackets of an address of the sixth version.
+fn without_brackets(host: &str) -> &str {
+    match host.strip_prefix('[') {
+        Some(rest) => rest.strip_suffix(']').unwrap_or(host),
+        None => host,
+    }
+}
+
+// A connection to the host's port, at the first of its addresses that answers.
+pub(crate) fn connect<R: Net>(rt: &R, host: &str, port: u16) -> io::Result<R::Stream> {
+    let mut last = io::Error::from(io::ErrorKind::NotFound);
+    for address in (without_brackets(host), port).to_socket_addrs(rt)? {
+        match TcpStream::connect_timeout(rt, &address, Duration::from_secs(CLIENT_PATIENCE)) {
+            Ok(stream) => return Ok(stream),
+            Err(error) => last = error,
+        }
+    }
+    Err(last)
+}
+
+// Sends the first of the bytes in one system call. No byte taken is a failure.
+pub(crate) fn send_some<S: Write>(stream: &mut S, bytes: &[u8]) -> Result<usize, Failed>
+    ensures { IfOk result (λ n. TakesSome n bytes.now) }
+{
+    match stream.write(bytes) {
+        Ok(0) | Err(_) => Err(Failed),
+        Ok(n) => Ok(n),
+    }
+}
+
+// How much is left of a time that began at a moment, if any is.
+fn time_left<R: Clock>(rt: &R, since: Instant, whole: Duration) -> Option<Duration> {
+    match since.elapsed(rt) {
+        Ok(spent) if spent < whole => Some(whole.saturating_sub(spent)),
+        _ => None,
+    }
+}
+
+impl<S: Read + Write + OpenStream + Drop> Guest<S> {
+    // Sends the first of the bytes in one system call, while there is time for the answer.
+    pub(crate) fn send<R: Clock>(&mut self, rt: &R, bytes: &[u8]) -> Result<usize, Failed>
+        ensures { IfOk result (λ n. TakesSome n bytes.now) }
+    {
+        if time_left(rt, self.since, Duration::from_secs(ANSWER_PATIENCE)).is_none() {
+            return Err(Failed);
+        }
+        send_some(&mut self.stream, bytes)
+    }
+
+    // What one system call gives, within the time that is left.
+    pub(crate) fn receive<R: Clock>(&mut self, rt: &R, buf: &mut [u8]) -> Result<usize, Failed>
+        ensures { IfOk result (λ n. ReadsAtMost n buf.old buf.new) }
+    {
+        let left = time_left(rt, self.since, Duration::from_secs(HOST_PATIENCE));
+        if left.is_none() || self.stream.set_read_timeout(left).is_err() {
+            return Err(Failed);
+        }
+        read_some(&mut self.stream, buf)
+    }
+
+    // Whether bytes wait that were not received. It takes some of them.
+    fn has_unread(&mut self) -> bool {
+        let mut buf = [0; 1024];
+        if self.stream.set_nonblocking(true).is_err() {
+            return false;
+        }
+        let found = match self.stream.read(&mut buf) {
+            Ok(n) => n > 0,
+            Err(_) => false,
+        };
+        found && self.stream.set_nonblocking(false).is_ok()
+    }
+
+    // Ends the connection. Where bytes wait that were not received, what comes is first received, within the time that
+    // is left: the system would else cut off what the other side has not received yet.
+    pub(crate) fn end<R: Clock>(self, rt: &R) {
+        let mut guest = self;
+        let _ = guest.stream.shutdown(Shutdown::Write);
+        if !guest.has_unread() {
+            return;
+        }
+        let mut buf = [0; 16384];
+        for _ in 0..MOST_READS {
+            match guest.receive(rt, &mut buf) {
+                Ok(0) | Err(_) => return,
+                Ok(_) => {}
+            }
+        }
+    }
+}
