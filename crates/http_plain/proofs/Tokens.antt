@@ -1,0 +1,18 @@
+-- Tokens are text.
+use Rattle.std.proofs.Common.{◌≡◌, ◌<◌, ℕ, Bool, true, List, arith}
+use Rattle.std.specs.Str.{IsUtf8}
+use Rattle.std.specs.List.{All}
+use Rattle.std.proofs.lemmas.Str.{IsUtf8-from_ascii}
+use Rattle.std.proofs.lemmas.Str.Ascii.{IsAscii-from_all}
+use Rattle.std.proofs.lemmas.List.Elements.{All-weaker}
+use Rattle.std.proofs.lemmas.Bool.Decides.{nat_tests}
+use Rattle.httparse.specs.Grammar.{is_token_byte, IsToken}
+
+token_is_ascii : (b : ℕ) → is_token_byte b ≡ true → b < 128
+unfolding is_token_byte
+token_is_ascii b token = grind (arith, nat_tests)
+
+pub token_text : (bytes : List ℕ) → IsToken bytes → IsUtf8 bytes
+token_text bytes token =
+    IsUtf8-from_ascii bytes (IsAscii-from_all bytes
+    (All-weaker (λ b. is_token_byte b ≡ true) (λ b. b < 128) token_is_ascii bytes token.1))

@@ -1,0 +1,11 @@
+pub mod Asked
+pub mod Begin
+pub mod Exchange
+pub mod Fields
+pub mod Flat
+pub mod Head
+pub mod Laws
+pub mod Path
+pub mod Reading
+pub mod Served
+pub mod Spans

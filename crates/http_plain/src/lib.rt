@@ -1,0 +1,25 @@
+//! Plain HTTP/1.1: the exchange of a client, and what a host answers.
+#![tactic(auto)]
+
+mod begun;
+mod demand;
+mod exchange;
+mod fault;
+mod fields;
+mod head;
+mod laws;
+mod lengths;
+mod path;
+mod request;
+mod response;
+#[cfg(test)]
+mod tests;
+
+pub use begun::Begun;
+pub use demand::{Demand, demand_in, demand_of};
+pub use exchange::ask_wire;
+pub use fault::{ExchangeFault, RequestFault};
+pub use head::{FIELD_LIMIT, HEAD_LIMIT, find_head_end};
+pub use laws::{files_are_read, hosts_are_folders, one_answer, one_demand, one_outcome};
+pub use path::name_in_path;
+pub use request::{Asked, read_request};
