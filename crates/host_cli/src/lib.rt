@@ -1,0 +1,11 @@
+//! The top call of the host's program: a run of connections over a folder.
+#![tactic(auto)]
+
+mod hosting;
+#[cfg(test)]
+mod tests;
+mod top;
+mod words;
+
+pub use top::host_run;
+pub use words::read_port;

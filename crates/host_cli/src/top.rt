@@ -1,0 +1,61 @@
+// The run of a host.
+ghost use Rattle.std.specs.Prelude.{◌≡◌, ◌≢◌, ◌≤◌, ◌<◌, ◌+◌, ◌⊎◌, ◌↔◌, ℕ, length, Some, None, IfSome};
+ghost use Rattle.outside.specs.Streams.{Rose};
+ghost use Rattle.host_cli.specs.Hosting.{HostsBut, HostsButLast, rises};
+ghost use Rattle.host_cli.specs.Words.{count_of};
+
+use crate::hosting::{RunFault, host_many};
+use crate::words::read_words;
+use connections::Door;
+use folders::Folder;
+use outside::Word;
+use std::alloc::Global;
+
+/// Accepts connections at the door, one after the other, and answers one request on each from the files of the
+/// folder. The words are `PORT COUNT`: 1 to 65,535, and 0 to 1,000,000, in 1 to 19 decimal digits each.
+///
+/// The status is 0 where so many connections were accepted, 1 exactly at other words, where nothing is done, 2 where
+/// the door failed to accept, and 6 where there was no memory to serve the last connection. A fault of the door or
+/// the folder while a connection is served ends that connection alone. So, where neither count of faults ended at its
+/// greatest number, at most as many connections are not served as the counts rose by; at status 6 the last
+/// connection is not counted.
+pub fn host_run<F: Folder, G: Door>(
+    alloc: Global,
+    words: &[Word],
+    folder: &mut F,
+    door: &mut G,
+) -> u8
+    ensures words { result ≡ 1 ↔ count_of words.now ≡ None }
+    ensures statuses { (result ≡ 0) ⊎ ((result ≡ 1) ⊎ ((result ≡ 2) ⊎ (result ≡ 6))) }
+
+    // How many connections were accepted.
+    ensures done { G.tells → result ≡ 0 → IfSome (count_of words.now) (λ n. length (G.accepted door.new) ≡ length (G.accepted door.old) + n) }
+    ensures fewer { G.tells → result ≡ 2 → IfSome (count_of words.now) (λ n. length (G.accepted door.new) < length (G.accepted door.old) + n) }
+    ensures most { G.tells → IfSome (count_of words.now) (λ n. length (G.accepted door.new) ≤ length (G.accepted door.old) + n) }
+    ensures missed { result ≡ 2 → Rose (G.misses door.old) (G.misses door.new) }
+
+    // How many of them were not served.
+    ensures served { G.tells → F.tells → G.count door.new < 0xffff_ffff_ffff_ffff → F.count folder.new < 0xffff_ffff_ffff_ffff → result ≢ 6
+        → HostsBut (F.held folder.old) (G.accepted door.old) (G.accepted door.new) (rises (G.count door.old) (G.count door.new) (F.count folder.old) (F.count folder.new)) }
+    ensures memory { G.tells → F.tells → G.count door.new < 0xffff_ffff_ffff_ffff → F.count folder.new < 0xffff_ffff_ffff_ffff → result ≡ 6
+        → HostsButLast (F.held folder.old) (G.accepted door.old) (G.accepted door.new) (rises (G.count door.old) (G.count door.new) (F.count folder.old) (F.count folder.new)) }
+
+    // Where nothing is done.
+    ensures other_words { result ≡ 1 → (door.new ≡ door.old) × (folder.new ≡ folder.old) }
+    ensures no_connections { count_of words.now ≡ Some 0 → (result ≡ 0) × (door.new ≡ door.old) × (folder.new ≡ folder.old) }
+
+    // The folder is only read, and no count falls.
+    ensures held { F.tells → F.held folder.new ≡ F.held folder.old }
+    ensures door_later { G.count door.old ≤ G.count door.new }
+    ensures folder_later { F.count folder.old ≤ F.count folder.new }
+    ensures misses_later { G.misses door.old ≤ G.misses door.new }
+{
+    let Some(count) = read_words(words) else {
+        return 1;
+    };
+    match host_many(alloc, count, folder, door) {
+        Ok(()) => 0,
+        Err(RunFault::Missed) => 2,
+        Err(RunFault::Memory) => 6,
+    }
+}

@@ -1,0 +1,144 @@
+-- How a connection goes on while it is served.
+use Rattle.std.proofs.Common.{◌≡◌, ◌≢◌, ℕ, ◌<◌, ◌≤◌, List, [], ◌∷◌, ◌++◌, None, length, take, ap, sym, ◌∙◌, refl, inl, inr, arith, append_assoc}
+use Rattle.std.specs.Prelude.{IsSome}
+use Rattle.std.proofs.lemmas.List.{append-nil}
+use Rattle.connections.specs.Door.{Accepted, ReceivesOnLast, SendsOnLast}
+use Rattle.connections.proofs.Ends.{Ends, ends, SameEnd, same_end, ReceivedOn, received_on, sent_on}
+use Rattle.http_plain.specs.Head.{head_end, head_limit}
+use Rattle.plain_host.specs.Serving.{Serving, SendsFront, SendsPart, TakesFront}
+
+some_there : (xs : List Accepted) → xs ≢ [] → 0 < length xs
+some_there [] some = absurd (some refl)
+some_there (x ∷ xs) some = omega arith
+
+-- nothing was done yet
+pub untouched : (old : List Accepted) → old ≢ [] → Serving old old [] []
+untouched old some =
+    let e : Ends old = ends old (some_there old some) in
+    record {
+      earlier = e.earlier;
+      last = e.last;
+      left = e.last.left;
+      before = e.is;
+      after = e.is ∙ ap (λ (s : List ℕ). e.earlier ++ record e.last { sent = s } ∷ []) (sym (append-nil e.last.sent));
+      split = refl;
+    }
+
+-- a list that ends in an item is not empty
+ends_in : (xs earlier : List Accepted) (last : Accepted) → xs ≡ earlier ++ last ∷ [] → xs ≢ []
+ends_in xs [] last is none = let clash : last ∷ [] ≡ [] = sym is ∙ none in cc
+ends_in xs (x ∷ earlier) last is none = let clash : x ∷ (earlier ++ last ∷ []) ≡ [] = sym is ∙ none in cc
+
+-- the last connection stays
+pub still_there : (old new : List Accepted) (taken sent : List ℕ) → Serving old new taken sent → new ≢ []
+still_there old new taken sent s = ends_in new s.earlier (record s.last { left = s.left; sent = s.last.sent ++ sent }) s.after
+
+-- more was received
+pub takes_on : (old mid new : List Accepted) (taken sent buf : List ℕ) (n : ℕ) → Serving old mid taken sent → ReceivesOnLast mid new buf n
+    → Serving old new (taken ++ take n buf) sent
+takes_on old mid new taken sent buf n s r =
+    let on : ReceivedOn s.earlier (record s.last { left = s.left; sent = s.last.sent ++ sent }) new buf n =
+    received_on s.earlier (record s.last { left = s.left; sent = s.last.sent ++ sent }) mid new buf n s.after r in
+    record {
+      earlier = s.earlier;
+      last = s.last;
+      left = on.left;
+      before = s.before;
+      after = on.after;
+      split = s.split ∙ ap (λ (l : List ℕ). taken ++ l) on.given.given ∙ sym (append_assoc taken (take n buf) on.left);
+    }
+
+-- more was sent
+pub sends_on : (old mid new : List Accepted) (taken sent bytes : List ℕ) → Serving old mid taken sent → SendsOnLast mid new bytes
+    → Serving old new taken (sent ++ bytes)
+sends_on old mid new taken sent bytes s r =
+    record {
+      earlier = s.earlier;
+      last = s.last;
+      left = s.left;
+      before = s.before;
+      after =
+          sent_on s.earlier (record s.last { left = s.left; sent = s.last.sent ++ sent }) mid new bytes s.after r
+          ∙ ap (λ (b : List ℕ). s.earlier ++ record s.last { left = s.left; sent = b } ∷ []) (append_assoc s.last.sent sent bytes);
+      split = s.split;
+    }
+
+-- two courses are one, where the second receives nothing
+abbrev pub joined : (old mid new : List Accepted) (taken sent bytes : List ℕ) → Serving old mid taken sent → Serving mid new [] bytes
+    → Serving old new taken (sent ++ bytes)
+joined old mid new taken sent bytes s r =
+    let here : Accepted = record s.last { left = s.left; sent = s.last.sent ++ sent } in
+    let same : SameEnd r.earlier s.earlier r.last here = same_end r.earlier s.earlier r.last here (sym r.before ∙ s.after) in
+    let left : r.left ≡ s.left = sym r.split ∙ ap (λ (c : Accepted). c.left) same.last in
+    record {
+      earlier = s.earlier;
+      last = s.last;
+      left = s.left;
+      before = s.before;
+      after =
+          r.after
+          ∙ ap (λ (e : List Accepted). e ++ record r.last { left = r.left; sent = r.last.sent ++ bytes } ∷ []) same.earlier
+          ∙ ap (λ (l : List ℕ). s.earlier ++ record r.last { left = l; sent = r.last.sent ++ bytes } ∷ []) left
+          ∙ ap (λ (c : Accepted). s.earlier ++ record c { left = s.left; sent = c.sent ++ bytes } ∷ []) same.last
+          ∙ ap (λ (b : List ℕ). s.earlier ++ record s.last { left = s.left; sent = b } ∷ []) (append_assoc s.last.sent sent bytes);
+      split = s.split;
+    }
+
+-- the first part grows
+pub sends_more : (old mid new : List Accepted) (bytes rest now later : List ℕ) → rest ≡ now ++ later → SendsFront old mid bytes rest → SendsOnLast mid new now
+    → SendsFront old new bytes later
+sends_more old mid new bytes rest now later split f s = record {
+  done = f.done ++ now;
+  given = f.given ∙ ap (λ (r : List ℕ). f.done ++ r) split ∙ sym (append_assoc f.done now later);
+  sent = sends_on old mid new [] f.done now f.sent s;
+}
+
+-- the request ends here
+pub ends_here : (old mid new : List Accepted) (front buf : List ℕ) (n : ℕ) → Serving old mid front [] → ReceivesOnLast mid new buf n → n ≡ 0
+    → TakesFront old new front
+ends_here old mid new front buf n s r none =
+    let on : ReceivedOn s.earlier (record s.last { left = s.left; sent = s.last.sent ++ [] }) new buf n =
+    received_on s.earlier (record s.last { left = s.left; sent = s.last.sent ++ [] }) mid new buf n s.after r in
+    let empty : s.left ≡ [] = on.given.end none in
+    let nothing : take n buf ≡ [] = ap (λ (k : ℕ). take k buf) none in
+    let last : on.left ≡ [] = sym (ap (λ (l : List ℕ). l ++ on.left) nothing) ∙ sym on.given.given ∙ empty in
+    record {
+      taken = record {
+        earlier = s.earlier;
+        last = s.last;
+        left = on.left;
+        before = s.before;
+        after = on.after;
+        split = s.split ∙ ap (λ (l : List ℕ). front ++ l) (empty ∙ sym last);
+      };
+      enough = inl last;
+    }
+
+-- the limit is reached
+pub fills : (old new : List Accepted) (front : List ℕ) → Serving old new front [] → length front ≡ head_limit → TakesFront old new front
+fills old new front s full = record { taken = s; enough = inr (inl full) }
+
+-- the head's end is there
+pub ends_head : (old new : List Accepted) (front : List ℕ) → Serving old new front [] → length front ≤ head_limit → IsSome (head_end front) → TakesFront old new front
+ends_head old new front s within there = record { taken = s; enough = inr (inr (within, there)) }
+
+-- no head ends in no bytes
+pub no_end : (front : List ℕ) → front ≡ [] → head_end front ≡ None
+unfolding head_end
+no_end front none = ap head_end none
+
+-- a part of what comes behind other bytes
+pub part_behind : (old mid new : List Accepted) (head body first second : List ℕ) → first ≡ head → second ≡ body → Serving old mid [] first → SendsPart mid new second
+    → SendsPart old new (head ++ body)
+part_behind old mid new head body first second is_first is_second s p = record {
+  rest = p.rest;
+  some = p.some;
+  front = record {
+    done = first ++ p.front.done;
+    given =
+        ap (λ (a : List ℕ). a ++ body) (sym is_first)
+        ∙ ap (λ (b : List ℕ). first ++ b) (sym is_second ∙ p.front.given)
+        ∙ sym (append_assoc first p.front.done p.rest);
+    sent = joined old mid new [] first p.front.done s p.front.sent;
+  };
+}

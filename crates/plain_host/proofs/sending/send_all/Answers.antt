@@ -1,0 +1,10 @@
+use Rattle.std.proofs.Common.{[], refl, arith}
+use Rattle.plain_host.proofs.Course.{untouched}
+use Rattle.plain_host.proofs.sending.send_all.Goals as goal
+
+pub loop-rest-init : goal.loop-rest-init
+loop-rest-init g c = record {
+  front = λ t. record { done = []; given = refl; sent = untouched (g.G.Door.accepted c.args.door.now) (c.requires t) };
+  count = omega arith;
+  misses = refl;
+}

@@ -1,0 +1,13 @@
+//! A host of the files of a folder, over plain HTTP/1.1: one request a connection.
+#![tactic(auto)]
+
+mod answer;
+mod fault;
+mod receiving;
+mod sending;
+mod serving;
+#[cfg(test)]
+mod tests;
+
+pub use fault::{ServeFault, Served};
+pub use serving::serve_connection;
