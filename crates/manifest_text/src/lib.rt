@@ -6,4 +6,5 @@ mod lines;
 mod refusal;
 
 pub use facts::{write_application, write_deployment};
-pub use refusal::write_refusal;
+pub use lines::{line, two};
+pub use refusal::{about, limit_text, write_refusal};

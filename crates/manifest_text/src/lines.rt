@@ -12,8 +12,8 @@ use itoa::Buffer;
 use outside::Bytes;
 use std::alloc::Global;
 
-// Adds a line.
-pub(crate) fn line(out: &mut Bytes, word: &[u8], said: &[u8]) -> Result<(), PrintFault>
+/// Adds a line: a word, a space, what is said, and a line feed. It fails only for want of memory.
+pub fn line(out: &mut Bytes, word: &[u8], said: &[u8]) -> Result<(), PrintFault>
     ensures { OnOk result (out.new ≡ out.old ++ spec.line word.now said.now) }
 {
     out.extend(word)?;
@@ -23,8 +23,8 @@ pub(crate) fn line(out: &mut Bytes, word: &[u8], said: &[u8]) -> Result<(), Prin
     Ok(())
 }
 
-// Two words with a space between them.
-pub(crate) fn two(alloc: Global, first: &[u8], second: &[u8]) -> Result<Bytes, PrintFault>
+/// Two words with a space between them. It fails only for want of memory.
+pub fn two(alloc: Global, first: &[u8], second: &[u8]) -> Result<Bytes, PrintFault>
     ensures { IfOk result (λ b. b ≡ spec.two first.now second.now) }
 {
     let mut out = Bytes::from_vec(Vec::new(alloc));

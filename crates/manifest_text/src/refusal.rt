@@ -10,7 +10,7 @@ use identity::{PrintFault, Version, word_escape};
 use itoa::Buffer;
 use manifest_parts::ManifestFault;
 use manifest_tree::{TreeFault, TreeKind};
-use outside::{Bytes, Limit, Text};
+use outside::{Bytes, Limit};
 use std::alloc::Global;
 
 fn kind_text(kind: TreeKind) -> &'static [u8]
@@ -27,7 +27,8 @@ fn kind_text(kind: TreeKind) -> &'static [u8]
     }
 }
 
-fn limit_text(what: Limit) -> &'static [u8]
+/// The word for what there are too many of.
+pub fn limit_text(what: Limit) -> &'static [u8]
     ensures { result.now ≡ spec.limit_text what }
 {
     match what {
@@ -50,11 +51,11 @@ fn word(alloc: Global, text: &[u8]) -> Result<Bytes, PrintFault>
     Ok(out)
 }
 
-// A word, and what it is about.
-fn about(alloc: Global, text: &[u8], what: &Text) -> Result<Bytes, PrintFault>
+/// A word, and the escaped text that it is about. It fails only for want of memory.
+pub fn about(alloc: Global, text: &[u8], what: &[u8]) -> Result<Bytes, PrintFault>
     ensures { IfOk result (λ b. b ≡ spec.two text.now (word_text what.now)) }
 {
-    let escaped = word_escape(alloc, what.as_bytes())?;
+    let escaped = word_escape(alloc, what)?;
     two(alloc, text, escaped.as_bytes())
 }
 
@@ -84,13 +85,13 @@ fn cause(alloc: Global, fault: &ManifestFault) -> Result<Bytes, PrintFault>
 {
     match fault {
         ManifestFault::Tree(error) => tree(alloc, *error),
-        ManifestFault::Missing { what } => about(alloc, b"missing", what),
-        ManifestFault::Twice { what } => about(alloc, b"twice", what),
-        ManifestFault::BadValue { what } => about(alloc, b"bad-value", what),
+        ManifestFault::Missing { what } => about(alloc, b"missing", what.as_bytes()),
+        ManifestFault::Twice { what } => about(alloc, b"twice", what.as_bytes()),
+        ManifestFault::BadValue { what } => about(alloc, b"bad-value", what.as_bytes()),
         ManifestFault::Signed => word(alloc, b"signed"),
-        ManifestFault::NoDigest { file } => about(alloc, b"no-digest", file),
-        ManifestFault::BadName { file } => about(alloc, b"bad-name", file),
-        ManifestFault::TwiceNamed { file } => about(alloc, b"twice-named", file),
+        ManifestFault::NoDigest { file } => about(alloc, b"no-digest", file.as_bytes()),
+        ManifestFault::BadName { file } => about(alloc, b"bad-name", file.as_bytes()),
+        ManifestFault::TwiceNamed { file } => about(alloc, b"twice-named", file.as_bytes()),
         ManifestFault::MinimumAboveVersion { minimum, version } => {
             minimum_above(alloc, *minimum, *version)
         }

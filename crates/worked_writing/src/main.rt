@@ -1,0 +1,171 @@
+//! Manifests that are read and written again. What it prints is compared with what it must print.
+#![tactic(auto)]
+
+use manifest_tree::WriteFault;
+use manifest_writer::{
+    can_write_application, can_write_deployment, can_write_text, write_application,
+    write_deployment,
+};
+use manifests::{
+    Application, Deployment, applications_have_files, read_application, read_deployment,
+};
+use outside::{Bytes, Text};
+use std::alloc::{AllocError, Global};
+use std::io::{self, ErrorKind};
+
+// A deployment manifest with these terms, in another form than it is written in.
+fn source(alloc: Global, terms: &str) -> Result<String, AllocError> {
+    format!(in alloc;
+        r#"<assembly>
+  <assemblyIdentity version='1.2.0.65535' name='demo.application' language='de'/>
+  <dependency><dependentAssembly size='0003' codebase='demo.exe.manifest'>
+    <assemblyIdentity name='demo&amp;.exe' version='1.0.0.0' type='win32'/>
+    <hash><DigestMethod Algorithm='http://www.w3.org/2001/04/xmlenc#sha256'/>
+      <DigestValue> ungWv48Bz+pBQUDeXa4iI7ADYaOWF3qctBD/YfIAFa0= </DigestValue></hash>
+    <hash><DigestMethod Algorithm='http://www.w3.org/2000/09/xmldsig#sha1'/>
+      <DigestValue>qZk+NkcGgWq6PiVxeFDCbJzQ2J0=</DigestValue></hash>
+  </dependentAssembly></dependency>
+  {terms}
+</assembly>"#
+    )
+}
+
+// The terms of some deployments.
+const TERMS: [&str; 7] = [
+    "<deployment/>",
+    "<deployment mapFileExtensions='1' minimumRequiredVersion='1.2.0.5'><subscription><update><beforeApplicationStartup/></update></subscription><deploymentProvider codebase='http://demo.test/demo.application'/></deployment>",
+    "<deployment><subscription><update/></subscription></deployment>",
+    "<deployment><subscription><update><expiration maximumAge='168' unit='hours'/></update></subscription></deployment>",
+    "<deployment><subscription><update><expiration maximumAge='14' unit='days'/></update></subscription></deployment>",
+    "<deployment><subscription><update><expiration maximumAge='8' unit='days'/></update></subscription></deployment>",
+    "<deployment><subscription><update><expiration maximumAge='5' unit='hours'/></update></subscription></deployment>",
+];
+
+fn text_of(alloc: Global, words: &str) -> io::Result<Text> {
+    Ok(Text::from_string(String::from_str(alloc, words)?))
+}
+
+fn bad<T: Drop>() -> io::Result<T> {
+    Err(ErrorKind::InvalidData.into())
+}
+
+fn deployment_of(alloc: Global, terms: &str) -> io::Result<Deployment> {
+    let source = source(alloc, terms)?;
+    match read_deployment(alloc, source.as_str().as_bytes()) {
+        Ok(deployment) => Ok(deployment),
+        Err(_) => bad(),
+    }
+}
+
+// The text of the deployment with this publisher's name, or the length that is too long.
+fn written(
+    alloc: Global,
+    deployment: &Deployment,
+    publisher: &Text,
+) -> io::Result<Result<Bytes, u64>> {
+    let product = text_of(alloc, "demo")?;
+    if !can_write_deployment(alloc, deployment).unwrap_or(false)
+        || !can_write_text(publisher)
+        || !can_write_text(&product)
+    {
+        return bad();
+    }
+    match write_deployment(alloc, deployment, publisher, &product) {
+        Ok(text) => Ok(Ok(text)),
+        Err(WriteFault::TooLong { length }) => Ok(Err(length)),
+        Err(WriteFault::Memory) => Err(ErrorKind::OutOfMemory.into()),
+    }
+}
+
+fn print(rt: &HostRuntime, text: &[u8]) -> io::Result<()> {
+    match std::str::from_utf8(text) {
+        Ok(text) => rt.print(text),
+        Err(_) => rt.println("no text"),
+    }
+}
+
+// Whether the deployment is what the text says.
+fn reads_as(alloc: Global, text: &[u8], deployment: &Deployment) -> bool {
+    let Ok(again) = read_deployment(alloc, text) else {
+        return false;
+    };
+    again == *deployment
+}
+
+// Each deployment, where its text says it.
+fn deployments(rt: &HostRuntime) -> io::Result<()> {
+    let alloc = rt.alloc();
+    let publisher = text_of(alloc, "A \"&\" <B>")?;
+    for terms in TERMS {
+        let deployment = deployment_of(alloc, terms)?;
+        let Ok(text) = written(alloc, &deployment, &publisher)? else {
+            return bad();
+        };
+        if reads_as(alloc, text.as_slice(), &deployment) {
+            print(rt, text.as_slice())?;
+        }
+    }
+    Ok(())
+}
+
+// A text of the most bytes, and one of one more.
+fn lengths(rt: &HostRuntime) -> io::Result<()> {
+    let alloc = rt.alloc();
+    let deployment = deployment_of(alloc, "<deployment/>")?;
+    for count in [MOST, MOST + 1] {
+        let publisher = Text::from_string("x".repeat(alloc, count)?);
+        match written(alloc, &deployment, &publisher)? {
+            Ok(text) => {
+                let length = text.as_slice().len();
+                println!(rt; "{length}")?;
+            }
+            Err(length) => println!(rt; "too long {length}")?,
+        }
+    }
+    Ok(())
+}
+
+// How long a publisher's name is that makes a text of 4,194,304 bytes.
+const MOST: usize = 4_192_940;
+
+// An application manifest, in another form than it is written in.
+const APPLICATION: &str =
+    r#"<assembly><assemblyIdentity name="demo.exe" version="1.0.0.0" type="win32"/>
+  <entryPoint><commandLine file="bin/demo.exe"/></entryPoint>
+  <file name="bin/demo.exe" size="3"><hash><DigestMethod Algorithm="http://www.w3.org/2000/09/xmldsig#sha256"/><DigestValue>ungWv48Bz+pBQUDeXa4iI7ADYaOWF3qctBD/YfIAFa0=</DigestValue></hash></file>
+  <file name="a/b\c.txt" size="67108864" optional="1" group="x/y"><hash><DigestMethod Algorithm="http://www.w3.org/2000/09/xmldsig#sha256"/><DigestValue>ungWv48Bz+pBQUDeXa4iI7ADYaOWF3qctBD/YfIAFa0=</DigestValue></hash></file>
+  <file name="local.db" size="0" writeableType="applicationData"><hash><DigestMethod Algorithm="http://www.w3.org/2000/09/xmldsig#sha1"/><DigestValue>qZk+NkcGgWq6PiVxeFDCbJzQ2J0=</DigestValue></hash></file>
+</assembly>"#;
+
+// Whether the application is what the text says.
+fn is_application(alloc: Global, text: &[u8], application: &Application) -> bool {
+    let Ok(again) = read_application(alloc, text) else {
+        return false;
+    };
+    again == *application
+}
+
+// The application, whose text says it.
+fn application(rt: &HostRuntime) -> io::Result<()> {
+    let alloc = rt.alloc();
+    let Ok(application) = read_application(alloc, APPLICATION.as_bytes()) else {
+        return bad();
+    };
+    applications_have_files();
+    if !can_write_application(&application) {
+        return bad();
+    }
+    let Ok(text) = write_application(alloc, &application) else {
+        return bad();
+    };
+    if !is_application(alloc, text.as_slice(), &application) {
+        return bad();
+    }
+    print(rt, text.as_slice())
+}
+
+fn main(rt: HostRuntime) -> io::Result<()> {
+    deployments(&rt)?;
+    lengths(&rt)?;
+    application(&rt)
+}
