@@ -1,0 +1,15 @@
+pub mod Chains
+pub mod Distinct
+pub mod EarlyLemmas
+pub mod FileLemmas
+pub mod FileLoop
+pub mod Folders
+pub mod IndexLemmas
+pub mod InputLemmas
+pub mod MarkLemmas
+pub mod PathLemmas
+pub mod PlaceLemmas
+pub mod PlanFacts
+pub mod PlanSteps
+pub mod PreFacts
+pub mod SoleMarks

@@ -1,0 +1,14 @@
+use Rattle.std.proofs.Common.{◌≡◌, ℕ, List, Result, Ok, sym, ◌∙◌}
+use Rattle.outside.specs.declared.name.NameFault.{NameFault}
+use Rattle.outside.proofs.Spelling.{read_again}
+use Rattle.publish_plan.proofs.places.name_from.Goals as goal
+
+abbrev ok_at : List ℕ → Result (List ℕ) NameFault
+ok_at name = Ok name
+
+ok_same : (x y : List ℕ) → ok_at x ≡ ok_at y → x ≡ y
+ok_same x y same = cc
+
+pub returns-in-Ok-clause-made : goal.returns-in-Ok-clause-made
+returns-in-Ok-clause-made c =
+    ok_same c.in-Ok.name c.args.bytes.now (sym c.in-Ok.ensures.exact ∙ read_again c.args.bytes.now c.requires)

@@ -1,0 +1,9 @@
+pub mod Early
+pub mod Facts
+pub mod Marks
+pub mod Outcome
+pub mod Paths
+pub mod Places
+pub mod Plans
+pub mod Seen
+pub mod Written

@@ -1,0 +1,22 @@
+-- What a call gives, against what the definitions give. Memory may always run out.
+use Rattle.std.specs.Prelude.{◌≡◌, Option, Some, None, Result, Ok, Err}
+use Rattle.publish_plan.specs.declared.fault.PlanFault.{PlanFault}
+use Rattle.publish_plan.specs.declared.fault.PlanFault.TheVariants.{Memory}
+
+abbrev pub Read : Type 0 → Type 0
+Read A = Result A PlanFault
+
+-- a refusal, if there is one
+abbrev pub unless : Option PlanFault → Read (Unit {0})
+unless None = Ok tt
+unless (Some refusal) = Err refusal
+
+-- an error of a call is the refusal, unless memory ran out
+abbrev pub Fails : {A : Type 0} → PlanFault → Read A → Type 0
+Fails Memory wanted = Unit {0}
+Fails e wanted = wanted ≡ Err e
+
+-- a call gives what is wanted, unless memory ran out
+abbrev pub Gives : {A : Type 0} → Read A → Read A → Type 0
+Gives (Ok x) wanted = wanted ≡ Ok x
+Gives (Err e) wanted = Fails e wanted

@@ -1,0 +1,9 @@
+// What holds of every plan.
+ghost use Rattle.publish_plan.specs.Facts.{PlansHaveFacts};
+
+/// A plan has at most 16,384 files and at most 256 data files, each of which an application manifest can list, and the
+/// file that is started among them. All but the deployment manifest is written in the folder of the version, where
+/// nothing stands and nothing is read, and where the names that stand differ, so do those that are written.
+pub fn plans_have_facts()
+    ensures { PlansHaveFacts }
+{}

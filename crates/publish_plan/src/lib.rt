@@ -1,0 +1,21 @@
+//! What a publish will write, and its refusals before any file is read.
+#![tactic(auto)]
+
+mod early;
+mod fault;
+mod files;
+mod laws;
+mod marked;
+mod options;
+mod places;
+#[cfg(test)]
+mod plan_tests;
+mod plans;
+mod written;
+
+pub use early::check_options;
+pub use fault::PlanFault;
+pub use laws::plans_have_facts;
+pub use options::{Mark, MarkKind, Options, Plan, PlannedFile};
+pub use places::codebase_of;
+pub use plans::plan;
