@@ -1,0 +1,14 @@
+pub mod Counting
+pub mod Entering
+pub mod Giving
+pub mod ManifestSteps
+pub mod OptionFacts
+pub mod Ordered
+pub mod PlanFacts
+pub mod PlanRefusals
+pub mod PublishSteps
+pub mod Putting
+pub mod ReleaseFacts
+pub mod SecondReads
+pub mod Sorting
+pub mod Standing

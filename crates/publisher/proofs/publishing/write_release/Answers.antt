@@ -1,0 +1,47 @@
+use Rattle.std.proofs.Common.{◌≡◌, List, map, sym, subst}
+use Rattle.folders.specs.Files.{Puts}
+use Rattle.publish_plan.specs.declared.options.PlannedFile.{PlannedFile}
+use Rattle.publisher.specs.Publication.{copy_in, published_files}
+use Rattle.publisher.specs.Puts.{PutsEach, PutsSome}
+use Rattle.publisher.proofs.Giving.{on_err, then_ok, then_err}
+use Rattle.publisher.proofs.SecondReads.{part_without_manifests, part_without_deployment, all_of_release}
+use Rattle.publisher.proofs.publishing.write_release.Goals as goal
+
+pub returns-in_err-put_file-clause-part : goal.returns-in_err-put_file-clause-part
+returns-in_err-put_file-clause-part g c = λ told.
+    let old = g.F.Folder.held c.args.folder.now in
+    let mid = g.F.Folder.held c.copy_files.new.folder in
+    let new = g.F.Folder.held c.put_file.new.folder in
+    let plan = c.args.plan.now in
+    let release = c.args.release.now in
+    let files : PutsEach (map (copy_in old) plan.files) old mid = subst (λ (fs : List PlannedFile). PutsEach (map (copy_in old) fs) old mid) c.as_slice.ensures (c.in_ok-copy_files.ensures.put told) in
+    let same : new ≡ mid = c.in_err-put_file.ensures.kept told in
+    on_err c.from_residual-in_err-put_file.result (PutsSome (published_files old plan release) old new)
+    (part_without_manifests old new plan release (subst (PutsEach (map (copy_in old) plan.files) old) (sym same) files))
+
+pub returns-clause-put : goal.returns-clause-put
+returns-clause-put g c = λ told.
+    let old = g.F.Folder.held c.args.folder.now in
+    let mid = g.F.Folder.held c.copy_files.new.folder in
+    let later = g.F.Folder.held c.put_file.new.folder in
+    let new = g.F.Folder.held c.put_file-2.new.folder in
+    let plan = c.args.plan.now in
+    let release = c.args.release.now in
+    let files : PutsEach (map (copy_in old) plan.files) old mid = subst (λ (fs : List PlannedFile). PutsEach (map (copy_in old) fs) old mid) c.as_slice.ensures (c.in_ok-copy_files.ensures.put told) in
+    let manifest : Puts mid later plan.manifest release.application = subst (Puts mid later plan.manifest) c.as_slice-3.ensures (c.in_ok-put_file.ensures.put told) in
+    then_ok c.put_file-2.result (Puts later new plan.deployment c.as_slice-4.result.now) (PutsEach (published_files old plan release) old new)
+    (λ put. all_of_release old mid later new plan release files manifest (subst (Puts later new plan.deployment) c.as_slice-4.ensures put)) (c.put_file-2.ensures.put told)
+
+pub returns-clause-part : goal.returns-clause-part
+returns-clause-part g c = λ told.
+    let old = g.F.Folder.held c.args.folder.now in
+    let mid = g.F.Folder.held c.copy_files.new.folder in
+    let later = g.F.Folder.held c.put_file.new.folder in
+    let new = g.F.Folder.held c.put_file-2.new.folder in
+    let plan = c.args.plan.now in
+    let release = c.args.release.now in
+    let files : PutsEach (map (copy_in old) plan.files) old mid = subst (λ (fs : List PlannedFile). PutsEach (map (copy_in old) fs) old mid) c.as_slice.ensures (c.in_ok-copy_files.ensures.put told) in
+    let manifest : Puts mid later plan.manifest release.application = subst (Puts mid later plan.manifest) c.as_slice-3.ensures (c.in_ok-put_file.ensures.put told) in
+    let part : PutsSome (published_files old plan release) old later = part_without_deployment old mid later plan release files manifest in
+    then_err c.put_file-2.result (new ≡ later) (PutsSome (published_files old plan release) old new)
+    (λ same. subst (PutsSome (published_files old plan release) old) (sym same) part) (c.put_file-2.ensures.kept told)

@@ -1,0 +1,38 @@
+-- Files that are put into a folder, one after another.
+use Rattle.std.specs.Prelude.{◌≡◌, ℕ, ◌<◌, Bool, true, ◌&&◌, not, List, [], ◌∷◌, length, take}
+use Rattle.std.specs.List.{list_all}
+use Rattle.std.specs.Option.{option_or}
+use Rattle.folders.specs.declared.folder.Held.{Held}
+use Rattle.folders.specs.Files.{file_in, Puts}
+use Rattle.publish_plan.specs.declared.options.PlannedFile.{PlannedFile}
+use Rattle.publish_plan.specs.Places.{lies_below}
+
+-- each of the files stands under its name, and every other name has what it had
+pub record PutsAll (files old new : List Held) : Type 0 where
+  pub each : (name : List ℕ) → file_in name new ≡ option_or (file_in name files) (file_in name old)
+
+-- the first so many of the files were put, and not all
+pub record PutsFront (files old new : List Held) : Type 0 where
+  pub count : ℕ
+  pub below : count < length files
+  pub puts : PutsAll (take count files) old new
+
+-- the files were put, one after another, whatever their names
+abbrev pub PutsEach : List Held → List Held → List Held → Type 0
+PutsEach [] old new = (name : List ℕ) → file_in name new ≡ file_in name old
+PutsEach (file ∷ files) old new = (mid : List Held) × Puts old mid file.name file.bytes × PutsEach files mid new
+
+-- the first so many of the files were put, and not all
+pub record PutsSome (files old new : List Held) : Type 0 where
+  pub count : ℕ
+  pub below : count < length files
+  pub puts : PutsEach (take count files) old new
+
+-- a file is written below the folder, and what is read for it does not stand there
+abbrev pub is_apart : List ℕ → PlannedFile → Bool
+is_apart folder file = lies_below folder file.target && not (lies_below folder file.source)
+
+-- no file is written over one that is read
+pub record AreApart (files : List PlannedFile) : Type 0 where
+  pub folder : List ℕ
+  pub apart : list_all (is_apart folder) files ≡ true

@@ -1,0 +1,108 @@
+// Why a publish is refused.
+ghost use Rattle.std.specs.Prelude.{◌≡◌};
+
+use digest_list::Difference;
+use identity::Version;
+use manifest_tree::WriteFault;
+use outside::{CopyFault, Limit, Name, Text};
+use publish_plan::PlanFault;
+use std::alloc::{AllocError, AllocFailed};
+
+/// Why a publish is refused, in the order in which the refusals are judged. Names of input files are those below `from`.
+#[derive(Drop, Debug, PartialEq, Eq)]
+pub enum PublishFault {
+    /// The word is `name` or `entry` where that is empty, has more than 100 bytes or a byte that is no letter, digit,
+    /// `.`, `_`, `-` or space; `to` where `from` and `to` are equal or one lies below the other; `entry` where the name
+    /// of the application manifest has more than 240 bytes.
+    BadName { word: Text },
+    /// The minimum is above the version.
+    MinimumAbove { minimum: Version },
+    /// The folder failed at a listing or a reading: its count rose.
+    ReadFault,
+    /// The version's folder has a file, of which this is the first.
+    VersionExists { file: Name },
+    /// No file stands below `from`.
+    EmptyInput,
+    /// The first file that is below `.pre`, that has a name too long to be written, or whose written name is that of
+    /// the application manifest.
+    BadInput { file: Name },
+    /// There are more than 16,384 files, or more than 256 data files.
+    TooMany { what: Limit },
+    /// The entry is not among the files, or a mark names it.
+    NoEntryPoint,
+    /// The first mark that names no file, or one that an earlier mark names, has this file.
+    BadMark { file: Name },
+    /// The first file that is longer than 67,108,864 bytes, and its length.
+    FileTooLong { file: Name, length: u64 },
+    /// A manifest is longer than 4,194,304 bytes: its length.
+    ManifestTooLong { length: u64 },
+    /// The folder failed at a writing: its count rose. Some first part of the files is written.
+    WriteFault,
+    /// The second reading of a file gave other bytes than the first. Some first part of the files is written.
+    Changed { file: Name, difference: Difference },
+    /// There was no memory.
+    Memory,
+}
+
+impl From<AllocError> for PublishFault {
+    ghost use Rattle.publisher.specs.declared.fault.PublishFault.TheVariants.{Memory};
+
+    ghost from_gives = { λ _ e. e ≡ Memory };
+
+    fn from(_: AllocError) -> PublishFault {
+        PublishFault::Memory
+    }
+}
+
+impl<T: Drop> From<AllocFailed<T>> for PublishFault {
+    ghost use Rattle.publisher.specs.declared.fault.PublishFault.TheVariants.{Memory};
+
+    ghost from_gives = { λ _ e. e ≡ Memory };
+
+    fn from(_: AllocFailed<T>) -> PublishFault {
+        PublishFault::Memory
+    }
+}
+
+impl From<CopyFault> for PublishFault {
+    ghost use Rattle.publisher.specs.declared.fault.PublishFault.TheVariants.{Memory};
+
+    ghost from_gives = { λ _ e. e ≡ Memory };
+
+    fn from(_: CopyFault) -> PublishFault {
+        PublishFault::Memory
+    }
+}
+
+impl From<PlanFault> for PublishFault {
+    ghost use Rattle.publisher.specs.Faults.{fault_of};
+
+    ghost from_gives = { λ fault e. e ≡ fault_of fault };
+
+    fn from(fault: PlanFault) -> PublishFault {
+        match fault {
+            PlanFault::BadName { word } => PublishFault::BadName { word },
+            PlanFault::MinimumAbove { minimum } => PublishFault::MinimumAbove { minimum },
+            PlanFault::VersionExists { file } => PublishFault::VersionExists { file },
+            PlanFault::EmptyInput => PublishFault::EmptyInput,
+            PlanFault::BadInput { file } => PublishFault::BadInput { file },
+            PlanFault::TooMany { what } => PublishFault::TooMany { what },
+            PlanFault::NoEntryPoint => PublishFault::NoEntryPoint,
+            PlanFault::BadMark { file } => PublishFault::BadMark { file },
+            PlanFault::Memory => PublishFault::Memory,
+        }
+    }
+}
+
+impl From<WriteFault> for PublishFault {
+    ghost use Rattle.publisher.specs.Faults.{fault_of_writing};
+
+    ghost from_gives = { λ fault e. e ≡ fault_of_writing fault };
+
+    fn from(fault: WriteFault) -> PublishFault {
+        match fault {
+            WriteFault::TooLong { length } => PublishFault::ManifestTooLong { length },
+            WriteFault::Memory => PublishFault::Memory,
+        }
+    }
+}

@@ -1,0 +1,202 @@
+// The two manifests of a release.
+ghost use Rattle.std.specs.Prelude.{◌≡◌, ◌≤◌, All, None, length, IfOk, IfErr, OnErr, Err};
+ghost use Rattle.digest_list.specs.Digest.{IsSized};
+ghost use Rattle.identity.specs.Version.{IsVersion};
+ghost use Rattle.manifests.specs.FileLists.{AreFiles};
+ghost use Rattle.manifest_writer.specs.Applications.{application_text as application_text_of};
+ghost use Rattle.manifest_writer.specs.Facts.{AreApplicationFacts, IsFile};
+ghost use Rattle.publish_plan.specs.Early.{early_of};
+ghost use Rattle.publisher.specs.declared.fault.PublishFault.TheVariants.{Memory};
+ghost use Rattle.publisher.specs.Faults.{IsManifestFault};
+ghost use Rattle.publisher.specs.Options.{IsPublishable};
+ghost use Rattle.publisher.specs.Outcome.{Gives};
+ghost use Rattle.publisher.specs.Publication.{application_identity as application_identity_of, application_of as application_with, deployment_identity as deployment_identity_of, deployment_of as deployment_with, deployment_key as deployment_key_of, deployment_text_of, key_named as key_with, limited, manifest_limit, manifests_of as manifests_with};
+
+use crate::PublishFault;
+use crate::reading::digests_of;
+use identity::{Identity, Key, Version};
+use manifest_writer::{write_application, write_deployment};
+use manifests::{Application, Deployment, FileEntry};
+use outside::{Bytes, Duplicate, List, Text};
+use publish_plan::{Options, codebase_of};
+use std::alloc::Global;
+
+/// What the manifests of a release say, and their texts.
+#[derive(Drop)]
+pub(crate) struct Release {
+    pub(crate) entries: List<FileEntry>,
+    pub(crate) application: Bytes,
+    pub(crate) deployment: Bytes,
+}
+
+// The most bytes of a manifest.
+const MANIFEST_LIMIT: u64 = 4_194_304;
+
+// A text of its own.
+fn text(alloc: Global, words: &str) -> Result<Text, PublishFault>
+    ensures text { IfOk result (λ t. t ≡ words.now) }
+    ensures memory { OnErr result (result ≡ Err Memory) }
+{
+    Ok(Text::from_string(String::from_str(alloc, words)?))
+}
+
+// The key of the name, with the parts that a manifest without them has.
+fn key_named(alloc: Global, name: Text) -> Result<Key, PublishFault>
+    ensures key { IfOk result (λ key. key ≡ key_with name) }
+    ensures memory { OnErr result (result ≡ Err Memory) }
+{
+    Ok(Key {
+        name,
+        token: text(alloc, "0000000000000000")?,
+        language: text(alloc, "neutral")?,
+        architecture: text(alloc, "msil")?,
+    })
+}
+
+/// The key of what is published.
+pub(crate) fn deployment_key(alloc: Global, options: &Options) -> Result<Key, PublishFault>
+    ensures key { IfOk result (λ key. key ≡ deployment_key_of options.now) }
+    ensures memory { OnErr result (result ≡ Err Memory) }
+{
+    let mut name = String::from_str(alloc, options.name.as_str())?;
+    name.push_str(".application")?;
+    key_named(alloc, Text::from_string(name))
+}
+
+// The same version, whose numbers have 16 bits.
+fn same_version(version: Version) -> Version
+    ensures same { result ≡ version }
+    ensures numbers { IsVersion result }
+{
+    let Version { a, b, c, d } = version;
+    Version { a, b, c, d }
+}
+
+// The identity of the deployment.
+fn deployment_identity(alloc: Global, options: &Options) -> Result<Identity, PublishFault>
+    ensures identity { IfOk result (λ identity. identity ≡ deployment_identity_of options.now) }
+    ensures numbers { IfOk result (λ identity. IsVersion identity.version) }
+    ensures memory { OnErr result (result ≡ Err Memory) }
+{
+    Ok(Identity {
+        key: deployment_key(alloc, options)?,
+        version: same_version(options.version),
+        kind: text(alloc, "")?,
+    })
+}
+
+// The identity of the application.
+fn application_identity(alloc: Global, options: &Options) -> Result<Identity, PublishFault>
+    ensures identity { IfOk result (λ identity. identity ≡ application_identity_of options.now) }
+    ensures memory { OnErr result (result ≡ Err Memory) }
+{
+    Ok(Identity {
+        key: key_named(alloc, text(alloc, options.entry.as_str())?)?,
+        version: options.version,
+        kind: text(alloc, "win32")?,
+    })
+}
+
+// The application that has these files.
+fn application_of(
+    alloc: Global,
+    options: &Options,
+    entries: List<FileEntry>,
+) -> Result<Application, PublishFault>
+    ensures application { IfOk result (λ application. application ≡ application_with options.now entries) }
+    ensures memory { OnErr result (result ≡ Err Memory) }
+{
+    Ok(Application {
+        identity: application_identity(alloc, options)?,
+        entry: text(alloc, options.entry.as_str())?,
+        parameters: text(alloc, "")?,
+        files: entries,
+    })
+}
+
+// The text of the application manifest.
+fn application_text(alloc: Global, application: &Application) -> Result<Bytes, PublishFault>
+    requires { AreApplicationFacts application.now }
+    ensures exact { Gives (λ text. text) result (limited (application_text_of application.now)) }
+    ensures fault { IfErr result IsManifestFault }
+{
+    let text = write_application(alloc, application)?;
+    let length = text.as_slice().len() as u64;
+    if length > MANIFEST_LIMIT {
+        return Err(PublishFault::ManifestTooLong { length });
+    }
+    Ok(text)
+}
+
+// An equal text, where there is one.
+fn maybe_copy(alloc: Global, text: &Option<Text>) -> Result<Option<Text>, PublishFault>
+    ensures copy { IfOk result (λ made. made ≡ text.now) }
+    ensures memory { OnErr result (result ≡ Err Memory) }
+{
+    match text {
+        Some(text) => Ok(Some(text.copy(alloc)?)),
+        None => Ok(None),
+    }
+}
+
+// The deployment of the application manifest with this text.
+fn deployment_of(alloc: Global, options: &Options, text: &[u8]) -> Result<Deployment, PublishFault>
+    ensures deployment { IfOk result (λ deployment. deployment ≡ deployment_with options.now text.now) }
+    ensures sized { IfOk result (λ deployment. All IsSized deployment.app_list) }
+    ensures numbers { IfOk result (λ deployment. IsVersion deployment.identity.version) }
+    ensures memory { OnErr result (result ≡ Err Memory) }
+{
+    Ok(Deployment {
+        identity: deployment_identity(alloc, options)?,
+        install: true,
+        minimum: options.minimum,
+        mapped: options.mapped,
+        rule: options.rule,
+        provider: maybe_copy(alloc, &options.provider)?,
+        codebase: codebase_of(alloc, options)?,
+        app: application_identity(alloc, options)?,
+        app_size: text.len() as u64,
+        app_list: digests_of(alloc, text)?,
+    })
+}
+
+// The text of the deployment manifest.
+fn deployment_text(alloc: Global, options: &Options, text: &[u8]) -> Result<Bytes, PublishFault>
+    requires options { IsPublishable options.now }
+    requires fit { early_of options.now ≡ None }
+    requires short { length text.now ≤ manifest_limit }
+    ensures exact { Gives (λ text. text) result (limited (deployment_text_of options.now text.now)) }
+    ensures fault { IfErr result IsManifestFault }
+{
+    let deployment = deployment_of(alloc, options, text)?;
+    let text = write_deployment(alloc, &deployment, &options.publisher, &options.name)?;
+    let length = text.as_slice().len() as u64;
+    if length > MANIFEST_LIMIT {
+        return Err(PublishFault::ManifestTooLong { length });
+    }
+    Ok(text)
+}
+
+/// The manifests of an application that has these files.
+pub(crate) fn manifests_of(
+    alloc: Global,
+    options: &Options,
+    entries: List<FileEntry>,
+) -> Result<Release, PublishFault>
+    requires options { IsPublishable options.now }
+    requires fit { early_of options.now ≡ None }
+    requires files { AreFiles entries }
+    requires each { All IsFile entries }
+    ensures exact { Gives (λ release. release) result (manifests_with options.now entries) }
+    ensures entries { IfOk result (λ release. release.entries ≡ entries) }
+    ensures fault { IfErr result IsManifestFault }
+{
+    let application = application_of(alloc, options, entries)?;
+    let text = application_text(alloc, &application)?;
+    let deployment = deployment_text(alloc, options, text.as_slice())?;
+    Ok(Release {
+        entries: application.files,
+        application: text,
+        deployment,
+    })
+}
