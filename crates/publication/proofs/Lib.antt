@@ -1,0 +1,4 @@
+pub mod Ending
+pub mod Forms_kept
+pub mod Joining
+pub mod Spelling

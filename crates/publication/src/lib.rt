@@ -1,0 +1,14 @@
+//! The words that publish a release, and the line that says how it ended.
+#![tactic(auto)]
+
+mod forms;
+mod lines;
+mod marks;
+mod publication;
+mod values;
+mod words;
+
+pub use forms::are_readable;
+pub use publication::{End, publish_words};
+pub use values::WordFault;
+pub use words::read_options;

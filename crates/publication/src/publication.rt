@@ -1,0 +1,105 @@
+// Publishing by words.
+ghost use Rattle.std.specs.Prelude.{◌≡◌, ◌≢◌, ◌⊎◌, ◌≤◌, ◌↔◌, None, Some, IfOk, IfErr};
+ghost use Rattle.outside.specs.Streams.{Rose};
+ghost use Rattle.publisher.specs.Options.{IsPublishable};
+ghost use Rattle.publication.specs.declared.publication.End.TheVariants as ends;
+ghost use Rattle.publication.specs.Words.{options_of};
+ghost use Rattle.publication.specs.Publication.{code_of as status_of, Publication, ForPublish};
+
+use crate::forms::are_readable;
+use crate::lines::line_of;
+use crate::words::read_options;
+use folders::Folder;
+use outside::{Sink, Word, write_all};
+use publisher::{Options, publish};
+use std::alloc::Global;
+
+/// How publishing by words ends.
+#[derive(Clone, Copy, Debug, PartialEq, Eq)]
+pub enum End {
+    /// The release was written, and so was the line that says so.
+    Done,
+    /// The words are others.
+    Words,
+    /// The folder failed at a listing or a reading.
+    ReadFault,
+    /// The folder failed at a writing.
+    WriteFault,
+    /// The sink failed.
+    SinkFault,
+    /// There was no memory.
+    Memory,
+    /// The publish is refused, and the refusal was written.
+    Refused,
+}
+
+impl End {
+    /// The exit status: 0 done, 1 other words, 2 the folder failed at a reading, 3 at a writing or the sink failed, 6 no
+    /// memory, 7 refused.
+    pub fn code(self) -> u8
+        ensures { result ≡ status_of self }
+    {
+        match self {
+            End::Done => 0,
+            End::Words => 1,
+            End::ReadFault => 2,
+            End::WriteFault | End::SinkFault => 3,
+            End::Memory => 6,
+            End::Refused => 7,
+        }
+    }
+}
+
+// Publishes by the options, and writes the line of what came of it.
+fn publish_options<F: Folder, K: Sink>(
+    alloc: Global,
+    options: &Options,
+    folder: &mut F,
+    sink: &mut K,
+) -> End
+    requires { IsPublishable options.now }
+    ensures done { Publication F.tells F.held F.count K.tells K.taken options.now folder.old folder.new sink.old sink.new result }
+    ensures folder_count { F.count folder.old ≤ F.count folder.new }
+    ensures sink_count { K.count sink.old ≤ K.count sink.new }
+    ensures read_cause { result ≡ ends.ReadFault → Rose (F.count folder.old) (F.count folder.new) }
+    ensures write_cause { result ≡ ends.WriteFault → Rose (F.count folder.old) (F.count folder.new) }
+    ensures sink_cause { result ≡ ends.SinkFault → Rose (K.count sink.old) (K.count sink.new) }
+{
+    let done = publish(alloc, options, folder);
+    let (line, end) = match line_of(alloc, &done) {
+        Ok(said) => said,
+        Err(end) => return end,
+    };
+    let Ok(()) = write_all(sink, line.as_slice()) else {
+        return End::SinkFault;
+    };
+    end
+}
+
+/// Publishes as the words behind `publish` ask for, and writes one line that says what was published, or why it was
+/// refused. Where the words are others, nothing is done. Where the folder fails, or memory runs out, no line is written.
+/// Memory may also run out for the line, once the release is written.
+pub fn publish_words<F: Folder, K: Sink>(
+    alloc: Global,
+    words: &[Word],
+    folder: &mut F,
+    sink: &mut K,
+) -> End
+    ensures words { (result ≡ ends.Words) ↔ (options_of words.now ≡ None) }
+    ensures nothing { result ≡ ends.Words → (folder.new ≡ folder.old) × (sink.new ≡ sink.old) }
+    ensures done { ForPublish (options_of words.now) (λ o. Publication F.tells F.held F.count K.tells K.taken o folder.old folder.new sink.old sink.new result
+        ⊎ ((result ≡ ends.Memory) × (folder.new ≡ folder.old) × (sink.new ≡ sink.old))) }
+    ensures folder_count { F.count folder.old ≤ F.count folder.new }
+    ensures sink_count { K.count sink.old ≤ K.count sink.new }
+    ensures read_cause { result ≡ ends.ReadFault → Rose (F.count folder.old) (F.count folder.new) }
+    ensures write_cause { result ≡ ends.WriteFault → Rose (F.count folder.old) (F.count folder.new) }
+    ensures sink_cause { result ≡ ends.SinkFault → Rose (K.count sink.old) (K.count sink.new) }
+{
+    if !are_readable(words) {
+        return End::Words;
+    }
+    match read_options(alloc, words) {
+        Ok(options) => publish_options(alloc, &options, folder, sink),
+        Err(_) => End::Memory,
+    }
+}

@@ -1,0 +1,129 @@
+// The values of the words behind `publish`.
+ghost use Rattle.std.specs.Prelude.{◌≡◌, ◌≢◌, ℕ, List, None, Some, true, length, take, drop, IfOk, IfErr, IfSome, IfNone};
+ghost use Rattle.std.specs.List.{list_all};
+ghost use Rattle.std.specs.Str.{is_utf8};
+ghost use Rattle.manifest_tree.specs.Lexis.{allowed};
+ghost use Rattle.manifest_writer.specs.Facts.{IsValue};
+ghost use Rattle.manifest_tree.specs.Writing.{is_content};
+ghost use Rattle.publication.specs.Words.{title_of, group_of, file_of, release_of};
+ghost use Rattle.publication.specs.declared.values.WordFault.TheVariants.{Unreadable, Memory};
+
+use identity::Version;
+use outside::{CopyFault, Name, NameFault, Text};
+use std::alloc::{AllocError, AllocFailed, Global};
+
+/// Why words were not read.
+#[derive(Clone, Copy, Debug, PartialEq, Eq)]
+pub enum WordFault {
+    /// A word is not of its form.
+    Unreadable,
+    /// There was no memory.
+    Memory,
+}
+
+impl From<AllocError> for WordFault {
+    ghost from_gives = { λ _ e. e ≡ Memory };
+
+    fn from(_: AllocError) -> WordFault {
+        WordFault::Memory
+    }
+}
+
+impl<T: Drop> From<AllocFailed<T>> for WordFault {
+    ghost from_gives = { λ _ e. e ≡ Memory };
+
+    fn from(_: AllocFailed<T>) -> WordFault {
+        WordFault::Memory
+    }
+}
+
+impl From<CopyFault> for WordFault {
+    ghost from_gives = { λ _ e. e ≡ Memory };
+
+    fn from(_: CopyFault) -> WordFault {
+        WordFault::Memory
+    }
+}
+
+// Whether a manifest may have the byte.
+#[tactic(auto, unfolding(manifest_tree::specs::Lexis::allowed))]
+fn is_allowed(byte: u8) -> bool
+    ensures { result ≡ allowed byte }
+{
+    byte >= 32 || byte == 9 || byte == 10 || byte == 13
+}
+
+pub(crate) fn is_allowed_text(bytes: &[u8]) -> bool
+    ensures { result ≡ is_content bytes.now }
+{
+    bytes.iter().all(|b| is_allowed(*b))
+}
+
+// Whether the bytes are UTF-8.
+#[tactic(auto, using(crate::proofs::Spelling::spelled, crate::proofs::Spelling::unspelled))]
+pub(crate) fn is_text(bytes: &[u8]) -> bool
+    ensures { result ≡ is_utf8 bytes.now }
+{
+    str::from_utf8(bytes).is_ok()
+}
+
+// A copy of the bytes, which are UTF-8.
+fn text_of(alloc: Global, bytes: &[u8]) -> Result<Text, WordFault>
+    requires { is_utf8 bytes.now ≡ true }
+    ensures value { IfOk result (λ t. t ≡ bytes.now) }
+    ensures memory { IfErr result (λ e. e ≡ Memory) }
+{
+    match str::from_utf8(bytes) {
+        Ok(text) => Ok(Text::from_string(String::from_str(alloc, text)?)),
+        Err(_) => Err(WordFault::Memory),
+    }
+}
+
+// The name, which is the publisher too.
+#[tactic(auto, unfolding(crate::specs::Words::title_of))]
+pub(crate) fn read_title(alloc: Global, word: &[u8]) -> Result<Text, WordFault>
+    ensures value { IfOk result (λ t. title_of word.now ≡ Some t) }
+    ensures fit { IfOk result (IsValue 0 240) }
+    ensures none { IfErr result (λ e. e ≡ Unreadable → title_of word.now ≡ None) }
+{
+    if word.len() > 240 || !is_allowed_text(word) || !is_text(word) {
+        return Err(WordFault::Unreadable);
+    }
+    text_of(alloc, word)
+}
+
+// A group.
+#[tactic(auto, unfolding(crate::specs::Words::group_of))]
+pub(crate) fn read_group(alloc: Global, text: &[u8]) -> Result<Text, WordFault>
+    ensures value { IfOk result (λ t. group_of text.now ≡ Some t) }
+    ensures fit { IfOk result (IsValue 1 240) }
+    ensures none { IfErr result (λ e. e ≡ Unreadable → group_of text.now ≡ None) }
+{
+    if text.is_empty() || text.len() > 240 || !is_allowed_text(text) || !is_text(text) {
+        return Err(WordFault::Unreadable);
+    }
+    text_of(alloc, text)
+}
+
+// A file name.
+pub(crate) fn read_file(alloc: Global, word: &[u8]) -> Result<Name, WordFault>
+    ensures value { IfOk result (λ n. file_of word.now ≡ Some n) }
+    ensures none { IfErr result (λ e. e ≡ Unreadable → file_of word.now ≡ None) }
+{
+    match Name::read(alloc, word) {
+        Ok(name) => Ok(name),
+        Err(NameFault::Bad) => Err(WordFault::Unreadable),
+        Err(NameFault::Memory) => Err(WordFault::Memory),
+    }
+}
+
+// A version.
+pub(crate) fn read_release(word: &[u8]) -> Result<Version, WordFault>
+    ensures value { IfOk result (λ v. release_of word.now ≡ Some v) }
+    ensures none { IfErr result (λ e. release_of word.now ≡ None) }
+{
+    match Version::read(word) {
+        Ok(version) => Ok(version),
+        Err(_) => Err(WordFault::Unreadable),
+    }
+}
