@@ -2,7 +2,7 @@
 #![tactic(auto)]
 
 use outside::{Failed, List, Sink, Word, write_all};
-use outside_real::{FileDisk, StdSink, StdSource};
+use outside_real::{FileDisk, RealFolder, StdSink, StdSource};
 use std::alloc::AllocError;
 use std::env;
 use std::io::ErrorKind;
@@ -17,17 +17,26 @@ STORE is the file of the store, and FOLDER a folder of published files.
   session --boot N --now N     answers the lines of the input: `require KEY V`
   inspect deployment           says what the deployment manifest in the input says
   inspect application          the same for an application manifest
+  publish --name N --release V --entry E --from F --to T MARK..
+                               publishes the files below F in the folder as
+                               version V of N, below T; E is what is started.
+                               A MARK is data:FILE or group:GROUP:FILE
 
 Status: 0 done, 1 other words, 2 input failed, 3 output failed, 4 disk failed,
-5 no store, 6 no memory, 7 refused manifest, 8 more input than a session takes.
+5 no store, 6 no memory, 7 refused manifest or publish, 8 more input than a
+session takes. For publish, 2 and 3 also where the folder failed.
 ";
 
 const VERSION: &[u8] = b"clickstore 0.1.0\n";
 
 // How the command line is read.
 enum Start {
-    // The store's path, and the words behind the folder's.
-    Run { store: String, words: Vec<Word> },
+    // The paths of the store and the folder, and the words behind them.
+    Run {
+        store: String,
+        folder: String,
+        words: Vec<Word>,
+    },
     // A text to print.
     Print(&'static [u8]),
     // Other words.
@@ -46,7 +55,7 @@ fn read_args(rt: &HostRuntime) -> Start {
     let Some(store) = args.next() else {
         return Start::Words;
     };
-    let Some(_folder) = args.next() else {
+    let Some(folder) = args.next() else {
         return match store.as_str() {
             "--help" => Start::Print(HELP),
             "--version" => Start::Print(VERSION),
@@ -59,7 +68,11 @@ fn read_args(rt: &HostRuntime) -> Start {
             return Start::Memory;
         }
     }
-    Start::Run { store, words }
+    Start::Run {
+        store,
+        folder,
+        words,
+    }
 }
 
 fn print(rt: HostRuntime, text: &[u8]) -> u8 {
@@ -75,11 +88,16 @@ fn run_args(rt: HostRuntime) -> Result<u8, AllocError> {
         Start::Words => Ok(1),
         Start::Memory => Ok(6),
         Start::Print(text) => Ok(print(rt, text)),
-        Start::Run { store, words } => {
+        Start::Run {
+            store,
+            folder,
+            words,
+        } => {
             let alloc = rt.alloc();
             let mut source = StdSource::new(rt.clone()?);
             let mut sink = StdSink::new(rt.clone()?);
-            let mut disk = FileDisk::new(rt, store);
+            let mut disk = FileDisk::new(rt.clone()?, store);
+            let mut folder = RealFolder::new(rt, folder);
             let mut report = Report {
                 lines: List::from_vec(Vec::new(alloc)),
                 begun: None,
@@ -90,6 +108,7 @@ fn run_args(rt: HostRuntime) -> Result<u8, AllocError> {
                 &mut source,
                 &mut sink,
                 &mut disk,
+                &mut folder,
                 &mut report,
             ))
         }

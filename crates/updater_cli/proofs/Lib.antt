@@ -1,3 +1,4 @@
+pub mod Publishing
 pub mod Runs
 pub mod Prefix
 pub mod Traces

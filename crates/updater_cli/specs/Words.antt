@@ -1,10 +1,12 @@
 -- What the words of the command line ask for.
-use Rattle.std.specs.Prelude.{ℕ, ◌≤◌, ◌^◌, List, [], ◌∷◌, Bool, ◌&&◌, nat_le, if◌then◌else◌, codes, Option, Some, None}
+use Rattle.std.specs.Prelude.{ℕ, ◌≤◌, ◌^◌, List, [], ◌∷◌, drop, Bool, false, ◌&&◌, nat_le, if◌then◌else◌, codes, Option, Some, None}
 use Rattle.std.specs.Str.{bytes_eq}
 use Rattle.command_text.specs.Numbers.{number_of}
 use Rattle.updater_cli.specs.declared.words.Request.{Request}
 use Rattle.updater_cli.specs.declared.words.Request.TheVariants.{Format, Session, Inspect}
 use Rattle.inspection.specs.declared.manifest.Kind.{Kind}
+use Rattle.publish_plan.specs.declared.options.Options.{Options}
+use Rattle.publication.specs.Words.{options_of}
 use Rattle.inspection.specs.declared.manifest.Kind.TheVariants.{Deployment, Application}
 
 -- a number of blocks is 1 to 65,536
@@ -34,6 +36,15 @@ request_of (command ∷ option ∷ boot ∷ second ∷ []) = None
 request_of (command ∷ option ∷ boot ∷ second ∷ now ∷ []) =
     if bytes_eq command (codes "session") && (bytes_eq option (codes "--boot") && bytes_eq second (codes "--now")) then session_of (number_of boot) (number_of now) else None
 request_of (command ∷ option ∷ boot ∷ second ∷ now ∷ more ∷ rest) = None
+
+-- the first word is `publish`
+abbrev pub is_publish : List (List ℕ) → Bool
+is_publish [] = false
+is_publish (command ∷ rest) = bytes_eq command (codes "publish")
+
+-- the publish that words ask for: `publish` and what it takes
+abbrev pub options_asked : List (List ℕ) → Option Options
+options_asked words = if is_publish words then options_of (drop 1 words) else None
 
 -- a fact of each session, of each format, and of each inspection, that the words ask for
 abbrev pub ForSession : Option Request → (ℕ → ℕ → Type 0) → Type 0

@@ -1,7 +1,7 @@
 // The words of the command line.
-ghost use Rattle.std.specs.Prelude.{◌≡◌, length, IfSome};
+ghost use Rattle.std.specs.Prelude.{◌≡◌, length, true, None, IfSome};
 ghost use Rattle.std.specs.Str.{bytes_eq};
-ghost use Rattle.updater_cli.specs.Words.{request_of, format_of, session_of, kind_of, IsRequest};
+ghost use Rattle.updater_cli.specs.Words.{is_publish as asks_to_publish, request_of, format_of, session_of, kind_of, IsRequest};
 ghost use Rattle.command_text.specs.Numbers.{number_of};
 
 use command_text::read_number;
@@ -127,4 +127,16 @@ pub(crate) fn read_words(words: &[Word]) -> Option<Request>
         return read_five(words);
     }
     None
+}
+
+/// Whether the words ask to publish. Then they ask for nothing else.
+#[tactic(auto, using(crate::proofs::Publishing::publish_alone))]
+pub(crate) fn is_publish(words: &[Word]) -> bool
+    ensures asks { result ≡ asks_to_publish words.now }
+    ensures other { result ≡ true → request_of words.now ≡ None }
+{
+    match words.first() {
+        Some(word) => is_word(word, b"publish"),
+        None => false,
+    }
 }

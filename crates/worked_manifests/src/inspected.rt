@@ -1,4 +1,5 @@
 // Runs of the top call with the words of `inspect`.
+use folders::MemFolder;
 use outside::{Bytes, List, MemDisk, MemSink, MemSource, Word};
 use std::alloc::{AllocError, Global};
 use std::io;
@@ -32,6 +33,8 @@ fn run_over(
     let mut sink = MemSink::new(alloc, nothing, failing(alloc, sink_fails)?);
     let empty = Bytes::from_vec(Vec::new(alloc));
     let mut disk = MemDisk::new(alloc, empty, failing(alloc, 1)?);
+    let no_files = List::from_vec(Vec::new(alloc));
+    let mut folder = MemFolder::new(alloc, no_files, failing(alloc, 1)?);
     let mut report = Report {
         lines: List::from_vec(Vec::new(alloc)),
         begun: None,
@@ -42,6 +45,7 @@ fn run_over(
         &mut source,
         &mut sink,
         &mut disk,
+        &mut folder,
         &mut report,
     );
     Ok((status, sink.taken().to_vec(alloc)?))

@@ -1,4 +1,5 @@
 // A machine in memory: a disk, and runs of the top call over it.
+use folders::MemFolder;
 use outside::{Bytes, List, MemDisk, MemSink, MemSource, Word};
 use std::alloc::{AllocError, Global};
 use std::io;
@@ -61,11 +62,21 @@ pub fn run_words(
     let mut source = MemSource::new(alloc, input, failing(alloc, source_fails)?);
     let nothing = Bytes::from_vec(Vec::new(alloc));
     let mut sink = MemSink::new(alloc, nothing, failing(alloc, sink_fails)?);
+    let no_files = List::from_vec(Vec::new(alloc));
+    let mut folder = MemFolder::new(alloc, no_files, failing(alloc, 1)?);
     let mut report = Report {
         lines: List::from_vec(Vec::new(alloc)),
         begun: None,
     };
-    let status = run(alloc, &words, &mut source, &mut sink, disk, &mut report);
+    let status = run(
+        alloc,
+        &words,
+        &mut source,
+        &mut sink,
+        disk,
+        &mut folder,
+        &mut report,
+    );
     Ok(Ran {
         status,
         output: sink.taken().to_vec(alloc)?,
