@@ -1,8 +1,7 @@
 -- What a file put in place of one of its name changes.
 use Rattle.std.proofs.Common.{◌≡◌, ◌≢◌, ℕ, List, [], ◌∷◌, ◌++◌, Bool, true, false, not, refl, sym, ◌∙◌, ap, arith}
-use Rattle.std.specs.Prelude.{Some, find, filter, option_map, ◌&&◌}
+use Rattle.std.specs.Prelude.{Some, find, filter, option_map}
 use Rattle.std.specs.List.{list_any}
-use Rattle.std.specs.Str.{bytes_eq}
 use Rattle.std.proofs.lemmas.Grind.{common_steps}
 use Rattle.std.proofs.lemmas.Slice.Eq.{bytes_eq-Decides}
 use Rattle.folders.specs.declared.folder.Held.{Held}

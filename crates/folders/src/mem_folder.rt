@@ -121,7 +121,6 @@ impl MemFolder {
         ensures works { OnOk result (folder_fails self.old ≡ false) }
         ensures cause { FailsCounted (folder_faults self.old) (folder_faults self.new) result }
         ensures calls { folder_calls self.new ≡ min (folder_calls self.old + 1) 0xffff_ffff_ffff_ffff }
-        ensures quiet { OnOk result (folder_faults self.new ≡ folder_faults self.old) }
         ensures raised { OnErr result (folder_faults self.new ≡ min (folder_faults self.old + 1) 0xffff_ffff_ffff_ffff) }
         ensures held { folder_held self.new ≡ folder_held self.old }
         ensures failing { folder_failing self.new ≡ folder_failing self.old }

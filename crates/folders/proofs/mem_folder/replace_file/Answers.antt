@@ -1,4 +1,4 @@
-use Rattle.std.proofs.Common.{◌≡◌, ◌∷◌, ◌++◌, [], List, not, subst, sym, ap, ◌∙◌}
+use Rattle.std.proofs.Common.{◌≡◌, ◌∷◌, ◌++◌, [], List, not, subst, sym}
 use Rattle.std.specs.Prelude.{filter, true}
 use Rattle.folders.specs.declared.folder.Held.{Held}
 use Rattle.folders.specs.Files.{is_named, distinct}
