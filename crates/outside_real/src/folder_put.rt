@@ -14,6 +14,9 @@ use std::{fs, io};
 // What the name of a file ends with while it is written. The colon is a byte of no name.
 const UNFINISHED: &str = ":unfinished";
 
+// What the second name of a file ends with while another one takes its place.
+const REPLACED: &str = ":replaced:unfinished";
+
 // Whether a file of this name was never finished.
 pub(crate) fn is_unfinished(name: &str) -> bool {
     name.ends_with(UNFINISHED)
@@ -25,11 +28,13 @@ struct Place {
     folder: String,
     file: String,
     unfinished: String,
+    replaced: String,
 }
 
-fn unfinished_path(alloc: Global, file: &str) -> Result<String, AllocError> {
+// The path with this end.
+fn path_with(alloc: Global, file: &str, end: &str) -> Result<String, AllocError> {
     let mut path = String::from_str(alloc, file)?;
-    path.push_str(UNFINISHED)?;
+    path.push_str(end)?;
     Ok(path)
 }
 
@@ -41,7 +46,8 @@ fn place_of(alloc: Global, root: &str, name: &str) -> Result<Place, FolderFault>
     };
     Ok(Place {
         folder,
-        unfinished: unfinished_path(alloc, file.as_str())?,
+        unfinished: path_with(alloc, file.as_str(), UNFINISHED)?,
+        replaced: path_with(alloc, file.as_str(), REPLACED)?,
         file,
     })
 }
@@ -164,12 +170,34 @@ fn finish_new<R: Files<File = File>>(rt: &R, place: &Place) -> io::Result<()> {
     }
 }
 
+// Gives the file that is to be replaced a second name, in place of one that an earlier run left there. Where the file
+// system knows no second name for a file, it has none.
+fn keep<R: Files<File = File>>(rt: &R, place: &Place) -> io::Result<()> {
+    if is_file_at(rt, place.replaced.as_str()) {
+        fs::remove_file(rt, place.replaced.as_str())?;
+    }
+    match fs::hard_link(rt, place.file.as_str(), place.replaced.as_str()) {
+        Err(error) if !has_no_links(&error) => Err(error),
+        _ => Ok(()),
+    }
+}
+
+// Puts the finished file in place of the one that stands there.
+fn replace<R: Files<File = File>>(rt: &R, place: &Place) -> io::Result<()> {
+    keep(rt, place)?;
+    let done = fs::rename(rt, place.unfinished.as_str(), place.file.as_str());
+    if done.is_err() {
+        let _ = fs::remove_file(rt, place.replaced.as_str());
+    }
+    done
+}
+
 // Gives the finished file its name. Where that fails, nothing is left of it.
 fn finish<R: Files<File = File>>(rt: &R, place: &Place, is_new: bool) -> io::Result<()> {
     let done = if is_new {
         finish_new(rt, place)
     } else {
-        fs::rename(rt, place.unfinished.as_str(), place.file.as_str())
+        replace(rt, place)
     };
     if done.is_err() {
         let _ = fs::remove_file(rt, place.unfinished.as_str());
@@ -194,11 +222,22 @@ fn leave<R: Files<File = File>>(rt: &R, last: &mut Option<String>, folder: &str)
     }
 }
 
-// Makes the entry of the file in its folder durable. A new file whose entry cannot be made durable is removed.
+// Removes a file whose entry cannot be made durable; the one that it replaced takes its place again.
+fn undo<R: Files<File = File>>(rt: &R, place: &Place, is_new: bool) {
+    if is_new {
+        let _ = fs::remove_file(rt, place.file.as_str());
+    } else if is_file_at(rt, place.replaced.as_str()) {
+        let _ = fs::rename(rt, place.replaced.as_str(), place.file.as_str());
+    }
+}
+
+// Makes the entry of the file in its folder durable, or undoes what was done.
 fn settle<R: Files<File = File>>(rt: &R, place: &Place, is_new: bool) -> io::Result<()> {
     let done = sync_folder(rt, place.folder.as_str());
-    if done.is_err() && is_new {
-        let _ = fs::remove_file(rt, place.file.as_str());
+    if done.is_err() {
+        undo(rt, place, is_new);
+    } else if !is_new {
+        let _ = fs::remove_file(rt, place.replaced.as_str());
     }
     done
 }

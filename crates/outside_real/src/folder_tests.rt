@@ -4,8 +4,8 @@ use folders::{Folder, FolderFault};
 use outside::Name;
 use std::alloc::{AllocError, Global};
 use std::fs;
-use std::fs::File;
-use std::os::unix::fs::symlink;
+use std::fs::{File, Permissions};
+use std::os::unix::fs::{PermissionsExt, symlink};
 use std::test::Fail;
 
 fn named(alloc: Global, name: &str) -> Result<Name, FolderFault> {
@@ -159,6 +159,34 @@ fn what_was_never_finished_is_passed_over(rt: HostRuntime) -> Result<(), Fail> {
     put(alloc, &mut site, "b", b"mine")?;
     assert_eq!(rt; get(alloc, &mut site, "b")?.as_slice(), b"mine".as_slice());
     fs::remove_dir_all(&rt, "stopped")?;
+    Ok(())
+}
+
+// Entries of a folder that may be written and not read can be made, but not made durable.
+#[test]
+fn what_cannot_be_made_durable_is_undone(rt: HostRuntime) -> Result<(), Fail> {
+    let alloc = rt.alloc();
+    begin(&rt, "shut")?;
+    let mut site = folder_at(&rt, "shut")?;
+    put(alloc, &mut site, "a", b"old")?;
+    fs::set_permissions(&rt, "shut", Permissions::from_mode(0o300))?;
+    let done = put(alloc, &mut site, "a", b"new");
+    fs::set_permissions(&rt, "shut", Permissions::from_mode(0o700))?;
+    // Who is above permissions can read the folder, and the file is put.
+    let stands = if done.is_ok() {
+        b"new".as_slice()
+    } else {
+        b"old".as_slice()
+    };
+    assert_eq!(rt; get(alloc, &mut site, "a")?.as_slice(), stands);
+    assert!(rt; !fs::exists(&rt, "shut/a:unfinished")?);
+    assert!(rt; !fs::exists(&rt, "shut/a:replaced:unfinished")?);
+    fs::write(&rt, "shut/a:replaced:unfinished", "left by a stop")?;
+    assert_eq!(rt; list(alloc, &mut site)?.as_str(), "a|");
+    put(alloc, &mut site, "a", b"newer")?;
+    assert_eq!(rt; get(alloc, &mut site, "a")?.as_slice(), b"newer".as_slice());
+    assert!(rt; !fs::exists(&rt, "shut/a:replaced:unfinished")?);
+    fs::remove_dir_all(&rt, "shut")?;
     Ok(())
 }
 

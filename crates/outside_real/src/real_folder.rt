@@ -19,7 +19,6 @@ use std::rt::Files;
 fn counted<T: Drop>(faults: &mut u64, done: Result<T, FolderFault>) -> Result<T, FolderFault>
     ensures result { result ≡ done }
     ensures cause { FailsCounted faults.old faults.new result }
-    ensures quiet { OnOk result (faults.new ≡ faults.old) }
     ensures raised { IfErr result (λ e. e ≡ Failed → faults.new ≡ min (faults.old + 1) 0xffff_ffff_ffff_ffff) }
 {
     if let Err(FolderFault::Failed) = done {
@@ -88,8 +87,8 @@ impl<R: Files<File = File> + AllocGlobal + Clone + Drop> Folder for RealFolder<R
     /// file as it was or as it is to be. A file that comes to stand there in the meantime is never replaced, where the
     /// file system has hard links; one that stood there before is. An entry is made durable at once where it is the
     /// first in its folder since a file went elsewhere or where it replaces one; else before a file goes to another
-    /// folder. A call that fails may leave new folders, and where it fails because the entry of a file that it
-    /// replaced cannot be made durable, the file is replaced.
+    /// folder. A call that fails may leave new folders, and else leaves what stood; but where the file system has no hard
+    /// links, a file is replaced though its entry cannot be made durable and the call fails.
     fn put(&mut self, name: &Name, bytes: &[u8]) -> Result<(), FolderFault> {
         let alloc = self.rt.alloc();
         let path = self.path.as_str();
