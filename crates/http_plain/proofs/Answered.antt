@@ -1,8 +1,8 @@
 -- An answer with a file, read back.
-use Rattle.std.proofs.Common.{◌≡◌, ◌≤◌, ◌<◌, ◌+◌, ◌&&◌, ◌^◌, not, ℕ, zero, suc, Bool, true, false, cond, List, [], ◌∷◌, ◌++◌, length, take, drop, map, reverse, eqb, ltb, leb, nat_eq, codes, IsTrue, All, Option, Some, None, Result, Ok, Err, refl, ap, sym, subst, ◌∙◌, arith, append_assoc, length-append}
+use Rattle.std.proofs.Common.{◌≡◌, ◌≤◌, ◌<◌, ◌+◌, ◌&&◌, ◌^◌, not, ℕ, Bool, true, false, cond, List, [], ◌∷◌, ◌++◌, length, reverse, eqb, ltb, leb, nat_eq, codes, All, Some, None, Ok, refl, ap, sym, subst, ◌∙◌, arith, append_assoc, length-append}
 use Rattle.std.specs.Char.{is_ascii_digit, digit_value}
 use Rattle.std.specs.Fmt.{decimal}
-use Rattle.std.specs.List.{ends_with, flat_map, list_all, AllPass}
+use Rattle.std.specs.List.{ends_with, flat_map, list_all}
 use Rattle.std.specs.Str.Parse.{AllDigits, digits_value}
 use Rattle.std.proofs.lemmas.Fmt.{decimal_is_IsNumeral_wide, length-decimal-le_wide, decimal-digits_value}
 use Rattle.std.proofs.lemmas.List.{append-nil, reverse-append}
@@ -12,19 +12,16 @@ use Rattle.std.proofs.lemmas.List.Sums.{AllPass-from_list_all}
 use Rattle.std.proofs.lemmas.Bool.Decides.{nat_tests}
 use Rattle.std.proofs.Math.Seq.{take-length, drop-length}
 use Rattle.httparse.specs.Ascii.{crlf_bytes}
-use Rattle.httparse.specs.Grammar.{Field, IsField, IsToken, crlf, is_token_byte, is_value_byte, is_ows, skip_ows, trim_ows, print_field, print_section, ResponseHead, IsResponseHead, print_response, ReadsResponse, status_code}
+use Rattle.httparse.specs.Grammar.{Field, IsField, crlf, is_token_byte, is_value_byte, is_ows, skip_ows, trim_ows, print_field, ResponseHead, IsResponseHead, print_response}
 use Rattle.httparse.proofs.TrimLemmas.{trim_ows_space}
-use Rattle.http_plain.specs.declared.fault.ExchangeFault.{ExchangeFault}
-use Rattle.http_plain.specs.declared.lengths.Named.{Named}
-use Rattle.http_plain.specs.declared.lengths.Named.TheVariants.{Nothing, Unclear, Length}
+use Rattle.http_plain.specs.declared.lengths.Named.TheVariants.{Nothing, Length}
 use Rattle.http_plain.specs.Exchange.{Gives, GivesBy, IsResponse, given, is_encoded, joined, length_in, length_of, named_by}
 use Rattle.http_plain.specs.Fields.{pairs_of, values_of}
-use Rattle.http_plain.specs.Head.{head_limit, head_end, Front, Whole, front_of, behind_head}
-use Rattle.http_plain.specs.Served.{answer_head, file_answer, head_text, length_line, status_line, type_line, type_of}
+use Rattle.http_plain.specs.Head.{head_limit, head_end, Whole, front_of, behind_head}
+use Rattle.http_plain.specs.Served.{answer_head, file_answer, head_text, type_line, type_of}
 use Rattle.http_plain.proofs.Digits.{AreDigits, own}
-use Rattle.http_plain.proofs.Ends.{end_longer}
 use Rattle.http_plain.proofs.Fronts.{behind_longer, ended_longer}
-use Rattle.http_plain.proofs.Lines.{is_clean, is_line, lines_text, head_ends, head_length, both}
+use Rattle.http_plain.proofs.Lines.{is_clean, lines_text, head_ends, head_length, both}
 
 -- ---- tests
 

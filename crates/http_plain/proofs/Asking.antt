@@ -1,5 +1,5 @@
 -- From the front of a message to the whole.
-use Rattle.std.proofs.Common.{◌≡◌, ◌≤◌, ◌<◌, ◌+◌, ℕ, zero, suc, min, Bool, true, false, cond, List, [], ◌∷◌, ◌++◌, length, take, drop, ltb, eqb, codes, Option, Some, None, Result, Ok, Err, refl, inl, inr, ap, sym, subst, ◌∙◌, arith, length-take}
+use Rattle.std.proofs.Common.{◌≡◌, ◌≤◌, ◌+◌, ℕ, zero, suc, min, Bool, true, false, cond, List, [], ◌∷◌, ◌++◌, length, take, drop, ltb, eqb, codes, Option, Some, None, Result, Ok, Err, refl, inl, inr, ap, sym, subst, ◌∙◌, arith, length-take}
 use Rattle.std.specs.Result.{IfOk}
 use Rattle.std.specs.Option.{IfSome, IsSome}
 use Rattle.std.proofs.lemmas.List.{take_all}
@@ -7,7 +7,7 @@ use Rattle.httparse.specs.Grammar.{ResponseHead, status_code}
 use Rattle.http_plain.specs.declared.request.Asked.{Asked}
 use Rattle.http_plain.specs.declared.begun.Begun.{Begun}
 use Rattle.http_plain.specs.declared.demand.Demand.{Demand}
-use Rattle.http_plain.specs.declared.demand.Demand.TheVariants.{Silent, Refused, File}
+use Rattle.http_plain.specs.declared.demand.Demand.TheVariants.{Silent, Refused}
 use Rattle.http_plain.specs.declared.fault.ExchangeFault.{ExchangeFault}
 use Rattle.http_plain.specs.declared.fault.ExchangeFault.TheVariants.{ReadFault, WriteFault, Cut, HeadTooLong, Malformed, Missing, Status, Encoded, NoLength, Memory}
 use Rattle.http_plain.specs.declared.lengths.Named.{Named}
@@ -15,7 +15,7 @@ use Rattle.http_plain.specs.Asked.{AsksBy}
 use Rattle.http_plain.specs.Begin.{Comes, IsRefusedBy}
 use Rattle.http_plain.specs.Exchange.{Gives, GivesBy, given, is_encoded, length_in, named_by}
 use Rattle.http_plain.specs.Fields.{pairs_of, values_of}
-use Rattle.http_plain.specs.Head.{head_limit, head_end, Front, Whole, TooLong, Short, front_at, front_of, behind_head, IsEnough}
+use Rattle.http_plain.specs.Head.{head_limit, head_end, Whole, TooLong, Short, front_at, front_of, behind_head, IsEnough}
 use Rattle.http_plain.specs.Served.{Asks, Demands, demand_of}
 use Rattle.http_plain.proofs.Ends.{end_bounds, no_end}
 use Rattle.http_plain.proofs.Fronts.{front_longer, behind_longer}

@@ -1,13 +1,12 @@
 -- Where the end of a head is looked for.
-use Rattle.std.proofs.Common.{◌≡◌, ◌≤◌, ◌<◌, ◌+◌, ◌-◌, min, ℕ, suc, zero, Bool, true, false, cond, List, [], ◌∷◌, ◌++◌, length, take, drop, get_or, nat_eq, ltb, Option, Some, None, refl, ap, sym, subst, ◌∙◌, arith, rules, zero-add, add-one}
-use Rattle.std.specs.Option.{option_map, IsSome}
+use Rattle.std.proofs.Common.{◌≡◌, ◌≤◌, ◌<◌, ◌+◌, ◌-◌, ℕ, suc, zero, Bool, true, false, cond, List, [], ◌∷◌, ◌++◌, length, take, drop, get_or, nat_eq, Option, Some, None, refl, ap, sym, subst, ◌∙◌, arith, add-one, length-append}
+use Rattle.std.specs.Option.{option_map, IfSome}
 use Rattle.std.specs.List.{starts_with}
 use Rattle.std.proofs.lemmas.List.{take-append-le, take-append-drop, drop_all, length-take}
 use Rattle.std.specs.Cmp.Lexicographic.{same_text}
 use Rattle.std.proofs.Math.Seq.{drop-cons}
 use lib.Pointwise.{pointwise}
-use Rattle.std.proofs.lemmas.Grind.{common_steps}
-use Rattle.http_plain.specs.Head.{head_mark, head_limit, head_end, Front, Whole, TooLong, Short, front_at, front_of, behind, behind_head, IsEnough}
+use Rattle.http_plain.specs.Head.{head_mark, head_end, IsNear}
 
 abbrev pub later : ℕ → Option ℕ → Option ℕ
 later n end = option_map (λ m. m + n) end
@@ -175,6 +174,79 @@ longer_by b rest more n false is e lower =
 pub end_longer : (text more : List ℕ) (n : ℕ) → head_end text ≡ Some n → head_end (text ++ more) ≡ Some n
 end_longer [] more n e = absurd (none_is_some n (sym no_end ∙ e))
 end_longer (b ∷ rest) more n e = longer_by b rest more n (begins (b ∷ rest)) refl e (λ m. end_longer rest more m)
+
+false_is_true : ◌≡◌ {A = Bool} false true → ⊥
+false_is_true e = cc
+
+-- a mark that bytes behind a text complete begins in its last three
+short_front : (b : ℕ) (rest more : List ℕ) → begins (b ∷ rest) ≡ false → begins (b ∷ (rest ++ more)) ≡ true → length (b ∷ rest) < 4
+short_front b [] more none mark = omega arith
+short_front b (c ∷ []) more none mark = omega arith
+short_front b (c ∷ d ∷ []) more none mark = omega arith
+short_front b (c ∷ d ∷ e ∷ rest) more none mark =
+    let long : 4 ≤ length (b ∷ c ∷ d ∷ e ∷ rest) = omega arith in
+    absurd (false_is_true (sym (unmarked_longer (b ∷ c ∷ d ∷ e ∷ rest) more long none) ∙ mark))
+
+behind_by : (b : ℕ) (rest more : List ℕ) (n : ℕ) (mark : Bool) → begins (b ∷ rest) ≡ false → begins (b ∷ (rest ++ more)) ≡ mark
+    → head_end (b ∷ (rest ++ more)) ≡ Some n
+    → ((m : ℕ) → head_end (rest ++ more) ≡ Some m → length rest < m)
+    → length (b ∷ rest) < n
+behind_by b rest more n true none is e lower =
+    let four : 4 ≡ n = some_same _ _ (sym (here b (rest ++ more) is) ∙ e) in
+    let short : length (b ∷ rest) < 4 = short_front b rest more none is in
+    omega (arith, four, short)
+behind_by b rest more n false none is e lower =
+    let found = sooner_by b (rest ++ more) n is e in
+    let below : length rest < found.0 = lower found.0 found.1 in
+    omega (arith, found.2, below)
+
+-- an end that came with more bytes lies behind the bytes before
+pub end_behind : (text more : List ℕ) (n : ℕ) → head_end text ≡ None → head_end (text ++ more) ≡ Some n → length text < n
+end_behind [] more n none e = omega (arith, end_bounds more n e)
+end_behind (b ∷ rest) more n none e =
+    let parts = none_past b rest none in
+    behind_by b rest more n (begins (b ∷ (rest ++ more))) parts.0 refl e (λ m. end_behind rest more m parts.1)
+
+-- ---- no piece behind the end of a head
+
+near_by : (piece : ℕ) (text added : List ℕ) (end : Option ℕ) → head_end text ≡ None → length added ≤ piece → head_end (text ++ added) ≡ end
+    → IfSome end (λ n. length (text ++ added) < n + piece)
+near_by piece text added None none fits e = tt
+near_by piece text added (Some n) none fits e = omega (arith, length-append text added, end_behind text added n none e)
+
+-- a piece behind bytes without an end
+pub near_piece : (piece : ℕ) (text added : List ℕ) → head_end text ≡ None → length added ≤ piece → IsNear piece (text ++ added)
+near_piece piece text added none fits = near_by piece text added (head_end (text ++ added)) none fits refl
+
+near_is : (piece : ℕ) (text : List ℕ) (end : Option ℕ) → end ≡ None → IfSome end (λ n. length text < n + piece)
+near_is piece text None none = tt
+near_is piece text (Some n) none = absurd (none_is_some n (sym none))
+
+-- no end at all
+pub near_none : (piece : ℕ) (text : List ℕ) → head_end text ≡ None → IsNear piece text
+near_none piece text none = near_is piece text (head_end text) none
+
+-- the same, of bytes that grew by a piece
+pub near_grown : (piece n : ℕ) (old new : List ℕ) → head_end old ≡ None → length new ≡ length old + n → take (length old) new ≡ old → n ≤ piece → IsNear piece new
+near_grown piece n old new none grows kept fits =
+    let whole : old ++ drop (length old) new ≡ new = ap (λ l. l ++ drop (length old) new) (sym kept) ∙ take-append-drop (length old) new in
+    let few : length (drop (length old) new) ≤ piece = omega (arith, length-append old (drop (length old) new), ap length whole) in
+    subst (IsNear piece) whole (near_piece piece old (drop (length old) new) none few)
+
+whole_by : (piece : ℕ) (front left : List ℕ) (first second : Option ℕ) → head_end front ≡ first → head_end (front ++ left) ≡ second
+    → IfSome first (λ n. length front < n + piece)
+    → IfSome second (λ n. length (front ++ left) < length left + n + piece)
+whole_by piece front left first None is e near = tt
+whole_by piece front left None (Some n) is e near = omega (arith, length-append front left, end_behind front left n is e)
+whole_by piece front left (Some m) (Some n) is e near =
+    let same : m ≡ n = some_same m n (sym (end_longer front left m is) ∙ e) in
+    let close : length front < m + piece = near in
+    omega (arith, length-append front left, same, close)
+
+-- what is left moves no end that the front holds, and an end in what is left lies behind the front
+pub near_whole : (piece : ℕ) (front left : List ℕ) → IsNear piece front
+    → IfSome (head_end (front ++ left)) (λ n. length (front ++ left) < length left + n + piece)
+near_whole piece front left near = whole_by piece front left (head_end front) (head_end (front ++ left)) refl refl near
 
 short_by : (text : List ℕ) (end : Option ℕ) → head_end text ≡ end → length text < 4 → head_end text ≡ None
 short_by text None e short = e

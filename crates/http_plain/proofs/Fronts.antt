@@ -1,9 +1,9 @@
 -- What the front of a message decides on.
-use Rattle.std.proofs.Common.{◌≡◌, ◌≤◌, ◌<◌, ◌+◌, ◌-◌, ◌⊎◌, inl, inr, ℕ, Bool, true, false, cond, List, [], ◌∷◌, ◌++◌, length, take, drop, ltb, Option, Some, None, refl, ap, sym, ◌∙◌, arith, length-append, nat_eq}
+use Rattle.std.proofs.Common.{◌≡◌, ◌≤◌, ◌+◌, ◌-◌, inl, inr, ℕ, false, cond, List, ◌++◌, length, take, drop, ltb, Option, Some, None, refl, ap, sym, ◌∙◌, arith, length-append}
 use Rattle.std.specs.Option.{IsSome}
 use Rattle.std.proofs.lemmas.List.{take-append-le, drop-append-le, take_all, append-nil}
 use Rattle.std.proofs.Math.Seq.{take-append-add}
-use Rattle.http_plain.specs.Head.{head_limit, head_end, Front, Whole, TooLong, Short, front_at, front_of, behind, behind_head, IsEnough}
+use Rattle.http_plain.specs.Head.{head_limit, head_end, Whole, TooLong, Short, front_at, front_of, behind, behind_head, IsEnough}
 use Rattle.http_plain.proofs.Ends.{end_bounds, end_longer}
 
 some_end : (end : Option ℕ) → IsSome end → (n : ℕ) × (end ≡ Some n)

@@ -1,11 +1,11 @@
 -- Where the head ends that lines make.
-use Rattle.std.proofs.Common.{◌≡◌, ◌≤◌, ◌<◌, ◌+◌, ◌&&◌, not, ℕ, zero, suc, Bool, true, false, List, [], ◌∷◌, ◌++◌, length, take, eqb, nat_eq, Option, Some, None, refl, ap, sym, ◌∙◌, arith, append_assoc, length-append}
+use Rattle.std.proofs.Common.{◌≡◌, ◌+◌, ◌&&◌, not, ℕ, suc, Bool, true, false, List, [], ◌∷◌, ◌++◌, length, take, eqb, nat_eq, Some, refl, ap, ◌∙◌, arith, append_assoc, length-append}
 use Rattle.std.specs.List.{flat_map, list_all}
 use lib.Pointwise.{pointwise}
 use Rattle.httparse.specs.Ascii.{crlf_bytes}
-use Rattle.http_plain.specs.Head.{head_end, head_mark}
+use Rattle.http_plain.specs.Head.{head_end}
 use Rattle.http_plain.specs.Served.{head_text}
-use Rattle.http_plain.proofs.Ends.{later, begins, past, here, later_zero, later_later}
+use Rattle.http_plain.proofs.Ends.{later, past, here, later_zero, later_later}
 
 -- no carriage return
 abbrev pub is_clean : List ℕ → Bool

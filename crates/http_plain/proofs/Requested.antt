@@ -1,8 +1,7 @@
 -- A client's request, read by a host.
-use Rattle.std.proofs.Common.{◌≡◌, ◌≤◌, ◌<◌, ◌+◌, ◌&&◌, ◌^◌, ◌==◌, not, ℕ, zero, suc, Bool, true, false, cond, List, [], ◌∷◌, ◌++◌, length, take, drop, map, eqb, ltb, leb, codes, IsTrue, All, Option, Some, None, Result, Ok, Err, refl, ap, sym, subst, ◌∙◌, arith, append_assoc, take-append-drop, length-take}
+use Rattle.std.proofs.Common.{◌≡◌, ◌≤◌, ◌<◌, ◌+◌, ◌&&◌, ◌^◌, ◌==◌, not, ℕ, Bool, true, false, cond, List, [], ◌∷◌, ◌++◌, length, take, drop, eqb, ltb, codes, All, Option, Some, None, refl, ap, sym, subst, ◌∙◌, arith, append_assoc, take-append-drop, length-take}
 use Rattle.std.specs.Fmt.{decimal}
-use Rattle.std.specs.List.{flat_map, list_all, AllPass}
-use Rattle.std.specs.Str.{IsUtf8}
+use Rattle.std.specs.List.{flat_map, list_all}
 use Rattle.std.proofs.lemmas.Str.{IsUtf8-from_ascii}
 use Rattle.std.proofs.lemmas.Str.Ascii.{IsAscii-from_all}
 use Rattle.std.proofs.lemmas.List.{append-nil}
@@ -19,11 +18,11 @@ use Rattle.folders.specs.declared.folder.Held.{Held}
 use Rattle.folders.specs.Files.{file_in}
 use Rattle.http_plain.specs.declared.request.Asked.{Asked}
 use Rattle.http_plain.specs.declared.demand.Demand.{Demand}
-use Rattle.http_plain.specs.declared.demand.Demand.TheVariants.{Silent, Refused, File}
+use Rattle.http_plain.specs.declared.demand.Demand.TheVariants.{Refused}
 use Rattle.http_plain.specs.Asked.{IsRequest, asked_of}
 use Rattle.http_plain.specs.Exchange.{host_value, request_text}
 use Rattle.http_plain.specs.Fields.{pairs_of, values_of}
-use Rattle.http_plain.specs.Head.{head_limit, head_end, Front, Whole, TooLong, Short, front_at, front_of}
+use Rattle.http_plain.specs.Head.{head_limit, head_end, Whole, TooLong, Short, front_at, front_of}
 use Rattle.http_plain.specs.Path.{name_in_path}
 use Rattle.http_plain.specs.Reading.{is_visible, IsPlain, ReadsAs, Fetches}
 use Rattle.http_plain.specs.Served.{Asks, Demands, Answer, answer_of, demand_of, file_answer, file_demand, found_answer, head_text, Serves}
@@ -31,7 +30,7 @@ use Rattle.http_plain.proofs.Answered.{and_true, are_values, decimal_digits, dig
 use Rattle.http_plain.proofs.Determined.{one_demand}
 use Rattle.http_plain.proofs.Ends.{end_bounds, end_longer}
 use Rattle.http_plain.proofs.Fronts.{ended_front, not_below}
-use Rattle.http_plain.proofs.Lines.{is_clean, is_line, head_ends}
+use Rattle.http_plain.proofs.Lines.{is_clean, head_ends}
 
 -- ---- visible bytes
 

@@ -1,16 +1,18 @@
 -- What is sent and received on a connection, piece by piece.
-use Rattle.std.proofs.Common.{◌≡◌, ◌≤◌, ◌<◌, ◌+◌, ℕ, suc, Bool, true, false, List, [], ◌∷◌, ◌++◌, length, take, drop, eqb, Option, Some, None, Result, Ok, Err, refl, inl, inr, ap, sym, subst, ◌∙◌, arith, append_assoc, take-append-drop, length-append}
-use Rattle.std.specs.Option.{IsSome}
+use Rattle.std.proofs.Common.{◌≡◌, ◌≤◌, ◌<◌, ◌+◌, ℕ, suc, true, List, [], ◌∷◌, ◌++◌, length, take, drop, eqb, Option, Some, None, Result, Ok, Err, refl, inl, inr, ap, sym, subst, ◌∙◌, arith, append_assoc, take-append-drop, length-append, length-take}
+use Rattle.std.specs.Option.{IsSome, IfSome}
+use Rattle.std.specs.Result.{IfErr, IsErr, IsErrAnd}
 use Rattle.std.proofs.lemmas.List.{append-nil, nil_from_length}
-use Rattle.outside.specs.Streams.{Consumes}
+use Rattle.outside.specs.declared.reading.ReadFault.{ReadFault as PieceFault}
 use Rattle.outside.specs.declared.target.Target.{Target}
-use Rattle.connections.specs.Wire.{Made, begun, Connects, Receives, Sends}
+use Rattle.connections.specs.Wire.{Made, begun, Connects, Receives, Sends, all_sent}
 use Rattle.http_plain.specs.declared.begun.Begun.{Begun}
 use Rattle.http_plain.specs.declared.fault.ExchangeFault.{ExchangeFault}
 use Rattle.http_plain.specs.declared.fault.ExchangeFault.TheVariants.{ReadFault, WriteFault, Cut, HeadTooLong, Malformed, Missing, Status, Encoded, NoLength, Memory}
 use Rattle.http_plain.specs.Exchange.{request_text}
-use Rattle.http_plain.specs.Begin.{Answers, Exchanges, ExchangesBy, IsRead, IsReadFront, IsSending, IsSent}
-use Rattle.http_plain.specs.Head.{head_end, head_limit, IsEnough}
+use Rattle.http_plain.specs.Begin.{Answers, Exchanges, ExchangesBy, IsHalfAsked, IsHalfHeard, IsMade, IsRead, IsReadFront, IsReadLost, IsReadPart, IsReadSome, RunsOut, piece_limit, IsSending, IsSent, IsSentPart, IsOwn}
+use Rattle.http_plain.specs.Head.{head_end, head_limit, IsEnough, IsNear}
+use Rattle.http_plain.proofs.Ends.{near_piece, near_none, near_whole}
 
 long_not_zero : (n : ℕ) → eqb (suc n) 0 ≡ true → ⊥
 long_not_zero n e = grind arith
@@ -68,24 +70,53 @@ read_end made old new front buf n so_far receives none =
     so_far.given ∙ ap (λ l. front ++ l) (sym (ap (λ (l : Made). l.left) last) ∙ receives.given.end none) ∙ append-nil front
 
 -- all came
-pub front_at_end : (made : Made) (now : Option Made) (front : List ℕ) → IsRead made now front → made.left ≡ front → IsReadFront made now front
-front_at_end made now front so_far all =
+pub front_at_end : (made : Made) (now : Option Made) (front : List ℕ) → IsRead made now front → made.left ≡ front → IsNear piece_limit front
+    → IsReadFront made now front
+front_at_end made now front so_far all near =
     record {
       left = so_far.left;
       after = so_far.after;
       given = so_far.given;
       enough = inl (nil_from_length so_far.left (omega (arith, length-append front so_far.left, ap length (sym so_far.given ∙ all))));
+      near = near;
     }
 
 pub front_at_mark : (made : Made) (now : Option Made) (front : List ℕ) → IsRead made now front → length front ≤ head_limit
-    → IsSome (head_end front) → IsReadFront made now front
-front_at_mark made now front so_far fits ended =
-    record { left = so_far.left; after = so_far.after; given = so_far.given; enough = inr (inr (fits, ended)) }
+    → IsSome (head_end front) → IsNear piece_limit front → IsReadFront made now front
+front_at_mark made now front so_far fits ended near =
+    record { left = so_far.left; after = so_far.after; given = so_far.given; enough = inr (inr (fits, ended)); near = near }
 
 pub front_at_limit : (made : Made) (now : Option Made) (front : List ℕ) → IsRead made now front → length front ≤ head_limit
-    → head_limit ≤ length front → IsReadFront made now front
-front_at_limit made now front so_far fits full =
-    record { left = so_far.left; after = so_far.after; given = so_far.given; enough = inr (inl (omega arith)) }
+    → head_limit ≤ length front → head_end front ≡ None → IsReadFront made now front
+front_at_limit made now front so_far fits full none =
+    record {
+      left = so_far.left;
+      after = so_far.after;
+      given = so_far.given;
+      enough = inr (inl (omega arith));
+      near = near_none piece_limit front none;
+    }
+
+-- a piece came that there was no memory for
+pub read_lost : (made : Made) (old new : Option Made) (front buf : List ℕ) (n piece : ℕ) → n ≤ piece → length front + n ≤ head_limit
+    → IsRead made old front → Receives old new buf n → IsReadLost made new front piece
+read_lost made old new front buf n piece fits few so_far receives =
+    record {
+      more = take n buf;
+      fits = omega (arith, length-take n buf);
+      few = omega (arith, length-append front (take n buf), length-take n buf);
+      read = read_more made old new front buf n so_far receives;
+    }
+
+pub read_some : (made : Made) (now : Option Made) (front : List ℕ) (piece : ℕ) → piece ≡ piece_limit → head_end front ≡ None → IsReadLost made now front piece
+    → IsReadSome made now
+read_some made now front piece is none lost =
+    record {
+      front = front ++ lost.more;
+      read = lost.read;
+      few = lost.few;
+      near = near_piece piece_limit front lost.more none (omega (arith, is, lost.fits));
+    }
 
 pub exchanged : (target : Target) (one two three : Option Made) (request front : List ℕ) (result : Result Begun ExchangeFault)
     → Connects target.host target.port one
@@ -105,18 +136,101 @@ exchanged target one two three request front result connects sends reads text fi
       asked = record { host = refl; port = refl; sent = text };
       answers = subst (λ answer. Answers answer read.left result) (sym read.given) (answers read.left read.enough);
       received = omega (arith, length-append front read.left, ap length read.given);
+      near =
+          subst (λ answer. IfSome (head_end answer) (λ end. length answer < length read.left + end + piece_limit)) (sym read.given)
+          (near_whole piece_limit front read.left read.near);
     }
 
+-- what the answer alone decides
 pub exchanges : (target : Target) (present : Option Made) (result : Result Begun ExchangeFault)
-    → Exchanges target present result → ExchangesBy target present result
-exchanges target present (Ok begun) x = x
-exchanges target present (Err ReadFault) x = tt
-exchanges target present (Err WriteFault) x = tt
-exchanges target present (Err Memory) x = tt
-exchanges target present (Err Cut) x = x
-exchanges target present (Err HeadTooLong) x = x
-exchanges target present (Err Malformed) x = x
-exchanges target present (Err Missing) x = x
-exchanges target present (Err (Status code)) x = x
-exchanges target present (Err Encoded) x = x
-exchanges target present (Err NoLength) x = x
+    → IfErr result IsOwn → Exchanges target present result → ExchangesBy target present result
+exchanges target present (Ok begun) own x = x
+exchanges target present (Err ReadFault) own x = absurd own
+exchanges target present (Err WriteFault) own x = absurd own
+exchanges target present (Err Memory) own x = tt
+exchanges target present (Err Cut) own x = x
+exchanges target present (Err HeadTooLong) own x = x
+exchanges target present (Err Malformed) own x = x
+exchanges target present (Err Missing) own x = x
+exchanges target present (Err (Status code)) own x = x
+exchanges target present (Err Encoded) own x = x
+exchanges target present (Err NoLength) own x = x
+
+-- sending failed
+pub half_asked : (target : Target) (one two : Option Made) (request : List ℕ)
+    → Connects target.host target.port one
+    → ((made : Made) → one ≡ Some made → IsSentPart made two request)
+    → request ≡ request_text target
+    → IsMade (IsHalfAsked target) two
+half_asked target one two request connects sends text =
+    let first : Made = begun target.host target.port connects.answer in
+    let part = sends first connects.made in (
+      record first { sent = first.sent ++ part.sending.done },
+      part.sending.sent,
+      record { host = refl; port = refl; rest = part.rest; some = part.some; sent = sym text ∙ part.sending.split; none = refl },
+    )
+
+-- receiving failed
+pub half_heard : (target : Target) (one two three : Option Made) (request : List ℕ)
+    → Connects target.host target.port one
+    → ((made : Made) → one ≡ Some made → IsSent made two request)
+    → ((made : Made) → two ≡ Some made → IsReadPart made three)
+    → request ≡ request_text target
+    → IsMade (IsHalfHeard target) three
+half_heard target one two three request connects sends reads text =
+    let first : Made = begun target.host target.port connects.answer in
+    let second : Made = record first { sent = first.sent ++ request } in
+    let part = reads second (sends first connects.made) in (
+      record second { left = part.read.left },
+      part.read.after,
+      record {
+        asked = record { host = refl; port = refl; sent = text };
+        front = part.front;
+        given = part.read.given;
+        few = part.few;
+        none = part.none;
+      },
+    )
+
+-- memory ran out while the answer was received
+pub runs_out : (target : Target) (over_old over_new : List (List ℕ)) (zero one two three : Option Made) (request : List ℕ)
+    → over_new ≡ all_sent over_old zero
+    → Connects target.host target.port one
+    → ((made : Made) → one ≡ Some made → IsSent made two request)
+    → ((made : Made) → two ≡ Some made → IsReadSome made three)
+    → request ≡ request_text target
+    → RunsOut target over_old over_new zero three
+runs_out target over_old over_new zero one two three request over connects sends reads text =
+    let first : Made = begun target.host target.port connects.answer in
+    let second : Made = record first { sent = first.sent ++ request } in
+    let some = reads second (sends first connects.made) in
+    record {
+      over = over;
+      heard = (
+        record second { left = some.read.left },
+        some.read.after,
+        record {
+          asked = record { host = refl; port = refl; sent = text };
+          front = some.front;
+          given = some.read.given;
+          few = some.few;
+          near = some.near;
+        },
+      );
+    }
+
+-- a whole front is some of the answer
+pub some_of_front : (made : Made) (now : Option Made) (front : List ℕ) → length front ≤ head_limit → IsReadFront made now front → IsReadSome made now
+some_of_front made now front few read =
+    record {
+      front = front;
+      read = record { left = read.left; after = read.after; given = read.given };
+      few = few;
+      near = read.near;
+    }
+
+-- an error that is handed on
+pub the_fault : {A B : Type 0} (r : Result A PieceFault) (e f : PieceFault) → IsErr r × IsErrAnd r (λ x. x ≡ e) → r ≡ Err f
+    → (let given : Result B PieceFault = Err e in given) ≡ Err f
+the_fault (Ok x) e f is same = absurd is.1
+the_fault (Err y) e f is same = let known : y ≡ f = cc in ap Err (sym is.1 ∙ known)

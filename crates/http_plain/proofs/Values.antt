@@ -7,7 +7,7 @@ use Rattle.std.proofs.lemmas.List.{drop_all}
 use Rattle.httparse.specs.declared.spans.HeaderSpan.{HeaderSpan}
 use Rattle.httparse.specs.Spans.{header_bytes}
 use Rattle.http_plain.specs.declared.lengths.Named.{Named}
-use Rattle.http_plain.specs.declared.lengths.Named.TheVariants.{Nothing, Unclear, Length}
+use Rattle.http_plain.specs.declared.lengths.Named.TheVariants.{Nothing}
 use Rattle.http_plain.specs.Exchange.{joined, length_of, named_by}
 use Rattle.http_plain.specs.Fields.{values_of, values_at}
 

@@ -1,5 +1,5 @@
 -- Where the head of a message ends.
-use Rattle.std.specs.Prelude.{◌≡◌, ◌≤◌, ◌+◌, ◌⊎◌, ℕ, IsSome, List, [], ◌∷◌, length, take, drop, nat_eq, nat_lt, Option, Some, None, option_map, if◌then◌else◌}
+use Rattle.std.specs.Prelude.{◌≡◌, ◌<◌, ◌≤◌, ◌+◌, ◌⊎◌, ℕ, IsSome, IfSome, List, [], ◌∷◌, length, take, drop, nat_eq, nat_lt, Option, Some, None, option_map, if◌then◌else◌}
 use Rattle.std.specs.List.{starts_with}
 
 -- CR LF CR LF
@@ -38,6 +38,11 @@ front_of bytes = front_at bytes (head_end (take head_limit bytes))
 abbrev pub IsEnough : List ℕ → List ℕ → Type 0
 IsEnough front left =
     (left ≡ []) ⊎ ((length front ≡ head_limit) ⊎ ((length front ≤ head_limit) × IsSome (head_end front)))
+
+-- where the front bytes hold the end of the head, fewer than so many stand behind it: no piece of at most so many came
+-- once the end had come
+abbrev pub IsNear : ℕ → List ℕ → Type 0
+IsNear piece front = IfSome (head_end front) (λ end. length front < end + piece)
 
 -- what stands behind the head
 abbrev pub behind : List ℕ → Option ℕ → List ℕ

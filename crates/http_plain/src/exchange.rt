@@ -1,10 +1,10 @@
 // The exchange of a client over a wire.
-ghost use Rattle.std.specs.Prelude.{◌≡◌, ◌≢◌, ◌<◌, ◌≤◌, ◌++◌, ◌+◌, Some, Err, length, take, drop, string_bytes, IfOk, OnOk};
+ghost use Rattle.std.specs.Prelude.{◌≡◌, ◌≢◌, ◌<◌, ◌≤◌, ◌++◌, ◌+◌, ◌⊎◌, Some, Err, length, take, drop, string_bytes, IfOk, OnOk, OnErr};
 ghost use Rattle.outside.specs.Streams.{Causes, Rose};
-ghost use Rattle.outside.specs.declared.reading.ReadFault.TheVariants.{Failed as wire_failed};
+ghost use Rattle.outside.specs.declared.reading.ReadFault.TheVariants.{Failed as wire_failed, Memory as wire_memory};
 ghost use Rattle.connections.specs.Wire.{Made, all_sent};
 ghost use Rattle.http_plain.specs.declared.fault.ExchangeFault.TheVariants.{Memory as no_memory};
-ghost use Rattle.http_plain.specs.Begin.{ExchangesBy, FailsCounted, IsRead, IsReadFront, IsSent};
+ghost use Rattle.http_plain.specs.Begin.{ExchangesBy, FailsCounted, IsRead, IsReadFront, IsReadLost, IsReadPart, IsReadSome, IsSent, IsSentPart, RunsOut};
 ghost use Rattle.http_plain.specs.Exchange.{host_value as host_given, request_text as text_of_request};
 ghost use Rattle.http_plain.specs.Flat.{flat_request};
 ghost use Rattle.http_plain.specs.Head.{head_limit};
@@ -64,11 +64,13 @@ fn bytes_behind(bytes: &[u8], count: usize) -> &[u8]
     &bytes[count..]
 }
 
-// Sends all the bytes on the present connection.
+// Sends all the bytes on the present connection. Where it fails a first part of them was sent, and not all.
 fn send_all<W: Wire>(wire: &mut W, bytes: &[u8]) -> Result<(), Failed>
     ensures sent { W.tells → OnOk result ((made : Made) → W.present wire.old ≡ Some made → IsSent made (W.present wire.new) bytes.now) }
+    ensures part { W.tells → OnErr result ((made : Made) → W.present wire.old ≡ Some made → IsSentPart made (W.present wire.new) bytes.now) }
     ensures over { W.tells → W.over wire.new ≡ W.over wire.old }
     ensures cause { Causes (W.count wire.old) (W.count wire.new) result }
+    ensures quiet { OnOk result (W.count wire.new ≡ W.count wire.old) }
 {
     let mut rest = bytes;
     while !rest.is_empty() {
@@ -90,12 +92,17 @@ fn read_piece<W: Wire>(
         → IsRead made (W.present wire.new) front.new.items) }
     ensures end { W.tells → IfOk result (λ n. n ≡ 0 → (made : Made) → IsRead made (W.present wire.old) front.old.items
         → made.left ≡ front.new.items) }
+    ensures lost { W.tells → result ≡ Err wire_memory → (made : Made) → IsRead made (W.present wire.old) front.old.items
+        → IsReadLost made (W.present wire.new) front.old.items (length piece.old) }
+    ensures still { W.tells → result ≡ Err wire_failed → W.present wire.new ≡ W.present wire.old }
     ensures grows { IfOk result (λ n. length front.new.items ≡ length front.old.items + n) }
     ensures kept { IfOk result (λ n. take (length front.old.items) front.new.items ≡ front.old.items) }
     ensures within { IfOk result (λ n. length front.new.items ≤ head_limit) }
+    ensures fits { IfOk result (λ n. n ≤ length piece.old) }
     ensures over { W.tells → W.over wire.new ≡ W.over wire.old }
     ensures later { W.count wire.old ≤ W.count wire.new }
     ensures cause { result ≡ Err wire_failed → Rose (W.count wire.old) (W.count wire.new) }
+    ensures quiet { result ≢ Err wire_failed → W.count wire.new ≡ W.count wire.old }
 {
     let wanted = piece.len().min(HEAD_LIMIT - front.len());
     let Ok(n) = wire.receive(&mut piece[..wanted]) else {
@@ -111,10 +118,13 @@ fn read_piece<W: Wire>(
 fn read_front<W: Wire>(alloc: Global, wire: &mut W) -> Result<Vec<u8>, ReadFault>
     ensures front { W.tells → IfOk result (λ front. (made : Made) → W.present wire.old ≡ Some made
         → IsReadFront made (W.present wire.new) front.items) }
+    ensures part { W.tells → result ≡ Err wire_failed → (made : Made) → W.present wire.old ≡ Some made → IsReadPart made (W.present wire.new) }
+    ensures some { W.tells → result ≡ Err wire_memory → (made : Made) → W.present wire.old ≡ Some made → IsReadSome made (W.present wire.new) }
     ensures within { IfOk result (λ front. length front.items ≤ head_limit) }
     ensures over { W.tells → W.over wire.new ≡ W.over wire.old }
     ensures later { W.count wire.old ≤ W.count wire.new }
     ensures cause { result ≡ Err wire_failed → Rose (W.count wire.old) (W.count wire.new) }
+    ensures quiet { result ≢ Err wire_failed → W.count wire.new ≡ W.count wire.old }
 {
     let mut front = Vec::new(alloc);
     let mut piece = [0; PIECE];
@@ -132,9 +142,13 @@ fn read_front<W: Wire>(alloc: Global, wire: &mut W) -> Result<Vec<u8>, ReadFault
 }
 
 /// Connects to the target's host, asks it for the target, and reads the head of its answer. It gives the length of the
-/// body and the bytes of it that came with the head; the others are left to receive. `ReadFault` comes where connecting
-/// or receiving failed, `WriteFault` where sending did, and `Memory` where there was none; over a wire that tells, each
-/// other error comes exactly where the answer gives it.
+/// body and the bytes of it that came with the head; the others are left to receive. At most 65,536 bytes of the answer
+/// are received, and no piece, of at most 4,096 bytes, once the end of the head has come.
+///
+/// `ReadFault` comes where connecting or receiving failed, before the answer's head was whole, `WriteFault` where sending
+/// did, and `Memory` where there was none; over a wire that tells, each other error comes exactly where the answer gives
+/// it. Any result but the two faults leaves the wire's count, so no failed call is passed over. After `Memory` the wire is
+/// as it was, or the whole request was sent on a new connection, and no more of its answer was received than is said above.
 pub fn ask_wire<W: Wire>(
     alloc: Global,
     wire: &mut W,
@@ -142,6 +156,7 @@ pub fn ask_wire<W: Wire>(
 ) -> Result<Begun, ExchangeFault>
     ensures exchange { W.tells → ExchangesBy target.now (W.present wire.new) result }
     ensures one { W.tells → result ≢ Err no_memory → W.over wire.new ≡ all_sent (W.over wire.old) (W.present wire.old) }
+    ensures memory { W.tells → result ≡ Err no_memory → (wire.new ≡ wire.old) ⊎ RunsOut target.now (W.over wire.old) (W.over wire.new) (W.present wire.old) (W.present wire.new) }
     ensures cause { FailsCounted (W.count wire.old) (W.count wire.new) result }
 {
     let request = request_text(alloc, target)?;

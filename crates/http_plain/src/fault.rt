@@ -32,7 +32,8 @@ pub enum ExchangeFault {
     Cut,
     /// The first 65,536 bytes hold no end of a head.
     HeadTooLong,
-    /// The head is no response head of at most 64 fields, or it names two lengths, or one that is not 1 to 19 digits.
+    /// The head is no response head of at most 64 fields, or it names two lengths that differ, or one
+    /// that is not 1 to 19 digits.
     Malformed,
     /// The status is 404.
     Missing,

@@ -13,6 +13,7 @@ invariant-loop-piece g l = record {
   room : length l.piece ≡ 4096;
   over : g.W.Wire.tells → g.W.Wire.over l.wire ≡ g.W.Wire.over l.initial.wire;
   count : g.W.Wire.count l.initial.wire ≤ g.W.Wire.count l.wire;
+  quiet : g.W.Wire.count l.wire ≡ g.W.Wire.count l.initial.wire;
 }
 
 abbrev pub decreases-loop-piece : goal.decreases-loop-piece

@@ -9,6 +9,7 @@ invariant-loop-rest g l = record {
       → IsSending made (g.W.Wire.present l.wire) l.bytes l.rest;
   over : g.W.Wire.tells → g.W.Wire.over l.wire ≡ g.W.Wire.over l.initial.wire;
   count : g.W.Wire.count l.initial.wire ≤ g.W.Wire.count l.wire;
+  quiet : g.W.Wire.count l.wire ≡ g.W.Wire.count l.initial.wire;
 }
 
 abbrev pub decreases-loop-rest : goal.decreases-loop-rest

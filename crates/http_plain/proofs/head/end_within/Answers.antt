@@ -1,4 +1,4 @@
-use Rattle.std.proofs.Common.{ap, sym, ◌∙◌, take}
+use Rattle.std.proofs.Common.{ap, ◌∙◌, take}
 use Rattle.http_plain.specs.Head.{head_end}
 use Rattle.http_plain.proofs.Ends.{no_end}
 use Rattle.http_plain.proofs.Asking.{take_min, end_in}

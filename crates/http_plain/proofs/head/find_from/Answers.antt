@@ -1,5 +1,4 @@
-use Rattle.std.proofs.Common.{sym, ◌∙◌, ◌+◌, ◌≡◌, ap, take, None, arith}
-use Rattle.http_plain.specs.Head.{head_end}
+use Rattle.std.proofs.Common.{sym, ◌∙◌}
 use Rattle.http_plain.proofs.Ends.{skipped_three, ended, onward, unended}
 use Rattle.http_plain.proofs.head.find_from.Goals as goal
 
