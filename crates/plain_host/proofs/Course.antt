@@ -1,11 +1,11 @@
 -- How a connection goes on while it is served.
-use Rattle.std.proofs.Common.{◌≡◌, ◌≢◌, ℕ, ◌<◌, ◌≤◌, List, [], ◌∷◌, ◌++◌, None, length, take, ap, sym, ◌∙◌, refl, inl, inr, arith, append_assoc}
+use Rattle.std.proofs.Common.{◌≡◌, ◌≢◌, ℕ, ◌+◌, ◌<◌, ◌≤◌, List, [], ◌∷◌, ◌++◌, None, length, take, ap, sym, ◌∙◌, refl, inl, inr, arith, append_assoc, length-append, length-take}
 use Rattle.std.specs.Prelude.{IsSome}
 use Rattle.std.proofs.lemmas.List.{append-nil}
 use Rattle.connections.specs.Door.{Accepted, ReceivesOnLast, SendsOnLast}
 use Rattle.connections.proofs.Ends.{Ends, ends, SameEnd, same_end, ReceivedOn, received_on, sent_on}
-use Rattle.http_plain.specs.Head.{head_end, head_limit}
-use Rattle.plain_host.specs.Serving.{Serving, SendsFront, SendsPart, TakesFront}
+use Rattle.http_plain.specs.Head.{head_end, head_limit, IsNear}
+use Rattle.plain_host.specs.Serving.{Serving, SendsFront, SendsNothing, SendsPart, TakesFront, piece_limit}
 
 some_there : (xs : List Accepted) → xs ≢ [] → 0 < length xs
 some_there [] some = absurd (some refl)
@@ -95,8 +95,8 @@ sends_more old mid new bytes rest now later split f s = record {
 
 -- the request ends here
 pub ends_here : (old mid new : List Accepted) (front buf : List ℕ) (n : ℕ) → Serving old mid front [] → ReceivesOnLast mid new buf n → n ≡ 0
-    → TakesFront old new front
-ends_here old mid new front buf n s r none =
+    → IsNear piece_limit front → TakesFront old new front
+ends_here old mid new front buf n s r none near =
     let on : ReceivedOn s.earlier (record s.last { left = s.left; sent = s.last.sent ++ [] }) new buf n =
     received_on s.earlier (record s.last { left = s.left; sent = s.last.sent ++ [] }) mid new buf n s.after r in
     let empty : s.left ≡ [] = on.given.end none in
@@ -112,15 +112,25 @@ ends_here old mid new front buf n s r none =
         split = s.split ∙ ap (λ (l : List ℕ). front ++ l) (empty ∙ sym last);
       };
       enough = inl last;
+      near = near;
     }
 
 -- the limit is reached
-pub fills : (old new : List Accepted) (front : List ℕ) → Serving old new front [] → length front ≡ head_limit → TakesFront old new front
-fills old new front s full = record { taken = s; enough = inr (inl full) }
+pub fills : (old new : List Accepted) (front : List ℕ) → Serving old new front [] → length front ≡ head_limit → IsNear piece_limit front → TakesFront old new front
+fills old new front s full near = record { taken = s; enough = inr (inl full); near = near }
 
 -- the head's end is there
-pub ends_head : (old new : List Accepted) (front : List ℕ) → Serving old new front [] → length front ≤ head_limit → IsSome (head_end front) → TakesFront old new front
-ends_head old new front s within there = record { taken = s; enough = inr (inr (within, there)) }
+pub ends_head : (old new : List Accepted) (front : List ℕ) → Serving old new front [] → length front ≤ head_limit → IsSome (head_end front) → IsNear piece_limit front
+    → TakesFront old new front
+ends_head old new front s within there near = record { taken = s; enough = inr (inr (within, there)); near = near }
+
+-- nothing was sent yet
+pub sends_nothing : (old new : List Accepted) (front : List ℕ) → length front ≤ head_limit → TakesFront old new front → SendsNothing old new
+sends_nothing old new front few t = record { front = front; few = few; near = t.near; taken = t.taken }
+
+-- more of it is no more than a head may have
+pub grown_few : (front buf : List ℕ) (n : ℕ) → length front + n ≤ head_limit → length (front ++ take n buf) ≤ head_limit
+grown_few front buf n fits = omega (arith, length-append front (take n buf), length-take n buf)
 
 -- no head ends in no bytes
 pub no_end : (front : List ℕ) → front ≡ [] → head_end front ≡ None

@@ -1,6 +1,7 @@
 -- What is answered on a connection.
-use Rattle.std.proofs.Common.{◌≡◌, ℕ, ◌≤◌, List, [], ◌∷◌, ◌++◌, length, Bool, true, false, Option, Some, None, ap, sym, ◌∙◌, refl, subst, inl, arith}
+use Rattle.std.proofs.Common.{◌≡◌, ◌≢◌, ℕ, ◌≤◌, List, [], ◌∷◌, ◌++◌, length, Bool, true, false, Option, Some, None, Result, Ok, Err, ap, sym, ◌∙◌, refl, subst, inl, arith}
 use Rattle.std.specs.Prelude.{◌↔◌, ◌||◌, not, codes, if◌then◌else◌}
+use Rattle.std.specs.Result.{IsErr, IsErrAnd}
 use Rattle.std.specs.Str.{bytes_eq}
 use Rattle.std.proofs.lemmas.Grind.{common_steps}
 use Rattle.std.proofs.lemmas.Slice.Eq.{bytes_eq-Decides}
@@ -14,10 +15,11 @@ use Rattle.http_plain.specs.Head.{IsEnough, head_limit, Front, Whole, TooLong, S
 use Rattle.http_plain.specs.Path.{name_in_path}
 use Rattle.http_plain.specs.Served.{Asks, Demands, Answer, answer_of, found_answer, demand_by, demand_of, file_demand, lacks_host, is_get, Serves}
 use Rattle.plain_host.specs.declared.answer.Prepared.{Prepared}
+use Rattle.plain_host.specs.declared.fault.ServeFault.{ServeFault}
 use Rattle.plain_host.specs.declared.fault.Served.{Served}
 use Rattle.plain_host.specs.declared.fault.Served.TheVariants.{Answered, Silent}
-use Rattle.plain_host.specs.Answering.{answer_in, AnswersFront}
-use Rattle.plain_host.specs.Serving.{Serving, SendsPart, TakesFront, ServesLast, ServesPart, ServesSome, SilentAtEnd, code_of}
+use Rattle.plain_host.specs.Answering.{answer_in, AnswersFront, FrontAsksFile}
+use Rattle.plain_host.specs.Serving.{AsksFile, Serving, SendsPart, TakesFront, ServesLast, ServesPart, ServesSome, SilentAtEnd, code_of}
 use Rattle.plain_host.proofs.Course.{joined}
 
 -- a folder of one file
@@ -88,8 +90,10 @@ module _ (files : List Held) (old mid new : List Accepted) (front text : List �
   serves_last s = record {
     front = front;
     few = few;
+    near = t.near;
     bytes = p.head ++ p.body;
     sent = joined old mid new front [] (p.head ++ p.body) t.taken s;
+    enough = t.enough;
     serves = serves;
   }
 
@@ -97,12 +101,14 @@ module _ (files : List Held) (old mid new : List Accepted) (front text : List �
   serves_part s = record {
     front = front;
     few = few;
+    near = t.near;
     answer = answer_in p;
     done = s.front.done;
     rest = s.rest;
     given = s.front.given;
     some = s.some;
     sent = joined old mid new front [] s.front.done t.taken s.front.sent;
+    enough = t.enough;
     serves = serves;
   }
 
@@ -117,3 +123,38 @@ module _ (files : List Held) (old mid new : List Accepted) (front text : List �
 -- a request that ends with what was read
 pub serves_some : (files : List Held) (text : List ℕ) (p : Prepared) → AnswersFront files text p → ServesSome files (code_of p.served)
 serves_some files text p a = record { request = text ++ []; bytes = p.head ++ p.body; serves = a [] (inl refl) }
+
+-- a request whose front asks for a file asks for it
+pub asks_file : (old new : List Accepted) (front text : List ℕ) → text ≡ front → length front ≤ head_limit → TakesFront old new front → FrontAsksFile text
+    → AsksFile old new
+asks_file old new front text same few t asks =
+    let enough : IsEnough text t.taken.left = subst (λ (f : List ℕ). IsEnough f t.taken.left) (sym same) t.enough in
+    let asked = asks t.taken.left enough in
+    let whole : text ++ t.taken.left ≡ t.taken.last.left = ap (λ (f : List ℕ). f ++ t.taken.left) same ∙ sym t.taken.split in
+    record {
+      front = front;
+      few = few;
+      near = t.near;
+      taken = t.taken;
+      name = asked.2.name;
+      whole = asked.2.whole;
+      asks = subst (λ (d : Demand). Asks t.taken.last.left d) asked.2.is (subst (λ (r : List ℕ). Asks r asked.0) whole asked.1);
+    }
+
+-- an error that is handed on
+pub the_fault : {A B : Type 0} (r : Result A ServeFault) (e f : ServeFault) → IsErr r × IsErrAnd r (λ x. x ≡ e) → r ≡ Err f
+    → (let given : Result B ServeFault = Err e in given) ≡ Err f
+the_fault (Ok x) e f is same = absurd is.1
+the_fault (Err y) e f is same = let known : y ≡ f = cc in ap Err (sym is.1 ∙ known)
+
+-- where what is handed on is not this fault, the error was not
+pub other_fault : {A B : Type 0} (r : Result A ServeFault) (e f : ServeFault) → IsErr r × IsErrAnd r (λ x. x ≡ e) → r ≢ Err f
+    → (let given : Result B ServeFault = Err e in given) ≢ Err f
+other_fault (Ok x) e f is other = absurd is.1
+other_fault (Err y) e f is other = λ same. let known : y ≡ f = cc in other (ap Err known)
+
+-- the fault is handed on
+pub handed_on : {A B : Type 0} (r : Result A ServeFault) (e f : ServeFault) → IsErr r × IsErrAnd r (λ x. x ≡ e)
+    → (let given : Result B ServeFault = Err e in given) ≡ Err f → r ≡ Err f
+handed_on (Ok x) e f is same = absurd is.1
+handed_on (Err y) e f is same = let known : e ≡ f = cc in ap Err (is.1 ∙ known)

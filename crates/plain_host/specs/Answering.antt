@@ -1,10 +1,11 @@
 -- An answer before it is sent.
-use Rattle.std.specs.Prelude.{◌≡◌, ℕ, List, ◌++◌, codes}
+use Rattle.std.specs.Prelude.{◌≡◌, ℕ, Bool, List, ◌++◌, codes}
 use Rattle.httparse.specs.Ascii.{crlf_bytes}
 use Rattle.folders.specs.declared.folder.Held.{Held}
 use Rattle.http_plain.specs.declared.demand.Demand.{Demand}
+use Rattle.http_plain.specs.declared.demand.Demand.TheVariants.{File}
 use Rattle.http_plain.specs.Head.{IsEnough}
-use Rattle.http_plain.specs.Served.{Answer, answer_of, length_line, Serves}
+use Rattle.http_plain.specs.Served.{Answer, answer_of, Asks, length_line, Serves}
 use Rattle.plain_host.specs.declared.answer.Prepared.{Prepared}
 use Rattle.plain_host.specs.Serving.{code_of}
 
@@ -27,3 +28,13 @@ Answers files demand prepared = answer_in prepared ≡ answer_of files demand
 -- it is the answer of a host of these files to each request that begins so
 abbrev pub AnswersFront : List Held → List ℕ → Prepared → Type 0
 AnswersFront files front prepared = (left : List ℕ) → IsEnough front left → Serves files (front ++ left) (answer_in prepared)
+
+-- a file is asked for
+pub record IsFile (demand : Demand) : Type 0 where
+  pub name : List ℕ
+  pub whole : Bool
+  pub is : demand ≡ File name whole
+
+-- each request that begins so asks for a file
+abbrev pub FrontAsksFile : List ℕ → Type 0
+FrontAsksFile front = (left : List ℕ) → IsEnough front left → (demand : Demand) × Asks (front ++ left) demand × IsFile demand

@@ -1,11 +1,16 @@
 -- What becomes of the last connection while it is served.
-use Rattle.std.specs.Prelude.{◌≡◌, ◌<◌, ◌≤◌, ◌↔◌, ℕ, List, [], ◌∷◌, ◌++◌, length, Option, Some, None}
+use Rattle.std.specs.Prelude.{◌≡◌, ◌<◌, ◌≤◌, ◌↔◌, ℕ, Bool, List, [], ◌∷◌, ◌++◌, length, Option, Some, None}
 use Rattle.connections.specs.Door.{Accepted}
 use Rattle.folders.specs.declared.folder.Held.{Held}
-use Rattle.http_plain.specs.Head.{IsEnough, head_limit}
-use Rattle.http_plain.specs.Served.{Answer, Serves}
+use Rattle.http_plain.specs.declared.demand.Demand.TheVariants.{File}
+use Rattle.http_plain.specs.Head.{IsEnough, IsNear, head_end, head_limit}
+use Rattle.http_plain.specs.Served.{Answer, Asks, Serves}
 use Rattle.plain_host.specs.declared.fault.Served.{Served}
 use Rattle.plain_host.specs.declared.fault.Served.TheVariants.{Answered, Silent}
+
+-- the most bytes that are received at once
+abbrev pub piece_limit : ℕ
+piece_limit = 8192
 
 -- bytes of the last connection's request were taken, bytes were sent on it, and the others are as they were
 pub record Serving (old new : List Accepted) (taken sent : List ℕ) : Type 0 where
@@ -28,15 +33,38 @@ pub record SendsPart (old new : List Accepted) (bytes : List ℕ) : Type 0 where
   pub some : 0 < length rest
   pub front : SendsFront old new bytes rest
 
--- enough of the last connection's request was taken to know what it asks for
+-- enough of the last connection's request was taken to know what it asks for, and no piece once the end of its head had
+-- come
 pub record TakesFront (old new : List Accepted) (front : List ℕ) : Type 0 where
   pub taken : Serving old new front []
   pub enough : IsEnough front taken.left
+  pub near : IsNear piece_limit front
 
--- something of the last connection's request was taken, and nothing was sent
+-- no more of the last connection's request was taken than a head may have, and no piece once the end of its head had
+-- come; nothing was sent
 pub record SendsNothing (old new : List Accepted) : Type 0 where
   pub front : List ℕ
+  pub few : length front ≤ head_limit
+  pub near : IsNear piece_limit front
   pub taken : Serving old new front []
+
+-- what was taken of the last connection's request is shorter than a head may be and has no end of one, and nothing was sent
+pub record BreaksOff (old new : List Accepted) : Type 0 where
+  pub front : List ℕ
+  pub few : length front < head_limit
+  pub none : head_end front ≡ None
+  pub taken : Serving old new front []
+
+-- what was left of the last connection's request asks for a file, and nothing was sent; no more of it was taken than a
+-- head may have, and no piece once the end of the head had come
+pub record AsksFile (old new : List Accepted) : Type 0 where
+  pub front : List ℕ
+  pub few : length front ≤ head_limit
+  pub near : IsNear piece_limit front
+  pub taken : Serving old new front []
+  pub name : List ℕ
+  pub whole : Bool
+  pub asks : Asks taken.last.left (File name whole)
 
 -- the code that was answered
 abbrev pub code_of : Served → Option ℕ
@@ -44,24 +72,29 @@ code_of (Answered code) = Some code
 code_of Silent = None
 
 -- what was left of the last connection's request was answered as a host of these files answers it: with these bytes
--- and no others; no more of it was taken than a head may have
+-- and no others; enough of it was taken to know what it asks for, no more than a head may have, and no piece once the
+-- end of the head had come
 pub record ServesLast (files : List Held) (old new : List Accepted) (code : Option ℕ) : Type 0 where
   pub front : List ℕ
   pub few : length front ≤ head_limit
+  pub near : IsNear piece_limit front
   pub bytes : List ℕ
   pub sent : Serving old new front bytes
+  pub enough : IsEnough front sent.left
   pub serves : Serves files sent.last.left (record { code = code; bytes = bytes })
 
 -- the same, but that a first part of the answer was sent, and not all
 pub record ServesPart (files : List Held) (old new : List Accepted) : Type 0 where
   pub front : List ℕ
   pub few : length front ≤ head_limit
+  pub near : IsNear piece_limit front
   pub answer : Answer
   pub done : List ℕ
   pub rest : List ℕ
   pub given : answer.bytes ≡ done ++ rest
   pub some : 0 < length rest
   pub sent : Serving old new front done
+  pub enough : IsEnough front sent.left
   pub serves : Serves files sent.last.left answer
 
 -- the connection was left without an answer exactly where nothing was left of its request

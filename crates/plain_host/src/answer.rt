@@ -6,7 +6,7 @@ ghost use Rattle.folders.specs.declared.folder.Held.{Held};
 ghost use Rattle.http_plain.specs.declared.demand.Demand.TheVariants.{File};
 ghost use Rattle.http_plain.specs.Served.{answer_head, found_answer, refusal, reason_of as reason_at, status_line, type_of as type_at, type_line};
 ghost use Rattle.plain_host.specs.declared.fault.ServeFault.TheVariants.{ReadFault, WriteFault, FolderFault as folder_failed};
-ghost use Rattle.plain_host.specs.Answering.{ended, closing, answer_in, Answers, AnswersFront};
+ghost use Rattle.plain_host.specs.Answering.{ended, closing, answer_in, Answers, AnswersFront, FrontAsksFile, IsFile};
 
 use crate::fault::{ServeFault, Served};
 use folders::{Folder, FolderFault};
@@ -167,6 +167,7 @@ fn prepare_file<F: Folder>(
     ensures told { F.tells → IfOk result (Answers (F.held folder.old) (File name.now whole)) }
     ensures some { IfOk result (λ p. (files : List Held) × Answers files (File name.now whole) p) }
     ensures folder_fault { result ≡ Err folder_failed → Rose (F.count folder.old) (F.count folder.new) }
+    ensures quiet { result ≢ Err folder_failed → F.count folder.new ≡ F.count folder.old }
     ensures read_fault { result ≢ Err ReadFault }
     ensures write_fault { result ≢ Err WriteFault }
     ensures later { F.count folder.old ≤ F.count folder.new }
@@ -188,7 +189,9 @@ fn prepare<F: Folder>(
 ) -> Result<Prepared, ServeFault>
     ensures told { F.tells → IfOk result (Answers (F.held folder.old) demand.now) }
     ensures some { IfOk result (λ p. (files : List Held) × Answers files demand.now p) }
+    ensures file { result ≡ Err folder_failed → IsFile demand.now }
     ensures folder_fault { result ≡ Err folder_failed → Rose (F.count folder.old) (F.count folder.new) }
+    ensures quiet { result ≢ Err folder_failed → F.count folder.new ≡ F.count folder.old }
     ensures read_fault { result ≢ Err ReadFault }
     ensures write_fault { result ≢ Err WriteFault }
     ensures later { F.count folder.old ≤ F.count folder.new }
@@ -213,7 +216,9 @@ pub(crate) fn prepare_answer<F: Folder>(
 ) -> Result<Prepared, ServeFault>
     ensures told { F.tells → IfOk result (AnswersFront (F.held folder.old) front.now) }
     ensures some { IfOk result (λ p. (files : List Held) × AnswersFront files front.now p) }
+    ensures file { result ≡ Err folder_failed → FrontAsksFile front.now }
     ensures folder_fault { result ≡ Err folder_failed → Rose (F.count folder.old) (F.count folder.new) }
+    ensures quiet { result ≢ Err folder_failed → F.count folder.new ≡ F.count folder.old }
     ensures read_fault { result ≢ Err ReadFault }
     ensures write_fault { result ≢ Err WriteFault }
     ensures later { F.count folder.old ≤ F.count folder.new }

@@ -3,7 +3,7 @@ ghost use Rattle.std.specs.Prelude.{◌≡◌, ◌≢◌, ◌≤◌, [], Err, le
 ghost use Rattle.http_plain.specs.Head.{head_limit};
 ghost use Rattle.outside.specs.Streams.{Rose};
 ghost use Rattle.plain_host.specs.declared.fault.ServeFault.TheVariants.{ReadFault, WriteFault, FolderFault, Memory};
-ghost use Rattle.plain_host.specs.Serving.{TakesFront, SendsNothing};
+ghost use Rattle.plain_host.specs.Serving.{BreaksOff, TakesFront, SendsNothing};
 
 use crate::fault::ServeFault;
 use connections::Door;
@@ -14,13 +14,15 @@ use std::alloc::Global;
 const PIECE: usize = 8_192;
 
 // The first bytes of the present connection's request: all of it, or 65,536 bytes, or fewer with the end of the head
-// among them.
+// among them. No piece is received once that has come.
 pub(crate) fn receive_front<G: Door>(alloc: Global, door: &mut G) -> Result<Vec<u8>, ServeFault>
     requires { G.tells → G.accepted door.old ≢ [] }
     ensures front { G.tells → IfOk result (λ front. TakesFront (G.accepted door.old) (G.accepted door.new) front.items) }
     ensures few { IfOk result (λ front. length front.items ≤ head_limit) }
     ensures nothing { G.tells → OnErr result (SendsNothing (G.accepted door.old) (G.accepted door.new)) }
+    ensures broken { G.tells → result ≡ Err ReadFault → BreaksOff (G.accepted door.old) (G.accepted door.new) }
     ensures read_fault { result ≡ Err ReadFault → Rose (G.count door.old) (G.count door.new) }
+    ensures quiet { result ≢ Err ReadFault → G.count door.new ≡ G.count door.old }
     ensures write_fault { result ≢ Err WriteFault }
     ensures folder_fault { result ≢ Err FolderFault }
     ensures later { G.count door.old ≤ G.count door.new }

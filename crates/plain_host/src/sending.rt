@@ -12,6 +12,7 @@ pub(crate) fn send_all<G: Door>(door: &mut G, bytes: &[u8]) -> Result<(), Failed
     ensures done { G.tells → OnOk result (Serving (G.accepted door.old) (G.accepted door.new) [] bytes.now) }
     ensures part { G.tells → OnErr result (SendsPart (G.accepted door.old) (G.accepted door.new) bytes.now) }
     ensures cause { Causes (G.count door.old) (G.count door.new) result }
+    ensures quiet { OnOk result (G.count door.new ≡ G.count door.old) }
     ensures misses { G.misses door.new ≡ G.misses door.old }
 {
     let mut rest = bytes;

@@ -9,6 +9,7 @@ invariant-loop-piece g l = record {
   none : head_end l.front.items ≡ None;
   within : length l.front.items ≤ 65536;
   count : g.G.Door.count l.initial.door ≤ g.G.Door.count l.door;
+  quiet : g.G.Door.count l.door ≡ g.G.Door.count l.initial.door;
   misses : g.G.Door.misses l.door ≡ g.G.Door.misses l.initial.door;
 }
 

@@ -6,6 +6,7 @@ abbrev pub invariant-loop-rest : goal.invariant-loop-rest
 invariant-loop-rest g l = record {
   front : g.G.Door.tells → SendsFront (g.G.Door.accepted l.initial.door) (g.G.Door.accepted l.door) l.bytes l.rest;
   count : g.G.Door.count l.initial.door ≤ g.G.Door.count l.door;
+  quiet : g.G.Door.count l.door ≡ g.G.Door.count l.initial.door;
   misses : g.G.Door.misses l.door ≡ g.G.Door.misses l.initial.door;
 }
 
