@@ -5,7 +5,7 @@ use Rattle.connections.specs.Door.{Accepted}
 use Rattle.folders.specs.declared.folder.Held.{Held}
 use Rattle.host_cli.specs.declared.hosting.RunFault.{RunFault}
 use Rattle.host_cli.specs.declared.hosting.RunFault.TheVariants.{Missed, Memory}
-use Rattle.host_cli.specs.Hosting.{AllBut, IsServed, AcceptsOne, HostsOne, HostsBut, HostsButLast, rises}
+use Rattle.host_cli.specs.Hosting.{AllBut, IsHeard, IsServed, IsBegun, AcceptsOne, AcceptsSilent, HostsOne, HostsBut, HostsButLast, rises}
 
 module _ {A : Type 0} (P : A → Type 0) where
   -- more may lack it
@@ -56,16 +56,22 @@ module _ (files : List Held) (old mid new : List Accepted) (g0 g1 g2 f0 f1 f2 : 
     made = b.made ++ one.connection ∷ [];
     after = one.after ∙ ap (λ (m : List Accepted). m ++ one.connection ∷ []) b.after ∙ append_assoc old b.made (one.connection ∷ []);
     served = fated one.connection one.fate;
+    begun = one_has (IsBegun files) b.made one.connection 0 b.begun one.begun;
+    heard = one_has IsHeard b.made one.connection 0 b.heard one.heard;
   }
 
   -- one connection more, which is left out
-  pub hosts_last : AcceptsOne mid new → HostsButLast files old new (rises g0 g2 f0 f2)
+  pub hosts_last : AcceptsSilent mid new → HostsButLast files old new (rises g0 g2 f0 f2)
   hosts_last one =
       let le : rises g0 g1 f0 f1 ≤ rises g0 g2 f0 f2 = omega arith in
       record {
         made = b.made;
         last = one.connection;
         after = one.after ∙ ap (λ (m : List Accepted). m ++ one.connection ∷ []) b.after;
+        unsent = one.unsent;
+        begun = b.begun;
+        heard = b.heard;
+        last_heard = one.heard;
         served = weaker (IsServed files) b.made (rises g0 g1 f0 f1) (rises g0 g2 f0 f2) le b.served;
       }
 
@@ -76,6 +82,8 @@ module _ (files : List Held) (old mid new : List Accepted) (g0 g1 g2 f0 f1 f2 : 
       record {
         made = b.made;
         after = same ∙ b.after;
+        begun = b.begun;
+        heard = b.heard;
         served = weaker (IsServed files) b.made (rises g0 g1 f0 f1) (rises g0 g2 f0 f2) le b.served;
       }
 

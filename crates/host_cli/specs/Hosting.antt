@@ -1,43 +1,89 @@
 -- What becomes of the connections of a run.
-use Rattle.std.specs.Prelude.{◌≡◌, ◌⊎◌, ℕ, ◌+◌, ◌-◌, List, [], ◌∷◌, ◌++◌, Option}
+use Rattle.std.specs.Prelude.{◌≡◌, ◌≤◌, ◌⊎◌, ℕ, ◌+◌, ◌-◌, List, [], ◌∷◌, ◌++◌, length, Option}
 use Rattle.outside.specs.Streams.{Rose}
 use Rattle.connections.specs.Door.{Accepted}
 use Rattle.folders.specs.declared.folder.Held.{Held}
-use Rattle.http_plain.specs.Served.{Serves}
+use Rattle.http_plain.specs.Head.{IsEnough, IsNear, head_limit}
+use Rattle.http_plain.specs.Served.{Answer, Serves}
+use Rattle.plain_host.specs.Serving.{piece_limit}
 
 -- at most n of the items are none that P holds for
 abbrev pub AllBut : {A : Type 0} → (A → Type 0) → List A → ℕ → Type 0
 AllBut P [] n = Unit {0}
 AllBut P (x ∷ xs) n = (P x × AllBut P xs n) ⊎ ((m : ℕ) × (n ≡ m + 1) × AllBut P xs m)
 
--- what was sent on the connection is what a host of these files answers to its request, and no more
+-- of the connection's request no more was received than a head may have, and no piece once the end of its head had come
+pub record IsHeard (connection : Accepted) : Type 0 where
+  pub front : List ℕ
+  pub heard : connection.request ≡ front ++ connection.left
+  pub few : length front ≤ head_limit
+  pub near : IsNear piece_limit front
+
+-- what was sent on the connection is what a host of these files answers to its request, and no more; enough of the request
+-- was received to know the answer
 pub record IsServed (files : List Held) (connection : Accepted) : Type 0 where
+  pub front : List ℕ
+  pub heard : connection.request ≡ front ++ connection.left
+  pub enough : IsEnough front connection.left
   pub code : Option ℕ
   pub serves : Serves files connection.request (record { code = code; bytes = connection.sent })
+
+-- what was sent on the connection is a first part of what a host of these files answers to its request, of which enough was
+-- received to know the answer
+pub record IsPart (files : List Held) (connection : Accepted) : Type 0 where
+  pub front : List ℕ
+  pub heard : connection.request ≡ front ++ connection.left
+  pub enough : IsEnough front connection.left
+  pub answer : Answer
+  pub rest : List ℕ
+  pub part : answer.bytes ≡ connection.sent ++ rest
+  pub serves : Serves files connection.request answer
+
+-- nothing was sent on the connection, or a first part of its answer
+abbrev pub IsBegun : List Held → Accepted → Type 0
+IsBegun files connection = (connection.sent ≡ []) ⊎ IsPart files connection
 
 -- one more connection was accepted
 pub record AcceptsOne (old new : List Accepted) : Type 0 where
   pub connection : Accepted
   pub after : new ≡ old ++ connection ∷ []
 
--- one more connection was accepted, and it was served where neither count of faults rose
+-- one more connection was accepted, and nothing was sent on it; its request was received as far as a host may
+pub record AcceptsSilent (old new : List Accepted) : Type 0 where
+  pub connection : Accepted
+  pub after : new ≡ old ++ connection ∷ []
+  pub unsent : connection.sent ≡ []
+  pub heard : IsHeard connection
+
+-- one more connection was accepted, and it was served where neither count of faults rose; nothing but a first part of its
+-- answer was sent, and its request was received as far as a host may
 pub record HostsOne (files : List Held) (old new : List Accepted) (door_old door_new folder_old folder_new : ℕ) : Type 0 where
   pub connection : Accepted
   pub after : new ≡ old ++ connection ∷ []
   pub fate : IsServed files connection ⊎ (Rose door_old door_new ⊎ Rose folder_old folder_new)
+  pub begun : IsBegun files connection
+  pub heard : IsHeard connection
 
--- connections were accepted, of which at most n were not served
+-- connections were accepted, of which at most n were not served, and on each nothing but a first part of its answer was sent;
+-- the request of each was received as far as a host may
 pub record HostsBut (files : List Held) (old new : List Accepted) (n : ℕ) : Type 0 where
   pub made : List Accepted
   pub after : new ≡ old ++ made
   pub served : AllBut (IsServed files) made n
+  pub begun : AllBut (IsBegun files) made 0
+  pub heard : AllBut IsHeard made 0
 
--- connections were accepted, of which, without the last, at most n were not served
+-- connections were accepted, of which, without the last, at most n were not served, and on each of those nothing but a first
+-- part of its answer was sent; on the last nothing was; the request of each was received as far as a host may
 pub record HostsButLast (files : List Held) (old new : List Accepted) (n : ℕ) : Type 0 where
   pub made : List Accepted
   pub last : Accepted
   pub after : new ≡ old ++ made ++ last ∷ []
+  pub unsent : last.sent ≡ []
   pub served : AllBut (IsServed files) made n
+  pub begun : AllBut (IsBegun files) made 0
+  pub heard : AllBut IsHeard made 0
+  pub last_heard : IsHeard last
 
 -- how far two counts rose
 abbrev pub rises : ℕ → ℕ → ℕ → ℕ → ℕ

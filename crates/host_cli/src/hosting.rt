@@ -2,7 +2,7 @@
 ghost use Rattle.std.specs.Prelude.{◌≡◌, ◌≢◌, ◌≤◌, ◌<◌, ◌+◌, length, Err, Ok, OnOk};
 ghost use Rattle.outside.specs.Streams.{Rose};
 ghost use Rattle.host_cli.specs.declared.hosting.RunFault.TheVariants.{Missed, Memory};
-ghost use Rattle.host_cli.specs.Hosting.{AcceptsOne, HostsOne, HostsBut, HostsButLast, rises};
+ghost use Rattle.host_cli.specs.Hosting.{AcceptsOne, AcceptsSilent, HostsOne, HostsBut, HostsButLast, rises};
 
 use connections::Door;
 use folders::Folder;
@@ -22,12 +22,13 @@ pub(crate) enum RunFault {
 fn host_one<F: Folder, G: Door>(alloc: Global, folder: &mut F, door: &mut G) -> Result<(), RunFault>
     ensures one { G.tells → OnOk result (AcceptsOne (G.accepted door.old) (G.accepted door.new)) }
     ensures fate { G.tells → F.tells → OnOk result (HostsOne (F.held folder.old) (G.accepted door.old) (G.accepted door.new) (G.count door.old) (G.count door.new) (F.count folder.old) (F.count folder.new)) }
-    ensures memory { G.tells → result ≡ Err Memory → AcceptsOne (G.accepted door.old) (G.accepted door.new) }
+    ensures memory { G.tells → result ≡ Err Memory → AcceptsSilent (G.accepted door.old) (G.accepted door.new) }
     ensures none { G.tells → result ≡ Err Missed → G.accepted door.new ≡ G.accepted door.old }
     ensures missed { result ≡ Err Missed → Rose (G.misses door.old) (G.misses door.new) }
     ensures door_later { G.count door.old ≤ G.count door.new }
     ensures folder_later { F.count folder.old ≤ F.count folder.new }
     ensures misses_later { G.misses door.old ≤ G.misses door.new }
+    ensures quiet_misses { result ≢ Err Missed → G.misses door.new ≡ G.misses door.old }
     ensures held { F.tells → F.held folder.new ≡ F.held folder.old }
 {
     let Ok(()) = door.accept() else {
@@ -63,6 +64,7 @@ pub(crate) fn host_many<F: Folder, G: Door>(
     ensures door_later { G.count door.old ≤ G.count door.new }
     ensures folder_later { F.count folder.old ≤ F.count folder.new }
     ensures misses_later { G.misses door.old ≤ G.misses door.new }
+    ensures quiet_misses { result ≢ Err Missed → G.misses door.new ≡ G.misses door.old }
     ensures held { F.tells → F.held folder.new ≡ F.held folder.old }
 {
     for _made in 0..count {

@@ -15,10 +15,15 @@ use std::alloc::Global;
 /// folder. The words are `PORT COUNT`: 1 to 65,535, and 0 to 1,000,000, in 1 to 19 decimal digits each.
 ///
 /// The status is 0 where so many connections were accepted, 1 exactly at other words, where nothing is done, 2 where
-/// the door failed to accept, and 6 where there was no memory to serve the last connection. A fault of the door or
-/// the folder while a connection is served ends that connection alone. So, where neither count of faults ended at its
-/// greatest number, at most as many connections are not served as the counts rose by; at status 6 the last
-/// connection is not counted.
+/// the door failed to accept, and 6 where there was no memory to serve the last connection. Any status but 2 leaves the
+/// count of misses, so no failed accept is passed over. A fault of the door or the folder while a connection is served
+/// ends that connection alone.
+///
+/// So, over a door and a folder that tell, and where neither count of faults ended at its greatest number, at most as
+/// many connections are not served as the counts rose by, and on those nothing or a first part of the answer was sent.
+/// A host speaks only when enough of the request has come to know the answer, and of no request it receives more than
+/// 65,536 bytes, or a piece, of at most 8,192 bytes, once the end of the head has come. At status 6 the last connection
+/// is not counted: nothing was sent on it, and no more of its request was received than that.
 pub fn host_run<F: Folder, G: Door>(
     alloc: Global,
     words: &[Word],
@@ -33,6 +38,7 @@ pub fn host_run<F: Folder, G: Door>(
     ensures fewer { G.tells → result ≡ 2 → IfSome (count_of words.now) (λ n. length (G.accepted door.new) < length (G.accepted door.old) + n) }
     ensures most { G.tells → IfSome (count_of words.now) (λ n. length (G.accepted door.new) ≤ length (G.accepted door.old) + n) }
     ensures missed { result ≡ 2 → Rose (G.misses door.old) (G.misses door.new) }
+    ensures quiet_misses { result ≢ 2 → G.misses door.new ≡ G.misses door.old }
 
     // How many of them were not served.
     ensures served { G.tells → F.tells → G.count door.new < 0xffff_ffff_ffff_ffff → F.count folder.new < 0xffff_ffff_ffff_ffff → result ≢ 6

@@ -37,5 +37,6 @@ loop-made-preserved g c = record {
   door_later = omega (arith, c.loop-made.invariant.door_later, c.in_default.ensures.door_later);
   folder_later = omega (arith, c.loop-made.invariant.folder_later, c.in_default.ensures.folder_later);
   misses_later = omega (arith, c.loop-made.invariant.misses_later, c.in_default.ensures.misses_later);
+  quiet_misses = c.in_default.ensures.quiet_misses (λ same. cc) ∙ c.loop-made.invariant.quiet_misses;
   held = λ u. c.in_default.ensures.held u ∙ c.loop-made.invariant.held u;
 }

@@ -13,5 +13,6 @@ invariant-loop-made g l = record {
   door_later : g.G.Door.count l.initial.door ≤ g.G.Door.count l.door;
   folder_later : g.F.Folder.count l.initial.folder ≤ g.F.Folder.count l.folder;
   misses_later : g.G.Door.misses l.initial.door ≤ g.G.Door.misses l.door;
+  quiet_misses : g.G.Door.misses l.door ≡ g.G.Door.misses l.initial.door;
   held : g.F.Folder.tells → g.F.Folder.held l.folder ≡ g.F.Folder.held l.initial.folder;
 }
