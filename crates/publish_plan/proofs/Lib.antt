@@ -9,6 +9,7 @@ pub mod InputLemmas
 pub mod MarkLemmas
 pub mod PathLemmas
 pub mod PlaceLemmas
+pub mod PlanCourse
 pub mod PlanFacts
 pub mod PlanSteps
 pub mod PreFacts

@@ -114,7 +114,7 @@ module _ (o : Options) (table : BTreeMap (List ℕ) Seen) (inputs : List (List �
 pub marks_are : (o : Options) (inputs : List (List ℕ)) (bad : Option (List ℕ)) → bad ≡ bad_mark inputs [] o.marks → unless (option_map BadMark bad) ≡ good_marks o inputs
 marks_are o inputs bad is = ap (λ (b : Option (List ℕ)). unless (option_map BadMark b)) is
 
-abbrev plan_at : List PlannedFile → List ℕ → List ℕ → Read Plan
+abbrev pub plan_at : List PlannedFile → List ℕ → List ℕ → Read Plan
 plan_at files manifest deployment = Ok (record { files = files; manifest = manifest; deployment = deployment })
 
 pub planned_is : (o : Options) (inputs : List (List ℕ)) (files : List PlannedFile) (manifest deployment : List ℕ)
