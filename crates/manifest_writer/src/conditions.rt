@@ -28,8 +28,8 @@ fn are_allowed(bytes: &[u8]) -> bool
     bytes.iter().all(|byte| is_allowed(*byte))
 }
 
-// A value within limits of length.
-fn is_value(text: &Text, least: usize, most: usize) -> bool
+/// Whether a manifest may hold the text as a value of so many bytes: `least` to `most`, each of which it may hold.
+pub fn can_write_value(text: &Text, least: usize, most: usize) -> bool
     ensures { IsTrue result ↔ IsValue least most text.now }
 {
     let bytes = text.as_bytes();
@@ -39,11 +39,11 @@ fn is_value(text: &Text, least: usize, most: usize) -> bool
 fn is_identity(identity: &Identity) -> bool
     ensures { IsTrue result ↔ IsIdentity identity.now }
 {
-    is_value(&identity.key.name, 1, 240)
-        && is_value(&identity.key.token, 1, 64)
-        && is_value(&identity.key.language, 1, 64)
-        && is_value(&identity.key.architecture, 1, 64)
-        && is_value(&identity.kind, 0, 64)
+    can_write_value(&identity.key.name, 1, 240)
+        && can_write_value(&identity.key.token, 1, 64)
+        && can_write_value(&identity.key.language, 1, 64)
+        && can_write_value(&identity.key.architecture, 1, 64)
+        && can_write_value(&identity.kind, 0, 64)
 }
 
 // The digests have the lengths of their algorithms.
@@ -62,7 +62,8 @@ fn is_minimum(version: Version, minimum: Option<Version>) -> bool
     }
 }
 
-fn is_rule(rule: Rule) -> bool
+/// Whether the rule can be written: an age is one of whole hours, and takes at most nine digits in its unit.
+pub fn can_write_rule(rule: Rule) -> bool
     ensures { IsTrue result ↔ IsRule rule }
 {
     match rule {
@@ -92,7 +93,9 @@ fn is_address(alloc: Global, text: &Text) -> Result<bool, CopyFault>
     }
 }
 
-fn is_provider(alloc: Global, provider: &Option<Text>) -> Result<bool, CopyFault>
+/// Whether the provider, if there is one, can be written: it is an address, each byte of which a manifest may hold. It
+/// fails only for want of memory.
+pub fn can_write_provider(alloc: Global, provider: &Option<Text>) -> Result<bool, CopyFault>
     ensures { IfOk result (λ answer. IsTrue answer ↔ IfSome provider.now IsProvider) }
 {
     match provider {
@@ -105,7 +108,7 @@ fn is_provider(alloc: Global, provider: &Option<Text>) -> Result<bool, CopyFault
 fn is_assembly(d: &Deployment) -> bool
     ensures { IsTrue result ↔ (IsValue 1 2048 d.now.codebase × IsIdentity d.now.app × (d.now.app_size ≤ 4194304) × All IsSized d.now.app_list) }
 {
-    is_value(&d.codebase, 1, 2_048)
+    can_write_value(&d.codebase, 1, 2_048)
         && is_identity(&d.app)
         && d.app_size <= 4_194_304
         && are_sized(&d.app_list)
@@ -120,27 +123,20 @@ pub fn can_write_deployment(alloc: Global, d: &Deployment) -> Result<bool, CopyF
     if !is_identity(&d.identity) || !d.install {
         return Ok(false);
     }
-    if !is_minimum(d.identity.version, d.minimum) || !is_rule(d.rule) {
+    if !is_minimum(d.identity.version, d.minimum) || !can_write_rule(d.rule) {
         return Ok(false);
     }
     if !is_assembly(d) {
         return Ok(false);
     }
-    Ok(is_provider(alloc, &d.provider)?)
-}
-
-/// Whether a manifest may hold each byte of the text: none is below 32 but tab, line feed and carriage return.
-pub fn can_write_text(text: &Text) -> bool
-    ensures { IsTrue result ↔ IsTrue (is_content text.now) }
-{
-    are_allowed(text.as_bytes())
+    Ok(can_write_provider(alloc, &d.provider)?)
 }
 
 fn is_group(group: &Option<Text>) -> bool
     ensures { IsTrue result ↔ IfSome group.now (IsValue 1 240) }
 {
     match group {
-        Some(group) => is_value(group, 1, 240),
+        Some(group) => can_write_value(group, 1, 240),
         None => true,
     }
 }
@@ -176,7 +172,7 @@ pub fn can_write_application(a: &Application) -> bool
     ensures { IsTrue result ↔ AreApplicationFacts a.now }
 {
     is_identity(&a.identity)
-        && is_value(&a.entry, 1, 240)
-        && is_value(&a.parameters, 0, 2_048)
+        && can_write_value(&a.entry, 1, 240)
+        && can_write_value(&a.parameters, 0, 2_048)
         && are_files(a.files.as_slice())
 }

@@ -16,5 +16,8 @@ mod terms;
 mod tests;
 
 pub use application::write_application;
-pub use conditions::{can_write_application, can_write_deployment, can_write_text};
+pub use conditions::{
+    can_write_application, can_write_deployment, can_write_provider, can_write_rule,
+    can_write_value,
+};
 pub use deployment::write_deployment;

@@ -3,7 +3,7 @@ use Rattle.std.proofs.Common.{◌≡◌, Ok, Err, IfOk, IfErr, IsErr, OnOk, OnEr
 use Rattle.std.specs.Prelude.{IsErrAnd}
 use Rattle.publisher.specs.declared.fault.PublishFault.{PublishFault}
 use Rattle.publisher.specs.declared.fault.PublishFault.TheVariants.{ReadFault, WriteFault, Changed, Memory}
-use Rattle.publisher.specs.Faults.{IsReading}
+use Rattle.publisher.specs.Faults.{IsReading, IsWriting}
 use Rattle.publisher.specs.Outcome.{Fails, Gives}
 use Rattle.publisher.specs.Publication.{Outcome, ◌>>=◌}
 
@@ -69,6 +69,15 @@ err_handed_on (Err f) P e is h = subst P (sym is.1) h
 pub on_err : {A : Type 0} (r : Outcome A) (P : Type 0) → P → OnErr r P
 on_err (Ok x) P h = tt
 on_err (Err e) P h = h
+
+-- what holds anyway, where it is asked for at one error alone
+pub on_error : {A : Type 0} (r : Outcome A) (fault : PublishFault) (P : Type 0) → P → IfErr r (λ e. e ≡ fault → P)
+on_error (Ok x) fault P h = tt
+on_error (Err e) fault P h = λ _. h
+
+-- a fault of a writing is none of a reading
+pub never_reading : (e : PublishFault) (P : Type 0) → IsWriting e → e ≡ ReadFault → P
+never_reading e P fault is = absurd (subst IsWriting is fault)
 
 -- what follows
 pub then_ok : {A : Type 0} (r : Outcome A) (P Q : Type 0) → (P → Q) → OnOk r P → OnOk r Q

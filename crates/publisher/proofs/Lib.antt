@@ -1,6 +1,7 @@
 pub mod Counting
 pub mod Entering
 pub mod Giving
+pub mod Known
 pub mod ManifestSteps
 pub mod OptionFacts
 pub mod Ordered

@@ -1,6 +1,8 @@
 -- A publish, step by step, against the definitions.
-use Rattle.std.proofs.Common.{◌≡◌, ℕ, ◌<◌, List, length, take, Option, None, Result, Ok, Err, refl, sym, ap, subst, ◌∙◌, arith, length-append}
+use Rattle.std.proofs.Common.{◌≡◌, ℕ, ◌<◌, List, [], ◌∷◌, length, map, take, Option, Some, None, Result, Ok, Err, refl, sym, ap, subst, ◌∙◌, arith, length-append}
 use Rattle.std.specs.Prelude.{is_ok, true}
+use Rattle.std.proofs.lemmas.Bool.{false≢true}
+use Rattle.std.proofs.lemmas.List.{length-map}
 use Rattle.folders.specs.declared.folder.Held.{Held}
 use Rattle.folders.specs.Files.{distinct, file_in}
 use Rattle.manifests.specs.declared.facts.FileEntry.{FileEntry}
@@ -8,16 +10,20 @@ use Rattle.publish_plan.specs.declared.fault.PlanFault.{PlanFault}
 use Rattle.publish_plan.specs.declared.fault.PlanFault.TheVariants as plan
 use Rattle.publish_plan.specs.declared.options.Options.{Options}
 use Rattle.publish_plan.specs.declared.options.Plan.{Plan}
+use Rattle.publish_plan.specs.declared.options.PlannedFile.{PlannedFile}
 use Rattle.publish_plan.specs.Early.{early_of}
+use Rattle.publish_plan.specs.Facts.{file_of}
+use Rattle.publish_plan.specs.Marks.{is_among}
 use Rattle.publish_plan.specs.Outcome as plans
 use Rattle.publish_plan.specs.Plans.{plan_of}
+use Rattle.publish_plan.proofs.PlanFacts.{plan_facts}
 use Rattle.publisher.specs.declared.fault.PublishFault.{PublishFault}
 use Rattle.publisher.specs.declared.fault.PublishFault.TheVariants.{ReadFault, WriteFault, Changed, Memory}
 use Rattle.publisher.specs.declared.release.Release.{Release}
 use Rattle.publisher.specs.Faults.{IsDevice, fault_of}
-use Rattle.publisher.specs.Outcome.{Fails, Leaves, Publishes, Refuses}
-use Rattle.publisher.specs.Publication.{Outcome, ◌>>=◌, judged, manifests_of, publish_of, published_files, read_entries, release_of}
-use Rattle.publisher.specs.Puts.{PutsEach, PutsSome}
+use Rattle.publisher.specs.Outcome.{Fails, Leaves, LeavesInput, Publishes, Refuses}
+use Rattle.publisher.specs.Publication.{Outcome, ◌>>=◌, copy_in, judged, manifests_of, publish_of, published_files, read_entries, release_of}
+use Rattle.publisher.specs.Puts.{PutsEach, PutsInput, PutsSome}
 use Rattle.publisher.proofs.Giving.{fails_same, fails_then, fails_after}
 use Rattle.publisher.proofs.Putting.{all_put, distinct_front}
 
@@ -103,17 +109,36 @@ comes (Err e) next y is = absurd cc
 the_ok : {A : Type 0} (x y : A) → ok_of x ≡ ok_of y → x ≡ y
 the_ok x y is = cc
 
--- there is always something to write
-some_written : (o : Options) (names : List (List ℕ)) (held files : List Held) → publish_of o names held ≡ Ok files → 0 < length files
+not_early : (early : Option PlanFault) (x : Unit {0}) → judged (plans.unless early) ≡ Ok x → early ≡ None
+not_early None x is = refl
+not_early (Some fault) x is = absurd cc
+
+the_plan : (r : Result Plan PlanFault) (plan : Plan) → judged r ≡ Ok plan → r ≡ Ok plan
+the_plan (Ok p) plan is = ap Ok (the_ok p plan is)
+the_plan (Err fault) plan is = absurd cc
+
+-- the file that is started is one of them
+some_among : (entry : List ℕ) (files : List PlannedFile) → is_among (map file_of files) entry ≡ true → 0 < length files
+some_among entry [] is = absurd (false≢true is)
+some_among entry (f ∷ fs) is = omega arith
+
+-- there is an input file to write, and two manifests
+three_written : (o : Options) (names : List (List ℕ)) (held files : List Held) → publish_of o names held ≡ Ok files → 2 < length files
 unfolding publish_of release_of
-some_written o names held files is =
+three_written o names held files is =
     let first = comes (judged (plans.unless (early_of o))) (after o names held) files is in
     let next = comes (judged (plan_of o names)) (release_of o held) files first.rest in
     let plan = next.x in
     let third = comes (read_entries held plan.files) (entered o held plan) files next.rest in
     let last = comes (manifests_of o third.x) (written held plan) files third.rest in
     let same : published_files held plan last.x ≡ files = the_ok (published_files held plan last.x) files last.rest in
-    subst (λ (hs : List Held). 0 < length hs) same (simp length-append (omega arith))
+    let facts = plan_facts o names (not_early (early_of o) first.x first.first) plan (the_plan (plan_of o names) plan next.first) in
+    let some : 0 < length plan.files = some_among o.entry plan.files facts.entry in
+    let copies : length (map (copy_in held) plan.files) ≡ length plan.files = length-map plan.files (copy_in held) in
+    subst (λ (hs : List Held). 2 < length hs) same (simp length-append (omega arith))
+
+some_written : (o : Options) (names : List (List ℕ)) (held files : List Held) → publish_of o names held ≡ Ok files → 0 < length files
+some_written o names held files is = let long = three_written o names held files is in omega arith
 
 leaves_same : (r : Outcome (List Held)) (old new : List Held) → ((files : List Held) → r ≡ Ok files → 0 < length files) → new ≡ old → Leaves r old new
 leaves_same (Ok files) old new some same = record {
@@ -126,6 +151,18 @@ leaves_same (Err e) old new some same = same
 -- a call that changes nothing leaves what may be left
 pub nothing_left : (o : Options) (names : List (List ℕ)) (old new : List Held) → new ≡ old → Leaves (publish_of o names old) old new
 nothing_left o names old new same = leaves_same (publish_of o names old) old new (some_written o names old) same
+
+input_same : (r : Outcome (List Held)) (old new : List Held) → ((files : List Held) → r ≡ Ok files → 2 < length files) → new ≡ old → LeavesInput r old new
+input_same (Ok files) old new long same = record {
+  count = 0;
+  below = let l = long files refl in omega arith;
+  puts = record { each = λ name. ap (file_in name) same };
+}
+input_same (Err e) old new long same = same
+
+-- so does a reading that fails before anything is put
+pub no_input_left : (o : Options) (names : List (List ℕ)) (old new : List Held) → new ≡ old → LeavesInput (publish_of o names old) old new
+no_input_left o names old new same = input_same (publish_of o names old) old new (three_written o names old) same
 
 -- a fault in the writing
 pub device_refuses : (e : PublishFault) (r : Outcome (List Held)) (files : List Held) → r ≡ Ok files → IsDevice e → Refuses e r
@@ -142,3 +179,6 @@ part_left r files old new is differ some =
 pub all_published : (r : Outcome (List Held)) (files old new : List Held) → r ≡ Ok files → distinct files ≡ true → PutsEach files old new → Publishes r old new
 all_published r files old new is differ puts =
     subst (λ (o : Outcome (List Held)). Publishes o old new) (sym is) (all_put files old new differ puts)
+
+pub input_left : (r : Outcome (List Held)) (files old new : List Held) → r ≡ Ok files → PutsInput files old new → LeavesInput r old new
+input_left r files old new is some = subst (λ (o : Outcome (List Held)). LeavesInput o old new) (sym is) some

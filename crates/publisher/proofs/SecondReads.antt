@@ -5,14 +5,14 @@ use Rattle.std.specs.List.{list_all, list_any}
 use Rattle.std.proofs.lemmas.List.{take_more, get_or-map, length-map, length-append, take-append-le, take_all}
 use Rattle.std.proofs.lemmas.List.Folds.{list_all_at}
 use Rattle.folders.specs.declared.folder.Held.{Held}
-use Rattle.folders.specs.Files.{is_named, Puts}
+use Rattle.folders.specs.Files.{distinct, is_named, Puts}
 use Rattle.publish_plan.specs.declared.options.Plan.{Plan}
 use Rattle.publish_plan.specs.declared.options.PlannedFile.{PlannedFile}
 use Rattle.publish_plan.specs.Places.{lies_below}
 use Rattle.publisher.specs.declared.release.Release.{Release}
 use Rattle.publisher.specs.Publication.{bytes_in, copy_in, published_files}
-use Rattle.publisher.specs.Puts.{PutsEach, PutsSome, is_apart}
-use Rattle.publisher.proofs.Putting.{clash, kept_each, named_is, none_before, put_more}
+use Rattle.publisher.specs.Puts.{PutsEach, PutsInput, PutsSome, is_apart}
+use Rattle.publisher.proofs.Putting.{all_put, clash, distinct_front, kept_each, named_is, none_before, put_more}
 
 left_so : (a b : Bool) → (a && b) ≡ true → a ≡ true
 left_so true b is = refl
@@ -105,6 +105,22 @@ whole_before front next back old new puts =
 -- a part of the input files was put
 pub part_of_files : (old new : List Held) (plan : Plan) (release : Release) → PutsSome (map (copy_in old) plan.files) old new → PutsSome (published_files old plan release) old new
 part_of_files old new plan release some = some_before (map (copy_in old) plan.files) (manifest_of plan release ∷ deployment_of plan release ∷ []) old new some
+
+-- of files whose names differ, a part of those before the last two
+before_two : (front : List Held) (one other : Held) (old new : List Held) → distinct (front ++ one ∷ other ∷ []) ≡ true → PutsSome front old new → PutsInput (front ++ one ∷ other ∷ []) old new
+before_two front one other old new differ some =
+    let short : some.count ≤ length front = let b = some.below in omega arith in
+    let same : take some.count (front ++ one ∷ other ∷ []) ≡ take some.count front = take-append-le some.count front (one ∷ other ∷ []) short in
+    let puts : PutsEach (take some.count (front ++ one ∷ other ∷ [])) old new = subst (λ (hs : List Held). PutsEach hs old new) (sym same) some.puts in
+    record {
+      count = some.count;
+      below = let b = some.below in simp length-append (omega arith);
+      puts = all_put (take some.count (front ++ one ∷ other ∷ [])) old new (distinct_front some.count (front ++ one ∷ other ∷ []) differ) puts;
+    }
+
+-- a part of the input files was put, and no manifest
+pub input_alone : (old new : List Held) (plan : Plan) (release : Release) → distinct (published_files old plan release) ≡ true → PutsSome (map (copy_in old) plan.files) old new → PutsInput (published_files old plan release) old new
+input_alone old new plan release differ some = before_two (map (copy_in old) plan.files) (manifest_of plan release) (deployment_of plan release) old new differ some
 
 -- the input files were put, and no manifest
 pub part_without_manifests : (old new : List Held) (plan : Plan) (release : Release) → PutsEach (map (copy_in old) plan.files) old new → PutsSome (published_files old plan release) old new

@@ -1,5 +1,5 @@
 -- Why a publish is refused, and which refusals a device or want of memory causes.
-use Rattle.std.specs.Prelude.{◌≡◌, ℕ, ◌≤◌, ◌≢◌, Option, Some, Result, IfErr, MatchResult}
+use Rattle.std.specs.Prelude.{◌≡◌, ℕ, ◌≤◌, ◌≢◌, Option, Some, Result, IfErr, OnOk, MatchResult}
 use Rattle.digest_list.specs.Difference.{AreDistinct}
 use Rattle.outside.specs.Streams.{Rose}
 use Rattle.manifest_tree.specs.declared.write.WriteFault.{WriteFault as TreeWriteFault}
@@ -26,11 +26,12 @@ abbrev pub fault_of_writing : TreeWriteFault → PublishFault
 fault_of_writing (tree.TooLong length) = ManifestTooLong length
 fault_of_writing tree.Memory = Memory
 
--- a count of faults never falls, and the two faults of the folder come only where it rose
+-- a count of faults never falls, the two faults of the folder come only where it rose, and an answer leaves it
 pub record FaultsCounted {T : Type 0} (old new : ℕ) (result : Result T PublishFault) : Type 0 where
   pub later : old ≤ new
   pub read : IfErr result (λ e. e ≡ ReadFault → Rose old new)
   pub write : IfErr result (λ e. e ≡ WriteFault → Rose old new)
+  pub quiet : OnOk result (new ≡ old)
 
 -- no value comes, and no other error than this one, unless memory ran out
 abbrev pub IsRefused : {T : Type 0} → Result T PublishFault → PublishFault → Type 0

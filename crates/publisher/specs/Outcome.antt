@@ -6,7 +6,7 @@ use Rattle.digest_list.specs.Difference.{AreDistinct}
 use Rattle.publisher.specs.declared.fault.PublishFault.{PublishFault}
 use Rattle.publisher.specs.declared.fault.PublishFault.TheVariants.{ReadFault, WriteFault, Changed, Memory}
 use Rattle.publisher.specs.Publication.{Outcome}
-use Rattle.publisher.specs.Puts.{PutsAll, PutsFront}
+use Rattle.publisher.specs.Puts.{PutsAll, PutsFront, PutsInput}
 
 -- an error of a call that writes nothing is the refusal, unless the folder failed or memory ran out
 abbrev pub Fails : {A : Type 0} → PublishFault → Outcome A → Type 0
@@ -33,6 +33,12 @@ Refuses e files = files ≡ Err e
 abbrev pub Leaves : Outcome (List Held) → List Held → List Held → Type 0
 Leaves (Ok files) old new = PutsFront files old new
 Leaves (Err e) old new = new ≡ old
+
+-- what stands after a failed reading: some first part of the input files is put and no manifest, and where the files are
+-- refused nothing is
+abbrev pub LeavesInput : Outcome (List Held) → List Held → List Held → Type 0
+LeavesInput (Ok files) old new = PutsInput files old new
+LeavesInput (Err e) old new = new ≡ old
 
 -- a change shows what differs
 abbrev pub ShowsChange : PublishFault → Type 0

@@ -1,5 +1,5 @@
 -- Files that are put into a folder, one after another.
-use Rattle.std.specs.Prelude.{◌≡◌, ℕ, ◌<◌, Bool, true, ◌&&◌, not, List, [], ◌∷◌, length, take}
+use Rattle.std.specs.Prelude.{◌≡◌, ℕ, ◌<◌, ◌+◌, Bool, true, ◌&&◌, not, List, [], ◌∷◌, length, take}
 use Rattle.std.specs.List.{list_all}
 use Rattle.std.specs.Option.{option_or}
 use Rattle.folders.specs.declared.folder.Held.{Held}
@@ -15,6 +15,12 @@ pub record PutsAll (files old new : List Held) : Type 0 where
 pub record PutsFront (files old new : List Held) : Type 0 where
   pub count : ℕ
   pub below : count < length files
+  pub puts : PutsAll (take count files) old new
+
+-- of files whose last two are manifests, the first so many were put, and not all that stand before the manifests
+pub record PutsInput (files old new : List Held) : Type 0 where
+  pub count : ℕ
+  pub below : count + 2 < length files
   pub puts : PutsAll (take count files) old new
 
 -- the files were put, one after another, whatever their names

@@ -17,7 +17,8 @@ pub enum PublishFault {
     BadName { word: Text },
     /// The minimum is above the version.
     MinimumAbove { minimum: Version },
-    /// The folder failed at a listing or a reading: its count rose.
+    /// The folder failed at a listing or a reading: its count rose. Over a folder that tells, some first part of the input
+    /// files may be written, but not all, and neither manifest.
     ReadFault,
     /// The version's folder has a file, of which this is the first.
     VersionExists { file: Name },
@@ -36,9 +37,10 @@ pub enum PublishFault {
     FileTooLong { file: Name, length: u64 },
     /// A manifest is longer than 4,194,304 bytes: its length.
     ManifestTooLong { length: u64 },
-    /// The folder failed at a writing: its count rose. Some first part of the files is written.
+    /// The folder failed at a writing: its count rose. Over a folder that tells, nothing else is refused, and some first
+    /// part of the files and the manifests may be written, but not all.
     WriteFault,
-    /// The second reading of a file gave other bytes than the first. Some first part of the files is written.
+    /// The bytes of a file changed while it was published: what differs. Over a folder that tells it does not come.
     Changed { file: Name, difference: Difference },
     /// There was no memory.
     Memory,

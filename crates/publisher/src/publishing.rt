@@ -8,10 +8,11 @@ ghost use Rattle.folders.specs.Files.{IsNames, file_in};
 ghost use Rattle.publish_plan.specs.declared.fault.PlanFault.{PlanFault};
 ghost use Rattle.publish_plan.specs.Early.{early_of};
 ghost use Rattle.publish_plan.specs.Places.{deployment_name, input_names};
+ghost use Rattle.publisher.specs.declared.fault.PublishFault.TheVariants.{ReadFault};
 ghost use Rattle.publisher.specs.Entries.{AreEntries};
 ghost use Rattle.publisher.specs.Faults.{FaultsCounted, IsDevice, IsEarly, IsLate, IsRefused, fault_of};
 ghost use Rattle.publisher.specs.Options.{IsPublishable};
-ghost use Rattle.publisher.specs.Outcome.{KeepsStanding, Leaves, Publishes, Refuses, ShowsChange};
+ghost use Rattle.publisher.specs.Outcome.{KeepsStanding, Leaves, LeavesInput, Publishes, Refuses, ShowsChange};
 ghost use Rattle.publisher.specs.Publication.{copy_in, deployment_key as key_of, entry_in, publish_of, published_files};
 ghost use Rattle.publisher.specs.Puts.{AreApart, PutsEach, PutsSome};
 
@@ -47,6 +48,7 @@ fn write_release<F: Folder>(
     requires apart { AreApart plan.now.files }
     ensures put { F.tells → OnOk result (PutsEach (published_files (F.held folder.old) plan.now release.now) (F.held folder.old) (F.held folder.new)) }
     ensures part { F.tells → OnErr result (PutsSome (published_files (F.held folder.old) plan.now release.now) (F.held folder.old) (F.held folder.new)) }
+    ensures reading { F.tells → IfErr result (λ e. e ≡ ReadFault → PutsSome (map (copy_in (F.held folder.old)) plan.now.files) (F.held folder.old) (F.held folder.new)) }
     ensures device { F.tells → release.now.entries ≡ map (entry_in (F.held folder.old)) plan.now.files → IfErr result IsDevice }
     ensures late { IfErr result IsLate }
     ensures counted { FaultsCounted (F.count folder.old) (F.count folder.new) result }
@@ -74,6 +76,7 @@ fn publish_names<F: Folder>(
     ensures published { F.tells → OnOk result (Publishes (publish_of options.now names.now (F.held folder.old)) (F.held folder.old) (F.held folder.new)) }
     ensures refused { F.tells → IfErr result (λ e. Refuses e (publish_of options.now names.now (F.held folder.old))) }
     ensures left { F.tells → OnErr result (Leaves (publish_of options.now names.now (F.held folder.old)) (F.held folder.old) (F.held folder.new)) }
+    ensures reading { F.tells → IfErr result (λ e. e ≡ ReadFault → LeavesInput (publish_of options.now names.now (F.held folder.old)) (F.held folder.old) (F.held folder.new)) }
     ensures unpublished { F.tells → OnErr result (file_in (deployment_name options.now) (F.held folder.new) ≡ file_in (deployment_name options.now) (F.held folder.old)) }
     ensures standing { F.tells → IsNames (F.held folder.old) names.now → KeepsStanding (deployment_name options.now) (F.held folder.old) (F.held folder.new) }
     ensures answer { IfOk result (λ p. (p.key ≡ key_of options.now) × (p.version ≡ options.now.version) × (p.files ≡ length (input_names options.now.from names.now))) }
@@ -92,15 +95,20 @@ fn publish_names<F: Folder>(
     })
 }
 
-/// Publishes the files below `from`: writes them below `to` with the application manifest and the deployment manifest
-/// of the version, in this order, the files in byte order of their names. It writes over no file but the deployment
-/// manifest. `is_publishable` tells whether the options are such that their manifests can be written.
+/// Publishes the files below `from`: over a folder that tells, writes them below `to` with the application manifest and
+/// the deployment manifest of the version, and writes over no file but the deployment manifest. `is_publishable` tells
+/// whether the options are such that their manifests can be written.
 ///
 /// # Errors
 ///
-/// The refusals come in the order of `PublishFault`, and all but `WriteFault`, `Changed` and `Memory` and a `ReadFault` at
-/// a second reading come before anything is written. Each input file is read twice; one that is listed and gone reads
-/// as empty. After an error the deployment manifest is as it was, and so is each file that stood.
+/// The words and the minimum are judged before the folder is called. `ReadFault` and `WriteFault` come only where the
+/// folder's count of faults rose, and where there is no error it did not.
+///
+/// Over a folder that tells, the error is the first refusal in the order of `PublishFault`, or the folder failed, or
+/// memory ran out. Where there is a refusal nothing is written. Else some first part may be, and not all: the input
+/// files in byte order of their names, the application manifest, the deployment manifest. After `ReadFault` neither
+/// manifest is written, nor are all the input files. After each error the deployment manifest is as it was, and so is
+/// each file that stood.
 pub fn publish<F: Folder>(
     alloc: Global,
     options: &Options,
@@ -122,14 +130,20 @@ pub fn publish<F: Folder>(
     ensures version { IfOk result (λ p. p.version ≡ options.now.version) }
 
     // An error is the first refusal, or the folder failed, or memory ran out. A first part of the files may be written
-    // then, and nothing where there is a refusal.
+    // then, where a reading failed of the input files alone, and nothing where there is a refusal.
     ensures refused { F.tells → (names : List (List ℕ)) → IsNames (F.held folder.old) names
         → IfErr result (λ e. Refuses e (publish_of options.now names (F.held folder.old))) }
     ensures left { F.tells → (names : List (List ℕ)) → IsNames (F.held folder.old) names
         → OnErr result (Leaves (publish_of options.now names (F.held folder.old)) (F.held folder.old) (F.held folder.new)) }
+    ensures reading { F.tells → (names : List (List ℕ)) → IsNames (F.held folder.old) names
+        → IfErr result (λ e. e ≡ ReadFault → LeavesInput (publish_of options.now names (F.held folder.old)) (F.held folder.old) (F.held folder.new)) }
     ensures unpublished { F.tells → OnErr result (file_in (deployment_name options.now) (F.held folder.new) ≡ file_in (deployment_name options.now) (F.held folder.old)) }
     ensures standing { F.tells → KeepsStanding (deployment_name options.now) (F.held folder.old) (F.held folder.new) }
     ensures change { IfErr result ShowsChange }
+
+    // The folder's count of faults never falls. It rose where an error says that the folder failed, and where a release is
+    // published it did not: no fault of the folder is passed over.
+    ensures quiet { OnOk result (F.count folder.new ≡ F.count folder.old) }
     ensures counted { FaultsCounted (F.count folder.old) (F.count folder.new) result }
 {
     check_options(alloc, options)?;

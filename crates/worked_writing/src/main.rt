@@ -3,7 +3,7 @@
 
 use manifest_tree::WriteFault;
 use manifest_writer::{
-    can_write_application, can_write_deployment, can_write_text, write_application,
+    can_write_application, can_write_deployment, can_write_value, write_application,
     write_deployment,
 };
 use manifests::{
@@ -65,8 +65,8 @@ fn written(
 ) -> io::Result<Result<Bytes, u64>> {
     let product = text_of(alloc, "demo")?;
     if !can_write_deployment(alloc, deployment).unwrap_or(false)
-        || !can_write_text(publisher)
-        || !can_write_text(&product)
+        || !can_write_value(publisher, 0, usize::MAX)
+        || !can_write_value(&product, 0, usize::MAX)
     {
         return bad();
     }

@@ -34,4 +34,5 @@ loop-i-preserved g c = record {
       let same : bytes_in mid file ≡ bytes_in old file = bytes_kept old mid c.requires.apart.folder c.args.files.now c.loop-i.i file within c.index-files-i.is c.requires.apart.apart (c.loop-i.invariant.puts told) in
       copy_more old mid (g.F.Folder.held c.copy_file.new.folder) c.args.files.now c.loop-i.i file within c.index-files-i.is (c.loop-i.invariant.puts told) same (c.in_ok-copy_file.ensures.put told);
   later = let go : g.F.Folder.count c.loop-i.folder ≤ g.F.Folder.count c.copy_file.new.folder = c.copy_file.ensures.counted.later in let so_far : g.F.Folder.count c.args.folder.now ≤ g.F.Folder.count c.loop-i.folder = c.loop-i.invariant.later in omega arith;
+  still = c.in_ok-copy_file.ensures.counted.quiet ∙ c.loop-i.invariant.still;
 }

@@ -1,11 +1,36 @@
-use Rattle.std.proofs.Common.{◌≡◌, List, map, sym, subst}
+use Rattle.std.proofs.Common.{◌≡◌, List, map, sym, subst, ◌∙◌}
 use Rattle.folders.specs.Files.{Puts}
 use Rattle.publish_plan.specs.declared.options.PlannedFile.{PlannedFile}
+use Rattle.publisher.specs.declared.fault.PublishFault.TheVariants.{ReadFault}
+use Rattle.publisher.specs.Faults.{IsWriting}
 use Rattle.publisher.specs.Publication.{copy_in, published_files}
 use Rattle.publisher.specs.Puts.{PutsEach, PutsSome}
-use Rattle.publisher.proofs.Giving.{on_err, then_ok, then_err}
+use Rattle.publisher.proofs.Counting.{counted_after}
+use Rattle.publisher.proofs.Giving.{err_handed_on, err_then, never_reading, on_err, on_error, then_ok, then_err}
 use Rattle.publisher.proofs.SecondReads.{part_without_manifests, part_without_deployment, all_of_release}
 use Rattle.publisher.proofs.publishing.write_release.Goals as goal
+
+pub returns-in_err-copy_files-clause-reading : goal.returns-in_err-copy_files-clause-reading
+returns-in_err-copy_files-clause-reading g c = λ told.
+    let old = g.F.Folder.held c.args.folder.now in
+    let new = g.F.Folder.held c.copy_files.new.folder in
+    let some : PutsSome (map (copy_in old) c.args.plan.now.files) old new = subst (λ (fs : List PlannedFile). PutsSome (map (copy_in old) fs) old new) c.as_slice.ensures (c.in_err-copy_files.ensures.part told) in
+    on_error c.from_residual.result ReadFault (PutsSome (map (copy_in old) c.args.plan.now.files) old new) some
+
+pub returns-in_err-put_file-clause-reading : goal.returns-in_err-put_file-clause-reading
+returns-in_err-put_file-clause-reading g c = λ told.
+    let old = g.F.Folder.held c.args.folder.now in
+    let new = g.F.Folder.held c.put_file.new.folder in
+    let some = PutsSome (map (copy_in old) c.args.plan.now.files) old new in
+    let e = c.in_err-put_file.field-0.0 in
+    err_handed_on c.from_residual-in_err-put_file.result (λ f. f ≡ ReadFault → some) e c.from_residual-in_err-put_file.ensures (never_reading e some c.in_err-put_file.ensures.writing)
+
+pub returns-clause-reading : goal.returns-clause-reading
+returns-clause-reading g c = λ told.
+    let old = g.F.Folder.held c.args.folder.now in
+    let new = g.F.Folder.held c.put_file-2.new.folder in
+    let some = PutsSome (map (copy_in old) c.args.plan.now.files) old new in
+    err_then c.put_file-2.result IsWriting (λ e. e ≡ ReadFault → some) (λ e. never_reading e some) c.put_file-2.ensures.writing
 
 pub returns-in_err-put_file-clause-part : goal.returns-in_err-put_file-clause-part
 returns-in_err-put_file-clause-part g c = λ told.
@@ -45,3 +70,8 @@ returns-clause-part g c = λ told.
     let part : PutsSome (published_files old plan release) old later = part_without_deployment old mid later plan release files manifest in
     then_err c.put_file-2.result (new ≡ later) (PutsSome (published_files old plan release) old new)
     (λ same. subst (PutsSome (published_files old plan release) old) (sym same) part) (c.put_file-2.ensures.kept told)
+
+pub returns-clause-counted : goal.returns-clause-counted
+returns-clause-counted g c =
+    counted_after (g.F.Folder.count c.args.folder.now) (g.F.Folder.count c.put_file.new.folder) (g.F.Folder.count c.put_file-2.new.folder) c.put_file-2.result
+    (c.in_ok-put_file.ensures.counted.quiet ∙ c.in_ok-copy_files.ensures.counted.quiet) c.put_file-2.ensures.counted

@@ -9,4 +9,5 @@ invariant-loop-file g l = record {
   kept : g.F.Folder.tells → g.F.Folder.held l.folder ≡ g.F.Folder.held l.initial.folder;
   fit : AreBehind l.files l.file-index l.entries.items;
   later : g.F.Folder.count l.initial.folder ≤ g.F.Folder.count l.folder;
+  still : g.F.Folder.count l.folder ≡ g.F.Folder.count l.initial.folder;
 }

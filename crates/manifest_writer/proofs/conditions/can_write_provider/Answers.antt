@@ -1,4 +1,4 @@
-use Rattle.publisher.proofs.options.is_provider.Goals as goal
+use Rattle.manifest_writer.proofs.conditions.can_write_provider.Goals as goal
 
 pub returns-in-Some : goal.returns-in-Some
 returns-in-Some c = rw c.in-Some.is c.is_address.ensures
