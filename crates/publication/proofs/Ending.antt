@@ -1,10 +1,9 @@
 -- How a publish ends once its line is written.
-use Rattle.std.proofs.Common.{◌≡◌, ℕ, List, Result, Ok, Err, refl, sym, subst}
+use Rattle.std.proofs.Common.{ℕ, List, Result, Ok, Err, refl, sym, subst}
 use Rattle.outside.specs.Streams.{Appends}
 use Rattle.publisher.specs.declared.publishing.Published.{Published}
 use Rattle.publisher.specs.declared.fault.PublishFault.{PublishFault}
 use Rattle.publication.specs.declared.publication.End.{End}
-use Rattle.publication.specs.declared.publication.End.TheVariants as ends
 use Rattle.publication.specs.Lines.{Says, SaysWith}
 use Rattle.publication.specs.Publication.{EndsWith}
 

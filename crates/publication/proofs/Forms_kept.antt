@@ -1,14 +1,9 @@
 -- What is read has a form, and the other way round.
-use Rattle.std.proofs.Common.{◌≡◌, ℕ, ◌<◌, ◌+◌, Bool, true, false, List, [], ◌∷◌, Option, Some, None, Result, Ok, Err, length, take, drop, refl, ap, sym, ◌∙◌}
+use Rattle.std.proofs.Common.{◌≡◌, ℕ, ◌<◌, ◌+◌, Bool, false, List, [], ◌∷◌, Option, Some, None, length, take, drop, refl, ap, sym, ◌∙◌}
 use Rattle.std.specs.Prelude.{is_some, ◌&&◌}
 use Rattle.std.specs.List.{list_all}
-use Rattle.identity.specs.declared.version.Version.{Version}
-use Rattle.outside.specs.declared.name.NameFault.TheVariants.{Bad}
-use Rattle.outside.specs.Name.{name_of}
 use Rattle.outside.proofs.Spelling.{too_long}
-use Rattle.publish_plan.specs.declared.options.Mark.{Mark}
-use Rattle.publish_plan.specs.declared.options.Options.{Options}
-use Rattle.publication.specs.Words.{◌>>=◌, as_file, file_of, group_of, title_of, release_of, data_mark, cut_mark, mark_of, marks_of, options_with}
+use Rattle.publication.specs.Words.{◌>>=◌, file_of, group_of, title_of, release_of, data_mark, cut_mark, mark_of, marks_of, options_with}
 
 pub no_long_file : (word : List ℕ) → 240 < length word → is_some (file_of word) ≡ false
 no_long_file word over = rw (too_long word over) refl

@@ -11,7 +11,7 @@ use Rattle.publisher.specs.declared.publishing.Published.{Published}
 use Rattle.publisher.specs.declared.fault.PublishFault.{PublishFault}
 use Rattle.publisher.specs.declared.fault.PublishFault.TheVariants.{ReadFault, WriteFault, Memory}
 use Rattle.publisher.specs.Faults.{FaultsCounted, IsEarly, IsRefused, fault_of}
-use Rattle.publisher.specs.Outcome.{KeepsStanding, Leaves, Publishes, Refuses, ShowsChange}
+use Rattle.publisher.specs.Outcome.{KeepsStanding, Leaves, LeavesInput, Publishes, Refuses, ShowsChange}
 use Rattle.publisher.specs.Publication.{deployment_key, publish_of}
 use Rattle.publication.specs.declared.publication.End.{End}
 use Rattle.publication.specs.declared.publication.End.TheVariants as ends
@@ -29,8 +29,9 @@ code_of ends.Refused = 7
 
 -- What a publish by these options made of a folder, and what it answers. Over a folder that tells, an answer comes where
 -- nothing is refused, and then all that the definitions give was written and nothing else; an error is the first refusal,
--- or the folder failed, or memory ran out, and then a first part may be written, without the deployment manifest, and
--- nothing where there is a refusal. A file that stood keeps its bytes, but for the deployment manifest.
+-- or the folder failed, or memory ran out, and then a first part may be written, without the deployment manifest, after a
+-- failed reading without all input files and without a manifest, and nothing where there is a refusal. A file that stood
+-- keeps its bytes, but for the deployment manifest. Where an answer comes, the folder did not fail.
 pub record IsPublish {F : Type 0} (tells : Type 0) (held : F → List Held) (count : F → ℕ) (o : Options) (old new : F) (result : Result Published PublishFault) : Type 0 where
   pub early : (fault : PlanFault) → early_of o ≡ Some fault → IsRefused result (fault_of fault) × (new ≡ old)
   pub only_early : IfErr result (IsEarly (early_of o))
@@ -41,9 +42,11 @@ pub record IsPublish {F : Type 0} (tells : Type 0) (held : F → List Held) (cou
   pub version : IfOk result (λ p. p.version ≡ o.version)
   pub refused : tells → (names : List (List ℕ)) → IsNames (held old) names → IfErr result (λ e. Refuses e (publish_of o names (held old)))
   pub left : tells → (names : List (List ℕ)) → IsNames (held old) names → OnErr result (Leaves (publish_of o names (held old)) (held old) (held new))
+  pub reading : tells → (names : List (List ℕ)) → IsNames (held old) names → IfErr result (λ e. e ≡ ReadFault → LeavesInput (publish_of o names (held old)) (held old) (held new))
   pub unpublished : tells → OnErr result (file_in (deployment_name o) (held new) ≡ file_in (deployment_name o) (held old))
   pub standing : tells → KeepsStanding (deployment_name o) (held old) (held new)
   pub change : IfErr result ShowsChange
+  pub quiet : OnOk result (count new ≡ count old)
   pub counted : FaultsCounted (count old) (count new) result
 
 -- a line that says what came of it was written whole

@@ -1,17 +1,18 @@
 // Publishing by words.
-ghost use Rattle.std.specs.Prelude.{◌≡◌, ◌≢◌, ◌⊎◌, ◌≤◌, ◌↔◌, None, Some, IfOk, IfErr};
+ghost use Rattle.std.specs.Prelude.{◌≡◌, ◌≢◌, ◌⊎◌, ◌≤◌, ◌↔◌, None, Some, Err, IfOk, IfErr};
 ghost use Rattle.outside.specs.Streams.{Rose};
+ghost use Rattle.publisher.specs.declared.fault.PublishFault.TheVariants.{ReadFault, WriteFault};
 ghost use Rattle.publisher.specs.Options.{IsPublishable};
 ghost use Rattle.publication.specs.declared.publication.End.TheVariants as ends;
 ghost use Rattle.publication.specs.Words.{options_of};
-ghost use Rattle.publication.specs.Publication.{code_of as status_of, Publication, ForPublish};
+ghost use Rattle.publication.specs.Publication.{code_of as status_of, EndsWith, Publication, ForPublish};
 
 use crate::forms::are_readable;
 use crate::lines::line_of;
 use crate::words::read_options;
 use folders::Folder;
 use outside::{Sink, Word, write_all};
-use publisher::{Options, publish};
+use publisher::{Options, PublishFault, Published, publish};
 use std::alloc::Global;
 
 /// How publishing by words ends.
@@ -50,6 +51,24 @@ impl End {
     }
 }
 
+// Writes the line of what came of a publish, where there is one, and says how the call ends.
+fn say_done<K: Sink>(alloc: Global, done: &Result<Published, PublishFault>, sink: &mut K) -> End
+    ensures ended { EndsWith K.tells K.taken sink.old sink.new done.now result }
+    ensures read { result ≡ ends.ReadFault → done.now ≡ Err ReadFault }
+    ensures write { result ≡ ends.WriteFault → done.now ≡ Err WriteFault }
+    ensures sink_count { K.count sink.old ≤ K.count sink.new }
+    ensures sink_cause { result ≡ ends.SinkFault → Rose (K.count sink.old) (K.count sink.new) }
+{
+    let (line, end) = match line_of(alloc, done) {
+        Ok(said) => said,
+        Err(end) => return end,
+    };
+    let Ok(()) = write_all(sink, line.as_slice()) else {
+        return End::SinkFault;
+    };
+    end
+}
+
 // Publishes by the options, and writes the line of what came of it.
 fn publish_options<F: Folder, K: Sink>(
     alloc: Global,
@@ -66,14 +85,7 @@ fn publish_options<F: Folder, K: Sink>(
     ensures sink_cause { result ≡ ends.SinkFault → Rose (K.count sink.old) (K.count sink.new) }
 {
     let done = publish(alloc, options, folder);
-    let (line, end) = match line_of(alloc, &done) {
-        Ok(said) => said,
-        Err(end) => return end,
-    };
-    let Ok(()) = write_all(sink, line.as_slice()) else {
-        return End::SinkFault;
-    };
-    end
+    say_done(alloc, &done, sink)
 }
 
 /// Publishes as the words behind `publish` ask for, and writes one line that says what was published, or why it was
