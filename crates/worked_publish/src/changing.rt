@@ -1,23 +1,48 @@
-// A folder of one file, which has other bytes from the second reading on, or is gone. It tells nothing.
+// A folder of two files, of which the second has other bytes from its second reading on, or is gone. It tells nothing,
+// and keeps the names of what is put.
 use folders::{Folder, FolderFault};
 use outside::{Bytes, List, Name};
 use std::alloc::Global;
 
-/// What the first reading of the file gives, and what the others do.
+const NAMES: [&str; 2] = ["in/app.exe", "in/data.txt"];
+
+/// What the first reading of the second file gives, and what the others do.
 #[derive(Drop)]
 pub struct Changing {
     first: Option<&'static [u8]>,
     later: Option<&'static [u8]>,
     reads: u64,
+    puts: String,
 }
 
 impl Changing {
-    pub fn new(first: Option<&'static [u8]>, later: Option<&'static [u8]>) -> Changing {
+    pub fn new(
+        alloc: Global,
+        first: Option<&'static [u8]>,
+        later: Option<&'static [u8]>,
+    ) -> Changing {
         Changing {
             first,
             later,
             reads: 0,
+            puts: String::new(alloc),
         }
+    }
+
+    /// A line for each file that was put, in order.
+    pub fn puts(&self) -> &str {
+        self.puts.as_str()
+    }
+
+    // What this reading of the second file gives.
+    fn read(&mut self) -> Option<&'static [u8]> {
+        let read = if self.reads == 0 {
+            self.first
+        } else {
+            self.later
+        };
+        self.reads = self.reads.saturating_add(1);
+        read
     }
 }
 
@@ -32,27 +57,29 @@ impl Folder for Changing {
 
     fn list(&mut self, alloc: Global) -> Result<List<Name>, FolderFault> {
         let mut names = Vec::new(alloc);
-        let Ok(name) = Name::read(alloc, b"in/app.exe") else {
-            return Err(FolderFault::Memory);
-        };
-        names.push(name)?;
+        for text in NAMES {
+            let Ok(name) = Name::read(alloc, text.as_bytes()) else {
+                return Err(FolderFault::Memory);
+            };
+            names.push(name)?;
+        }
         Ok(List::from_vec(names))
     }
 
-    fn get(&mut self, alloc: Global, _name: &Name) -> Result<Option<Bytes>, FolderFault> {
-        let read = if self.reads == 0 {
-            self.first
-        } else {
-            self.later
-        };
-        self.reads = self.reads.saturating_add(1);
-        match read {
+    fn get(&mut self, alloc: Global, name: &Name) -> Result<Option<Bytes>, FolderFault> {
+        if name.as_str() == "in/app.exe" {
+            return Ok(Some(Bytes::from_slice(alloc, b"abc")?));
+        }
+        match self.read() {
             Some(bytes) => Ok(Some(Bytes::from_slice(alloc, bytes)?)),
             None => Ok(None),
         }
     }
 
-    fn put(&mut self, _name: &Name, _bytes: &[u8]) -> Result<(), FolderFault> {
+    fn put(&mut self, name: &Name, _bytes: &[u8]) -> Result<(), FolderFault> {
+        self.puts.push_str("put ")?;
+        self.puts.push_str(name.as_str())?;
+        self.puts.push('\n')?;
         Ok(())
     }
 

@@ -159,9 +159,10 @@ fn changes(rt: &HostRuntime) -> io::Result<()> {
         (None, None),
         (Some(b"abc".as_slice()), Some(b"abc".as_slice())),
     ] {
-        let mut folder = Changing::new(first, later);
+        let mut folder = Changing::new(rt.alloc(), first, later);
         rt.println("a file that may change:")?;
         run_words(rt, &mut folder, &FIRST)?;
+        rt.print(folder.puts())?;
     }
     Ok(())
 }
