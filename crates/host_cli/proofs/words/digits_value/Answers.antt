@@ -1,4 +1,4 @@
-use Rattle.host_cli.proofs.Numerals.{text_of_digits, number_read}
+use Rattle.http_plain.proofs.Digits.{text_of_digits, number_read}
 use Rattle.host_cli.proofs.words.digits_value.Goals as goal
 
 pub unreachable-requires : goal.unreachable-requires
