@@ -18,8 +18,8 @@ use Rattle.url.specs.Parts.{Parts, kind_of, has_credentials, IsValid, IsHierarch
 use Rattle.url.specs.Parser.{parse_url}
 use Rattle.url.proofs.ValidLemmas.{hierarchical, special_has_authority, base_from_authority}
 use Rattle.url.proofs.PathLemmas.{rooted}
-use Rattle.outside.specs.declared.target.Target.{Target}
-use Rattle.identity.specs.Parts.{◌>>=◌}
+use Rattle.small_types.specs.declared.target.Target.{Target}
+use Rattle.small_types.specs.Reading.{◌>>=◌}
 use Rattle.addresses.specs.declared.fault.UrlFault.{UrlFault}
 use Rattle.addresses.specs.declared.fault.UrlFault.TheVariants.{BadUrl}
 use Rattle.addresses.specs.Address.{http, host_of, query_text, address, is_too_long, is_refused, target_of_url, url_of, url_limit, target_of_text, IsAddress, Gives}

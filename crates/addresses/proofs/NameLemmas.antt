@@ -4,9 +4,9 @@ use Rattle.std.specs.Prelude.{codes, decimal}
 use Rattle.std.specs.List.{list_all}
 use Rattle.std.specs.Str.{is_utf8}
 use Rattle.std.proofs.lemmas.Bool.{cond-true, cond-false, cond_both, cases_Bool, both_ways, and_parts, eq-eqb, lt-ltb, ltb-true}
-use Rattle.outside.specs.declared.target.Target.{Target}
-use Rattle.outside.specs.Name.{name_limit, name_parts, is_name_byte, is_name_part, is_name, IsName}
-use Rattle.identity.specs.Parts.{◌>>=◌}
+use Rattle.small_types.specs.declared.target.Target.{Target}
+use Rattle.small_types.specs.Name.{name_limit, name_parts, is_name_byte, is_name_part, is_name, IsName}
+use Rattle.small_types.specs.Reading.{◌>>=◌}
 use Rattle.url.specs.Parts.{Parts, HasSameHost, serialize}
 use Rattle.url.specs.Parser.{Parsed, parse_url}
 use Rattle.addresses.specs.declared.fault.UrlFault.{UrlFault}

@@ -4,8 +4,8 @@ use Rattle.std.specs.Str.{is_utf8}
 use Rattle.url.specs.Host.{host_text}
 use Rattle.url.specs.Parts.{Parts, has_credentials, nonempty_host, serialize}
 use Rattle.url.specs.Parser.{Parsed, parse_url}
-use Rattle.outside.specs.declared.target.Target.{Target}
-use Rattle.identity.specs.Parts.{◌>>=◌}
+use Rattle.small_types.specs.declared.target.Target.{Target}
+use Rattle.small_types.specs.Reading.{◌>>=◌}
 use Rattle.addresses.specs.declared.fault.UrlFault.{UrlFault}
 use Rattle.addresses.specs.declared.fault.UrlFault.TheVariants.{BadUrl, NotHttp, Memory}
 

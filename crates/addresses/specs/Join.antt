@@ -2,10 +2,10 @@
 use Rattle.std.specs.Prelude.{◌≡◌, ◌<◌, ◌⊎◌, ℕ, Bool, List, length, [], ◌++◌, codes, decimal, Some, None, Result, Ok, Err, if◌then◌else◌}
 use Rattle.url.specs.Parts.{Parts, HasSameHost, serialize}
 use Rattle.url.specs.Parser.{parse_url}
-use Rattle.outside.specs.declared.target.Target.{Target}
-use Rattle.outside.specs.Name.{IsName}
+use Rattle.small_types.specs.declared.target.Target.{Target}
+use Rattle.small_types.specs.Name.{IsName}
 use Rattle.identity.specs.Key.{word_text}
-use Rattle.identity.specs.Parts.{◌>>=◌}
+use Rattle.small_types.specs.Reading.{◌>>=◌}
 use Rattle.addresses.specs.declared.fault.UrlFault.{UrlFault}
 use Rattle.addresses.specs.declared.fault.UrlFault.TheVariants.{BadUrl}
 use Rattle.addresses.specs.Address.{address, http, is_too_long, target_of_url, url_limit, url_of}

@@ -6,7 +6,7 @@ ghost use Rattle.addresses.specs.Address as spec;
 ghost use Rattle.addresses.specs.Address.{Gives, IsAddress, address, is_refused, query_text, target_of_text, target_of_url, url_of};
 
 use crate::UrlFault;
-use outside::{Target, Text};
+use small_types::{Target, Text};
 use std::alloc::{AllocError, Global};
 use url::Url;
 

@@ -1,7 +1,7 @@
 ghost use Rattle.std.specs.Prelude.{◌≡◌};
 
 use identity::PrintFault;
-use outside::Text;
+use small_types::Text;
 use std::alloc::AllocError;
 use url::ParseError;
 

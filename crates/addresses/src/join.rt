@@ -1,6 +1,6 @@
 // The addresses beside another one.
 ghost use Rattle.std.specs.Prelude.{◌≡◌, ◌≢◌, ◌⊎◌, ℕ, List, [], Err, IfOk, codes, string_bytes, if◌then◌else◌};
-ghost use Rattle.outside.specs.Name.{IsName};
+ghost use Rattle.small_types.specs.Name.{IsName};
 ghost use Rattle.addresses.specs.declared.fault.UrlFault.TheVariants.{BadUrl, Memory, NotHttp};
 ghost use Rattle.addresses.specs.Address.{Gives, IsAddress, http};
 ghost use Rattle.addresses.specs.Join as spec;
@@ -9,7 +9,7 @@ ghost use Rattle.addresses.specs.Join.{IsUnreachable, app_target_of, base_of, fi
 use crate::UrlFault;
 use crate::address::{address_of, is_too_long, parse, target_of_parsed};
 use identity::{PrintFault, word_escape};
-use outside::{Name, Target, Text};
+use small_types::{Name, Target, Text};
 use std::alloc::{AllocError, Global};
 use url::Url;
 

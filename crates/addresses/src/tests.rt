@@ -1,5 +1,5 @@
 use crate::{UrlFault, app_target, file_target, target_of};
-use outside::{Name, Target, Text};
+use small_types::{Name, Target, Text};
 use std::alloc::{AllocError, Global};
 use std::process::Abort;
 use std::test::Fail;

@@ -2,7 +2,8 @@
 #![tactic(auto)]
 
 use host_cli::{host_run, read_port};
-use outside::{Failed, Sink, Word, write_all};
+use outside::{Failed, Sink, write_all};
+use small_types::Word;
 use outside_real::{RealFolder, StdSink, TcpDoor};
 use std::alloc::AllocError;
 use std::env;

@@ -1,7 +1,8 @@
 //! The client's program: `clickstore STORE FOLDER COMMAND`, over a store in a file.
 #![tactic(auto)]
 
-use outside::{Failed, List, Sink, Word, write_all};
+use outside::{Failed, Sink, write_all};
+use small_types::{List, Word};
 use outside_real::{FileDisk, RealFolder, StdSink, StdSource};
 use std::alloc::AllocError;
 use std::env;

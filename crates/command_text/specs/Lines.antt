@@ -17,8 +17,8 @@ use Rattle.store_state.specs.declared.command.LineFault.TheVariants.{LineTooLong
 use Rattle.store_state.specs.declared.command.LineFault.TheVariants as fault
 use Rattle.store_state.specs.declared.event.Event.{Event}
 use Rattle.store_state.specs.declared.event.Event.TheVariants.{Line, Unread}
-use Rattle.outside.specs.declared.limit.Limit.{Limit}
-use Rattle.outside.specs.declared.limit.Limit.TheVariants.{Applications, Views, Files, Locals, Hashes, Links, Jobs}
+use Rattle.small_types.specs.declared.limit.Limit.{Limit}
+use Rattle.small_types.specs.declared.limit.Limit.TheVariants.{Applications, Views, Files, Locals, Hashes, Links, Jobs}
 use Rattle.store_state.specs.declared.reply.Reply.{Reply}
 use Rattle.store_state.specs.declared.reply.Reply.TheVariants.{Minimum, TooMany}
 use Rattle.store_state.specs.declared.reply.Reply.TheVariants as reply

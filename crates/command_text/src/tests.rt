@@ -1,6 +1,7 @@
 use crate::{NUMBER_LIMIT, print_reply, read_line, read_number, strip_carriage_return};
 use identity::{Key, Version};
-use outside::{Bytes, Failed, List, MemSink, Sink, Text};
+use outside::{Failed, MemSink, Sink};
+use small_types::{Bytes, List, Text};
 use std::alloc::{AllocError, Global};
 use std::test::Fail;
 use store_state::{Command, Limit, LineFault, Reply};

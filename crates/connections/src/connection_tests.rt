@@ -1,6 +1,7 @@
 // What no clause says of the connections in memory: that calls succeed, and worked values.
 use crate::{Door, MemDoor, MemWire, Wire};
-use outside::{Bytes, Failed, List, Text};
+use outside::Failed;
+use small_types::{Bytes, List, Text};
 use std::alloc::{AllocError, Global};
 use std::test::Fail;
 

@@ -8,7 +8,8 @@ ghost use Rattle.connections.specs.Wire.{SendsLast};
 
 use crate::Door;
 use crate::parts::send_last;
-use outside::{Bytes, Failed, List, copy_from, is_failing};
+use outside::{Failed, copy_from};
+use small_types::{Bytes, List};
 use std::alloc::Global;
 
 /// Connections that request texts, one text a connection. Its calls whose numbers, counted from 1, the list `failing`

@@ -6,7 +6,8 @@ ghost use Rattle.connections.specs.Present.{ReceivesHere};
 
 use crate::Wire;
 use crate::parts::send_last;
-use outside::{Bytes, Duplicate, Failed, List, Text, copy_from, is_failing};
+use outside::{Failed, copy_from};
+use small_types::{Bytes, Duplicate, List, Text};
 use std::alloc::Global;
 
 // Where the present connection leads, what it answers, and how much of that was received.

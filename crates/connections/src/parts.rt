@@ -3,7 +3,7 @@ ghost use Rattle.std.specs.Prelude.{◌≡◌};
 ghost use Rattle.std.specs.Bool.{OnTrue, OnFalse};
 ghost use Rattle.connections.specs.Wire.{SendsLast};
 
-use outside::{Bytes, List};
+use small_types::{Bytes, List};
 use std::alloc::Global;
 use std::mem::replace;
 

@@ -3,7 +3,8 @@ ghost use Rattle.std.specs.Prelude.{◌≡◌, ◌<◌, ℕ, List, Option, None,
 ghost use Rattle.outside.specs.Streams.{Causes, ReadsAtMost, TakesSome};
 ghost use Rattle.connections.specs.Wire.{Made, Connects, Receives, Sends, all_sent};
 
-use outside::{Failed, Text};
+use outside::Failed;
+use small_types::Text;
 
 /// The connections of a client, one at a time. One that tells says of the present connection where it leads, what the
 /// other side sends, what is left of that and what was sent, and of the connections that are over what was sent on each.

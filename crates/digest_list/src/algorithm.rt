@@ -1,7 +1,7 @@
 ghost use Rattle.std.specs.Prelude.{◌≡◌, Some, IfOk};
 ghost use Rattle.digest_list.specs.Algorithm.{size_of, name_of, uri_of, sha256_other_uri, algorithm_of};
 
-use outside::{CopyFault, Duplicate};
+use small_types::{CopyFault, Duplicate};
 use std::alloc::Global;
 
 /// The hash functions of known digests (FIPS 180-4).

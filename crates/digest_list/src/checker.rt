@@ -10,7 +10,7 @@ use crate::hashers::{Hashers, Sums};
 use crate::matching::first_wrong;
 use crate::room::Room;
 use crate::{Difference, Digest, DigestList};
-use outside::{CopyFault, Duplicate};
+use small_types::{CopyFault, Duplicate};
 use std::alloc::{AllocError, Global};
 
 /// Why bytes were not found to match.

@@ -1,5 +1,5 @@
 use crate::Algorithm;
-use outside::Bytes;
+use small_types::Bytes;
 
 /// How bytes differ from what is listed.
 #[derive(Drop, Debug, PartialEq, Eq)]

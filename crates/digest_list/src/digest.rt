@@ -8,7 +8,7 @@ ghost use Rattle.digest_list.specs.Digest.{IsSized, Gives, digest_of, is_space, 
 use crate::{Algorithm, PrintFault};
 use base64::DecodeAllocError;
 use base64::engine::general_purpose::STANDARD;
-use outside::{Bytes, CopyFault, Duplicate, Text};
+use small_types::{Bytes, CopyFault, Duplicate, Text};
 use std::alloc::{AllocError, Global};
 
 /// A digest under an algorithm. What is read has just the algorithm's length.

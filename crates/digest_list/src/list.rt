@@ -1,5 +1,5 @@
 use crate::Digest;
-use outside::{CopyFault, Duplicate, List};
+use small_types::{CopyFault, Duplicate, List};
 use std::alloc::Global;
 use std::marker::Model;
 

@@ -1,6 +1,6 @@
 ghost use Rattle.std.specs.Prelude.{◌≡◌, ◌≤◌, [], length, vec_capacity};
 
-use outside::Bytes;
+use small_types::Bytes;
 use std::alloc::{AllocError, Global};
 
 // The length of the longest digests in bytes.

@@ -2,7 +2,7 @@ ghost use Rattle.std.specs.Prelude.{◌≡◌, ◌+◌, ◌<◌, ◌^◌, length
 ghost use Rattle.digest_list.specs.Checker.{count_of};
 
 use crate::{Algorithm, CheckFault, Checker, Difference, Digest, DigestFault, DigestList, matches};
-use outside::{Bytes, Duplicate, List};
+use small_types::{Bytes, Duplicate, List};
 use std::alloc::Global;
 use std::process::Abort;
 use std::test::Fail;

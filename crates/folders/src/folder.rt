@@ -5,7 +5,7 @@ ghost use Rattle.folders.specs.declared.folder.FolderFault.TheVariants.{Memory};
 ghost use Rattle.folders.specs.Files.{file_in, distinct, IsNames, Puts};
 ghost use Rattle.folders.specs.Folder.{FailsCounted};
 
-use outside::{Bytes, CopyFault, List, Name};
+use small_types::{Bytes, CopyFault, List, Name};
 use std::alloc::{AllocError, AllocFailed, Global};
 
 /// A file: its name and its bytes.

@@ -1,6 +1,6 @@
 // What no clause says of the folder in memory: that calls succeed, and worked values.
 use crate::{Folder, FolderFault, Held, MemFolder, are_distinct};
-use outside::{Bytes, List, Name};
+use small_types::{Bytes, List, Name};
 use std::alloc::Global;
 use std::test::Fail;
 

@@ -7,7 +7,7 @@ ghost use Rattle.folders.specs.Files.{is_named, file_in, names_of, distinct, IsN
 ghost use Rattle.folders.specs.Folder.{FailsCounted};
 
 use crate::{Folder, FolderFault, Held};
-use outside::{Bytes, Duplicate, List, Name, is_failing};
+use small_types::{Bytes, Duplicate, List, Name};
 use std::alloc::Global;
 use std::mem::replace;
 

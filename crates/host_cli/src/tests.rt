@@ -2,7 +2,7 @@
 use crate::host_run;
 use connections::MemDoor;
 use folders::{Held, MemFolder, are_distinct};
-use outside::{Bytes, List, Name, Word};
+use small_types::{Bytes, List, Name, Word};
 use std::alloc::{AllocError, Global};
 use std::test::Fail;
 

@@ -8,7 +8,7 @@ use crate::hosting::{RunFault, host_many};
 use crate::words::read_words;
 use connections::Door;
 use folders::Folder;
-use outside::Word;
+use small_types::Word;
 use std::alloc::Global;
 
 /// Accepts connections at the door, one after the other, and answers one request on each from the files of the

@@ -5,7 +5,7 @@ ghost use Rattle.std.specs.List.{list_all};
 ghost use Rattle.std.specs.Str.Parse.{digits_value as value_of};
 ghost use Rattle.host_cli.specs.Words.{number_of, port_of, count_in, count_of};
 
-use outside::Word;
+use small_types::Word;
 
 // The most digits of a number.
 const DIGIT_LIMIT: usize = 19;

@@ -2,7 +2,7 @@
 use Rattle.std.proofs.Common.{◌≡◌, ℕ, List, [], ◌∷◌, ◌++◌, append_assoc, codes}
 use Rattle.std.proofs.lemmas.List.{append-nil}
 use Rattle.httparse.specs.Ascii.{crlf_bytes}
-use Rattle.outside.specs.declared.target.Target.{Target}
+use Rattle.small_types.specs.declared.target.Target.{Target}
 use Rattle.http_plain.specs.Exchange.{host_value, request_text}
 use Rattle.http_plain.specs.Served.{head_text}
 use Rattle.http_plain.specs.Flat.{flat_request}

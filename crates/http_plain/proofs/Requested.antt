@@ -13,7 +13,7 @@ use Rattle.std.proofs.Math.Seq.{take-length}
 use Rattle.std.proofs.lemmas.Bool.{ltb-false, ltb-true}
 use Rattle.httparse.specs.Ascii.{crlf_bytes}
 use Rattle.httparse.specs.Grammar.{Field, IsField, crlf, is_token_byte, is_uri_byte, is_value_byte, print_field, RequestHead, IsRequestHead, print_request}
-use Rattle.outside.specs.declared.target.Target.{Target}
+use Rattle.small_types.specs.declared.target.Target.{Target}
 use Rattle.folders.specs.declared.folder.Held.{Held}
 use Rattle.folders.specs.Files.{file_in}
 use Rattle.http_plain.specs.declared.request.Asked.{Asked}

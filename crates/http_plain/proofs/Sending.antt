@@ -4,7 +4,7 @@ use Rattle.std.specs.Option.{IsSome, IfSome}
 use Rattle.std.specs.Result.{IfErr, IsErr, IsErrAnd}
 use Rattle.std.proofs.lemmas.List.{append-nil, nil_from_length}
 use Rattle.outside.specs.declared.reading.ReadFault.{ReadFault as PieceFault}
-use Rattle.outside.specs.declared.target.Target.{Target}
+use Rattle.small_types.specs.declared.target.Target.{Target}
 use Rattle.connections.specs.Wire.{Made, begun, Connects, Receives, Sends, all_sent}
 use Rattle.http_plain.specs.declared.begun.Begun.{Begun}
 use Rattle.http_plain.specs.declared.fault.ExchangeFault.{ExchangeFault}

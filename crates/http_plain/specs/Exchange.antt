@@ -5,7 +5,7 @@ use Rattle.std.specs.List.{list_all}
 use Rattle.std.specs.Str.{bytes_eq}
 use Rattle.std.specs.Str.Parse.{digits_value}
 use Rattle.httparse.specs.Grammar.{ResponseHead, ReadsResponse, status_code}
-use Rattle.outside.specs.declared.target.Target.{Target}
+use Rattle.small_types.specs.declared.target.Target.{Target}
 use Rattle.http_plain.specs.declared.fault.ExchangeFault.{ExchangeFault}
 use Rattle.http_plain.specs.declared.fault.ExchangeFault.TheVariants.{Cut, HeadTooLong, Malformed, Missing, Status, Encoded, NoLength}
 use Rattle.http_plain.specs.declared.lengths.Named.{Named}

@@ -3,7 +3,7 @@ use Rattle.std.specs.Prelude.{ℕ, ◌==◌, List, [], ◌∷◌, Option, Some, 
 use Rattle.std.specs.List.{before_first}
 use Rattle.std.specs.Result.{result_ok}
 use Rattle.percent_encoding.specs.Percent.{percent_decode}
-use Rattle.outside.specs.Name.{name_of}
+use Rattle.small_types.specs.Name.{name_of}
 
 -- the bytes up to the first `?`
 abbrev pub without_query : List ℕ → List ℕ

@@ -1,7 +1,7 @@
 -- What a client reads of a host's answer.
 use Rattle.std.specs.Prelude.{◌≡◌, ◌<◌, ◌^◌, ◌&&◌, ℕ, Bool, true, IsTrue, List, length, nat_le, Option, Some, Ok}
 use Rattle.std.specs.List.{list_all}
-use Rattle.outside.specs.declared.target.Target.{Target}
+use Rattle.small_types.specs.declared.target.Target.{Target}
 use Rattle.folders.specs.declared.folder.Held.{Held}
 use Rattle.folders.specs.Files.{file_in}
 use Rattle.http_plain.specs.Exchange.{Gives, request_text}

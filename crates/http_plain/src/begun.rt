@@ -7,7 +7,7 @@ ghost use Rattle.http_plain.specs.Head.{IsEnough, head_limit};
 use crate::fault::ExchangeFault;
 use crate::head::{HEAD_LIMIT, end_within};
 use crate::response::length_of_head;
-use outside::Bytes;
+use small_types::Bytes;
 use std::alloc::{AllocError, Global};
 
 /// An exchange whose answer came as far as its head.

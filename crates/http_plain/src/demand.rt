@@ -7,7 +7,7 @@ use crate::fault::RequestFault;
 use crate::head::{HEAD_LIMIT, end_within};
 use crate::path::name_in_path;
 use crate::request::{Asked, read_request};
-use outside::Name;
+use small_types::Name;
 use std::alloc::{AllocError, Global};
 
 /// What a request asks for, as far as it decides alone.

@@ -13,7 +13,8 @@ use crate::begun::{Begun, begin};
 use crate::fault::ExchangeFault;
 use crate::head::{HEAD_LIMIT, find_head_end};
 use connections::Wire;
-use outside::{Failed, ReadFault, Target};
+use outside::{Failed, ReadFault};
+use small_types::Target;
 use std::alloc::{AllocError, Global};
 
 // How many bytes are asked of the wire at a time.

@@ -1,11 +1,11 @@
 // The file that a target names.
 ghost use Rattle.std.specs.Prelude.{◌≡◌, ◌==◌, position, IfOk};
 ghost use Rattle.percent_encoding.specs.Percent.{percent_decode as decoded};
-ghost use Rattle.outside.specs.Name.{name_of};
+ghost use Rattle.small_types.specs.Name.{name_of};
 ghost use Rattle.std.specs.Result.{result_ok};
 ghost use Rattle.http_plain.specs.Path.{name_in_path as name_at, without_query as cut_at};
 
-use outside::{Name, NameFault};
+use small_types::{Name, NameFault};
 use percent_encoding::percent_decode;
 use std::alloc::{AllocError, Global};
 

@@ -12,7 +12,7 @@ use crate::fields::count_named;
 use crate::head::FIELD_LIMIT;
 use httparse::Status;
 use httparse::spans::{EMPTY_HEADER_SPAN, HeaderSpan, RequestSpans, Span, parse_request};
-use outside::Text;
+use small_types::Text;
 use std::alloc::{AllocError, Global};
 
 /// What the head of a request says.

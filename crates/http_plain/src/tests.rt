@@ -1,7 +1,8 @@
 // What no clause says: that calls succeed, and worked values.
 use crate::{Demand, ExchangeFault, RequestFault, ask_wire, demand_in, read_request};
 use connections::{MemWire, Wire};
-use outside::{Bytes, Failed, List, Target, Text};
+use outside::Failed;
+use small_types::{Bytes, List, Target, Text};
 use std::alloc::{AllocError, Global};
 use std::test::Fail;
 

@@ -14,7 +14,8 @@ use Rattle.identity.specs.declared.key.Key.{Key}
 use Rattle.identity.specs.declared.key.KeyFault.{KeyFault}
 use Rattle.identity.specs.declared.key.KeyFault.TheVariants.{PartCount, BadPart, Memory}
 use Rattle.identity.specs.declared.key.TheConstants.{PART_ESCAPES, WORD_ESCAPES}
-use Rattle.identity.specs.Parts.{parts_between, ◌>>=◌}
+use Rattle.small_types.specs.Cuts.{parts_between}
+use Rattle.small_types.specs.Reading.{◌>>=◌}
 use Rattle.identity.specs.Key.{comma, name_limit, short_limit, is_unreserved, escaped, word_text, part_text, key_text, IsPart, IsKey, is_part, part_of, key_of_parts, key_of, Gives}
 use Rattle.identity.proofs.PartsLemmas.{HasNo, four_joined}
 

@@ -4,7 +4,7 @@ use Rattle.std.specs.List.{slice_split, position_or_len, join_with_byte}
 use Rattle.std.proofs.lemmas.Bool.{cases_Bool, cond-true, cond-false, ltb-true, ltb-false, eq-eqb}
 use Rattle.std.proofs.lemmas.List.{take_rest}
 use Rattle.std.proofs.lemmas.List.Splits.{slice_split_first, slice_split-cons_no, slice_split_at, slice_split_none, length-slice_split}
-use Rattle.identity.specs.Parts.{parts_between}
+use Rattle.small_types.specs.Cuts.{parts_between}
 
 -- where no separator stands, all is one part
 whole : (p : ℕ → Bool) (xs : List ℕ) → length xs ≤ position_or_len p xs → slice_split p xs ≡ xs ∷ []

@@ -7,7 +7,8 @@ use Rattle.percent_encoding.specs.Percent.{percent_encode_byte, percent_decode}
 use Rattle.identity.specs.declared.key.Key.{Key}
 use Rattle.identity.specs.declared.key.KeyFault.{KeyFault}
 use Rattle.identity.specs.declared.key.KeyFault.TheVariants.{PartCount, BadPart, Memory}
-use Rattle.identity.specs.Parts.{parts_between, ◌>>=◌}
+use Rattle.small_types.specs.Cuts.{parts_between}
+use Rattle.small_types.specs.Reading.{◌>>=◌}
 
 -- `,`
 abbrev pub comma : ℕ

@@ -8,7 +8,8 @@ use Rattle.std.specs.Ordering.{nat_cmp, ordering_then, is_lt}
 use Rattle.identity.specs.declared.version.Version.{Version}
 use Rattle.identity.specs.declared.version.VersionFault.{VersionFault}
 use Rattle.identity.specs.declared.version.VersionFault.TheVariants.{PartCount, NotDigits, TooLarge}
-use Rattle.identity.specs.Parts.{parts_between, ◌>>=◌}
+use Rattle.small_types.specs.Cuts.{parts_between}
+use Rattle.small_types.specs.Reading.{◌>>=◌}
 
 -- `.`
 abbrev pub dot : ℕ

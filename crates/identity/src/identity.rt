@@ -1,5 +1,5 @@
 use crate::{Key, Version};
-use outside::{CopyFault, Duplicate, Text};
+use small_types::{CopyFault, Duplicate, Text};
 use std::alloc::Global;
 
 /// The identity of an application: its key, its version and its kind.

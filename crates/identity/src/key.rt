@@ -6,7 +6,7 @@ ghost use Rattle.identity.specs.Key.{IsKey, IsPart, is_part, Gives, key_of, key_
 
 use crate::PrintFault;
 use crate::parts::{FourParts, four_parts};
-use outside::{CopyFault, Duplicate, Text};
+use small_types::{CopyFault, Duplicate, Text};
 use percent_encoding::{AsciiSet, NON_ALPHANUMERIC, ascii_set, percent_decode, percent_encode};
 use std::alloc::{AllocError, Global};
 

@@ -1,6 +1,6 @@
 // The parts between separators.
 ghost use Rattle.std.specs.Prelude.{◌≡◌, ◌≢◌, [], ◌∷◌, ◌==◌, length, position, IfSome, IfNone};
-ghost use Rattle.identity.specs.Parts.{parts_between};
+ghost use Rattle.small_types.specs.Cuts.{parts_between};
 
 /// Four parts of a text, from the left.
 #[derive(Clone, Copy)]

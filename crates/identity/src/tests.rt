@@ -1,5 +1,5 @@
 use crate::{Identity, Key, KeyFault, Version, VersionFault, word_escape};
-use outside::{Duplicate, Text};
+use small_types::{Duplicate, Text};
 use std::alloc::{AllocError, Global};
 use std::process::Abort;
 use std::test::Fail;

@@ -8,7 +8,7 @@ ghost use Rattle.identity.specs.Version.{IsVersion, IsBelow, version_of, version
 use crate::PrintFault;
 use crate::parts::{FourParts, four_parts};
 use itoa::Buffer;
-use outside::Text;
+use small_types::Text;
 use percent_encoding::ascii_str;
 use std::alloc::Global;
 

@@ -8,7 +8,7 @@ ghost use Rattle.inspection.specs.Inspection.{code_of, SaysFor, Says};
 use crate::manifest::{End, Kind};
 use manifest_text::{write_application, write_deployment, write_refusal};
 use manifests::{ManifestFault, read_application, read_deployment};
-use outside::Bytes;
+use small_types::Bytes;
 use std::alloc::Global;
 
 // The line of a refusal, or none where memory ran out.

@@ -10,7 +10,7 @@ use Rattle.digest_list.specs.Count.{IsCount}
 use Rattle.manifest_tree.specs.declared.node.Node.{Node}
 use Rattle.manifest_parts.specs.declared.fault.ManifestFault.TheVariants as fault
 use Rattle.manifest_parts.specs.declared.fault.ManifestFault.TheVariants.{TooMany, NoDigest}
-use Rattle.outside.specs.declared.limit.Limit.TheVariants.{Hashes}
+use Rattle.small_types.specs.declared.limit.Limit.TheVariants.{Hashes}
 use Rattle.manifest_parts.proofs.Lookups.{filter_hits, filter_ends}
 use Rattle.std.specs.List.{flat_map, list_all}
 use Rattle.digest_list.specs.declared.digest.Digest.{Digest}

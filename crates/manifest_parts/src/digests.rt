@@ -11,7 +11,7 @@ use crate::fault::ManifestFault;
 use crate::refusals::{bad_value, no_digest};
 use digest_list::{Algorithm, Digest, DigestFault, DigestList};
 use manifest_tree::Node;
-use outside::{Limit, List};
+use small_types::{Limit, List};
 use std::alloc::Global;
 
 // The most elements `hash` of a file.

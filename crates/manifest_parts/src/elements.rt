@@ -7,7 +7,7 @@ ghost use Rattle.manifest_parts.specs.Outcome.{Gives, maybe_text, maybe_tree, tr
 use crate::fault::ManifestFault;
 use crate::refusals::{missing, twice};
 use manifest_tree::{Attribute, Node};
-use outside::Text;
+use small_types::Text;
 use std::alloc::Global;
 
 // What follows the last `:` of a name, or all of it.

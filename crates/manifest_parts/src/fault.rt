@@ -4,7 +4,7 @@ ghost use Rattle.manifest_parts.specs.declared.fault.ManifestFault.TheVariants.{
 
 use identity::Version;
 use manifest_tree::TreeFault;
-use outside::{CopyFault, Limit, Text};
+use small_types::{CopyFault, Limit, Text};
 use std::alloc::{AllocError, AllocFailed};
 
 /// Why a manifest is refused.

@@ -8,7 +8,7 @@ use crate::fault::ManifestFault;
 use crate::values::{defaulted, filled, needed, version};
 use identity::{Identity, Key, Version};
 use manifest_tree::Node;
-use outside::Text;
+use small_types::Text;
 use std::alloc::Global;
 
 // The most bytes of a name.

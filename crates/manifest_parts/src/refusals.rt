@@ -3,7 +3,7 @@ ghost use Rattle.std.specs.Prelude.{◌≡◌, IfOk, IsErrOf, OnErr};
 ghost use Rattle.manifest_parts.specs.Outcome.{Refused};
 
 use crate::fault::ManifestFault;
-use outside::Text;
+use small_types::Text;
 use std::alloc::Global;
 
 // A text of its own.

@@ -9,7 +9,7 @@ ghost use Rattle.manifest_parts.specs.Outcome.{Gives, text_at, maybe_text};
 use crate::fault::ManifestFault;
 use crate::refusals::{bad_value, missing, text_of};
 use identity::Version;
-use outside::{Duplicate, Text};
+use small_types::{Duplicate, Text};
 use std::alloc::Global;
 
 /// A value that must be there: `Missing` where it is not.

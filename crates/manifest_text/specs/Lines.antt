@@ -1,8 +1,8 @@
 -- The lines that say what a manifest says, or why it is refused.
 use Rattle.std.specs.Prelude.{ℕ, Bool, true, false, List, [], ◌∷◌, ◌++◌, codes, decimal, Option, Some, None, if◌then◌else◌}
 use Rattle.std.specs.List.{flat_map}
-use Rattle.outside.specs.declared.limit.Limit.{Limit}
-use Rattle.outside.specs.declared.limit.Limit.TheVariants.{Applications, Views, Files, Locals, Hashes, Links, Jobs}
+use Rattle.small_types.specs.declared.limit.Limit.{Limit}
+use Rattle.small_types.specs.declared.limit.Limit.TheVariants.{Applications, Views, Files, Locals, Hashes, Links, Jobs}
 use Rattle.identity.specs.declared.identity.Identity.{Identity}
 use Rattle.identity.specs.declared.version.Version.{Version}
 use Rattle.identity.specs.Key.{key_text, word_text}

@@ -11,7 +11,7 @@ use crate::lines::{digest_lines, identity_line, line, number_line, text_line, tw
 use identity::{PrintFault, Version, word_escape};
 use itoa::Buffer;
 use manifests::{Application, Deployment, FileEntry, Rule};
-use outside::{Bytes, Text};
+use small_types::{Bytes, Text};
 use std::alloc::Global;
 
 fn truth(value: bool) -> &'static [u8]

@@ -9,7 +9,7 @@ ghost use Rattle.manifest_text.specs.Lines as spec;
 use digest_list::Digest;
 use identity::{Identity, PrintFault, word_escape};
 use itoa::Buffer;
-use outside::Bytes;
+use small_types::Bytes;
 use std::alloc::Global;
 
 /// Adds a line: a word, a space, what is said, and a line feed. It fails only for want of memory.

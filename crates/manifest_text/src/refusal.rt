@@ -10,7 +10,7 @@ use identity::{PrintFault, Version, word_escape};
 use itoa::Buffer;
 use manifest_parts::ManifestFault;
 use manifest_tree::{TreeFault, TreeKind};
-use outside::{Bytes, Limit};
+use small_types::{Bytes, Limit};
 use std::alloc::Global;
 
 fn kind_text(kind: TreeKind) -> &'static [u8]

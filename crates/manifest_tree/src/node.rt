@@ -1,5 +1,5 @@
 // The tree of a text.
-use outside::{List, Text};
+use small_types::{List, Text};
 
 /// An attribute: its full name and its value, references and line ends resolved.
 #[derive(Drop, Debug)]

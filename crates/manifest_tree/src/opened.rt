@@ -9,7 +9,7 @@ use crate::fault::Stop;
 use crate::node::{Attribute, Node};
 use crate::tag::Tag;
 use crate::units::into_text;
-use outside::{List, Text};
+use small_types::{List, Text};
 use std::alloc::Global;
 
 #[derive(Drop)]

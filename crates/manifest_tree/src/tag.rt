@@ -10,7 +10,7 @@ use crate::fault::{Stop, TreeKind};
 use crate::node::Attribute;
 use crate::scan::{expect, fault, has_name, past_white, split_name};
 use crate::units::{read_value, text_of};
-use outside::Text;
+use small_types::Text;
 use std::alloc::Global;
 use std::collections::BTreeMap;
 

@@ -10,7 +10,7 @@ use crate::classes::is_allowed;
 use crate::fault::{Stop, TreeKind};
 use crate::reference::reference;
 use crate::scan::fault;
-use outside::Text;
+use small_types::Text;
 use std::alloc::Global;
 
 // What a unit stands for: a byte or a character.

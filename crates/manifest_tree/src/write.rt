@@ -14,7 +14,7 @@ mod writable;
 use crate::node::Node;
 use measure::count_element;
 use node::push_element;
-use outside::Bytes;
+use small_types::Bytes;
 use std::alloc::{AllocError, Global};
 pub use writable::is_writable;
 

@@ -11,7 +11,7 @@ use Rattle.std.proofs.lemmas.Fmt.{digits_decimal}
 use Rattle.base64.specs.Engines.{standard}
 use Rattle.base64.specs.GeneralPurpose.{encode_of, engine_symbols, IsBytes}
 use Rattle.base64.specs.Rfc4648.{encode_symbols, padding_len}
-use Rattle.outside.specs.Name.{name_limit, name_parts, is_name, is_name_byte, is_name_part, IsName}
+use Rattle.small_types.specs.Name.{name_limit, name_parts, is_name, is_name_byte, is_name_part, IsName}
 use Rattle.identity.specs.declared.version.Version.{Version}
 use Rattle.identity.specs.Version.{IsVersion, version_text}
 use Rattle.identity.proofs.VersionLemmas.{own}

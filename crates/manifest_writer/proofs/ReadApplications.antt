@@ -9,7 +9,7 @@ use Rattle.std.proofs.Math.Seq.{get_or-append_seam}
 use Rattle.std.proofs.lemmas.List.Elements.{All-head, All-tail, filter-append}
 use Rattle.std.proofs.lemmas.Slice.Eq.{bytes_eq-Decides}
 use Rattle.identity.specs.Version.{IsVersion}
-use Rattle.outside.specs.Name.{name_text, name_of, name_parts, is_name_byte, IsName, IsBelowPre}
+use Rattle.small_types.specs.Name.{name_text, name_of, name_parts, is_name_byte, IsName, IsBelowPre}
 use Rattle.manifest_tree.specs.Tree.{Tree, trees}
 use Rattle.manifest_parts.specs.Elements.{Read, ◌>>=◌, local, declares, value_of, called, children_called, once, children_of, attribute, has_called, any_called}
 use Rattle.manifest_parts.specs.Values.{needed, within, truth_of, truth, size_of}

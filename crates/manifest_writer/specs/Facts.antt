@@ -1,8 +1,8 @@
 -- What manifests can say: the values that reading gives, whatever the length of their texts.
 use Rattle.std.specs.Prelude.{◌≡◌, ℕ, ◌≤◌, ◌%◌, true, false, List, All, length, IsTrue, IfSome, None, Ok}
 use Rattle.std.specs.Ordering.{is_lt}
-use Rattle.outside.specs.declared.target.Target.{Target}
-use Rattle.outside.specs.Name.{IsBelowPre}
+use Rattle.small_types.specs.declared.target.Target.{Target}
+use Rattle.small_types.specs.Name.{IsBelowPre}
 use Rattle.addresses.specs.Address.{target_of_text}
 use Rattle.identity.specs.declared.identity.Identity.{Identity}
 use Rattle.identity.specs.declared.version.Version.{Version}

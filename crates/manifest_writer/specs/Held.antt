@@ -1,7 +1,7 @@
 -- What the types of values say of them: each number fits its type, and names and digest lists are ones.
 use Rattle.std.specs.Prelude.{List, All, IfSome}
 use Rattle.base64.specs.GeneralPurpose.{IsBytes}
-use Rattle.outside.specs.Name.{IsName}
+use Rattle.small_types.specs.Name.{IsName}
 use Rattle.identity.specs.Version.{IsVersion}
 use Rattle.digest_list.specs.declared.digest.Digest.{Digest}
 use Rattle.digest_list.specs.Count.{IsCount}

@@ -14,7 +14,7 @@ use crate::held::{files_held, version_held};
 use crate::identities::identity_node;
 use manifest_tree::{Node, WriteFault, write_tree};
 use manifests::Application;
-use outside::Bytes;
+use small_types::Bytes;
 use std::alloc::Global;
 
 // What is started.

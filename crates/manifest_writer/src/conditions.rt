@@ -11,7 +11,7 @@ use addresses::{UrlFault, target_of};
 use digest_list::DigestList;
 use identity::{Identity, Version};
 use manifests::{Application, Deployment, FileEntry, Rule};
-use outside::{CopyFault, Text};
+use small_types::{CopyFault, Text};
 use std::alloc::Global;
 
 #[tactic(auto, unfolding(manifest_tree::specs::Lexis::allowed))]

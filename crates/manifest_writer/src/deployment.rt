@@ -16,7 +16,7 @@ use crate::terms::terms_node;
 use itoa::Buffer;
 use manifest_tree::{Attribute, Node, WriteFault, write_tree};
 use manifests::Deployment;
-use outside::{Bytes, Text};
+use small_types::{Bytes, Text};
 use std::alloc::Global;
 
 // Whose the application is, and what it is called.

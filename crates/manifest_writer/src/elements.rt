@@ -5,7 +5,7 @@ ghost use Rattle.manifest_writer.specs.Elements.{named, pair_named, element as e
 
 use crate::fault::NoMemory;
 use manifest_tree::{Attribute, Node};
-use outside::{List, Text};
+use small_types::{List, Text};
 use std::alloc::Global;
 
 // A text of these characters.

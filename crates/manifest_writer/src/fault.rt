@@ -2,7 +2,7 @@
 ghost use Rattle.std.specs.Prelude.{◌≡◌};
 
 use manifest_tree::WriteFault;
-use outside::CopyFault;
+use small_types::CopyFault;
 use std::alloc::{AllocError, AllocFailed};
 
 /// Memory ran out while a tree was made.

@@ -9,7 +9,7 @@ use crate::fault::NoMemory;
 use itoa::Buffer;
 use manifest_tree::{Attribute, Node};
 use manifests::FileEntry;
-use outside::Name;
+use small_types::Name;
 use std::alloc::Global;
 
 // The name with backslashes for slashes.

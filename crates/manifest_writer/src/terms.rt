@@ -9,7 +9,7 @@ use crate::fault::NoMemory;
 use itoa::Buffer;
 use manifest_tree::{Attribute, Node};
 use manifests::{Deployment, Rule};
-use outside::Text;
+use small_types::Text;
 use std::alloc::Global;
 
 fn truth(value: bool) -> &'static str

@@ -1,7 +1,7 @@
 // What no clause says: that the conditions are met by ordinary values. The texts themselves are compared by a program,
 // `worked_writing`.
 use crate::{can_write_provider, can_write_value};
-use outside::Text;
+use small_types::Text;
 use std::test::*;
 
 #[test]

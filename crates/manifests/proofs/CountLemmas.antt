@@ -2,7 +2,7 @@
 use Rattle.std.proofs.Common.{◌≡◌, ℕ, ◌<◌, ◌≤◌, Bool, true, false, List, length, Result, Ok, Err, refl, sym, ap, ◌∙◌, arith}
 use Rattle.std.specs.Prelude.{◌&&◌, nat_le, if◌then◌else◌}
 use Rattle.std.proofs.lemmas.Bool.Decides.{nat_tests}
-use Rattle.outside.specs.declared.limit.Limit.TheVariants.{Files, Locals}
+use Rattle.small_types.specs.declared.limit.Limit.TheVariants.{Files, Locals}
 use Rattle.manifest_parts.specs.declared.fault.ManifestFault.TheVariants.{TooMany}
 use Rattle.manifest_parts.specs.Elements.{Read}
 use Rattle.manifests.specs.declared.facts.FileEntry.{FileEntry}

@@ -3,8 +3,8 @@ use Rattle.std.proofs.Common.{◌≡◌, ℕ, Bool, true, false, List, Option, S
 use Rattle.std.specs.Prelude.{◌↔◌, ◌&&◌, ◌||◌, not, nat_le, length, codes, slice_get, if◌then◌else◌}
 use Rattle.std.specs.Bool.{IsTrue}
 use Rattle.std.proofs.lemmas.Slice.Eq.{bytes_eq-Decides}
-use Rattle.outside.specs.declared.name.NameFault.{NameFault}
-use Rattle.outside.specs.Name.{name_of, name_parts, IsBelowPre}
+use Rattle.small_types.specs.declared.name.NameFault.{NameFault}
+use Rattle.small_types.specs.Name.{name_of, name_parts, IsBelowPre}
 use Rattle.manifest_parts.specs.declared.fault.ManifestFault.TheVariants.{BadName, TwiceNamed}
 use Rattle.manifest_parts.specs.Elements.{Read}
 use Rattle.manifests.specs.declared.facts.FileEntry.{FileEntry}

@@ -3,9 +3,9 @@ use Rattle.std.specs.Prelude.{◌≡◌, ℕ, Bool, true, false, ◌&&◌, ◌||
 use Rattle.std.specs.List.{list_any}
 use Rattle.std.specs.Option.{option_or}
 use Rattle.std.specs.Str.{bytes_eq}
-use Rattle.outside.specs.declared.limit.Limit.TheVariants.{Files, Locals}
-use Rattle.outside.specs.declared.name.NameFault.{NameFault}
-use Rattle.outside.specs.Name.{name_of, name_parts}
+use Rattle.small_types.specs.declared.limit.Limit.TheVariants.{Files, Locals}
+use Rattle.small_types.specs.declared.name.NameFault.{NameFault}
+use Rattle.small_types.specs.Name.{name_of, name_parts}
 use Rattle.digest_list.specs.declared.digest.Digest.{Digest}
 use Rattle.manifest_tree.specs.Tree.{Tree}
 use Rattle.manifest_parts.specs.declared.fault.ManifestFault.TheVariants.{Missing, BadValue, BadName, TwiceNamed, TooMany}

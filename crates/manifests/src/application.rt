@@ -17,7 +17,7 @@ use manifest_parts::{
     ManifestFault, attribute, children, filled, identity_in, once, read_root, within,
 };
 use manifest_tree::Node;
-use outside::{List, Text};
+use small_types::{List, Text};
 use std::alloc::Global;
 
 /// The most bytes of the file that is started.

@@ -7,7 +7,7 @@ ghost use Rattle.manifest_parts.specs.Values.{needed as needed_value, size_of as
 
 use manifest_parts::{ManifestFault, attribute, needed, size, truth};
 use manifest_tree::Node;
-use outside::Text;
+use small_types::Text;
 use std::alloc::Global;
 
 /// The value of an attribute that must be there: `Missing` where it is not.

@@ -13,7 +13,7 @@ use manifest_parts::{
     ManifestFault, children, digests_of, filled, identity_in, is_called, missing, twice,
 };
 use manifest_tree::Node;
-use outside::Text;
+use small_types::Text;
 use std::alloc::Global;
 
 // The most bytes of a codebase.

@@ -11,7 +11,7 @@ use addresses::{UrlFault, target_of};
 use identity::Version;
 use manifest_parts::{ManifestFault, attribute, bad_value, first_child, number, once, version};
 use manifest_tree::Node;
-use outside::{Duplicate, Text};
+use small_types::{Duplicate, Text};
 use std::alloc::Global;
 
 // What the element says.

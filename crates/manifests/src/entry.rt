@@ -10,7 +10,7 @@ use crate::listing::Listing;
 use manifest_parts::{
     ManifestFault, bad_name, digests_of, needed, size, truth, twice_named, within,
 };
-use outside::{Limit, Name, NameFault, Text};
+use small_types::{Limit, Name, NameFault, Text};
 use std::alloc::Global;
 
 /// The most bytes of a file.

@@ -3,7 +3,7 @@ ghost use Rattle.std.specs.Prelude.{◌≡◌, IfOk};
 
 use digest_list::DigestList;
 use identity::{Identity, Version};
-use outside::{CopyFault, Duplicate, List, Name, Text};
+use small_types::{CopyFault, Duplicate, List, Name, Text};
 use std::alloc::Global;
 
 /// When a new version is looked for.

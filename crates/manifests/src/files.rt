@@ -4,7 +4,7 @@ ghost use Rattle.manifests.specs.Applications.{is_taken, locals};
 
 use crate::FileEntry;
 use manifest_parts::ManifestFault;
-use outside::{List, Name};
+use small_types::{List, Name};
 use std::alloc::Global;
 use std::collections::BTreeSet;
 use std::marker::Model;

@@ -8,7 +8,7 @@ ghost use Rattle.manifests.specs.Listings.{listed, maybe_listing};
 use crate::types::is_installed;
 use manifest_parts::{ManifestFault, attribute, first_child, is_called};
 use manifest_tree::Node;
-use outside::Text;
+use small_types::Text;
 use std::alloc::Global;
 
 /// An element that lists a file, and where the file's facts stand.

@@ -9,7 +9,7 @@ ghost use Rattle.manifests.specs.Releases.{IsRelease, Refuses, RefusesBytes, Ref
 use crate::{Application, Deployment, Release};
 use digest_list::{CheckFault, Checker, Difference};
 use identity::{Key, Version};
-use outside::{CopyFault, Duplicate};
+use small_types::{CopyFault, Duplicate};
 use std::alloc::Global;
 
 /// Why a deployment and an application do not belong together.

@@ -1,10 +1,4 @@
-pub mod Disk
-pub mod History
-pub mod MemDisk
+pub mod FailingCalls
 pub mod MemSink
 pub mod MemSource
-pub mod Moments
-pub mod Moves
-pub mod Name
-pub mod Pieces
 pub mod Streams

@@ -1,5 +1,5 @@
-use Rattle.std.specs.Prelude.{ℕ, ◌+◌, ◌==◌, List, Bool, min}
-use Rattle.std.specs.List.{list_any}
+use Rattle.std.specs.Prelude.{ℕ, List, Bool}
+use Rattle.outside.specs.FailingCalls.{fails_next}
 use Rattle.outside.specs.declared.mem_sink.MemSink.{MemSink}
 
 -- what the sink has taken
@@ -7,16 +7,16 @@ abbrev pub sink_taken : MemSink → List ℕ
 sink_taken s = s.taken
 
 abbrev pub sink_faults : MemSink → ℕ
-sink_faults s = s.faults
+sink_faults s = s.failing.faults
 
 -- how many calls there were
 abbrev pub sink_calls : MemSink → ℕ
-sink_calls s = s.calls
+sink_calls s = s.failing.calls
 
 -- the numbers of the calls that are to fail
 abbrev pub sink_failing : MemSink → List ℕ
-sink_failing s = s.failing
+sink_failing s = s.failing.numbers
 
 -- whether the next call is one of them
 abbrev pub sink_fails : MemSink → Bool
-sink_fails s = list_any (λ n. n == min (s.calls + 1) 0xffff_ffff_ffff_ffff) s.failing
+sink_fails s = fails_next s.failing

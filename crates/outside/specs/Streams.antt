@@ -1,15 +1,19 @@
 -- What the calls of a source and a sink do.
-use Rattle.std.specs.Prelude.{◌≡◌, ◌⊎◌, ℕ, ◌<◌, ◌≤◌, List, [], ◌++◌, length, take, drop, Result, OnErr}
-use Rattle.std.proofs.Common.{inl, inr, arith}
+use Rattle.std.specs.Prelude.{◌≡◌, ◌⊎◌, ℕ, ◌+◌, ◌<◌, ◌≤◌, min, List, [], ◌++◌, length, take, drop, Result, OnOk, OnErr}
 
 -- a count of faults rose; at its type's end it stands still and counts as risen
 abbrev pub Rose : ℕ → ℕ → Type 0
 Rose old new = (old < new) ⊎ (0xffff_ffff_ffff_ffff ≤ old)
 
--- a count of faults never falls, and an error comes only where it rose
+-- a count of faults never falls; an error comes only where it rose, and an answer leaves it
 pub record Causes {T E : Type 0} (old new : ℕ) (result : Result T E) : Type 0 where
   pub later : old ≤ new
   pub rose : OnErr result (Rose old new)
+  pub quiet : OnOk result (new ≡ old)
+
+-- the sum of two counts, which ends at the greatest number of its type
+abbrev pub total : ℕ → ℕ → ℕ
+total a b = min (a + b) 0xffff_ffff_ffff_ffff
 
 -- a read of n bytes changes only the front of the buffer
 pub record ReadsAtMost (n : ℕ) (old new : List ℕ) : Type 0 where
@@ -41,8 +45,3 @@ pub record AppendsPart (old new bytes : List ℕ) : Type 0 where
   pub rest : List ℕ
   pub some : 0 < length rest
   pub takes : Takes old new bytes rest
-
--- a rise stays a rise, whatever comes before and after it
-pub rose_within : (a b c d : ℕ) → a ≤ b → b ≤ c → Rose b c → c ≤ d → Rose a d
-rose_within a b c d ab bc (inl less) cd = inl (omega arith)
-rose_within a b c d ab bc (inr full) cd = grind arith

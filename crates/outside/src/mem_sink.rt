@@ -2,8 +2,8 @@
 ghost use Rattle.std.specs.Prelude.{◌≡◌, ◌<◌, ◌≤◌, ◌+◌, ℕ, List, [], ◌++◌, length, min, take, IfOk, IsErr, OnOk, OnErr, IsTrue};
 ghost use Rattle.outside.specs.Streams.{Appends, Causes, TakesSome};
 
-use crate::mem_source::is_failing;
-use crate::{Bytes, Failed, List, Sink};
+use crate::{Failed, FailingCalls, Sink};
+use small_types::{Bytes, List};
 use std::alloc::Global;
 
 /// A sink that keeps what it takes. Its calls whose numbers, counted from 1, the list `failing` has are to fail.
@@ -11,9 +11,7 @@ use std::alloc::Global;
 #[derive(Drop, Debug)]
 pub struct MemSink {
     taken: Bytes,
-    failing: List<u64>,
-    calls: u64,
-    faults: u64,
+    failing: FailingCalls,
 }
 
 impl MemSink {
@@ -28,9 +26,7 @@ impl MemSink {
     {
         MemSink {
             taken,
-            failing,
-            calls: 0,
-            faults: 0,
+            failing: FailingCalls::new(failing),
         }
     }
 
@@ -49,7 +45,7 @@ impl Sink for MemSink {
 
     ghost taken = { λ s. s.taken };
 
-    ghost count = { λ s. s.faults };
+    ghost count = { λ s. s.failing.faults };
 
     fn write(&mut self, bytes: &[u8]) -> Result<usize, Failed>
         requires { 0 < length bytes.now }
@@ -66,15 +62,14 @@ impl Sink for MemSink {
         ensures quiet { OnOk result (sink_faults self.new ≡ sink_faults self.old) }
         ensures raised { OnErr result (sink_faults self.new ≡ min (sink_faults self.old + 1) 0xffff_ffff_ffff_ffff) }
     {
-        self.calls = self.calls.saturating_add(1);
-        if is_failing(self.failing.as_slice(), self.calls) || self.taken.extend(bytes).is_err() {
-            self.faults = self.faults.saturating_add(1);
+        if self.failing.next() || self.taken.extend(bytes).is_err() {
+            self.failing.fail();
             return Err(Failed);
         }
         Ok(bytes.len())
     }
 
     fn faults(&self) -> u64 {
-        self.faults
+        self.failing.faults
     }
 }

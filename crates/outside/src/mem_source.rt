@@ -4,42 +4,16 @@ ghost use Rattle.std.specs.List.{list_any};
 ghost use Rattle.outside.specs.Streams.{Causes, Consumes, ReadsAtMost};
 
 use crate::parts::copy_from;
-use crate::{Bytes, Failed, List, Source};
+use crate::{Failed, FailingCalls, Source};
+use small_types::{Bytes, List};
 use std::alloc::Global;
-
-/// What stands from a place on.
-pub fn rest_from(bytes: &[u8], place: usize) -> &[u8]
-    requires { place ≤ length bytes.now }
-    ensures { result.now ≡ drop place bytes.now }
-{
-    &bytes[place..]
-}
-
-/// Copies as many bytes as fit to the front of the buffer, and answers how many.
-pub fn copy_front(from: &[u8], buf: &mut [u8]) -> usize
-    ensures count { result ≡ min (length from.now) (length buf.old) }
-    ensures bytes { buf.new ≡ take result from.now ++ drop result buf.old }
-{
-    let n = from.len().min(buf.len());
-    buf[..n].copy_from_slice(&from[..n]);
-    n
-}
-
-/// Whether the list has the number of the call.
-pub fn is_failing(failing: &[u64], call: u64) -> bool
-    ensures { result ≡ list_any (λ n. n == call) failing.now }
-{
-    failing.iter().any(|n| *n == call)
-}
 
 /// A source over bytes. Its calls whose numbers, counted from 1, the list `failing` has are to fail.
 #[derive(Drop, Debug)]
 pub struct MemSource {
     bytes: Bytes,
     place: usize,
-    failing: List<u64>,
-    calls: u64,
-    faults: u64,
+    failing: FailingCalls,
     ghost within: { place ≤ length bytes },
 }
 
@@ -56,9 +30,7 @@ impl MemSource {
         MemSource {
             bytes,
             place: 0,
-            failing,
-            calls: 0,
-            faults: 0,
+            failing: FailingCalls::new(failing),
         }
     }
 
@@ -77,7 +49,7 @@ impl Source for MemSource {
 
     ghost left = { λ s. drop s.place s.bytes };
 
-    ghost count = { λ s. s.faults };
+    ghost count = { λ s. s.failing.faults };
 
     fn read(&mut self, buf: &mut [u8]) -> Result<usize, Failed>
         requires { 0 < length buf.old }
@@ -94,15 +66,14 @@ impl Source for MemSource {
         ensures raised { OnErr result (source_faults self.new ≡ min (source_faults self.old + 1) 0xffff_ffff_ffff_ffff) }
         ensures never { source_failing self.old ≡ [] → IsOk result }
     {
-        self.calls = self.calls.saturating_add(1);
-        if is_failing(self.failing.as_slice(), self.calls) {
-            self.faults = self.faults.saturating_add(1);
+        if self.failing.next() {
+            self.failing.fail();
             return Err(Failed);
         }
         Ok(copy_from(self.bytes.as_slice(), &mut self.place, buf))
     }
 
     fn faults(&self) -> u64 {
-        self.faults
+        self.failing.faults
     }
 }

@@ -2,7 +2,7 @@
 ghost use Rattle.std.specs.Prelude.{◌<◌, ◌≤◌, length, drop};
 ghost use Rattle.outside.specs.Streams.{Consumes, ReadsAtMost};
 
-use crate::{copy_front, rest_from};
+use small_types::{copy_front, rest_from};
 
 /// Copies what stands from a place on to the front of the buffer, moves the place behind it, and answers how many bytes
 /// these are.

@@ -1,10 +1,12 @@
 // Reading a source to its end.
-ghost use Rattle.std.specs.Prelude.{◌≡◌, ◌<◌, ◌≤◌, ◌++◌, ◌+◌, List, ℕ, length, take, drop, IfOk, IfErr, OnErr};
+ghost use Rattle.std.specs.Prelude.{◌≡◌, ◌≢◌, ◌<◌, ◌≤◌, ◌++◌, ◌+◌, List, ℕ, length, take, drop, IfOk, Err};
 ghost use Rattle.outside.specs.Streams.{Rose};
 ghost use Rattle.outside.specs.declared.reading.ReadFault.TheVariants.{Failed as source_failed};
 
 use crate::Source;
 use std::alloc::{AllocError, Global};
+use std::error::Error;
+use std::fmt;
 
 /// Why a source was not read to its end.
 #[derive(Clone, Copy, Debug, PartialEq, Eq)]
@@ -15,10 +17,22 @@ pub enum ReadFault {
     Memory,
 }
 
+impl fmt::Display for ReadFault {
+    fn fmt<W: fmt::Write>(&self, f: &mut fmt::Formatter<W>) -> fmt::Result {
+        match self {
+            ReadFault::Failed => write!(f, "the source failed"),
+            ReadFault::Memory => write!(f, "out of memory"),
+        }
+    }
+}
+
+impl Error for ReadFault {}
+
 /// How many bytes are asked of the source at a time.
 const PIECE: usize = 65_536;
 
-/// Reads the source up to its end, and at most so many bytes.
+/// Reads the source up to its end, and at most so many bytes. `Failed` comes only where the source's count of faults
+/// rose, and any other answer leaves that count.
 pub fn read_all<S: Source>(
     alloc: Global,
     source: &mut S,
@@ -29,6 +43,7 @@ pub fn read_all<S: Source>(
     ensures within { IfOk result (λ v. length v.items ≤ limit) }
     ensures count { S.count source.old ≤ S.count source.new }
     ensures cause { result ≡ Err source_failed → Rose (S.count source.old) (S.count source.new) }
+    ensures quiet { result ≢ Err source_failed → S.count source.new ≡ S.count source.old }
 {
     let mut bytes: Vec<u8> = Vec::new(alloc);
     let mut piece = [0; PIECE];

@@ -1,11 +1,12 @@
 // A disk in a file.
 ghost use Rattle.std.specs.Prelude.{◌≡◌, ◌<◌, ◌≤◌, ◌+◌, ◌⊎◌, ◌^◌, true, false, [], length, take, IfOk, OnOk, OnErr};
 ghost use Rattle.outside.specs.Streams.{Causes};
-ghost use Rattle.outside.specs.Disk.{IsStill, Ticks};
+ghost use Rattle.disks.specs.Disk.{IsStill, Ticks};
 
 use crate::counted::counted;
 use crate::file::{cut_to, opened, read_from, size_of_file, sync_to, write_to};
-use outside::{Disk, Failed};
+use disks::Disk;
+use outside::Failed;
 use std::fs::File;
 use std::rt::Files;
 

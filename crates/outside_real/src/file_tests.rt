@@ -1,6 +1,7 @@
 // What a disk in a file does with real files.
 use crate::FileDisk;
-use outside::{Disk, Failed};
+use disks::Disk;
+use outside::Failed;
 use std::alloc::{AllocError, Global};
 use std::fs;
 use std::test::Fail;

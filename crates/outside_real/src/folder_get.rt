@@ -1,7 +1,7 @@
 // Reading a file below a folder.
 use crate::folder_path::{Standing, fault_of, folder_part, path_below, standing_at, standing_of};
 use folders::FolderFault;
-use outside::Bytes;
+use small_types::Bytes;
 use std::alloc::Global;
 use std::fs::File;
 use std::io::Read;

@@ -2,7 +2,7 @@
 use crate::folder_path::{fault_of, path_below};
 use crate::folder_put::is_unfinished;
 use folders::FolderFault;
-use outside::{Name, NameFault};
+use small_types::{Name, NameFault};
 use std::alloc::Global;
 use std::fs;
 use std::fs::{DirEntry, File};

@@ -3,7 +3,7 @@
 use crate::file::sync_folder;
 use crate::folder_path::{Standing, fault_of, folder_part, path_below, standing_at, standing_of};
 use folders::FolderFault;
-use outside::Name;
+use small_types::Name;
 use std::alloc::{AllocError, Global};
 use std::fs::File;
 use std::io::ErrorKind;

@@ -1,7 +1,7 @@
 // What a folder of the file system does with real files.
 use crate::RealFolder;
 use folders::{Folder, FolderFault};
-use outside::Name;
+use small_types::Name;
 use std::alloc::{AllocError, Global};
 use std::fs;
 use std::fs::{File, Permissions};

@@ -10,7 +10,7 @@ use crate::folder_get::get_file;
 use crate::folder_list::list_files;
 use crate::folder_put::put_file;
 use folders::{Folder, FolderFault};
-use outside::{Bytes, List, Name};
+use small_types::{Bytes, List, Name};
 use std::alloc::Global;
 use std::fs::File;
 use std::rt::Files;

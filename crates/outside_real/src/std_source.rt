@@ -3,7 +3,8 @@ ghost use Rattle.std.specs.Prelude.{◌≡◌, ◌<◌, ◌≤◌, [], length, I
 ghost use Rattle.outside.specs.Streams.{Causes, ReadsAtMost};
 
 use crate::counted::counted;
-use outside::{Failed, Source, copy_front};
+use outside::{Failed, Source};
+use small_types::copy_front;
 use std::io::Read;
 
 const CHUNK: usize = 16384;

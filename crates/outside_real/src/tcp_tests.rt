@@ -1,7 +1,8 @@
 // What the connections over a network do with real ones.
 use crate::{TcpDoor, TcpWire};
 use connections::{Door, Wire};
-use outside::{Failed, Text};
+use outside::Failed;
+use small_types::Text;
 use std::alloc::{AllocError, Global};
 use std::cell::Cell;
 use std::io;

@@ -13,7 +13,7 @@ use folders::{Folder, FolderFault};
 use http::StatusCode;
 use http_plain::{Demand, demand_in};
 use itoa::Buffer;
-use outside::{Bytes, Name};
+use small_types::{Bytes, Name};
 use std::alloc::{AllocError, Global};
 
 /// An answer: its head, and the file that follows it.

@@ -2,7 +2,7 @@
 use crate::{ServeFault, Served, serve_connection};
 use connections::{Door, MemDoor};
 use folders::{Folder, Held, MemFolder, are_distinct};
-use outside::{Bytes, List, Name};
+use small_types::{Bytes, List, Name};
 use std::alloc::Global;
 use std::test::Fail;
 

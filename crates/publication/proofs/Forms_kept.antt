@@ -2,7 +2,7 @@
 use Rattle.std.proofs.Common.{◌≡◌, ℕ, ◌<◌, ◌+◌, Bool, false, List, [], ◌∷◌, Option, Some, None, length, take, drop, refl, ap, sym, ◌∙◌}
 use Rattle.std.specs.Prelude.{is_some, ◌&&◌}
 use Rattle.std.specs.List.{list_all}
-use Rattle.outside.proofs.Spelling.{too_long}
+use Rattle.small_types.proofs.Spelling.{too_long}
 use Rattle.publication.specs.Words.{◌>>=◌, file_of, group_of, title_of, release_of, data_mark, cut_mark, mark_of, marks_of, options_with}
 
 pub no_long_file : (word : List ℕ) → 240 < length word → is_some (file_of word) ≡ false

@@ -2,8 +2,8 @@
 use Rattle.std.specs.Prelude.{ℕ, ◌+◌, ◌==◌, ◌&&◌, Bool, true, nat_eq, nat_le, slice_index_or, List, [], ◌∷◌, length, take, drop, codes, Option, Some, None, Result, Ok, Err, if◌then◌else◌}
 use Rattle.std.specs.List.{starts_with}
 use Rattle.std.specs.Str.{bytes_eq, is_utf8}
-use Rattle.outside.specs.declared.name.NameFault.{NameFault}
-use Rattle.outside.specs.Name.{name_of}
+use Rattle.small_types.specs.declared.name.NameFault.{NameFault}
+use Rattle.small_types.specs.Name.{name_of}
 use Rattle.identity.specs.declared.version.Version.{Version}
 use Rattle.identity.specs.declared.version.VersionFault.{VersionFault}
 use Rattle.identity.specs.Version.{version_of}

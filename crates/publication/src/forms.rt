@@ -2,7 +2,7 @@
 ghost use Rattle.std.specs.Prelude.{◌≡◌, ◌==◌, ◌≤◌, ◌&&◌, ◌+◌, length, drop, is_some, nat_lt, nat_le, if◌then◌else◌};
 ghost use Rattle.std.specs.List.{list_all};
 ghost use Rattle.arrayvec.specs.ArrayVec.{array_vec_len};
-ghost use Rattle.outside.specs.Name.{is_name, is_name_byte, is_name_part, name_limit, name_parts, name_text};
+ghost use Rattle.small_types.specs.Name.{is_name, is_name_byte, is_name_part, name_limit, name_parts, name_text};
 ghost use Rattle.publication.specs.Words.{data_mark, cut_mark, group_mark, mark_of, marks_of, file_of, group_of, title_of, release_of, options_with, options_of};
 
 use crate::marks::last_colon;
@@ -10,7 +10,7 @@ use crate::values::{is_allowed_text, is_text};
 use crate::words::are_named;
 use arrayvec::ArrayVec;
 use identity::Version;
-use outside::Word;
+use small_types::Word;
 
 // The byte, or a slash for a backslash.
 fn with_slash(byte: u8) -> u8
@@ -60,7 +60,7 @@ fn are_fit_parts(text: &[u8]) -> bool
 }
 
 // Whether the text is a name.
-#[tactic(auto, unfolding(outside::specs::Name::is_name))]
+#[tactic(auto, unfolding(small_types::specs::Name::is_name))]
 fn is_name_text(text: &[u8]) -> bool
     ensures { result ≡ is_name text.now }
 {
@@ -72,7 +72,7 @@ fn is_name_text(text: &[u8]) -> bool
 }
 
 // Whether the word is a file name.
-#[tactic(auto, using(crate::proofs::Forms_kept::no_long_file), unfolding(outside::specs::Name::name_of))]
+#[tactic(auto, using(crate::proofs::Forms_kept::no_long_file), unfolding(small_types::specs::Name::name_of))]
 fn is_file(word: &[u8]) -> bool
     ensures { result ≡ is_some (file_of word.now) }
 {

@@ -9,7 +9,7 @@ use crate::publication::End;
 use identity::PrintFault;
 use itoa::Buffer;
 use manifest_text::{about, limit_text, line, two};
-use outside::Bytes;
+use small_types::Bytes;
 use publisher::{PublishFault, Published};
 use std::alloc::Global;
 

@@ -11,7 +11,8 @@ use crate::forms::are_readable;
 use crate::lines::line_of;
 use crate::words::read_options;
 use folders::Folder;
-use outside::{Sink, Word, write_all};
+use outside::{Sink, write_all};
+use small_types::Word;
 use publisher::{Options, PublishFault, Published, publish};
 use std::alloc::Global;
 

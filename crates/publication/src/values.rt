@@ -9,7 +9,7 @@ ghost use Rattle.publication.specs.Words.{title_of, group_of, file_of, release_o
 ghost use Rattle.publication.specs.declared.values.WordFault.TheVariants.{Unreadable, Memory};
 
 use identity::Version;
-use outside::{CopyFault, Name, NameFault, Text};
+use small_types::{CopyFault, Name, NameFault, Text};
 use std::alloc::{AllocError, AllocFailed, Global};
 
 /// Why words were not read.

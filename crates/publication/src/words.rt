@@ -9,7 +9,7 @@ ghost use Rattle.publication.specs.declared.values.WordFault.TheVariants.{Unread
 use crate::marks::read_marks;
 use crate::values::{WordFault, read_file, read_release, read_title};
 use manifests::Rule;
-use outside::{Duplicate, Word};
+use small_types::{Duplicate, Word};
 use publish_plan::Options;
 use std::alloc::Global;
 

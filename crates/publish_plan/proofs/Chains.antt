@@ -1,7 +1,7 @@
 -- What a call gives whose steps end at the first refusal.
 use Rattle.std.proofs.Common.{◌≡◌, Result, Ok, Err, refl, sym, ap, subst}
 use Rattle.std.specs.Result.{IsErr, IsErrAnd}
-use Rattle.identity.specs.Parts.{◌>>=◌}
+use Rattle.small_types.specs.Reading.{◌>>=◌}
 use Rattle.publish_plan.specs.declared.fault.PlanFault.{PlanFault}
 use Rattle.publish_plan.specs.declared.fault.PlanFault.TheVariants as fault
 use Rattle.publish_plan.specs.Outcome.{Read, Fails, Gives}

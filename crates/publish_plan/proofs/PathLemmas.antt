@@ -10,7 +10,7 @@ use Rattle.std.proofs.lemmas.List.Splits.{slice_split-cons_yes, slice_split-cons
 use Rattle.std.proofs.lemmas.Slice.Eq.{bytes_eq-Decides}
 use Rattle.std.proofs.lemmas.Str.{IsUtf8-append, IsUtf8-drop, IsUtf8-from_ascii, IsUtf8-from_is_utf8, is_utf8-from_IsUtf8, IsCharBoundary-from_take}
 use Rattle.std.proofs.lemmas.Str.Ascii.{IsAscii-nil, IsAscii-cons}
-use Rattle.outside.specs.Name.{name_parts, is_name_byte, is_name_part, is_name, IsName}
+use Rattle.small_types.specs.Name.{name_parts, is_name_byte, is_name_part, is_name, IsName}
 use Rattle.publish_plan.specs.Paths.{is_path, IsPath, CanFollow}
 use Rattle.publish_plan.specs.Places.{within, front_of, has_front, behind}
 

@@ -9,7 +9,7 @@ use Rattle.std.proofs.lemmas.Fmt.{digits_decimal}
 use Rattle.identity.specs.declared.version.Version.{Version}
 use Rattle.identity.specs.Version.{IsVersion}
 use Rattle.identity.proofs.VersionLemmas.{own}
-use Rattle.outside.specs.Name.{is_name_byte, IsName}
+use Rattle.small_types.specs.Name.{is_name_byte, IsName}
 use Rattle.publish_plan.specs.declared.options.Options.{Options}
 use Rattle.publish_plan.specs.Paths.{IsPath}
 use Rattle.publish_plan.specs.Places.{is_word_byte, is_word, within, version_word, release_word, version_folder, manifest_end, manifest_name, deploy_end, target_name, deployment_name}

@@ -5,9 +5,9 @@ use Rattle.std.specs.List.{IsDistinct, list_any}
 use Rattle.std.specs.Str.{bytes_eq}
 use Rattle.std.proofs.lemmas.Bool.{and_parts, both_ways, ltb-false, cases_Bool}
 use Rattle.std.proofs.lemmas.List.Elements.{All-nil, All-cons, All-map, All-weaker}
-use Rattle.outside.specs.Name.{IsBelowPre}
-use Rattle.outside.specs.declared.limit.Limit.TheVariants.{Files, Locals}
-use Rattle.identity.specs.Parts.{◌>>=◌}
+use Rattle.small_types.specs.Name.{IsBelowPre}
+use Rattle.small_types.specs.declared.limit.Limit.TheVariants.{Files, Locals}
+use Rattle.small_types.specs.Reading.{◌>>=◌}
 use Rattle.manifests.specs.Applications.{is_below_pre}
 use Rattle.publish_plan.specs.declared.fault.PlanFault.{PlanFault}
 use Rattle.publish_plan.specs.declared.fault.PlanFault.TheVariants.{VersionExists, BadInput, TooMany, NoEntryPoint, BadMark}

@@ -2,7 +2,7 @@
 use Rattle.std.specs.Prelude.{◌≡◌, ◌≤◌, ℕ, Bool, true, false, List, [], ◌∷◌, ◌++◌, map, length, All, count_by, Option, None, Ok}
 use Rattle.std.specs.List.{IsDistinct, list_any}
 use Rattle.std.specs.Str.{bytes_eq}
-use Rattle.outside.specs.Name.{IsBelowPre}
+use Rattle.small_types.specs.Name.{IsBelowPre}
 use Rattle.publish_plan.specs.declared.options.Options.{Options}
 use Rattle.publish_plan.specs.declared.options.Plan.{Plan}
 use Rattle.publish_plan.specs.declared.options.PlannedFile.{PlannedFile}

@@ -3,7 +3,7 @@ use Rattle.std.specs.Prelude.{◌≡◌, ℕ, Bool, List, ◌&&◌}
 use Rattle.std.specs.Bool.{IsTrue}
 use Rattle.std.specs.List.{list_all}
 use Rattle.std.specs.Str.{is_utf8}
-use Rattle.outside.specs.Name.{name_parts, is_name_byte, is_name_part}
+use Rattle.small_types.specs.Name.{name_parts, is_name_byte, is_name_part}
 use Rattle.publish_plan.specs.Places.{front_of}
 
 -- all that a name has, but for its length

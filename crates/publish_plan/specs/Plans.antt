@@ -2,8 +2,8 @@
 use Rattle.std.specs.Prelude.{ℕ, Bool, List, [], ◌∷◌, map, length, find, count_by, ◌&&◌, ◌||◌, not, nat_lt, Option, Some, None, option_map, Result, Ok, Err, if◌then◌else◌}
 use Rattle.std.specs.List.{list_any}
 use Rattle.std.specs.Str.{bytes_eq}
-use Rattle.outside.specs.declared.limit.Limit.TheVariants.{Files, Locals}
-use Rattle.identity.specs.Parts.{◌>>=◌}
+use Rattle.small_types.specs.declared.limit.Limit.TheVariants.{Files, Locals}
+use Rattle.small_types.specs.Reading.{◌>>=◌}
 use Rattle.manifests.specs.Applications.{is_below_pre}
 use Rattle.publish_plan.specs.declared.fault.PlanFault.{PlanFault}
 use Rattle.publish_plan.specs.declared.fault.PlanFault.TheVariants.{VersionExists, EmptyInput, BadInput, TooMany, NoEntryPoint, BadMark}

@@ -7,7 +7,7 @@ ghost use Rattle.publish_plan.specs.Places.{manifest_name, lies_below};
 use crate::places::{front_of, has_front, is_word, manifest_text, version_folder};
 use crate::{Options, PlanFault};
 use identity::Version;
-use outside::{Name, Text};
+use small_types::{Name, Text};
 use std::alloc::{AllocError, Global};
 
 /// The most bytes of a name.

@@ -3,7 +3,7 @@ ghost use Rattle.std.specs.Prelude.{◌≡◌};
 ghost use Rattle.publish_plan.specs.declared.fault.PlanFault.TheVariants.{Memory};
 
 use identity::Version;
-use outside::{CopyFault, Limit, Name, Text};
+use small_types::{CopyFault, Limit, Name, Text};
 use std::alloc::{AllocError, AllocFailed};
 
 /// Why nothing is published, before any file is read.

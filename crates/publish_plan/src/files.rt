@@ -1,7 +1,7 @@
 // The files that will be written.
 ghost use Rattle.std.specs.Prelude.{◌≡◌, true, false, None, Some, IfOk, MatchResult, find, map, string_bytes, option_map, if◌then◌else◌};
 ghost use Rattle.std.specs.Prelude.{◌||◌, ◌&&◌, nat_lt, length};
-ghost use Rattle.outside.specs.Name.{IsName};
+ghost use Rattle.small_types.specs.Name.{IsName};
 ghost use Rattle.manifests.specs.Applications.{is_below_pre};
 ghost use Rattle.publish_plan.specs.Early.{early_of};
 ghost use Rattle.publish_plan.specs.Outcome.{Fails, Gives};
@@ -14,7 +14,7 @@ use crate::marked::{Marked, Seen, maybe_copy};
 use crate::places::{has_front, name_behind, name_from, target_text};
 use crate::written::Written;
 use crate::{Options, PlanFault, PlannedFile};
-use outside::{Duplicate, Name};
+use small_types::{Duplicate, Name};
 use std::alloc::Global;
 
 /// The most bytes of a name.

@@ -3,7 +3,7 @@ ghost use Rattle.std.specs.Prelude.{◌≡◌, true, ◌∷◌, [], ℕ, Bool, L
 ghost use Rattle.std.specs.BTreeMap.{get};
 ghost use Rattle.std.specs.Option.{option_or};
 ghost use Rattle.std.specs.Str.{bytes_eq};
-ghost use Rattle.outside.specs.Name.{IsName};
+ghost use Rattle.small_types.specs.Name.{IsName};
 ghost use Rattle.publish_plan.specs.Marks.{group_in, is_local, is_among, bad_mark};
 ghost use Rattle.publish_plan.specs.Paths.{CanFollow};
 ghost use Rattle.publish_plan.specs.Places.{all_behind, behind, has_front, front_of};
@@ -11,7 +11,7 @@ ghost use Rattle.publish_plan.specs.Seen.{row, more, unmarked, is_fresh, Knows, 
 
 use crate::places::{has_front, name_behind};
 use crate::{Mark, MarkKind, PlanFault};
-use outside::{CopyFault, Duplicate, Name, Text};
+use small_types::{CopyFault, Duplicate, Name, Text};
 use std::alloc::{AllocError, Global};
 use std::collections::BTreeMap;
 

@@ -1,7 +1,7 @@
 // What is published, and what will be written.
 use identity::Version;
 use manifests::Rule;
-use outside::{List, Name, Text};
+use small_types::{List, Name, Text};
 
 /// What a mark makes of a file.
 #[derive(Drop, Debug, PartialEq, Eq)]

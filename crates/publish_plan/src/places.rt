@@ -2,14 +2,14 @@
 ghost use Rattle.std.specs.Prelude.{◌≡◌, ◌++◌, [], IfOk, IfErr, true, None, length, string_bytes};
 ghost use Rattle.std.specs.List.{list_all};
 ghost use Rattle.identity.specs.Version.{IsVersion};
-ghost use Rattle.outside.specs.Name.{IsName};
+ghost use Rattle.small_types.specs.Name.{IsName};
 ghost use Rattle.publish_plan.specs.Early.{early_of};
 ghost use Rattle.publish_plan.specs.Paths.{IsPath, CanFollow};
 ghost use Rattle.publish_plan.specs.Places as spec;
 
 use crate::{Options, PlanFault};
 use identity::Version;
-use outside::{Name, Text};
+use small_types::{Name, Text};
 use std::alloc::{AllocError, Global};
 
 /// The most bytes of a word.

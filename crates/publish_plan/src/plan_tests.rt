@@ -2,7 +2,7 @@
 use crate::{Mark, MarkKind, Options, Plan, PlanFault, check_options, codebase_of, plan};
 use identity::Version;
 use manifests::Rule;
-use outside::{Limit, List, Name, Text};
+use small_types::{Limit, List, Name, Text};
 use std::alloc::{AllocError, Global};
 use std::test::Fail;
 

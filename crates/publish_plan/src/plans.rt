@@ -14,7 +14,7 @@ use crate::marked::Marked;
 use crate::places::{deployment_text, front_of, has_front, name_from};
 use crate::written::Written;
 use crate::{Options, Plan, PlanFault, PlannedFile};
-use outside::{Duplicate, Limit, List, Name};
+use small_types::{Duplicate, Limit, List, Name};
 use std::alloc::Global;
 
 /// The most files.

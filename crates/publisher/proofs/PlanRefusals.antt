@@ -2,8 +2,8 @@
 use Rattle.std.proofs.Common.{◌≡◌, ℕ, Bool, true, false, List, [], length, Option, Some, None, Result, Ok, Err, ap, subst}
 use Rattle.std.specs.Prelude.{◌&&◌, count_by, find, if◌then◌else◌, not, nat_lt, option_map}
 use Rattle.std.specs.List.{list_any}
-use Rattle.outside.specs.declared.limit.Limit.TheVariants.{Files, Locals}
-use Rattle.identity.specs.Parts.{◌>>=◌}
+use Rattle.small_types.specs.declared.limit.Limit.TheVariants.{Files, Locals}
+use Rattle.small_types.specs.Reading.{◌>>=◌}
 use Rattle.publish_plan.specs.declared.fault.PlanFault.{PlanFault}
 use Rattle.publish_plan.specs.declared.fault.PlanFault.TheVariants as plan
 use Rattle.publish_plan.specs.declared.options.Options.{Options}

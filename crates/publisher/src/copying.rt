@@ -13,7 +13,7 @@ use crate::reading::read_file;
 use digest_list::{CheckFault, Checker, Difference};
 use folders::{Folder, FolderFault};
 use manifests::FileEntry;
-use outside::{Bytes, Duplicate, Name};
+use small_types::{Bytes, Duplicate, Name};
 use publish_plan::PlannedFile;
 use std::alloc::Global;
 

@@ -4,7 +4,7 @@ ghost use Rattle.std.specs.Prelude.{◌≡◌};
 use digest_list::Difference;
 use identity::Version;
 use manifest_tree::WriteFault;
-use outside::{CopyFault, Limit, Name, Text};
+use small_types::{CopyFault, Limit, Name, Text};
 use publish_plan::PlanFault;
 use std::alloc::{AllocError, AllocFailed};
 

@@ -10,7 +10,7 @@ ghost use Rattle.publisher.specs.Faults.{FaultsCounted, IsReading};
 
 use crate::PublishFault;
 use folders::{Folder, FolderFault};
-use outside::{List, Name};
+use small_types::{List, Name};
 use std::alloc::Global;
 
 // The names in byte order, each of them once.

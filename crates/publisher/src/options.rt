@@ -4,7 +4,7 @@ ghost use Rattle.publish_plan.specs.declared.options.Mark.{Mark};
 ghost use Rattle.publisher.specs.Options.{IsKind, IsPublishable};
 
 use manifest_writer::{can_write_provider, can_write_rule, can_write_value};
-use outside::CopyFault;
+use small_types::CopyFault;
 use publish_plan::{Mark, MarkKind, Options};
 use std::alloc::Global;
 

@@ -23,7 +23,7 @@ use crate::reading::read_entries;
 use crate::release::{Release, deployment_key, manifests_of};
 use folders::Folder;
 use identity::{Key, Version};
-use outside::Name;
+use small_types::Name;
 use publish_plan::{Options, Plan, check_options, plan};
 use std::alloc::Global;
 

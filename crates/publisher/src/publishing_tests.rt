@@ -2,7 +2,7 @@
 use crate::{Options, is_publishable};
 use identity::Version;
 use manifests::Rule;
-use outside::{List, Name, Text};
+use small_types::{List, Name, Text};
 use std::alloc::Global;
 use std::test::Fail;
 

@@ -12,7 +12,7 @@ use crate::PublishFault;
 use digest_list::{Algorithm, Digest, DigestList};
 use folders::{Folder, FolderFault};
 use manifests::FileEntry;
-use outside::{Bytes, Duplicate, List, Name, Text};
+use small_types::{Bytes, Duplicate, List, Name, Text};
 use publish_plan::PlannedFile;
 use sha2::{Digest as Hash, Sha256};
 use std::alloc::Global;

@@ -17,7 +17,7 @@ use crate::reading::digests_of;
 use identity::{Identity, Key, Version};
 use manifest_writer::{write_application, write_deployment};
 use manifests::{Application, Deployment, FileEntry};
-use outside::{Bytes, Duplicate, List, Text};
+use small_types::{Bytes, Duplicate, List, Text};
 use publish_plan::{Options, codebase_of};
 use std::alloc::Global;
 

@@ -8,7 +8,7 @@ use Rattle.identity.specs.declared.version.Version.{Version}
 use Rattle.identity.specs.declared.key.Key.{Key}
 use Rattle.identity.specs.Key.{IsKey, name_limit, short_limit}
 use Rattle.identity.specs.Version.{IsVersion}
-use Rattle.identity.specs.Parts.{◌>>=◌}
+use Rattle.small_types.specs.Reading.{◌>>=◌}
 use Rattle.store_state.specs.declared.change.Change.{Change}
 use Rattle.store_state.specs.declared.change.Change.TheVariants.{Boot, Require}
 use Rattle.record_codec.specs.declared.fault.CodecFault.{CodecFault}

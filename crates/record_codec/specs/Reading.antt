@@ -6,7 +6,7 @@ use Rattle.std.specs.Str.{is_utf8}
 use Rattle.identity.specs.declared.version.Version.{Version}
 use Rattle.identity.specs.declared.key.Key.{Key}
 use Rattle.identity.specs.Key.{name_limit, short_limit}
-use Rattle.identity.specs.Parts.{◌>>=◌}
+use Rattle.small_types.specs.Reading.{◌>>=◌}
 use Rattle.store_state.specs.declared.change.Change.{Change}
 use Rattle.store_state.specs.declared.change.Change.TheVariants.{Boot, Require}
 use Rattle.record_codec.specs.declared.fault.CodecFault.{CodecFault}

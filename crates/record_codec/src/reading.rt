@@ -8,7 +8,7 @@ ghost use Rattle.record_codec.specs.Reading.{Gives, IsWithin, number_at, sized_a
 
 use crate::CodecFault;
 use identity::{Key, Version};
-use outside::Text;
+use small_types::Text;
 use std::alloc::Global;
 use store_state::Change;
 

@@ -6,7 +6,7 @@ ghost use Rattle.record_codec.specs.Codec.{text_field, key_field, version_field,
 ghost use Rattle.record_codec.specs.Places.{written};
 
 use identity::{Key, Version};
-use outside::Text;
+use small_types::Text;
 use store_state::Change;
 
 // Writes the bytes at the place, and answers the place behind them.

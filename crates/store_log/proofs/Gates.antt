@@ -1,9 +1,11 @@
 -- What each of the four calls leaves that put bytes behind a closed gate and then open it.
 use Rattle.std.proofs.Common.{◌≡◌, inl, inr, ℕ, ◌+◌, ◌≤◌, List, [], ◌∷◌, ◌++◌, length, drop, sym, ◌∙◌, ap, subst, arith, append_assoc, length-append}
 use Rattle.std.proofs.lemmas.Bool.{cases_eq}
-use Rattle.outside.specs.Disk.{put, Torn, Follows, Only, Elapses}
-use Rattle.outside.specs.Pieces.{torn_front, torn_around, put_behind, put_over}
-use Rattle.outside.specs.Moments.{LeavesOnly, Each, started, goes_on}
+use Rattle.small_types.specs.Bytes.{put}
+use Rattle.disks.specs.Disk.{Torn, Follows, Only, Elapses}
+use Rattle.disks.proofs.PieceLemmas.{torn_front, torn_around, put_behind, put_over}
+use Rattle.disks.specs.Moments.{LeavesOnly, Each}
+use Rattle.disks.proofs.MomentLemmas.{started, goes_on}
 use Rattle.store_log.specs.Log.{ClosedAfter}
 use Rattle.store_log.specs.Steps.{OpenAfter, IsBeforeOrAfter}
 

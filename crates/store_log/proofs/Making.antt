@@ -1,8 +1,9 @@
 -- What stops leave over a call of the disk and the sync behind it, and over a whole format.
 use Rattle.std.proofs.Common.{◌≡◌, inl, inr, ℕ, ◌+◌, ◌≤◌, List, [], length, sym, ◌∙◌, ap, subst, arith}
-use Rattle.outside.specs.Disk.{Torn, CutOff, Follows, Only, Elapses}
-use Rattle.outside.specs.Moves.{torn_same}
-use Rattle.outside.specs.Moments.{LeavesOnly, Each, started, goes_on}
+use Rattle.disks.specs.Disk.{Torn, CutOff, Follows, Only, Elapses}
+use Rattle.disks.specs.ReadsLeft.{torn_same}
+use Rattle.disks.specs.Moments.{LeavesOnly, Each}
+use Rattle.disks.proofs.MomentLemmas.{started, goes_on}
 use Rattle.store_log.specs.Log.{IsNewOrNone, IsCutOrOld, IsClosedNew, Formats}
 use Rattle.store_log.specs.Steps.{new_with}
 use Rattle.store_log.proofs.NewStore.{length-new_with, torn_head, no_new}

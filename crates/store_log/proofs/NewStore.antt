@@ -3,8 +3,9 @@ use Rattle.std.proofs.Common.{◌≡◌, ◌≢◌, inl, inr, ℕ, ◌+◌, ◌�
 use Rattle.std.proofs.lemmas.List.{append-nil, get_or_at, drop_all}
 use Rattle.std.proofs.lemmas.Bool.{cases_eq}
 use Rattle.std.specs.List.{flat_map}
-use Rattle.outside.specs.Disk.{put, Torn}
-use Rattle.outside.specs.Pieces.{torn_around, put_over}
+use Rattle.small_types.specs.Bytes.{put}
+use Rattle.disks.specs.Disk.{Torn}
+use Rattle.disks.proofs.PieceLemmas.{torn_around, put_over}
 use Rattle.store_log.specs.Log.{zeros, head_of, head_front, entry_of, IsStore, NoStore, IsNewOrNone}
 use Rattle.store_log.specs.Steps.{new_with}
 use Rattle.store_log.proofs.HeadBlock.{length-zeros, length-head_front}

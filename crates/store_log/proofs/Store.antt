@@ -2,7 +2,8 @@
 use Rattle.std.proofs.Common.{◌≡◌, ℕ, ◌≤◌, List, [], ◌∷◌, ◌++◌, drop, sym, ◌∙◌, ap, append_assoc}
 use Rattle.std.proofs.lemmas.List.{drop_at, append-nil}
 use Rattle.std.specs.List.{flat_map}
-use Rattle.outside.specs.Moments.{Untouched, each_still}
+use Rattle.disks.specs.Moments.{Untouched}
+use Rattle.disks.proofs.MomentLemmas.{each_still}
 use Rattle.store_log.specs.declared.log.Log.{Log}
 use Rattle.store_log.specs.Log.{head_of, log_of, entry_of, ClosedAfter, IsLog, IsStore, IsOpen, AreSmall}
 use Rattle.store_log.proofs.Entries as entries

@@ -2,8 +2,8 @@
 use Rattle.std.specs.Prelude.{◌≡◌, ◌≢◌, ◌⊎◌, ℕ, ◌+◌, ◌-◌, ◌<◌, ◌≤◌, ◌^◌, replicate, codes, List, [], ◌∷◌, ◌++◌, length, take, drop}
 use Rattle.std.specs.List.{flat_map}
 use Rattle.std.specs.Int.{to_be_bytes, w32, w64}
-use Rattle.outside.specs.Disk.{Torn, CutOff}
-use Rattle.outside.specs.Moments.{Each}
+use Rattle.disks.specs.Disk.{Torn, CutOff}
+use Rattle.disks.specs.Moments.{Each}
 use Rattle.store_log.specs.declared.log.Log.{Log}
 
 -- the four bytes of a length, the greatest first

@@ -1,13 +1,14 @@
 // How a new journal is made.
 ghost use Rattle.std.specs.Prelude.{◌≡◌, ◌<◌, ◌≤◌, ◌+◌, ℕ, List, [], ◌∷◌, ◌++◌, length, IfOk, OnOk};
-ghost use Rattle.outside.specs.Disk.{Only, Torn};
-ghost use Rattle.outside.specs.Moments.{Each, LeavesOnly};
+ghost use Rattle.disks.specs.Disk.{Only, Torn};
+ghost use Rattle.disks.specs.Moments.{Each, LeavesOnly};
 ghost use Rattle.outside.specs.Streams.{Causes};
 ghost use Rattle.store_log.specs.Log.{IsStore, IsNewOrNone, IsCutOrOld};
 ghost use Rattle.store_log.specs.Steps.{new_with};
 
 use crate::head::head_bytes;
-use outside::{Disk, Failed};
+use disks::Disk;
+use outside::Failed;
 use std::alloc::{AllocError, Global};
 
 // A new journal whose head gate is closed.

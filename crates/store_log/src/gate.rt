@@ -1,14 +1,14 @@
 // How an entry is written: behind a closed gate, which is opened once the entry is there to stay.
 ghost use Rattle.std.specs.Prelude.{◌≡◌, ◌<◌, ◌≤◌, ◌+◌, ◌-◌, ◌^◌, ℕ, List, [], ◌∷◌, ◌++◌, length, drop, IfErr, OnOk};
 ghost use Rattle.outside.specs.Streams.{Causes};
-ghost use Rattle.outside.specs.Disk.{Only};
-ghost use Rattle.outside.specs.Moments.{LeavesOnly, Each};
+ghost use Rattle.disks.specs.Disk.{Only};
+ghost use Rattle.disks.specs.Moments.{LeavesOnly, Each};
 ghost use Rattle.store_log.specs.declared.fault.LogFault.TheVariants.{DiskFault};
 ghost use Rattle.store_log.specs.Log.{size_bytes, ClosedAfter, entry_in};
 ghost use Rattle.store_log.specs.Steps.{OpenAfter, IsBeforeOrAfter};
 
 use crate::LogFault;
-use outside::Disk;
+use disks::Disk;
 
 // Writes the length before the change, and a closed gate behind it.
 pub(crate) fn frame(piece: &mut [u8])

@@ -1,15 +1,16 @@
 // The log of a journal: how it is made, read and added to.
 ghost use Rattle.std.specs.Prelude.{◌≡◌, ◌≢◌, ◌⊎◌, ◌<◌, ◌≤◌, ◌+◌, ◌-◌, ◌^◌, ℕ, List, [], ◌∷◌, ◌++◌, length, drop, IfOk, IfErr, OnOk, OnErr};
 ghost use Rattle.outside.specs.Streams.{Causes, Rose};
-ghost use Rattle.outside.specs.Disk.{Only};
-ghost use Rattle.outside.specs.Moments.{LeavesOnly, Each};
+ghost use Rattle.disks.specs.Disk.{Only};
+ghost use Rattle.disks.specs.Moments.{LeavesOnly, Each};
 ghost use Rattle.store_log.specs.declared.fault.LogFault.TheVariants.{DiskFault, Memory, NotALog};
 
 use crate::LogFault;
 use crate::format::{clear, closed_bytes, fill, open_head};
 use crate::gate::{frame, open_gate};
 use crate::read::{Found, read_all, read_log};
-use outside::{Bytes, Disk, List};
+use disks::Disk;
+use small_types::{Bytes, List};
 use std::alloc::Global;
 
 /// An open log: it knows where its next entry goes.

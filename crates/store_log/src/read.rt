@@ -1,14 +1,15 @@
 // How the bytes of a journal are read.
 ghost use Rattle.std.specs.Prelude.{◌≡◌, ◌≢◌, ◌⊎◌, ◌↔◌, IsTrue, slice_index, ◌<◌, ◌≤◌, ◌^◌, ℕ, List, length, drop, IfOk, IfErr, IfSome, IfNone};
 ghost use Rattle.outside.specs.Streams.{Rose};
-ghost use Rattle.outside.specs.Moments.{Untouched};
+ghost use Rattle.disks.specs.Moments.{Untouched};
 ghost use Rattle.store_log.specs.declared.fault.LogFault.TheVariants.{DiskFault, Memory};
 ghost use Rattle.store_log.specs.Log.{NoStore};
 ghost use Rattle.store_log.specs.Steps.{AtGate, NoEntries, OpensSize, Finds};
 
 use crate::LogFault;
 use crate::head::{HEAD, read_head};
-use outside::{Bytes, Disk, List, rest_from};
+use disks::Disk;
+use small_types::{Bytes, List, rest_from};
 use std::alloc::{AllocError, Global};
 
 // How many bytes a read asks for.

@@ -1,7 +1,8 @@
 ghost use Rattle.std.specs.Prelude.{◌≤◌};
 
 use crate::{Log, LogFault, Recovered};
-use outside::{Bytes, List, MemDisk};
+use disks::MemDisk;
+use small_types::{Bytes, List};
 use std::alloc::{AllocError, Global};
 use std::test::Fail;
 

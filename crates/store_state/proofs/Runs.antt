@@ -4,7 +4,7 @@ use Rattle.store_state.specs.declared.command.Command.{Command}
 use Rattle.store_state.specs.declared.command.Command.TheVariants.{Require}
 use Rattle.store_state.specs.declared.event.Event.{Event}
 use Rattle.store_state.specs.declared.event.Event.TheVariants.{Boot, Line, Unread}
-use Rattle.outside.specs.declared.limit.Limit.TheVariants.{Applications, Views, Files, Locals, Hashes, Links, Jobs}
+use Rattle.small_types.specs.declared.limit.Limit.TheVariants.{Applications, Views, Files, Locals, Hashes, Links, Jobs}
 use Rattle.store_state.specs.declared.reply.Reply.{Reply}
 use Rattle.store_state.specs.declared.reply.Reply.TheVariants as reply
 use Rattle.store_state.specs.Store.{Session}

@@ -1,6 +1,6 @@
 // What happens to a store, one line after another.
 use crate::{Command, LineFault};
-use outside::{Bytes, List};
+use small_types::{Bytes, List};
 
 /// The manifest texts that a line heard.
 #[derive(Drop, Debug, PartialEq, Eq)]

@@ -1,7 +1,7 @@
 // What a line answers.
 use crate::LineFault;
 use identity::Version;
-use outside::Limit;
+use small_types::Limit;
 
 /// The answer of a line.
 #[derive(Clone, Copy, Debug, PartialEq, Eq)]

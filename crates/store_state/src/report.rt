@@ -1,6 +1,6 @@
 // What a session did.
 use crate::{Event, Reply};
-use outside::List;
+use small_types::List;
 
 /// A line that was run.
 #[derive(Drop, Debug, PartialEq, Eq)]

@@ -13,7 +13,7 @@ ghost use Rattle.store_state.specs.Change.{Fits, IsBoot, effect};
 
 use crate::{AppState, Change};
 use identity::{Key, PrintFault, Version};
-use outside::{List, Text};
+use small_types::{List, Text};
 use std::alloc::Global;
 use std::cmp::Ordering;
 use std::marker::Model;

@@ -1,6 +1,6 @@
 use crate::{AppState, BOOT_LIMIT, Change, StoreState};
 use identity::{Key, Version};
-use outside::Text;
+use small_types::Text;
 use std::alloc::Global;
 use std::test::Fail;
 

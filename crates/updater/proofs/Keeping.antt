@@ -1,6 +1,7 @@
 -- A change more in the log is one more in the store.
 use Rattle.std.proofs.Common.{◌≡◌, ℕ, List, [], ◌∷◌, ◌++◌, ◌⊎◌, inl, inr, sym, subst}
-use Rattle.outside.specs.Moments.{LeavesOnly, started, weaker}
+use Rattle.disks.specs.Moments.{LeavesOnly}
+use Rattle.disks.proofs.MomentLemmas.{started, weaker}
 use Rattle.store_log.specs.declared.log.Log.{Log}
 use Rattle.store_log.specs.Log.{head_of, IsLog, IsOpen}
 use Rattle.store_log.proofs.Store.{is_store}

@@ -1,7 +1,7 @@
 -- What opening a store finds and leaves.
 use Rattle.std.proofs.Common.{◌≡◌, ℕ, ◌+◌, ◌≤◌, List, Option, Some, sym, ap, subst, ◌∙◌, arith}
 use Rattle.std.specs.Prelude.{IfSome}
-use Rattle.outside.specs.Moments.{LeavesOnly}
+use Rattle.disks.specs.Moments.{LeavesOnly}
 use Rattle.store_log.specs.declared.log.Log.{Log}
 use Rattle.store_log.specs.Log.{head_of, IsStore, IsOpen}
 use Rattle.store_log.proofs.Store.{unique}

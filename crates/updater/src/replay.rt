@@ -9,7 +9,7 @@ ghost use Rattle.updater.specs.Replay.{Makes, FitsNone};
 
 use crate::requirement::APPLICATIONS;
 use identity::Key;
-use outside::Bytes;
+use small_types::Bytes;
 use record_codec::{CodecFault, decode_change};
 use std::alloc::Global;
 use store_state::{Change, StateFault, StoreState};

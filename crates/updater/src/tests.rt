@@ -4,7 +4,8 @@ ghost use Rattle.updater.specs.Updater.{IsCommand};
 
 use crate::{RecoverFault, Updater};
 use identity::{Key, Version};
-use outside::{Bytes, Disk, List, MemDisk};
+use disks::{Disk, MemDisk};
+use small_types::{Bytes, List};
 use std::alloc::Global;
 use std::process::Abort;
 use std::test::Fail;

@@ -1,7 +1,7 @@
 // The store in memory and on the disk, and the commands on it.
 ghost use Rattle.std.specs.Prelude.{◌≡◌, ◌≢◌, ◌<◌, ◌≤◌, ◌+◌, ◌^◌, ℕ, List, true, false, IfOk, IfErr, OnOk, OnErr, length, Some};
 ghost use Rattle.outside.specs.Streams.{Causes, Rose};
-ghost use Rattle.outside.specs.Moments.{LeavesOnly};
+ghost use Rattle.disks.specs.Moments.{LeavesOnly};
 ghost use Rattle.identity.specs.Key.{IsKey};
 ghost use Rattle.identity.specs.Version.{IsVersion};
 ghost use Rattle.store_state.specs.declared.command.Command.TheVariants as command;
@@ -19,7 +19,9 @@ use crate::piece::piece_of;
 use crate::replay::replay;
 use crate::requirement::{APPLICATIONS, Requirement, requirement_of};
 use identity::{Key, Version};
-use outside::{Disk, Duplicate, Failed};
+use disks::Disk;
+use outside::Failed;
+use small_types::Duplicate;
 use std::alloc::Global;
 use store_log::{Log, LogFault};
 use store_state::{Change, Command, Limit, Reply, StoreState};

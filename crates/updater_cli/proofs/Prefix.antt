@@ -1,7 +1,7 @@
 -- What images stand for once a line more was run.
 use Rattle.std.proofs.Common.{◌≡◌, ◌⊎◌, inl, inr, ℕ, ◌+◌, ◌<◌, ◌≤◌, List, [], ◌∷◌, ◌++◌, length, take, Option, Some, None, refl, sym, ◌∙◌, ap, subst, arith, length-append}
 use Rattle.std.proofs.lemmas.List.{take_all, take-append-le}
-use Rattle.outside.specs.Moments.{LeavesOnly}
+use Rattle.disks.specs.Moments.{LeavesOnly}
 use Rattle.store_state.specs.declared.event.Event.{Event}
 use Rattle.store_state.specs.declared.reply.Reply.{Reply}
 use Rattle.store_state.specs.declared.report.ReportLine.{ReportLine}

@@ -1,6 +1,6 @@
 -- What a new store is.
 use Rattle.std.specs.Prelude.{◌≡◌, ◌⊎◌, ℕ, ◌+◌, ◌<◌, ◌≤◌, List, []}
-use Rattle.outside.specs.Disk.{Torn}
+use Rattle.disks.specs.Disk.{Torn}
 use Rattle.store_log.specs.Log.{IsStore, IsCutOrOld, IsClosedNew}
 use Rattle.store_state.specs.Store.{empty}
 use Rattle.updater.specs.Stands.{Stands, StandsForNone}

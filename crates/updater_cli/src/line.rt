@@ -1,6 +1,6 @@
 // One line of a session.
 ghost use Rattle.std.specs.Prelude.{◌≡◌, ◌≢◌, ◌⊎◌, ◌<◌, ◌≤◌, ◌+◌, ℕ, List, [], ◌∷◌, ◌++◌, length, Option, Some, None, vec_len, vec_capacity, IfOk, IfErr, OnOk, OnErr, MatchResult};
-ghost use Rattle.outside.specs.Moments.{LeavesOnly};
+ghost use Rattle.disks.specs.Moments.{LeavesOnly};
 ghost use Rattle.outside.specs.Streams.{Rose};
 ghost use Rattle.store_state.specs.declared.reply.Reply.{Reply};
 ghost use Rattle.store_state.specs.Step.{Step};
@@ -16,7 +16,9 @@ ghost use Rattle.updater_cli.specs.Session.{At, Ended};
 use crate::history::History;
 use crate::status::Status;
 use command_text::{print_reply, read_line};
-use outside::{Disk, Failed, List, Sink};
+use disks::Disk;
+use outside::{Failed, Sink};
+use small_types::List;
 use std::alloc::Global;
 use store_state::{Command, Event, Heard, Reply, ReportLine};
 use updater::Updater;

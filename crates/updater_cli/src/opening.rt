@@ -13,7 +13,9 @@ ghost use Rattle.updater_cli.specs.Headline.{HeadlineLines, HeadlineRun, Headlin
 use crate::history::History;
 use crate::session::answer_all;
 use crate::status::Status;
-use outside::{Disk, List, Sink, Source};
+use disks::Disk;
+use outside::{Sink, Source};
+use small_types::List;
 use std::alloc::Global;
 use store_state::{Event, Report, ReportLine};
 use updater::{RecoverFault, Updater};

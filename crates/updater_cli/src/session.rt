@@ -13,7 +13,8 @@ use crate::history::History;
 use crate::line::answer_line;
 use crate::status::Status;
 use command_text::strip_carriage_return;
-use outside::{Disk, Failed, Sink, Source};
+use disks::Disk;
+use outside::{Failed, Sink, Source};
 use std::alloc::Global;
 use updater::Updater;
 

@@ -6,7 +6,7 @@ ghost use Rattle.command_text.specs.Numbers.{number_of};
 
 use command_text::read_number;
 use inspection::Kind;
-use outside::Word;
+use small_types::Word;
 
 /// What the words ask for.
 #[derive(Clone, Copy, Debug, PartialEq, Eq)]

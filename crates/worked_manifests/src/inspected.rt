@@ -1,6 +1,8 @@
 // Runs of the top call with the words of `inspect`.
 use folders::MemFolder;
-use outside::{Bytes, List, MemDisk, MemSink, MemSource, Word};
+use disks::MemDisk;
+use outside::{MemSink, MemSource};
+use small_types::{Bytes, List, Word};
 use std::alloc::{AllocError, Global};
 use std::io;
 use updater_cli::{Report, run};

@@ -3,7 +3,7 @@ use manifest_parts::{
     identity_in, once, read_root, size, truth, twice_named,
 };
 use manifest_tree::{Node, read_tree};
-use outside::{Limit, Text};
+use small_types::{Limit, Text};
 use std::alloc::Global;
 use std::process::Abort;
 use std::test::Fail;

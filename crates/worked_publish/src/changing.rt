@@ -1,7 +1,7 @@
 // A folder of two files, of which the second has other bytes from its second reading on, or is gone. It tells nothing,
 // and keeps the names of what is put.
 use folders::{Folder, FolderFault};
-use outside::{Bytes, List, Name};
+use small_types::{Bytes, List, Name};
 use std::alloc::Global;
 
 const NAMES: [&str; 2] = ["in/app.exe", "in/data.txt"];

@@ -1,6 +1,8 @@
 // A site in memory: a folder, and runs of the top call over it.
 use folders::{Folder, Held, MemFolder, are_distinct};
-use outside::{Bytes, List, MemDisk, MemSink, MemSource, Name, Word};
+use disks::MemDisk;
+use outside::{MemSink, MemSource};
+use small_types::{Bytes, List, Name, Word};
 use std::alloc::Global;
 use std::io::{self, ErrorKind};
 use updater_cli::{Report, run};

@@ -1,6 +1,8 @@
 // A machine in memory: a disk, and runs of the top call over it.
 use folders::MemFolder;
-use outside::{Bytes, List, MemDisk, MemSink, MemSource, Word};
+use disks::MemDisk;
+use outside::{MemSink, MemSource};
+use small_types::{Bytes, List, Word};
 use std::alloc::{AllocError, Global};
 use std::io;
 use updater_cli::{Report, run};

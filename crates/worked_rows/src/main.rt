@@ -5,7 +5,7 @@
 mod machine;
 
 use machine::{disk_of, run_words};
-use outside::{Disk, MemDisk, Pick};
+use disks::{Disk, MemDisk, Pick};
 use std::alloc::AllocError;
 use std::io;
 

@@ -9,7 +9,7 @@ use manifest_writer::{
 use manifests::{
     Application, Deployment, applications_have_files, read_application, read_deployment,
 };
-use outside::{Bytes, Text};
+use small_types::{Bytes, Text};
 use std::alloc::{AllocError, Global};
 use std::io::{self, ErrorKind};
 

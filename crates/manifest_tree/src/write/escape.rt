@@ -3,7 +3,7 @@ ghost use Rattle.std.specs.Prelude.{◌≡◌, ◌+◌, ◌++◌, length, OnOk};
 ghost use Rattle.std.specs.Option.{option_copied};
 ghost use Rattle.manifest_tree.specs.Writing.{reference_for, escape, escaped, Counts};
 
-use outside::Bytes;
+use small_types::Bytes;
 use std::alloc::AllocError;
 
 // The reference that stands for a byte that is not written as it is.

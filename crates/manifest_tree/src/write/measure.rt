@@ -6,7 +6,7 @@ ghost use Rattle.manifest_tree.specs.Writing.{escaped, attribute_text, attribute
 use super::escape::count_escaped;
 use super::node::is_bare;
 use crate::node::{Attribute, Node};
-use outside::Text;
+use small_types::Text;
 
 // Each function adds to a count the length of what it is given, as that is written. It gives none where the sum is no
 // `u64`.

@@ -6,7 +6,7 @@ ghost use Rattle.manifest_tree.specs.Writing.{attribute_text, attributes_text, e
 
 use super::escape::push_escaped;
 use crate::node::{Attribute, Node};
-use outside::{Bytes, Text};
+use small_types::{Bytes, Text};
 use std::alloc::AllocError;
 
 // An element has neither children nor text.

@@ -1,7 +1,7 @@
 use super::*;
 use crate::node::Attribute;
 use crate::reader::read_tree;
-use outside::{List, Text};
+use small_types::{List, Text};
 use std::test::*;
 
 fn text(alloc: Global, held: &str) -> Result<Text, AllocError> {

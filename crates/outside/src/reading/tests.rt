@@ -1,5 +1,6 @@
 use super::*;
-use crate::{Bytes, List, MemSource};
+use crate::MemSource;
+use small_types::{Bytes, List};
 use std::test::*;
 
 fn source(alloc: Global, failing: &[u64]) -> Result<MemSource, Fail> {

@@ -1,5 +1,5 @@
 use Rattle.std.proofs.Common.{ℕ, List, sym, subst}
-use Rattle.outside.specs.Name.{IsName}
+use Rattle.small_types.specs.Name.{IsName}
 use Rattle.addresses.specs.Join.{file_target_of}
 use Rattle.addresses.specs.Address.{Gives}
 use Rattle.addresses.proofs.NameLemmas.{refused_from_gives, unreachable_from_gives, never_from_gives}

@@ -1,4 +1,4 @@
-use Rattle.identity.specs.Parts.{parts_between}
+use Rattle.small_types.specs.Cuts.{parts_between}
 use Rattle.identity.proofs.PartsLemmas.{five_parts, some_part}
 use Rattle.identity.proofs.parts.four_parts.Goals as goal
 

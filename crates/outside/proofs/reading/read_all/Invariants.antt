@@ -5,7 +5,7 @@ abbrev pub invariant-loop-piece : goal.invariant-loop-piece
 invariant-loop-piece g l = record {
   given : g.S.Source.tells → g.S.Source.left l.initial.source ≡ l.bytes.items ++ g.S.Source.left l.source;
   within : length l.bytes.items ≤ l.limit;
-  count : g.S.Source.count l.initial.source ≤ g.S.Source.count l.source;
+  count : g.S.Source.count l.source ≡ g.S.Source.count l.initial.source;
 }
 
 abbrev pub decreases-loop-piece : goal.decreases-loop-piece

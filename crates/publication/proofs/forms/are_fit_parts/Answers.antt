@@ -1,7 +1,7 @@
 use Rattle.std.proofs.Common.{rules, ◌==◌}
 use Rattle.std.proofs.lemmas.Iterator.Search.{all_from_yields_List}
 use Rattle.std.proofs.lemmas.Iterator.Splits.{YieldsList-from_slice_split}
-use Rattle.outside.specs.Name.{is_name_part}
+use Rattle.small_types.specs.Name.{is_name_part}
 use Rattle.publication.proofs.forms.are_fit_parts.Goals as goal
 
 pub returns : goal.returns

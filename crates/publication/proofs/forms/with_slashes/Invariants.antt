@@ -1,6 +1,6 @@
 use Rattle.std.proofs.Common.{◌≡◌, ◌++◌, drop}
 use Rattle.arrayvec.specs.ArrayVec.{array_vec_len}
-use Rattle.outside.specs.Name.{name_text}
+use Rattle.small_types.specs.Name.{name_text}
 use Rattle.publication.proofs.forms.with_slashes.Given as goal
 
 abbrev pub invariant-loop-byte : goal.invariant-loop-byte

@@ -1,5 +1,5 @@
 use Rattle.std.proofs.Common.{◌≡◌, ℕ, List, Option, Bool, string_bytes, sym, ap, subst, ◌∙◌}
-use Rattle.outside.specs.Name.{IsName}
+use Rattle.small_types.specs.Name.{IsName}
 use Rattle.publish_plan.specs.declared.marked.Seen.{Seen}
 use Rattle.publish_plan.proofs.PathLemmas.{name_is_path}
 use Rattle.publish_plan.proofs.FileLemmas.{target_is, bad_is, fit_refused, fit_planned, planned_is, target_named}

@@ -1,5 +1,5 @@
 use Rattle.std.proofs.Common.{ℕ, List, length, sym, ap, subst, ◌∙◌}
-use Rattle.outside.specs.Name.{IsName}
+use Rattle.small_types.specs.Name.{IsName}
 use Rattle.publish_plan.specs.Places.{behind}
 use Rattle.publish_plan.proofs.PathLemmas.{name_behind_front, to_end}
 use Rattle.publish_plan.proofs.places.name_behind.Goals as goal

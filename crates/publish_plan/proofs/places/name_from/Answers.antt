@@ -1,6 +1,6 @@
 use Rattle.std.proofs.Common.{◌≡◌, ℕ, List, Result, Ok, sym, ◌∙◌}
-use Rattle.outside.specs.declared.name.NameFault.{NameFault}
-use Rattle.outside.proofs.Spelling.{read_again}
+use Rattle.small_types.specs.declared.name.NameFault.{NameFault}
+use Rattle.small_types.proofs.Spelling.{read_again}
 use Rattle.publish_plan.proofs.places.name_from.Goals as goal
 
 abbrev ok_at : List ℕ → Result (List ℕ) NameFault

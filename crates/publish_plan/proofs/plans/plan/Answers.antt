@@ -1,5 +1,5 @@
 use Rattle.std.proofs.Common.{◌≡◌, string_bytes, sym, ap, subst, ◌∙◌, arith}
-use Rattle.outside.specs.Name.{IsName}
+use Rattle.small_types.specs.Name.{IsName}
 use Rattle.publish_plan.specs.Places.{manifest_name, deployment_name}
 use Rattle.publish_plan.specs.Plans.{few}
 use Rattle.publish_plan.proofs.Chains.{handed_on}

@@ -1,6 +1,6 @@
 use Rattle.std.proofs.Common.{arith, ◌∙◌, ◌≡◌, length}
 use Rattle.std.proofs.lemmas.Grind.{common_steps}
-use Rattle.outside.specs.Moments.{untouched_more}
+use Rattle.disks.proofs.MomentLemmas.{untouched_more}
 use Rattle.store_log.proofs.Reading.{read_on}
 use Rattle.store_log.proofs.read.read_through.Goals as goal
 

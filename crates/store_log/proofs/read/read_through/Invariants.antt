@@ -1,5 +1,5 @@
 use Rattle.std.proofs.Common.{◌≡◌, ◌≤◌, ◌-◌, ◌^◌, length, take, vec_len}
-use Rattle.outside.specs.Moments.{Untouched}
+use Rattle.disks.specs.Moments.{Untouched}
 use Rattle.store_log.proofs.read.read_through.Given as goal
 
 abbrev pub invariant-loop-bytes : goal.invariant-loop-bytes

@@ -1,4 +1,4 @@
-use Rattle.outside.specs.Moments.{weaker}
+use Rattle.disks.proofs.MomentLemmas.{weaker}
 use Rattle.store_log.specs.Log.{log_of, entry_in}
 use Rattle.store_log.proofs.Entries.{opens, either_log, tail_is, end_is, entry_small}
 use Rattle.store_log.proofs.log.Log.append.Goals as goal

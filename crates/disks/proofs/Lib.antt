@@ -1,0 +1,3 @@
+pub mod MomentLemmas
+pub mod PieceLemmas
+pub mod Recording

@@ -1,0 +1,12 @@
+use Rattle.std.proofs.Common.{refl}
+use Rattle.std.specs.Prelude.{not}
+use Rattle.disks.specs.declared.call.Move.TheVariants.{Sync}
+use Rattle.disks.proofs.Recording.{record_grown}
+use Rattle.disks.proofs.history.History.sync.Goals as goal
+
+pub invariant_of-self-2 : goal.invariant_of-self-2
+invariant_of-self-2 c =
+    let both = record_grown c.args.self.now.first c.prepare.new.first c.args.self.now.bytes c.as_slice.result.now c.args.self.now.bytes c.args.self.now.moves.items c.prepare.new.moves.items c.keep.new.moves.items
+    (record { number = c.args.number; act = Sync (not c.args.fails) })
+    c.as_slice.ensures c.in_ok-prepare.ensures.first c.prepare.ensures.moves c.keep.ensures c.args.self.now.is_replay c.args.self.now.fitting refl refl in
+    record { is_replay = both.0; fitting = both.1 }

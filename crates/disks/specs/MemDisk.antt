@@ -1,0 +1,38 @@
+use Rattle.std.specs.Prelude.{ℕ, List, Bool}
+use Rattle.outside.specs.FailingCalls.{fails_next}
+use Rattle.disks.specs.History.{first_of}
+use Rattle.disks.specs.Moves.{IsImage, picked_after, until}
+use Rattle.disks.specs.declared.call.Pick.{Pick}
+use Rattle.disks.specs.declared.mem_disk.MemDisk.{MemDisk}
+
+abbrev pub disk_bytes : MemDisk → List ℕ
+disk_bytes m = m.history.bytes
+
+abbrev pub calls_of : MemDisk → ℕ
+calls_of m = m.calls
+
+abbrev pub written_of : MemDisk → ℕ
+written_of m = m.written
+
+abbrev pub faults_of : MemDisk → ℕ
+faults_of m = m.failing.faults
+
+-- how many calls there were, those that read among them
+abbrev pub turns_of : MemDisk → ℕ
+turns_of m = m.failing.calls
+
+-- the numbers of the calls that are to fail
+abbrev pub failing_of : MemDisk → List ℕ
+failing_of m = m.failing.numbers
+
+-- whether the next call is one of them
+abbrev pub disk_fails : MemDisk → Bool
+disk_fails m = fails_next m.failing
+
+-- what a stop at that moment may leave
+abbrev pub left_of : MemDisk → ℕ → List ℕ → Type 0
+left_of m t c = IsImage (first_of m.history) (first_of m.history) (until t m.history.moves.items) c
+
+-- what a stop at that moment leaves with a pick
+abbrev pub picked_of : Pick → MemDisk → ℕ → List ℕ
+picked_of pick m t = picked_after pick (first_of m.history) (first_of m.history) (until t m.history.moves.items)

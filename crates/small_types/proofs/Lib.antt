@@ -1,0 +1,5 @@
+pub mod CutLemmas
+pub mod DecimalLemmas
+pub mod Putting
+pub mod ReadingLemmas
+pub mod Spelling

@@ -1,0 +1,29 @@
+//! Values that every layer speaks of: bytes, texts, lists, names, limits and decimal numbers. No device is needed for them.
+#![tactic(auto)]
+
+mod bytes;
+mod cutting;
+mod decimal;
+mod duplicate;
+mod limit;
+pub mod limits;
+mod list;
+mod name;
+mod slices;
+mod target;
+#[cfg(test)]
+mod tests;
+mod text;
+mod word;
+
+pub use bytes::Bytes;
+pub use cutting::cut_once;
+pub use decimal::{are_digits, parse_digits, read_decimal};
+pub use duplicate::{CopyFault, Duplicate};
+pub use limit::Limit;
+pub use list::List;
+pub use name::{Name, NameFault, is_name};
+pub use slices::{copy_front, rest_from};
+pub use target::Target;
+pub use text::Text;
+pub use word::Word;
