@@ -1,5 +1,5 @@
 -- Counts of faults, and their sums.
-use Rattle.std.proofs.Common.{◌≡◌, ◌⊎◌, inl, inr, ℕ, ◌+◌, ◌<◌, ◌≤◌, min, arith}
+use Rattle.std.proofs.Common.{inl, inr, ℕ, ◌≤◌, arith}
 use Rattle.outside.specs.Streams.{Rose, total}
 
 -- a rise stays a rise, whatever comes before and after it

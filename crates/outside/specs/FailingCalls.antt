@@ -1,5 +1,5 @@
 -- The calls of a device in memory, and which of them fail.
-use Rattle.std.specs.Prelude.{ℕ, ◌+◌, ◌==◌, Bool, min}
+use Rattle.std.specs.Prelude.{◌+◌, ◌==◌, Bool, min}
 use Rattle.std.specs.List.{list_any}
 use Rattle.outside.specs.declared.failing_calls.FailingCalls.{FailingCalls}
 

@@ -1,5 +1,5 @@
 -- What a call answers, against what is read by a definition.
-use Rattle.std.proofs.Common.{◌≡◌, Bool, true, false, Result, Ok, Err, refl, sym, ap, subst, ◌∙◌}
+use Rattle.std.proofs.Common.{◌≡◌, Bool, true, false, Result, Ok, Err, sym, ap, subst}
 use Rattle.small_types.specs.Reading.{◌>>=◌, FailsFree, FailsBut, GivesBut}
 
 module _ {F : Type 0} (is_free : F → Bool) where

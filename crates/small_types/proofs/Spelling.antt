@@ -1,10 +1,10 @@
 -- What is read of a name is read again as itself.
-use Rattle.std.proofs.Common.{◌≡◌, ℕ, ◌<◌, ◌≤◌, ◌+◌, Bool, true, false, cond, not, ◌==◌, ◌&&◌, nat_lt, nat_le, List, [], ◌∷◌, length, take, Option, Some, None, Ok, Err, IfOk, IsUtf8, position, slice_get, ok_or, refl, sym, ap, if◌then◌else◌, ap₂, subst, ◌∙◌, inl, inr, arith}
-use Rattle.std.specs.List.{slice_split, position_or_len, list_all}
+use Rattle.std.proofs.Common.{◌≡◌, ℕ, ◌<◌, Bool, true, false, cond, not, ◌==◌, ◌&&◌, nat_lt, nat_le, List, [], ◌∷◌, length, take, Option, Some, None, Ok, Err, IfOk, IsUtf8, position, slice_get, ok_or, refl, sym, ap, if◌then◌else◌, ap₂, subst, ◌∙◌, inl, inr, arith}
+use Rattle.std.specs.List.{position_or_len, list_all}
 use Rattle.std.specs.Str.{is_utf8}
 use Rattle.std.proofs.lemmas.Bool.{and_parts, cases_Bool, cond-true, cond-false, false_from_ne_true, ltb-true, ltb-false, leb-true}
 use Rattle.std.proofs.lemmas.List.{length-map}
-use Rattle.std.proofs.lemmas.List.Splits.{slice_split_first, slice_split-cons_no}
+use Rattle.std.proofs.lemmas.List.Splits.{slice_split_first}
 use Rattle.std.proofs.lemmas.Str.{IsUtf8-from_is_utf8, is_utf8-from_IsUtf8}
 use Rattle.small_types.specs.declared.limits.TheConstants.{NAME_LIMIT}
 use Rattle.small_types.proofs.CutLemmas.{whole}

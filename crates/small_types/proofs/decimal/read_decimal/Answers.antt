@@ -1,4 +1,4 @@
-use Rattle.std.proofs.Common.{◌≡◌, ◌<◌, length, sym, ◌∙◌, arith, rules}
+use Rattle.std.proofs.Common.{◌<◌, length, sym, ◌∙◌, arith, rules}
 use Rattle.small_types.proofs.DecimalLemmas.{read_short}
 use Rattle.small_types.proofs.decimal.read_decimal.Goals as goal
 
