@@ -1,5 +1,5 @@
 -- What is in the grammar is read.
-use Rattle.std.proofs.Common.{◌≡◌, ℕ, suc, ◌<◌, true, false, eqb, List, [], ◌∷◌, ◌++◌, length, Some, None, Ok, refl, sym, ap, subst, ◌∙◌, append_assoc, arith, inl, inr}
+use Rattle.std.proofs.Common.{◌≡◌, ℕ, suc, ◌<◌, ◌≤◌, true, false, eqb, List, [], ◌∷◌, ◌++◌, length, Some, None, Ok, refl, sym, ap, subst, ◌∙◌, append_assoc, arith, inl, inr}
 use Rattle.std.specs.Prelude.{◌==◌}
 use Rattle.std.specs.Cmp.Lexicographic.{bytes_decides}
 use Rattle.std.proofs.lemmas.Bool.{both_ways, eqb-true, eq-eqb, lt-ltb, cases_Bool}
@@ -144,7 +144,7 @@ module _ (name : List ℕ) (around : List OpenTree) where
 pub record ElementRead (level : ℕ) (a : List ℕ) (t : Tree) (b : List ℕ) (around : List OpenTree) : Type 0 where
   pub tag : List ℕ
   pub begins : a ≡ 60 ∷ tag
-  pub shallow : level < 65
+  pub shallow : level ≤ 64
   pub named : has_name tag ≡ true
   pub reads : Reads (in_tag (name_at tag) [] around) (past name_byte tag) (placed t around) b
 

@@ -19,7 +19,7 @@ abbrev stands_at : List OpenTree → Spot
 stands_at [] = before
 stands_at (o ∷ around) = inside o around
 
-tag_begins : (around : List OpenTree) (b : List ℕ) → has_name b ≡ true → suc (length around) < 65 → Reads (stands_at around) (60 ∷ b) (in_tag (name_at b) [] around) (past name_byte b)
+tag_begins : (around : List OpenTree) (b : List ℕ) → has_name b ≡ true → suc (length around) ≤ 64 → Reads (stands_at around) (60 ∷ b) (in_tag (name_at b) [] around) (past name_byte b)
 tag_begins [] b named shallow = before_start b named
 tag_begins (o ∷ around) b named shallow = inside_start o around b named (omega arith)
 

@@ -1,7 +1,7 @@
 -- Whether an element can be written, from its own parts and its children.
 use Rattle.std.proofs.Common.{◌≡◌, ℕ, suc, ◌+◌, ◌<◌, ◌≤◌, Bool, true, false, List, [], length, get_or, drop, sym, ap, ◌∙◌, arith}
-use Rattle.std.specs.Prelude.{◌&&◌, map, nat_lt}
-use Rattle.std.proofs.lemmas.Bool.{and_parts, lt-ltb}
+use Rattle.std.specs.Prelude.{◌&&◌, map, nat_le}
+use Rattle.std.proofs.lemmas.Bool.{and_parts, le-leb}
 use Rattle.std.proofs.lemmas.List.{at_drop_more, at_drop_all}
 use Rattle.manifest_tree.specs.declared.node.Node.{Node}
 use Rattle.manifest_tree.specs.declared.node.Node.TheViews.{out-Node}
@@ -12,8 +12,8 @@ use Rattle.manifest_tree.proofs.Pushes.{tree_opened}
 abbrev pub are_nodes : ℕ → List Node → Bool
 are_nodes level nodes = are_elements level (trees (map tree_of nodes))
 
-lower : (level : ℕ) → level ≤ 64 → nat_lt level 65 ≡ true
-lower level shallow = lt-ltb level 65 (omega arith)
+lower : (level : ℕ) → level ≤ 64 → nat_le level 64 ≡ true
+lower level shallow = le-leb level 64 shallow
 
 -- with parts of its own that are of the grammar, the children decide
 pub by_children : (level : ℕ) (node : Node) (kids : List Node) → kids ≡ (out-Node node).children.items → level ≤ 64

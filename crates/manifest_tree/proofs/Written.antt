@@ -1,9 +1,9 @@
 -- What is written of a tree spells it.
 use Rattle.std.proofs.Common.{◌≡◌, ℕ, zero, suc, ◌+◌, ◌<◌, ◌≤◌, Bool, true, false, not, cond, List, [], ◌∷◌, ◌++◌, length, Option, Some, None, Ok, refl, sym, ap, subst, ◌∙◌, append_assoc, length-append, arith, inl, inr}
-use Rattle.std.specs.Prelude.{◌==◌, ◌&&◌, nat_lt, codes, unwrap_or}
+use Rattle.std.specs.Prelude.{◌==◌, ◌&&◌, nat_lt, nat_le, codes, unwrap_or}
 use Rattle.std.specs.List.{list_all}
 use Rattle.std.specs.Str.{IsUtf8, IsAscii}
-use Rattle.std.proofs.lemmas.Bool.{cases_Bool, and_parts, eqb-true, ne_eqb, ltb-true, true≢false}
+use Rattle.std.proofs.lemmas.Bool.{cases_Bool, and_parts, eqb-true, ne_eqb, ltb-true, leb-true, true≢false}
 use Rattle.std.proofs.lemmas.Str.{IsUtf8-append, IsUtf8-from_ascii}
 use Rattle.manifest_tree.specs.declared.node.Attribute.{Attribute}
 use Rattle.manifest_tree.specs.Lexis.{white, allowed, name_first, name_byte, front, past, has_name, name_at, begin, past_declaration, unit_at, reference_at, numbered_at, named_at, digit_of, is_character, plain, quote_at, is_among}
@@ -333,7 +333,7 @@ content_regroup name text inner rest =
     append_assoc text (inner ++ (codes "</" ++ (name ++ codes ">"))) rest
     ∙ ap (λ (l : List ℕ). text ++ l) (append_assoc inner (codes "</" ++ (name ++ codes ">")) rest ∙ ap (λ (l : List ℕ). inner ++ (60 ∷ 47 ∷ l)) (append_assoc name (62 ∷ []) rest))
 
-module _ (level : ℕ) (shallow : level < 65) (name : List ℕ) (others : List Attribute) (rest : List ℕ) (named : is_name name ≡ true) (are : are_attributes [] others ≡ true) where
+module _ (level : ℕ) (shallow : level ≤ 64) (name : List ℕ) (others : List Attribute) (rest : List ℕ) (named : is_name name ≡ true) (are : are_attributes [] others ≡ true) where
   bare_element : Element level (60 ∷ (name ++ (attributes_text others ++ (47 ∷ 62 ∷ rest)))) (tree name others none []) rest
   unfolding white
   bare_element = empty shallow (start_tag name others (47 ∷ 62 ∷ rest) named are (stop_slash (62 ∷ rest))) refl
@@ -360,12 +360,12 @@ element_regroup name others end rest = append_assoc (60 ∷ (name ++ others)) en
 mutual
   element : (level : ℕ) (t : Tree) (rest : List ℕ) → is_element level t ≡ true → Element level (element_text t ++ rest) t rest
   element level (tree name others children text) rest is =
-      let p = and_parts (nat_lt level 65) (is_name name && (are_attributes [] others && (is_content text && are_elements (suc level) children))) is in
+      let p = and_parts (nat_le level 64) (is_name name && (are_attributes [] others && (is_content text && are_elements (suc level) children))) is in
       let q = and_parts (is_name name) (are_attributes [] others && (is_content text && are_elements (suc level) children)) p.1 in
       let r = and_parts (are_attributes [] others) (is_content text && are_elements (suc level) children) q.1 in
       let s = and_parts (is_content text) (are_elements (suc level) children) r.1 in
       subst (λ (l : List ℕ). Element level l (tree name others children text) rest) (sym (element_regroup name (attributes_text others) (ending name text children) rest))
-      (any_element level (ltb-true level 65 p.0) name others rest q.0 r.0 children text s.0 (elements (suc level) children (60 ∷ 47 ∷ (name ++ 62 ∷ rest)) s.1))
+      (any_element level (leb-true level 64 p.0) name others rest q.0 r.0 children text s.0 (elements (suc level) children (60 ∷ 47 ∷ (name ++ 62 ∷ rest)) s.1))
 
   elements : (level : ℕ) (ts : Trees) (rest : List ℕ) → are_elements level ts ≡ true → Content level (elements_text ts ++ rest) ts [] rest
   elements level none rest is = no_content

@@ -1,6 +1,7 @@
 -- What a text spells. In each relation the first list of bytes begins with the part, and the last is what stands behind it.
 use Rattle.std.specs.Prelude.{◌≡◌, ℕ, suc, ◌<◌, ◌≤◌, true, false, ◌==◌, List, [], ◌∷◌, ◌++◌, length, Some, Ok}
 use Rattle.std.specs.Str.{IsUtf8}
+use Rattle.small_types.specs.declared.limits.TheConstants.{LEVEL_LIMIT, MANIFEST_LIMIT}
 use Rattle.manifest_tree.specs.declared.node.Attribute.{Attribute}
 use Rattle.manifest_tree.specs.declared.node.Node.{Node}
 use Rattle.manifest_tree.specs.Lexis.{white, name_byte, past, has_name, name_at, aside, begin, unit_at, quote_at, is_among}
@@ -50,10 +51,10 @@ mutual
   -- an element at a level, the root's being 1: a tag that ends in `/>`, or a start tag, content and the end tag of the same name
   pub data Element : ℕ → List ℕ → Tree → List ℕ → Type 0 where
     empty : {level : ℕ} {bytes name after rest : List ℕ} {attributes : List Attribute}
-        → level < 65 → IsStart bytes name attributes after → past white after ≡ 47 ∷ 62 ∷ rest
+        → level ≤ LEVEL_LIMIT → IsStart bytes name attributes after → past white after ≡ 47 ∷ 62 ∷ rest
         → Element level (60 ∷ bytes) (tree name attributes none []) rest
     full : {level : ℕ} {bytes name after inside text end rest : List ℕ} {attributes : List Attribute} {children : Trees}
-        → level < 65 → IsStart bytes name attributes after → past white after ≡ 62 ∷ inside
+        → level ≤ LEVEL_LIMIT → IsStart bytes name attributes after → past white after ≡ 62 ∷ inside
         → Content (suc level) inside children text (60 ∷ 47 ∷ end) → IsEnd end name rest
         → Element level (60 ∷ bytes) (tree name attributes children text) rest
 
@@ -71,7 +72,7 @@ mutual
 -- What the bytes spell: at most 4,194,304 bytes of UTF-8, that are a byte order mark and a declaration or none, then
 -- white space, comments and instructions, one element, and again white space, comments and instructions.
 pub record SpellsTree (bytes : List ℕ) (t : Tree) : Type 0 where
-  pub short : length bytes ≤ 4194304
+  pub short : length bytes ≤ MANIFEST_LIMIT
   pub utf8 : IsUtf8 bytes
   pub start : List ℕ
   pub begun : begin bytes ≡ Ok start

@@ -1,6 +1,7 @@
 -- The fault of a text: its kind, and where it stands.
 use Rattle.std.specs.Prelude.{◌≡◌, ℕ, suc, ◌-◌, ◌<◌, ◌≤◌, true, false, ◌==◌, List, [], ◌∷◌, length, None, Result, Ok, Err}
 use Rattle.std.specs.Str.{IsUtf8, IsValidUpTo, bytes_eq}
+use Rattle.small_types.specs.declared.limits.TheConstants.{LEVEL_LIMIT, MANIFEST_LIMIT}
 use Rattle.manifest_tree.specs.declared.fault.TreeKind.{TreeKind}
 use Rattle.manifest_tree.specs.declared.fault.TreeKind.TheVariants.{NotUtf8, Syntax, Entity, TagMismatch, AttributeTwice, TooDeep, TooLong}
 use Rattle.manifest_tree.specs.declared.fault.TreeError.{TreeError}
@@ -19,7 +20,7 @@ module _ (whole : List ℕ) where
   pub data Stands : List OpenTree → List ℕ → Type 0 where
     outside : {b rest : List ℕ} → begin whole ≡ Ok b → Misc b rest → Stands [] rest
     within : {around : List OpenTree} {b name after inner text rest : List ℕ} {attributes : List Attribute} {children : Trees}
-        → Stands around (60 ∷ b) → suc (length around) < 65 → IsStart b name attributes after → past white after ≡ 62 ∷ inner
+        → Stands around (60 ∷ b) → suc (length around) ≤ LEVEL_LIMIT → IsStart b name attributes after → past white after ≡ 62 ∷ inner
         → Content (suc (suc (length around))) inner children text rest
         → Stands (record { name = name; attributes = attributes; children = children; text = text } ∷ around) rest
 
@@ -27,7 +28,7 @@ module _ (whole : List ℕ) where
   pub record InTag (name : List ℕ) (attributes : List Attribute) (around : List OpenTree) (rest : List ℕ) : Type 0 where
     pub tag : List ℕ
     pub stands : Stands around (60 ∷ tag)
-    pub shallow : suc (length around) < 65
+    pub shallow : suc (length around) ≤ LEVEL_LIMIT
     pub start_is : IsStart tag name attributes rest
 
   -- reading stands in the value of this attribute of a tag
@@ -65,17 +66,17 @@ module _ (whole : List ℕ) where
     twice : {name rest : List ℕ} {attributes : List Attribute} {around : List OpenTree} → InTag name attributes around rest → (length (past white rest) == length rest) ≡ false
         → has_name (past white rest) ≡ true → is_among (names_of attributes) (name_at (past white rest)) ≡ true → IsFault AttributeTwice (past white rest)
     -- a start tag comes where 64 elements are open
-    deep : {around : List OpenTree} {rest : List ℕ} → Stands around (60 ∷ rest) → has_name rest ≡ true → 64 ≤ length around → IsFault TooDeep (60 ∷ rest)
+    deep : {around : List OpenTree} {rest : List ℕ} → Stands around (60 ∷ rest) → has_name rest ≡ true → LEVEL_LIMIT ≤ length around → IsFault TooDeep (60 ∷ rest)
 
 -- The refusal of a text: its kind and its place, which counts bytes from 0.
 pub data IsRefusal (bytes : List ℕ) : TreeKind → ℕ → Type 0 where
-  too_long : 4194304 < length bytes → IsRefusal bytes TooLong 4194304
+  too_long : MANIFEST_LIMIT < length bytes → IsRefusal bytes TooLong MANIFEST_LIMIT
   -- the place is that of the first byte that is no UTF-8
-  not_utf8 : {place : ℕ} → length bytes ≤ 4194304 → (IsUtf8 bytes → ⊥) → IsValidUpTo bytes place → IsRefusal bytes NotUtf8 place
-  other : {kind : TreeKind} {rest : List ℕ} {place : ℕ} → length bytes ≤ 4194304 → IsUtf8 bytes → IsFault bytes kind rest → place ≡ length bytes - length rest → IsRefusal bytes kind place
+  not_utf8 : {place : ℕ} → length bytes ≤ MANIFEST_LIMIT → (IsUtf8 bytes → ⊥) → IsValidUpTo bytes place → IsRefusal bytes NotUtf8 place
+  other : {kind : TreeKind} {rest : List ℕ} {place : ℕ} → length bytes ≤ MANIFEST_LIMIT → IsUtf8 bytes → IsFault bytes kind rest → place ≡ length bytes - length rest → IsRefusal bytes kind place
   -- the place is that of the first byte with which the bytes so far begin no text, or the end, and no other fault stands
   -- there or before it
-  syntax : {place : ℕ} → length bytes ≤ 4194304 → IsUtf8 bytes → IsLost bytes place → ((kind : TreeKind) (rest : List ℕ) → IsFault bytes kind rest → place < length bytes - length rest)
+  syntax : {place : ℕ} → length bytes ≤ MANIFEST_LIMIT → IsUtf8 bytes → IsLost bytes place → ((kind : TreeKind) (rest : List ℕ) → IsFault bytes kind rest → place < length bytes - length rest)
       → IsRefusal bytes Syntax place
 
 abbrev pub Refuses : List ℕ → TreeError → Type 0

@@ -1,6 +1,7 @@
 -- The text that is written of a tree, and of which trees one can be.
-use Rattle.std.specs.Prelude.{◌≡◌, ℕ, suc, ◌^◌, ◌<◌, ◌≤◌, Bool, true, false, ◌&&◌, not, ◌==◌, nat_lt, List, [], ◌∷◌, ◌++◌, Option, Some, None, if◌then◌else◌, unwrap_or, length, MatchOption, codes}
+use Rattle.std.specs.Prelude.{◌≡◌, ℕ, suc, ◌^◌, ◌<◌, ◌≤◌, Bool, true, false, ◌&&◌, not, ◌==◌, nat_le, List, [], ◌∷◌, ◌++◌, Option, Some, None, if◌then◌else◌, unwrap_or, length, MatchOption, codes}
 use Rattle.std.specs.List.{flat_map, list_all}
+use Rattle.small_types.specs.declared.limits.TheConstants.{LEVEL_LIMIT, MANIFEST_LIMIT}
 use Rattle.manifest_tree.specs.declared.node.Attribute.{Attribute}
 use Rattle.manifest_tree.specs.declared.write.WriteFault.{WriteFault}
 use Rattle.manifest_tree.specs.declared.write.WriteFault.TheVariants.{TooLong, Memory}
@@ -85,7 +86,7 @@ abbrev mutual
   -- an element at a level, the root's being 1, at most 64
   pub is_element : ℕ → Tree → Bool
   is_element level (tree name attributes children text) =
-      nat_lt level 65 && (is_name name && (are_attributes [] attributes && (is_content text && are_elements (suc level) children)))
+      nat_le level LEVEL_LIMIT && (is_name name && (are_attributes [] attributes && (is_content text && are_elements (suc level) children)))
 
   pub are_elements : ℕ → Trees → Bool
   are_elements level none = true
@@ -103,5 +104,5 @@ Counts n result = MatchOption result (2 ^ 64 ≤ n) (λ count. count ≡ n)
 
 -- why this text is not written: it is longer than the limit, and so long; or memory ran out
 abbrev pub IsUnwritten : List ℕ → WriteFault → Type 0
-IsUnwritten text (TooLong count) = (4194304 < length text) × (count ≡ length text)
+IsUnwritten text (TooLong count) = (MANIFEST_LIMIT < length text) × (count ≡ length text)
 IsUnwritten text Memory = Unit {0}

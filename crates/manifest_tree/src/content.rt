@@ -10,10 +10,8 @@ use crate::opened::{Position, Stack, add_text, close, start};
 use crate::scan::{aside, fault, has_name};
 use crate::tag::{end_tag, read_tag};
 use crate::units::read_data;
+use small_types::limits::LEVEL_LIMIT;
 use std::alloc::Global;
-
-// The greatest level of an element.
-const LEVELS: usize = 64;
 
 // A start tag or an end tag behind its `<`.
 fn read_element(alloc: Global, stack: Stack, bytes: &[u8]) -> Result<(Position, &[u8]), Stop>
@@ -33,7 +31,7 @@ fn read_element(alloc: Global, stack: Stack, bytes: &[u8]) -> Result<(Position, 
     if !has_name(bytes) {
         return fault(TreeKind::Syntax, bytes);
     }
-    if stack.below.len() >= LEVELS - 1 {
+    if stack.below.len() >= LEVEL_LIMIT - 1 {
         return Err(Stop::Fault {
             kind: TreeKind::TooDeep,
             left: bytes.len() + 1,

@@ -1,6 +1,7 @@
 // The whole text.
 ghost use Rattle.std.specs.Prelude.{◌≡◌, ◌<◌, ◌≤◌, ◌^◌, [], length, IfOk, IfErr};
 ghost use Rattle.std.specs.Str.{IsUtf8};
+ghost use Rattle.small_types.specs.declared.limits.TheConstants as limits;
 ghost use Rattle.manifest_tree.specs.Grammar.{Spells, SpellsTree};
 ghost use Rattle.manifest_tree.specs.Refusals.{Refuses, Answers};
 ghost use Rattle.manifest_tree.specs.Lexis.{name_byte, past, name_at};
@@ -16,10 +17,8 @@ use crate::node::Node;
 use crate::opened::{Position, start};
 use crate::scan::{aside, begin, fault, has_name};
 use crate::tag::read_tag;
+use small_types::limits::MANIFEST_LIMIT;
 use std::alloc::Global;
-
-// The greatest length of a text, in bytes.
-const LENGTH: usize = 4_194_304;
 
 // What stands from the root's name on, behind white space, comments and instructions.
 fn root_at(bytes: &[u8]) -> Result<&[u8], Stop>
@@ -123,7 +122,7 @@ fn refusal(kind: TreeKind, place: usize) -> TreeError
 
 // The tree of a text that is UTF-8 and not too long.
 fn tree_in(alloc: Global, bytes: &[u8]) -> Result<Node, TreeError>
-    requires short { length bytes.now ≤ 4194304 }
+    requires short { length bytes.now ≤ limits.MANIFEST_LIMIT }
     requires utf8 { IsUtf8 bytes.now }
     ensures spelled { IfOk result (λ node. Spells bytes.now node) }
     ensures only { (t : Tree) → SpellsTree bytes.now t → Answers t result }
@@ -150,8 +149,8 @@ pub fn read_tree(alloc: Global, bytes: &[u8]) -> Result<Node, TreeError>
     // A refusal is the text's.
     ensures refused { IfErr result (λ e. Refuses bytes.now e) }
 {
-    if bytes.len() > LENGTH {
-        return Err(refusal(TreeKind::TooLong, LENGTH));
+    if bytes.len() > MANIFEST_LIMIT {
+        return Err(refusal(TreeKind::TooLong, MANIFEST_LIMIT));
     }
     match std::str::from_utf8(bytes) {
         Ok(_) => tree_in(alloc, bytes),

@@ -1,6 +1,7 @@
 // The text of a tree.
 ghost use Rattle.std.specs.Prelude.{◌≡◌, ◌<◌, ◌^◌, length, IsTrue, OnOk, IfOk, IfErr, Err};
 ghost use Rattle.std.specs.Str.{IsUtf8};
+ghost use Rattle.small_types.specs.declared.limits.TheConstants as limits;
 ghost use Rattle.manifest_tree.specs.declared.write.WriteFault.TheVariants.{Memory};
 ghost use Rattle.manifest_tree.specs.Grammar.{Spells};
 ghost use Rattle.manifest_tree.specs.Tree.{tree_of};
@@ -15,11 +16,11 @@ use crate::node::Node;
 use measure::count_element;
 use node::push_element;
 use small_types::Bytes;
+use small_types::limits::MANIFEST_LIMIT;
 use std::alloc::{AllocError, Global};
+use std::error::Error;
+use std::fmt;
 pub use writable::is_writable;
-
-// The greatest length of a text, in bytes.
-const LIMIT: u64 = 4_194_304;
 
 // What stands before the element.
 const DECLARATION: &[u8; 39] = b"<?xml version=\"1.0\" encoding=\"utf-8\"?>\n";
@@ -35,6 +36,17 @@ pub enum WriteFault {
     /// Memory ran out, or the text has 2^64 bytes or more, which no memory holds.
     Memory,
 }
+
+impl fmt::Display for WriteFault {
+    fn fmt<W: fmt::Write>(&self, f: &mut fmt::Formatter<W>) -> fmt::Result {
+        match self {
+            WriteFault::TooLong { length } => { write!(f, "{length} bytes, over {MANIFEST_LIMIT}") }
+            WriteFault::Memory => write!(f, "out of memory"),
+        }
+    }
+}
+
+impl Error for WriteFault {}
 
 impl From<AllocError> for WriteFault {
     ghost from_gives = { λ _ e. e ≡ Memory };
@@ -70,7 +82,7 @@ pub fn write_tree(alloc: Global, node: &Node) -> Result<Bytes, WriteFault>
     ensures read_back { IfOk result (λ text. Spells text node.now) }
     // A text that is too long is told as such, with its length.
     ensures too_long { let count = length (written (tree_of node.now)) in
-        4194304 < count → count < 2 ^ 64 → result ≡ Err (WriteFault.TooLong count) }
+        limits.MANIFEST_LIMIT < count → count < 2 ^ 64 → result ≡ Err (WriteFault.TooLong count) }
     // No other is.
     ensures fault { IfErr result (IsUnwritten (written (tree_of node.now))) }
 {
@@ -78,7 +90,7 @@ pub fn write_tree(alloc: Global, node: &Node) -> Result<Bytes, WriteFault>
     let Some(length) = count_element(around, node) else {
         return Err(WriteFault::Memory);
     };
-    if length > LIMIT {
+    if length > MANIFEST_LIMIT as u64 {
         return Err(WriteFault::TooLong { length });
     }
     Ok(text_of(alloc, node, length)?)

@@ -10,9 +10,7 @@ ghost use Rattle.manifest_tree.specs.Writing.{is_name as is_whole_name, is_conte
 use crate::classes::{is_allowed, is_name as is_name_byte};
 use crate::node::{Attribute, Node};
 use crate::scan::has_name;
-
-// The greatest level of an element.
-const LEVELS: u8 = 64;
+use small_types::limits::LEVEL_LIMIT;
 
 // Each byte is one that a name may hold.
 fn are_name_bytes(bytes: &[u8]) -> bool
@@ -76,10 +74,10 @@ fn is_own_part(node: &Node) -> bool
         && is_content(node.text.as_bytes())
 }
 
-fn is_element(node: &Node, level: u8) -> bool
+fn is_element(node: &Node, level: usize) -> bool
     ensures { result ≡ is_element_at level (tree_of node.now) }
 {
-    if level > LEVELS || !is_own_part(node) {
+    if level > LEVEL_LIMIT || !is_own_part(node) {
         return false;
     }
     for child in &node.children {

@@ -8,12 +8,12 @@ use Rattle.manifest_tree.proofs.write.write_tree.Goals as goal
 pub returns-in_default-clause-too_long : goal.returns-in_default-clause-too_long
 returns-in_default-clause-too_long c = λ long fits. absurd (omega (arith, length-written (tree_of c.args.node.now), c.in_default.ensures))
 
-pub returns-then-length-gt-LIMIT-clause-too_long : goal.returns-then-length-gt-LIMIT-clause-too_long
-returns-then-length-gt-LIMIT-clause-too_long c = λ long fits.
+pub returns-then-length-clause-too_long : goal.returns-then-length-clause-too_long
+returns-then-length-clause-too_long c = λ long fits.
     let counted : c.in-Some.length ≡ length (written (tree_of c.args.node.now)) = c.in-Some.ensures ∙ sym (length-written (tree_of c.args.node.now)) in cc
 
-pub returns-then-length-gt-LIMIT-clause-fault : goal.returns-then-length-gt-LIMIT-clause-fault
-returns-then-length-gt-LIMIT-clause-fault c = (omega (arith, length-written (tree_of c.args.node.now), c.in-Some.ensures), omega (arith, length-written (tree_of c.args.node.now), c.in-Some.ensures))
+pub returns-then-length-clause-fault : goal.returns-then-length-clause-fault
+returns-then-length-clause-fault c = (omega (arith, length-written (tree_of c.args.node.now), c.in-Some.ensures), omega (arith, length-written (tree_of c.args.node.now), c.in-Some.ensures))
 
 pub returns-in_err-text_of-clause-too_long : goal.returns-in_err-text_of-clause-too_long
 returns-in_err-text_of-clause-too_long c = λ long fits. absurd (omega (arith, length-written (tree_of c.args.node.now), c.in-Some.ensures))
