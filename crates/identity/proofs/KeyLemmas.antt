@@ -1,7 +1,7 @@
 -- What is written of a key is read again.
-use Rattle.std.proofs.Common.{◌≡◌, ◌≢◌, ℕ, ◌<◌, ◌≤◌, ◌+◌, ◌/◌, Bool, true, false, cond, not, ◌==◌, ◌||◌, ◌&&◌, nat_lt, nat_le, List, [], ◌∷◌, ◌++◌, length, Option, Some, None, MatchOption, Result, Ok, Err, IfOk, All, IsUtf8, refl, sym, ap, ap₂, subst, ◌∙◌, inl, inr, arith}
+use Rattle.std.proofs.Common.{◌≡◌, ◌≢◌, ℕ, ◌<◌, ◌≤◌, ◌+◌, ◌/◌, Bool, true, false, not, ◌==◌, ◌||◌, ◌&&◌, nat_lt, nat_le, List, [], ◌∷◌, ◌++◌, length, Result, Ok, Err, IfOk, All, IsUtf8, refl, sym, ap, ap₂, subst, ◌∙◌, inl, inr, arith}
 use Rattle.std.specs.Str.{is_utf8}
-use Rattle.std.proofs.lemmas.Bool.{agree_below, agree_below_at, and_parts, cases_Bool, cases_lt, ne_eqb, lt-ltb, le-leb, cond_both, cond-true, cond-false, false_from_ne_true, ltb-true, leb-true}
+use Rattle.std.proofs.lemmas.Bool.{agree_below, agree_below_at, and_parts, cases_Bool, cases_lt, ne_eqb, lt-ltb, le-leb, cond_both, cond-true, cond-false, ltb-true, leb-true}
 use Rattle.std.proofs.lemmas.Bool.Decides.{nat_tests}
 use Rattle.std.proofs.lemmas.List.Elements.{All-nil, All-cons, All-append, All-same}
 use Rattle.std.proofs.lemmas.Str.{IsUtf8-from_is_utf8, is_utf8-from_IsUtf8}
@@ -10,13 +10,14 @@ use Rattle.percent_encoding.specs.declared.ascii_set.AsciiSet.{AsciiSet}
 use Rattle.percent_encoding.specs.AsciiSet.{contains, should_percent_encode}
 use Rattle.percent_encoding.specs.Percent.{percent_encode, percent_decode}
 use Rattle.percent_encoding.proofs.PercentLemmas.{IsByte, IsEscapeByte, All-percent_encode, round_trip}
+use Rattle.small_types.specs.declared.limits.TheConstants.{IDENTITY_PART_LIMIT, NAME_LIMIT}
 use Rattle.identity.specs.declared.key.Key.{Key}
 use Rattle.identity.specs.declared.key.KeyFault.{KeyFault}
-use Rattle.identity.specs.declared.key.KeyFault.TheVariants.{PartCount, BadPart, Memory}
-use Rattle.identity.specs.declared.key.TheConstants.{PART_ESCAPES, WORD_ESCAPES}
+use Rattle.identity.specs.declared.key.KeyFault.TheVariants.{PartCount, BadPart}
+use Rattle.identity.specs.declared.escapes.TheConstants.{PART_ESCAPES, WORD_ESCAPES}
 use Rattle.small_types.specs.Cuts.{parts_between}
 use Rattle.small_types.specs.Reading.{◌>>=◌}
-use Rattle.identity.specs.Key.{comma, name_limit, short_limit, is_unreserved, escaped, word_text, part_text, key_text, IsPart, IsKey, is_part, part_of, key_of_parts, key_of, Gives}
+use Rattle.identity.specs.Key.{comma, is_unreserved, escaped, word_text, part_text, key_text, IsPart, IsKey, is_part, part_of, key_of_parts, key_of, Gives}
 use Rattle.identity.proofs.PartsLemmas.{HasNo, four_joined}
 
 -- ---- the sets
@@ -143,7 +144,7 @@ unfolding key_of key_of_parts key_text
 key_read-key_text k is =
     let parts = four_joined comma (part_text k.name) (part_text k.token) (part_text k.language) (part_text k.architecture)
     (part_no_comma k.name) (part_no_comma k.token) (part_no_comma k.language) (part_no_comma k.architecture) in
-    ap key_of_parts parts ∙ rw (part_of-part_text 1 name_limit k.name is.name, part_of-part_text 2 short_limit k.token is.token, part_of-part_text 3 short_limit k.language is.language, part_of-part_text 4 short_limit k.architecture is.architecture) refl
+    ap key_of_parts parts ∙ rw (part_of-part_text 1 NAME_LIMIT k.name is.name, part_of-part_text 2 IDENTITY_PART_LIMIT k.token is.token, part_of-part_text 3 IDENTITY_PART_LIMIT k.language is.language, part_of-part_text 4 IDENTITY_PART_LIMIT k.architecture is.architecture) refl
 
 abbrev done : Key → Result Key KeyFault
 done k = Ok k
@@ -156,10 +157,6 @@ key_text_injective a b is_a is_b same =
 
 -- ---- what is read
 
--- what is a part passes the test
-pub part_passes : (limit : ℕ) (text : List ℕ) → IsPart limit text → is_part limit text ≡ true
-part_passes limit text is = rw (lt-ltb 0 (length text) is.nonempty, le-leb (length text) limit is.within, is_utf8-from_IsUtf8 text is.utf8) refl
-
 -- what passes the test is a part
 pub part_from_passes : (limit : ℕ) (text : List ℕ) → is_part limit text ≡ true → IsPart limit text
 part_from_passes limit text passes =
@@ -170,18 +167,6 @@ part_from_passes limit text passes =
       within = leb-true (length text) limit lengths.1;
       utf8 = IsUtf8-from_is_utf8 text parts.1;
     }
-
--- what has the lengths of a part is one exactly where it is UTF-8
-pub text_within : (limit : ℕ) (text : List ℕ) (r : Option (List ℕ)) → 0 < length text → length text ≤ limit → MatchOption r (¬ IsUtf8 text) (λ t. (t ≡ text) × IsUtf8 text) → r ≡ cond (is_part limit text) (Some text) None
-text_within limit text None some short is =
-    sym (cond-false _ _ _ (false_from_ne_true (is_part limit text) (λ passes. is (part_from_passes limit text passes).utf8)))
-text_within limit text (Some t) some short is =
-    ap (λ (x : List ℕ). Some x) is.0 ∙ sym (cond-true _ _ _ (part_passes limit text (record { nonempty = some; within = short; utf8 = is.1 })))
-
--- what has other lengths is none
-pub not_within : (limit : ℕ) (text : List ℕ) → (0 < length text → length text ≤ limit → ⊥) → None ≡ cond (is_part limit text) (Some text) None
-not_within limit text never =
-    sym (cond-false _ _ _ (false_from_ne_true (is_part limit text) (λ passes. never (part_from_passes limit text passes).nonempty (part_from_passes limit text passes).within)))
 
 abbrev texts : List ℕ → Result (List ℕ) KeyFault
 texts t = Ok t
@@ -204,17 +189,17 @@ bind_ok (Err d) f y e = absurd cc
 parts_read : (first second third fourth : List ℕ) (k : Key) → key_of_parts (first ∷ second ∷ third ∷ fourth ∷ []) ≡ Ok k → IsKey k
 unfolding key_of_parts
 parts_read first second third fourth k read =
-    let n = bind_ok (part_of 1 name_limit first) _ k read in
-    let t = bind_ok (part_of 2 short_limit second) _ k n.2 in
-    let l = bind_ok (part_of 3 short_limit third) _ k t.2 in
-    let a = bind_ok (part_of 4 short_limit fourth) _ k l.2 in
+    let n = bind_ok (part_of 1 NAME_LIMIT first) _ k read in
+    let t = bind_ok (part_of 2 IDENTITY_PART_LIMIT second) _ k n.2 in
+    let l = bind_ok (part_of 3 IDENTITY_PART_LIMIT third) _ k t.2 in
+    let a = bind_ok (part_of 4 IDENTITY_PART_LIMIT fourth) _ k l.2 in
     let same : done (record { name = n.0; token = t.0; language = l.0; architecture = a.0 }) ≡ done k = a.2 in
     let is : record { name = n.0; token = t.0; language = l.0; architecture = a.0 } ≡ k = cc in
     subst IsKey is (record {
-      name = part_read 1 name_limit first n.0 n.1;
-      token = part_read 2 short_limit second t.0 t.1;
-      language = part_read 3 short_limit third l.0 l.1;
-      architecture = part_read 4 short_limit fourth a.0 a.1;
+      name = part_read 1 NAME_LIMIT first n.0 n.1;
+      token = part_read 2 IDENTITY_PART_LIMIT second t.0 t.1;
+      language = part_read 3 IDENTITY_PART_LIMIT third l.0 l.1;
+      architecture = part_read 4 IDENTITY_PART_LIMIT fourth a.0 a.1;
     })
 
 many_parts : (parts : List (List ℕ)) (k : Key) → key_of_parts parts ≡ Ok k → IsKey k
@@ -235,49 +220,3 @@ IsKey-from_read bytes k read = many_parts (parts_between comma bytes) k read
 pub IsKey-from_gives : (r : Result Key KeyFault) (bytes : List ℕ) → Gives r (key_of bytes) → IfOk r IsKey
 IsKey-from_gives (Ok k) bytes gives = IsKey-from_read bytes k gives
 IsKey-from_gives (Err e) bytes gives = tt
-
--- ---- reading has no want of memory
-
-abbrev wrong_texts : ℕ → Result (List ℕ) KeyFault
-wrong_texts part = Err (BadPart part)
-
-abbrev failed_with : (B : Type 0) → KeyFault → Result B KeyFault
-failed_with B e = Err e
-
-err_is : {B : Type 0} (e : KeyFault) → failed_with B e ≡ failed_with B Memory → e ≡ Memory
-err_is e is = cc
-
-part_never : (part limit : ℕ) (bytes : List ℕ) → part_of part limit bytes ≢ Err Memory
-unfolding part_of
-part_never part limit bytes is = elim (cases_Bool (is_part limit (percent_decode bytes))) [
-  | inl passes ↦ let failed : Err Memory ≡ texts (percent_decode bytes) = sym is ∙ cond-true _ _ _ passes in cc
-  | inr fails ↦ let failed : Err Memory ≡ wrong_texts part = sym is ∙ cond-false _ _ _ fails in cc
-]
-
-bind_never : {A B : Type 0} (r : Result A KeyFault) (f : A → Result B KeyFault) → r ≢ Err Memory → ((x : A) → f x ≢ Err Memory) → (r >>= f) ≢ Err Memory
-bind_never (Ok x) f first then is = then x is
-bind_never (Err e) f first then is = first (ap (λ (d : KeyFault). Err d) (err_is e is))
-
-parts_never : (parts : List (List ℕ)) → key_of_parts parts ≢ Err Memory
-unfolding key_of_parts
-parts_never [] is = absurd cc
-parts_never (a ∷ []) is = absurd cc
-parts_never (a ∷ b ∷ []) is = absurd cc
-parts_never (a ∷ b ∷ c ∷ []) is = absurd cc
-parts_never (a ∷ b ∷ c ∷ d ∷ []) is =
-    bind_never (part_of 1 name_limit a) _ (part_never 1 name_limit a) (λ name.
-    bind_never (part_of 2 short_limit b) _ (part_never 2 short_limit b) (λ token.
-    bind_never (part_of 3 short_limit c) _ (part_never 3 short_limit c) (λ language.
-    bind_never (part_of 4 short_limit d) _ (part_never 4 short_limit d) (λ architecture never. absurd cc)))) is
-parts_never (a ∷ b ∷ c ∷ d ∷ e ∷ more) is = absurd cc
-
-pub key_of_never_memory : (bytes : List ℕ) → key_of bytes ≢ Err Memory
-unfolding key_of
-key_of_never_memory bytes = parts_never (parts_between comma bytes)
-
--- a call that did not want memory gives just what reading gives
-pub same_from_gives : {X : Type 0} (r read : Result X KeyFault) → Gives r read → r ≢ Err Memory → r ≡ read
-same_from_gives (Ok x) read gives other = sym gives
-same_from_gives (Err Memory) read gives other = absurd (other refl)
-same_from_gives (Err PartCount) read gives other = sym gives
-same_from_gives (Err (BadPart part)) read gives other = sym gives

@@ -1,3 +1,4 @@
 pub mod KeyLemmas
 pub mod PartsLemmas
+pub mod PrintedLemmas
 pub mod VersionLemmas

@@ -1,27 +1,18 @@
 -- What is written of a version is read again.
-use Rattle.std.proofs.Common.{◌≡◌, ◌≢◌, ℕ, ◌^◌, ◌+◌, ◌-◌, ◌<◌, ◌≤◌, true, false, cond, ◌==◌, nat_lt, List, [], ◌∷◌, length, take, drop, ◌++◌, Some, None, Result, Ok, Err, decimal, refl, sym, ap, ap₂, subst, ◌∙◌, inl, inr, arith, rules, append_assoc, take-append-drop}
+use Rattle.std.proofs.Common.{◌≡◌, ◌≢◌, ℕ, ◌^◌, ◌+◌, ◌-◌, ◌<◌, ◌≤◌, true, false, ◌==◌, List, [], ◌∷◌, length, take, drop, ◌++◌, Ok, Err, decimal, refl, sym, ap, ap₂, subst, ◌∙◌, inl, inr, arith, append_assoc, take-append-drop}
 use Rattle.std.specs.Char.{is_ascii_digit}
 use Rattle.std.specs.List.{list_all}
 use Rattle.std.specs.Ordering.{is_lt}
-use Rattle.std.specs.Result.{OkIff, result_ok}
-use Rattle.std.specs.Str.Parse.{digits_value, ParsesUnsigned}
-use Rattle.std.proofs.lemmas.Bool.{and_parts, ne_eqb, le-ltb, lt-ltb, both_ways, cases_lt, cases_Bool, cond-true, cond-false}
+use Rattle.std.proofs.lemmas.Bool.{and_parts, ne_eqb, le-ltb, both_ways, cases_Bool, cond-true, cond-false}
 use Rattle.std.proofs.lemmas.Bool.Decides.{nat_tests}
 use Rattle.std.proofs.lemmas.List.{length-append, drop-drop}
 use Rattle.std.proofs.lemmas.List.Elements.{All-nil, All-cons}
-use Rattle.std.proofs.lemmas.Str.Parse.{IsNumeralModel, numerals_by_value, parse_digits}
 use Rattle.std.proofs.lemmas.Fmt.{digits_decimal, digits_value-decimal, length-decimal-le, decimal_nonempty}
+use Rattle.small_types.proofs.DecimalLemmas.{AreDigits, own}
 use Rattle.identity.specs.declared.version.Version.{Version}
 use Rattle.identity.specs.declared.version.VersionFault.TheVariants.{PartCount}
 use Rattle.identity.specs.Version.{dot, IsVersion, IsBelow, version_cmp, greater_of, version_text, number_of, version_of_parts, version_of}
 use Rattle.identity.proofs.PartsLemmas.{HasNo, four_joined}
-
--- each byte is a digit
-abbrev pub AreDigits : List ℕ → Type 0
-AreDigits bytes = list_all is_ascii_digit bytes ≡ true
-
-pub own : IsNumeralModel AreDigits (digits_value 10)
-own = numerals_by_value AreDigits (search rules)
 
 digits_no_dot : (bytes : List ℕ) → AreDigits bytes → HasNo dot bytes
 digits_no_dot [] digits = All-nil _
@@ -60,16 +51,6 @@ version_read-version_text v fits =
     let d = digits_decimal own v.d (omega arith) in
     let parts = four_joined dot (decimal v.a) (decimal v.b) (decimal v.c) (decimal v.d) (digits_no_dot _ a) (digits_no_dot _ b) (digits_no_dot _ c) (digits_no_dot _ d) in
     ap version_of_parts parts ∙ rw (number_of-decimal 1 v.a fits.a, number_of-decimal 2 v.b fits.b, number_of-decimal 3 v.c fits.c, number_of-decimal 4 v.d fits.d) refl
-
-number_or_none : {E : Type 0} (r : Result ℕ E) (bytes : List ℕ) → 0 < length bytes → OkIff r ((0 < length bytes) × (digits_value 10 bytes < 2 ^ 16)) (digits_value 10 bytes) → result_ok r ≡ cond (nat_lt 65535 (digits_value 10 bytes)) None (Some (digits_value 10 bytes))
-number_or_none (Ok n) bytes some is =
-    ap (λ (x : ℕ). Some x) is.1 ∙ sym (cond-false _ _ _ (le-ltb 65535 (digits_value 10 bytes) (let small = is.0.1 in omega arith)))
-number_or_none (Err e) bytes some never =
-    sym (cond-true _ _ _ (lt-ltb 65535 (digits_value 10 bytes) (elim (cases_lt (digits_value 10 bytes) (2 ^ 16)) [ inl small ↦ absurd (never (some, small)) | inr large ↦ omega arith ])))
-
--- what parses digits gives their number, where it fits
-pub parsed : {E : Type 0} (r : Result ℕ E) (bytes : List ℕ) → AreDigits bytes → 0 < length bytes → ParsesUnsigned 16 10 bytes r → result_ok r ≡ cond (nat_lt 65535 (digits_value 10 bytes)) None (Some (digits_value 10 bytes))
-parsed r bytes digits some parses = number_or_none r bytes some (parse_digits own 16 bytes r parses digits)
 
 -- ---- writing in place
 

@@ -1,25 +1,19 @@
 -- Application keys: four texts, written word-escaped with commas between them.
-use Rattle.std.specs.Prelude.{◌≡◌, ℕ, ◌<◌, ◌≤◌, Bool, List, [], ◌∷◌, length, Result, Ok, Err, ◌==◌, ◌&&◌, ◌||◌, nat_lt, nat_le, if◌then◌else◌}
+use Rattle.std.specs.Prelude.{ℕ, ◌<◌, ◌≤◌, Bool, true, false, List, [], ◌∷◌, length, Result, Ok, Err, ◌==◌, ◌&&◌, ◌||◌, nat_lt, nat_le, if◌then◌else◌}
 use Rattle.std.specs.Char.{is_ascii_alphanumeric}
 use Rattle.std.specs.List.{join_with_byte, flat_map}
 use Rattle.std.specs.Str.{IsUtf8, is_utf8}
 use Rattle.percent_encoding.specs.Percent.{percent_encode_byte, percent_decode}
+use Rattle.small_types.specs.declared.limits.TheConstants.{IDENTITY_PART_LIMIT, NAME_LIMIT}
 use Rattle.identity.specs.declared.key.Key.{Key}
 use Rattle.identity.specs.declared.key.KeyFault.{KeyFault}
 use Rattle.identity.specs.declared.key.KeyFault.TheVariants.{PartCount, BadPart, Memory}
 use Rattle.small_types.specs.Cuts.{parts_between}
-use Rattle.small_types.specs.Reading.{◌>>=◌}
+use Rattle.small_types.specs.Reading.{◌>>=◌, FailsBut, GivesBut}
 
 -- `,`
 abbrev pub comma : ℕ
 comma = 44
-
--- the most bytes that a name, and each other part, has
-abbrev pub name_limit : ℕ
-name_limit = 240
-
-abbrev pub short_limit : ℕ
-short_limit = 64
 
 -- letters, digits, `-`, `.`, `_` and `~`
 abbrev pub is_unreserved : ℕ → Bool
@@ -48,10 +42,10 @@ pub record IsPart (limit : ℕ) (text : List ℕ) : Type 0 where
   pub utf8 : IsUtf8 text
 
 pub record IsKey (key : Key) : Type 0 where
-  pub name : IsPart name_limit key.name
-  pub token : IsPart short_limit key.token
-  pub language : IsPart short_limit key.language
-  pub architecture : IsPart short_limit key.architecture
+  pub name : IsPart NAME_LIMIT key.name
+  pub token : IsPart IDENTITY_PART_LIMIT key.token
+  pub language : IsPart IDENTITY_PART_LIMIT key.language
+  pub architecture : IsPart IDENTITY_PART_LIMIT key.architecture
 
 -- the same as a test
 abbrev pub is_part : ℕ → List ℕ → Bool
@@ -65,10 +59,10 @@ part_of part limit bytes =
 -- there are four parts, which are read from the left
 unfoldable pub key_of_parts : List (List ℕ) → Result Key KeyFault
 key_of_parts (first ∷ second ∷ third ∷ fourth ∷ []) = do
-  name ← part_of 1 name_limit first
-  token ← part_of 2 short_limit second
-  language ← part_of 3 short_limit third
-  architecture ← part_of 4 short_limit fourth
+  name ← part_of 1 NAME_LIMIT first
+  token ← part_of 2 IDENTITY_PART_LIMIT second
+  language ← part_of 3 IDENTITY_PART_LIMIT third
+  architecture ← part_of 4 IDENTITY_PART_LIMIT fourth
   Ok (record { name = name; token = token; language = language; architecture = architecture })
 key_of_parts _ = Err PartCount
 
@@ -76,12 +70,16 @@ key_of_parts _ = Err PartCount
 unfoldable pub key_of : List ℕ → Result Key KeyFault
 key_of bytes = key_of_parts (parts_between comma bytes)
 
+-- want of memory is no fault of the word
+abbrev pub is_memory : KeyFault → Bool
+is_memory Memory = true
+is_memory PartCount = false
+is_memory (BadPart part) = false
+
 -- an error of a call is that of the reading, unless memory ran out
 abbrev pub Fails : {X : Type 0} → KeyFault → Result X KeyFault → Type 0
-Fails Memory read = Unit {0}
-Fails e read = read ≡ Err e
+Fails e read = FailsBut is_memory e read
 
 -- a call gives what the reading gives, unless memory ran out
 abbrev pub Gives : {X : Type 0} → Result X KeyFault → Result X KeyFault → Type 0
-Gives (Ok x) read = read ≡ Ok x
-Gives (Err e) read = Fails e read
+Gives {X} result read = GivesBut is_memory (λ (x : X). x) result read

@@ -1,32 +1,24 @@
-ghost use Rattle.std.specs.Prelude.{◌≡◌, ◌↔◌, [], ◌∷◌, ◌++◌, Some, None, MatchOption, IfOk, IsTrue, OnOk, OnErr, Ok, string_bytes, if◌then◌else◌};
-ghost use Rattle.std.specs.Str.{IsUtf8};
+ghost use Rattle.std.specs.Prelude.{◌≡◌, ◌↔◌, ◌<◌, ◌≤◌, [], ◌∷◌, ◌++◌, length, IfSome, IfNone, IfOk, IfErr, IsOk, IsTrue, OnOk, Ok, Err, string_bytes};
+ghost use Rattle.std.specs.Str.{IsUtf8, is_utf8};
+ghost use Rattle.small_types.specs.declared.limits.TheConstants as limits;
 ghost use Rattle.percent_encoding.specs.Percent as percent;
 ghost use Rattle.identity.specs.declared.key.Key.{Key};
+ghost use Rattle.identity.specs.declared.key.KeyFault.TheVariants.{Memory};
 ghost use Rattle.identity.specs.Key.{IsKey, IsPart, is_part, Gives, key_of, key_text, key_of_parts, part_of, part_text, word_text};
+ghost use Rattle.identity.specs.Printed.{Follows, text_cmp};
 
 use crate::PrintFault;
+use crate::escapes::{PART_ESCAPES, WORD_ESCAPES};
 use crate::parts::{FourParts, four_parts};
+use crate::printed::{past_next, past_part};
+use arrayvec::ArrayVec;
+use percent_encoding::{percent_decode, percent_encode};
+use small_types::limits::{IDENTITY_PART_LIMIT, NAME_LIMIT};
 use small_types::{CopyFault, Duplicate, Text};
-use percent_encoding::{AsciiSet, NON_ALPHANUMERIC, ascii_set, percent_decode, percent_encode};
 use std::alloc::{AllocError, Global};
-
-// What a part of a key escapes: each byte but letters, digits, `-`, `.`, `_` and `~`.
-const PART_ESCAPES: AsciiSet = ascii_set!(
-    NON_ALPHANUMERIC
-        .remove(b'-')
-        .remove(b'.')
-        .remove(b'_')
-        .remove(b'~')
-);
-
-// What another word escapes: it keeps `/` too.
-const WORD_ESCAPES: AsciiSet = ascii_set!(PART_ESCAPES.remove(b'/'));
-
-// The most bytes of a name.
-const NAME_LIMIT: usize = 240;
-
-// The most bytes of a token, a language or an architecture.
-const SHORT_LIMIT: usize = 64;
+use std::cmp::Ordering;
+use std::error::Error;
+use std::fmt;
 
 /// The key of an application: what two versions of one application share.
 #[derive(Drop, Debug, PartialEq, Eq)]
@@ -52,9 +44,21 @@ pub enum KeyFault {
     Memory,
 }
 
-impl From<AllocError> for KeyFault {
-    ghost use Rattle.identity.specs.declared.key.KeyFault.TheVariants.{Memory};
+impl fmt::Display for KeyFault {
+    fn fmt<W: fmt::Write>(&self, f: &mut fmt::Formatter<W>) -> fmt::Result {
+        match self {
+            KeyFault::PartCount => write!(f, "not four parts between commas"),
+            KeyFault::BadPart { part } => {
+                write!(f, "part {part} is empty, too long or no UTF-8")
+            }
+            KeyFault::Memory => write!(f, "out of memory"),
+        }
+    }
+}
 
+impl Error for KeyFault {}
+
+impl From<AllocError> for KeyFault {
     ghost from_gives = { λ _ e. e ≡ Memory };
 
     fn from(_: AllocError) -> KeyFault {
@@ -73,51 +77,79 @@ impl Duplicate for Key {
     }
 }
 
-// The text of the bytes, where they are UTF-8.
-fn text_of(bytes: Vec<u8>) -> Option<Text>
-    ensures { MatchOption result (¬ IsUtf8 bytes.items) (λ t. (t ≡ bytes.items) × IsUtf8 bytes.items) }
+// The bytes without their escapes, where they are no longer than a name.
+fn decode_here(bytes: &[u8]) -> Option<ArrayVec<u8, NAME_LIMIT>>
+    ensures decoded { IfSome result (λ t. t.items ≡ percent.percent_decode bytes.now) }
+    ensures long { IfNone result (limits.NAME_LIMIT < length (percent.percent_decode bytes.now)) }
 {
-    let Ok(text) = String::from_utf8(bytes) else {
-        return None;
-    };
-    Some(Text::from_string(text))
-}
-
-// The text of the bytes, where they are a part.
-fn text_within(bytes: Vec<u8>, limit: usize) -> Option<Text>
-    ensures { result ≡ (if is_part limit bytes.items then Some bytes.items else None) }
-{
-    if bytes.is_empty() || bytes.len() > limit {
-        return None;
+    let mut text = ArrayVec::new();
+    for byte in percent_decode(bytes) {
+        if text.is_full() {
+            return None;
+        }
+        text.push(byte);
     }
-    text_of(bytes)
+    Some(text)
 }
 
-// The text that stands as that part.
-#[tactic(auto, unfolding(crate::specs::Key::part_of))]
-fn read_part(alloc: Global, part: u8, limit: usize, bytes: &[u8]) -> Result<Text, KeyFault>
-    ensures { Gives result (part_of part limit bytes.now) }
+// Whether the bytes are UTF-8.
+#[tactic(auto, using(small_types::proofs::Spelling::spelled, small_types::proofs::Spelling::unspelled))]
+fn is_text(bytes: &[u8]) -> bool
+    ensures { result ≡ is_utf8 bytes.now }
 {
-    let mut decoded = Vec::new(alloc);
-    percent_decode(bytes).append_to(&mut decoded)?;
-    text_within(decoded, limit).ok_or(KeyFault::BadPart { part })
+    str::from_utf8(bytes).is_ok()
 }
 
-// The key of the four parts.
+// Whether the text is a part.
+fn is_part(limit: usize, text: &[u8]) -> bool
+    ensures { result ≡ is_part limit text.now }
+{
+    !text.is_empty() && text.len() <= limit && is_text(text)
+}
+
+// The text that stands as that part, in place.
+#[tactic(auto, unfolding(crate::specs::Key::part_of))]
+fn part_here(part: u8, limit: usize, bytes: &[u8]) -> Result<ArrayVec<u8, NAME_LIMIT>, KeyFault>
+    requires { limit ≤ limits.NAME_LIMIT }
+    ensures ok { IfOk result (λ t. part_of part limit bytes.now ≡ Ok t.items) }
+    ensures utf8 { IfOk result (λ t. IsUtf8 t.items) }
+    ensures err { IfErr result (λ e. part_of part limit bytes.now ≡ Err e) }
+    ensures bad { IfErr result (λ e. e ≡ KeyFault.BadPart part) }
+{
+    match decode_here(bytes) {
+        Some(text) if is_part(limit, &text) => Ok(text),
+        _ => Err(KeyFault::BadPart { part }),
+    }
+}
+
+// The text of these bytes.
+fn text_of(alloc: Global, bytes: &[u8]) -> Result<Text, AllocError>
+    requires { IsUtf8 bytes.now }
+    ensures { IfOk result (λ t. t ≡ bytes.now) }
+{
+    let Ok(text) = str::from_utf8(bytes) else {
+        unreachable!();
+    };
+    Ok(Text::from_string(String::from_str(alloc, text)?))
+}
+
+// The key of the four parts. Each part is tested before memory is taken.
 #[tactic(auto, unfolding(crate::specs::Key::key_of_parts))]
 fn read_parts(alloc: Global, parts: &FourParts) -> Result<Key, KeyFault>
-    ensures { Gives result
+    ensures exact { Gives result
+        (key_of_parts (parts.now.first.now ∷ parts.now.second.now ∷ parts.now.third.now ∷ parts.now.fourth.now ∷ [])) }
+    ensures memory { result ≡ Err Memory → IsOk
         (key_of_parts (parts.now.first.now ∷ parts.now.second.now ∷ parts.now.third.now ∷ parts.now.fourth.now ∷ [])) }
 {
-    let name = read_part(alloc, 1, NAME_LIMIT, parts.first)?;
-    let token = read_part(alloc, 2, SHORT_LIMIT, parts.second)?;
-    let language = read_part(alloc, 3, SHORT_LIMIT, parts.third)?;
-    let architecture = read_part(alloc, 4, SHORT_LIMIT, parts.fourth)?;
+    let name = part_here(1, NAME_LIMIT, parts.first)?;
+    let token = part_here(2, IDENTITY_PART_LIMIT, parts.second)?;
+    let language = part_here(3, IDENTITY_PART_LIMIT, parts.third)?;
+    let architecture = part_here(4, IDENTITY_PART_LIMIT, parts.fourth)?;
     Ok(Key {
-        name,
-        token,
-        language,
-        architecture,
+        name: text_of(alloc, &name)?,
+        token: text_of(alloc, &token)?,
+        language: text_of(alloc, &language)?,
+        architecture: text_of(alloc, &architecture)?,
     })
 }
 
@@ -153,10 +185,11 @@ impl Key {
     /// The key that the word spells: four parts with commas between them, each word-escaped. An escape may have
     /// hexadecimal digits of either case, and a `%` without two of them stands for itself. `PartCount` comes exactly
     /// where there are not four parts; else `BadPart` names the first part whose text is empty, over its limit or no
-    /// UTF-8. `Memory` may come at any word.
+    /// UTF-8. `Memory` may come at any word that spells a key.
     pub fn read(alloc: Global, word: &[u8]) -> Result<Key, KeyFault>
         ensures exact { Gives result (key_of word.now) }
         ensures key { IfOk result IsKey }
+        ensures memory { result ≡ Err Memory → IsOk (key_of word.now) }
     {
         let Some(parts) = four_parts(word, b',') else {
             return Err(KeyFault::PartCount);
@@ -177,16 +210,44 @@ impl Key {
         Ok(Text::from_string(text))
     }
 
+    /// How its text compares with another, byte by byte. It takes no memory.
+    pub fn cmp_printed(&self, text: &[u8]) -> Ordering
+        ensures { result ≡ text_cmp (key_text self.now) text.now }
+    {
+        match past_key(self, text) {
+            Ok(rest) if rest.is_empty() => Ordering::Equal,
+            Ok(_) => Ordering::Less,
+            Err(order) => order,
+        }
+    }
+
+    /// Whether its text is this one. It takes no memory.
+    pub fn is_printed(&self, text: &[u8]) -> bool
+        ensures { IsTrue result ↔ (key_text self.now ≡ text.now) }
+    {
+        self.cmp_printed(text).is_eq()
+    }
+
     /// Whether each part has a byte or more and is within its limit: what is read is so, and what is so is read
     /// again from its text.
     pub fn is_key(&self) -> bool
         ensures { IsTrue result ↔ IsKey self.now }
     {
         is_within(&self.name, NAME_LIMIT)
-            && is_within(&self.token, SHORT_LIMIT)
-            && is_within(&self.language, SHORT_LIMIT)
-            && is_within(&self.architecture, SHORT_LIMIT)
+            && is_within(&self.token, IDENTITY_PART_LIMIT)
+            && is_within(&self.language, IDENTITY_PART_LIMIT)
+            && is_within(&self.architecture, IDENTITY_PART_LIMIT)
     }
+}
+
+// What stands behind the text of the key, or how the key's text compares.
+fn past_key<'a>(key: &Key, text: &'a [u8]) -> Result<&'a [u8], Ordering>
+    ensures { Follows (key_text key.now) text.now result }
+{
+    let rest = past_part(&key.name, text)?;
+    let rest = past_next(&key.token, rest)?;
+    let rest = past_next(&key.language, rest)?;
+    past_next(&key.architecture, rest)
 }
 
 // Whether the text is a part.

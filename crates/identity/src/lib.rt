@@ -1,10 +1,12 @@
 //! Versions of four numbers and application keys, read from bytes and printed.
 #![tactic(auto)]
 
+mod escapes;
 mod fault;
 mod identity;
 mod key;
 mod parts;
+mod printed;
 #[cfg(test)]
 mod tests;
 mod version;

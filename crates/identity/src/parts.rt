@@ -1,6 +1,8 @@
 // The parts between separators.
-ghost use Rattle.std.specs.Prelude.{◌≡◌, ◌≢◌, [], ◌∷◌, ◌==◌, length, position, IfSome, IfNone};
+ghost use Rattle.std.specs.Prelude.{◌≡◌, ◌≢◌, [], ◌∷◌, length, IfSome, IfNone};
 ghost use Rattle.small_types.specs.Cuts.{parts_between};
+
+use small_types::cut_once;
 
 /// Four parts of a text, from the left.
 #[derive(Clone, Copy)]
@@ -11,34 +13,16 @@ pub(crate) struct FourParts<'a> {
     pub(crate) fourth: &'a [u8],
 }
 
-// Where the first separator stands.
-fn place_of(bytes: &[u8], separator: u8) -> Option<usize>
-    ensures { result ≡ position (λ b. b == separator) bytes.now }
-{
-    bytes.iter().position(|b| *b == separator)
-}
-
-// The bytes before the first separator and those after it, where there is one.
-fn cut(bytes: &[u8], separator: u8) -> Option<(&[u8], &[u8])>
-    ensures found { IfSome result (λ x. parts_between separator bytes.now ≡ x.0.now ∷ parts_between separator x.1.now) }
-    ensures none { IfNone result (parts_between separator bytes.now ≡ bytes.now ∷ []) }
-{
-    let Some(place) = place_of(bytes, separator) else {
-        return None;
-    };
-    Some((&bytes[..place], &bytes[place + 1..]))
-}
-
 /// The parts between the separators, where there are four.
 pub(crate) fn four_parts(bytes: &[u8], separator: u8) -> Option<FourParts<'_>>
     ensures parts { IfSome result (λ p. parts_between separator bytes.now
         ≡ p.first.now ∷ p.second.now ∷ p.third.now ∷ p.fourth.now ∷ []) }
     ensures count { IfNone result (length (parts_between separator bytes.now) ≢ 4) }
 {
-    let (first, rest) = cut(bytes, separator)?;
-    let (second, rest) = cut(rest, separator)?;
-    let (third, fourth) = cut(rest, separator)?;
-    match cut(fourth, separator) {
+    let (first, rest) = cut_once(bytes, separator)?;
+    let (second, rest) = cut_once(rest, separator)?;
+    let (third, fourth) = cut_once(rest, separator)?;
+    match cut_once(fourth, separator) {
         Some(_) => None,
         None => Some(FourParts {
             first,

@@ -1,6 +1,7 @@
 use crate::{Identity, Key, KeyFault, Version, VersionFault, word_escape};
 use small_types::{Duplicate, Text};
 use std::alloc::{AllocError, Global};
+use std::cmp::Ordering;
 use std::process::Abort;
 use std::test::Fail;
 
@@ -123,6 +124,26 @@ fn other_bytes_are_escaped(rt: HostRuntime) -> Result<(), Fail> {
     let alloc = rt.alloc();
     let odd = key(alloc, "a b/c,d%e\u{e9}", "~-._", "x", "y")?;
     goes_round(&rt, alloc, &odd, "a%20b%2Fc%2Cd%25e%C3%A9,~-._,x,y")
+}
+
+// How the key's text compares with another.
+fn compares(rt: &impl Abort, key: &Key, text: &[u8], wanted: Ordering) {
+    assert_eq!(rt; key.cmp_printed(text), wanted);
+    assert_eq!(rt; key.is_printed(text), wanted == Ordering::Equal);
+}
+
+#[test]
+fn texts_of_keys_are_compared(rt: HostRuntime) -> Result<(), Fail> {
+    let odd = key(rt.alloc(), "a b", "t", "l", "\u{e9}")?;
+    compares(&rt, &odd, b"a%20b,t,l,%C3%A9", Ordering::Equal);
+    compares(&rt, &odd, b"a%20b,t,l,%C3%A9x", Ordering::Less);
+    compares(&rt, &odd, b"a%20b,t,l,%C3%A8", Ordering::Greater);
+    compares(&rt, &odd, b"a b,t,l,%C3%A9", Ordering::Greater);
+    compares(&rt, &odd, b"a%20b,t,l,%c3%a9", Ordering::Less);
+    compares(&rt, &odd, b"a%20b,t", Ordering::Greater);
+    compares(&rt, &odd, b"a%20b-", Ordering::Less);
+    compares(&rt, &odd, b"", Ordering::Greater);
+    Ok(())
 }
 
 #[test]

@@ -8,9 +8,10 @@ ghost use Rattle.identity.specs.Version.{IsVersion, IsBelow, version_of, version
 use crate::PrintFault;
 use crate::parts::{FourParts, four_parts};
 use itoa::Buffer;
-use small_types::Text;
-use percent_encoding::ascii_str;
+use small_types::{Text, are_digits, parse_digits};
 use std::alloc::Global;
+use std::error::Error;
+use std::fmt;
 
 /// A version of four numbers, ordered by its numbers from the left.
 #[derive(Clone, Copy, Debug, PartialEq, Eq, PartialOrd, Ord)]
@@ -32,20 +33,28 @@ pub enum VersionFault {
     TooLarge { part: u8 },
 }
 
-// Whether each byte is a digit.
-fn are_digits(bytes: &[u8]) -> bool
-    ensures { result ≡ list_all is_ascii_digit bytes.now }
-{
-    bytes.iter().all(|b| b.is_ascii_digit())
+impl fmt::Display for VersionFault {
+    fn fmt<W: fmt::Write>(&self, f: &mut fmt::Formatter<W>) -> fmt::Result {
+        match self {
+            VersionFault::PartCount => write!(f, "not four numbers between dots"),
+            VersionFault::NotDigits { part } => write!(f, "part {part} is no number"),
+            VersionFault::TooLarge { part } => write!(f, "part {part} is over 65535"),
+        }
+    }
 }
 
-// The number that at most five digits write, where it fits.
-fn parse_digits(digits: &[u8]) -> Option<u16>
+impl Error for VersionFault {}
+
+// The number that digits write, where it fits.
+fn parse_short(digits: &[u8]) -> Option<u16>
     requires digits { IsTrue (list_all is_ascii_digit digits.now) }
     requires some { 0 < length digits.now }
     ensures { result ≡ (if nat_lt 65535 (digits_value 10 digits.now) then None else Some (digits_value 10 digits.now)) }
 {
-    ascii_str(digits).parse().ok()
+    match parse_digits(digits) {
+        Some(number) if number <= 65_535 => Some(number as u16),
+        _ => None,
+    }
 }
 
 // The number that stands as that part.
@@ -59,7 +68,7 @@ fn read_number(part: u8, bytes: &[u8]) -> Result<u16, VersionFault>
     if bytes.len() > 5 {
         return Err(VersionFault::TooLarge { part });
     }
-    parse_digits(bytes).ok_or(VersionFault::TooLarge { part })
+    parse_short(bytes).ok_or(VersionFault::TooLarge { part })
 }
 
 // The version of the four parts.

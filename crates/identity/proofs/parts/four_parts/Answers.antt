@@ -1,5 +1,6 @@
 use Rattle.small_types.specs.Cuts.{parts_between}
-use Rattle.identity.proofs.PartsLemmas.{five_parts, some_part}
+use Rattle.small_types.proofs.CutLemmas.{some_part}
+use Rattle.identity.proofs.PartsLemmas.{five_parts}
 use Rattle.identity.proofs.parts.four_parts.Goals as goal
 
 pub returns-in-Some-clause-count : goal.returns-in-Some-clause-count
