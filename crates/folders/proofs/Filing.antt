@@ -7,19 +7,26 @@ use Rattle.std.proofs.lemmas.Slice.Eq.{bytes_eq-Decides}
 use Rattle.folders.specs.declared.folder.Held.{Held}
 use Rattle.folders.specs.Files.{is_named, distinct, Puts}
 
-not_true : (r : Bool) → (r ≡ true → ⊥) → r ≡ false
+pub not_true : (r : Bool) → (r ≡ true → ⊥) → r ≡ false
 not_true true never = absurd (never refl)
 not_true false _ = refl
 
-clash : (r : Bool) → r ≡ true → r ≡ false → ⊥
+pub clash : (r : Bool) → r ≡ true → r ≡ false → ⊥
 clash r is isnt = grind arith
 
 -- a file of another name
-other_named : (name : List ℕ) (file : Held) → file.name ≢ name → is_named name file ≡ false
+pub other_named : (name : List ℕ) (file : Held) → file.name ≢ name → is_named name file ≡ false
 other_named name file differs = not_true (is_named name file) (λ same. differs ((bytes_eq-Decides file.name name).0 same))
 
-self_named : (file : Held) → is_named file.name file ≡ true
+pub self_named : (file : Held) → is_named file.name file ≡ true
 self_named file = (bytes_eq-Decides file.name file.name).1 refl
+
+-- the names of the others are other ones
+pub distinct_first : (f : Held) (files : List Held) → distinct (f ∷ files) ≡ true → list_any (is_named f.name) files ≡ false
+distinct_first f files differ = grind (arith, common_steps)
+
+pub distinct_rest : (f : Held) (files : List Held) → distinct (f ∷ files) ≡ true → distinct files ≡ true
+distinct_rest f files differ = grind (arith, common_steps)
 
 -- a file has one name
 one_name : (name other : List ℕ) (file : Held) → other ≢ name → is_named name file ≡ true → is_named other file ≡ false

@@ -1,1 +1,4 @@
 pub mod Filing
+pub mod NameLists
+pub mod NameOrder
+pub mod Sorting

@@ -26,6 +26,12 @@ pub record IsNames (files : List Held) (names : List (List ℕ)) : Type 0 where
   pub exact : IsPermutation (names_of files) names
   pub ordered : IsSorted (slice_cmp nat_cmp) names
 
+-- there is a list of the names of the files, and no other
+pub record HasOneList (files : List Held) : Type 0 where
+  pub names : List (List ℕ)
+  pub are : IsNames files names
+  pub only : (others : List (List ℕ)) → IsNames files others → others ≡ names
+
 -- the name has these bytes, and every other name has what it had
 pub record Puts (old new : List Held) (name bytes : List ℕ) : Type 0 where
   pub changed : file_in name new ≡ Some bytes

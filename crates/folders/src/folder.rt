@@ -7,6 +7,8 @@ ghost use Rattle.folders.specs.Folder.{FailsCounted};
 
 use small_types::{Bytes, CopyFault, List, Name};
 use std::alloc::{AllocError, AllocFailed, Global};
+use std::error::Error;
+use std::fmt;
 
 /// A file: its name and its bytes.
 #[derive(Drop, Debug)]
@@ -23,6 +25,17 @@ pub enum FolderFault {
     /// There was no memory for it. The count of faults stays.
     Memory,
 }
+
+impl fmt::Display for FolderFault {
+    fn fmt<W: fmt::Write>(&self, f: &mut fmt::Formatter<W>) -> fmt::Result {
+        match self {
+            FolderFault::Failed => write!(f, "the folder failed"),
+            FolderFault::Memory => write!(f, "out of memory"),
+        }
+    }
+}
+
+impl Error for FolderFault {}
 
 impl From<AllocError> for FolderFault {
     ghost from_gives = { λ _ e. e ≡ Memory };
@@ -71,9 +84,11 @@ pub trait Folder {
         ensures kept { tells → held self.new ≡ held self.old }
         ensures cause { FailsCounted (count self.old) (count self.new) result };
 
-    /// Makes these bytes the file of this name, in place of one that stands there. A call that fails changes nothing.
+    /// Makes these bytes the file of this name, in place of one that stands there. A call that fails
+    /// changes nothing.
     fn put(&mut self, name: &Name, bytes: &[u8]) -> Result<(), FolderFault>
-        ensures put { tells → OnOk result (Puts (held self.old) (held self.new) name.now bytes.now) }
+        ensures put { tells
+            → OnOk result (Puts (held self.old) (held self.new) name.now bytes.now) }
         ensures kept { tells → OnErr result (held self.new ≡ held self.old) }
         ensures cause { FailsCounted (count self.old) (count self.new) result };
 

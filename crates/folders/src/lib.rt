@@ -4,7 +4,9 @@
 mod folder;
 #[cfg(test)]
 mod folder_tests;
+mod laws;
 mod mem_folder;
 
 pub use folder::{Folder, FolderFault, Held};
+pub use laws::one_list_of_names;
 pub use mem_folder::{MemFolder, are_distinct};

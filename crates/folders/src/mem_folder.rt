@@ -1,5 +1,5 @@
 // A folder in memory.
-ghost use Rattle.std.specs.Prelude.{◌≡◌, ◌≢◌, ◌==◌, ◌+◌, ◌≤◌, List, [], ◌∷◌, ◌++◌, true, false, not, min, find, filter, vec_len, vec_capacity, Err, IfOk, OnOk, OnErr, IsTrue};
+ghost use Rattle.std.specs.Prelude.{◌≡◌, ◌≤◌, true, not, find, filter, vec_len, vec_capacity, Err, IfOk, OnOk, OnErr};
 ghost use Rattle.std.specs.List.{list_any};
 ghost use Rattle.std.specs.Option.{option_copied};
 ghost use Rattle.folders.specs.declared.folder.FolderFault.TheVariants.{Failed, Memory};
@@ -7,6 +7,7 @@ ghost use Rattle.folders.specs.Files.{is_named, file_in, names_of, distinct, IsN
 ghost use Rattle.folders.specs.Folder.{FailsCounted};
 
 use crate::{Folder, FolderFault, Held};
+use outside::FailingCalls;
 use small_types::{Bytes, Duplicate, List, Name};
 use std::alloc::Global;
 use std::mem::replace;
@@ -44,7 +45,8 @@ fn find_file<'a>(files: &'a [Held], name: &Name) -> Option<&'a Held>
 
 // Drops the file of this name, if there is one.
 fn drop_file(files: &mut Vec<Held>, name: &Name)
-    ensures items { files.new.items ≡ filter (λ file. not (is_named name.now file)) files.old.items }
+    ensures items { files.new.items
+        ≡ filter (λ file. not (is_named name.now file)) files.old.items }
     ensures shorter { vec_len files.new ≤ vec_len files.old }
     ensures capacity { vec_capacity files.new ≡ vec_capacity files.old }
 {
@@ -76,20 +78,18 @@ fn replace_file(files: &mut Vec<Held>, file: Held) -> Result<(), FolderFault>
     Ok(())
 }
 
-/// Files in memory. Its calls whose numbers, counted from 1, the list `failing` has are to fail. A call for which it
-/// finds no memory answers `Memory`.
+/// Files in memory. Its calls whose numbers, counted from 1, the list `failing` has are to fail. A
+/// call for which it finds no memory answers `Memory`.
 #[derive(Drop, Debug)]
 pub struct MemFolder {
     alloc: Global,
     files: List<Held>,
-    failing: List<u64>,
-    calls: u64,
-    faults: u64,
+    failing: FailingCalls,
     ghost differ: { distinct files ≡ true },
 }
 
 impl MemFolder {
-    ghost use Rattle.folders.specs.MemFolder.{folder_held, folder_faults, folder_failing, folder_calls, folder_fails};
+    ghost use Rattle.folders.specs.MemFolder.{folder_held, folder_faults, folder_failing, folder_calls, CountsCall};
 
     /// A folder of these files, whose names differ: `are_distinct` tells. It takes no memory.
     pub fn new(alloc: Global, files: List<Held>, failing: List<u64>) -> MemFolder
@@ -102,9 +102,7 @@ impl MemFolder {
         MemFolder {
             alloc,
             files,
-            failing,
-            calls: 0,
-            faults: 0,
+            failing: FailingCalls::new(failing),
         }
     }
 
@@ -117,17 +115,13 @@ impl MemFolder {
 
     // Counts a call, which fails where its number is in the list.
     fn begin(&mut self) -> Result<(), FolderFault>
-        ensures fails { OnErr result ((result ≡ Err Failed) × IsTrue (folder_fails self.old)) }
-        ensures works { OnOk result (folder_fails self.old ≡ false) }
+        ensures failed { OnErr result (result ≡ Err Failed) }
+        ensures counted { CountsCall self.old self.new result }
         ensures cause { FailsCounted (folder_faults self.old) (folder_faults self.new) result }
-        ensures calls { folder_calls self.new ≡ min (folder_calls self.old + 1) 0xffff_ffff_ffff_ffff }
-        ensures raised { OnErr result (folder_faults self.new ≡ min (folder_faults self.old + 1) 0xffff_ffff_ffff_ffff) }
         ensures held { folder_held self.new ≡ folder_held self.old }
-        ensures failing { folder_failing self.new ≡ folder_failing self.old }
     {
-        self.calls = self.calls.saturating_add(1);
-        if is_failing(self.failing.as_slice(), self.calls) {
-            self.faults = self.faults.saturating_add(1);
+        if self.failing.next() {
+            self.failing.fail();
             return Err(FolderFault::Failed);
         }
         Ok(())
@@ -138,9 +132,7 @@ impl MemFolder {
         ensures put { OnOk result (Puts (folder_held self.old) (folder_held self.new) name.now bytes.now) }
         ensures kept { OnErr result (folder_held self.new ≡ folder_held self.old) }
         ensures memory { OnErr result (result ≡ Err Memory) }
-        ensures faults { folder_faults self.new ≡ folder_faults self.old }
-        ensures calls { folder_calls self.new ≡ folder_calls self.old }
-        ensures failing { folder_failing self.new ≡ folder_failing self.old }
+        ensures uncounted { self.new.failing ≡ self.old.failing }
     {
         let file = Held {
             name: name.copy(self.alloc)?,
@@ -155,27 +147,19 @@ impl MemFolder {
 }
 
 impl Folder for MemFolder {
-    ghost use Rattle.folders.specs.MemFolder.{folder_held, folder_faults, folder_failing, folder_calls, folder_fails};
+    ghost use Rattle.folders.specs.MemFolder.{folder_held, folder_faults, folder_failing, folder_calls, CountsCall};
 
     ghost tells = { Unit {0} };
 
     ghost held = { λ f. f.files };
 
-    ghost count = { λ f. f.faults };
+    ghost count = { λ f. f.failing.faults };
 
     fn list(&mut self, alloc: Global) -> Result<List<Name>, FolderFault>
         ensures names { IfOk result (IsNames (folder_held self.old)) }
         ensures kept { folder_held self.new ≡ folder_held self.old }
         ensures cause { FailsCounted (folder_faults self.old) (folder_faults self.new) result }
-
-        // It answers `Failed` exactly where its number is in the list, and the count rises by one there, and else not.
-        ensures fails { IsTrue (folder_fails self.old) → result ≡ Err Failed }
-        ensures works { folder_fails self.old ≡ false → result ≢ Err Failed }
-        ensures calls { folder_calls self.new ≡ min (folder_calls self.old + 1) 0xffff_ffff_ffff_ffff }
-        ensures failing { folder_failing self.new ≡ folder_failing self.old }
-        ensures quiet { folder_fails self.old ≡ false → folder_faults self.new ≡ folder_faults self.old }
-        ensures raised { IsTrue (folder_fails self.old) → folder_faults self.new ≡ min (folder_faults self.old + 1) 0xffff_ffff_ffff_ffff }
-        ensures never { folder_failing self.old ≡ [] → folder_faults self.new ≡ folder_faults self.old }
+        ensures counted { CountsCall self.old self.new result }
     {
         self.begin()?;
         let mut names = copied_names(alloc, self.files.as_slice())?;
@@ -187,15 +171,7 @@ impl Folder for MemFolder {
         ensures found { IfOk result (λ bytes. bytes ≡ file_in name.now (folder_held self.old)) }
         ensures kept { folder_held self.new ≡ folder_held self.old }
         ensures cause { FailsCounted (folder_faults self.old) (folder_faults self.new) result }
-
-        // It answers `Failed` exactly where its number is in the list, and the count rises by one there, and else not.
-        ensures fails { IsTrue (folder_fails self.old) → result ≡ Err Failed }
-        ensures works { folder_fails self.old ≡ false → result ≢ Err Failed }
-        ensures calls { folder_calls self.new ≡ min (folder_calls self.old + 1) 0xffff_ffff_ffff_ffff }
-        ensures failing { folder_failing self.new ≡ folder_failing self.old }
-        ensures quiet { folder_fails self.old ≡ false → folder_faults self.new ≡ folder_faults self.old }
-        ensures raised { IsTrue (folder_fails self.old) → folder_faults self.new ≡ min (folder_faults self.old + 1) 0xffff_ffff_ffff_ffff }
-        ensures never { folder_failing self.old ≡ [] → folder_faults self.new ≡ folder_faults self.old }
+        ensures counted { CountsCall self.old self.new result }
     {
         self.begin()?;
         let Some(file) = find_file(self.files.as_slice(), name) else {
@@ -208,22 +184,14 @@ impl Folder for MemFolder {
         ensures put { OnOk result (Puts (folder_held self.old) (folder_held self.new) name.now bytes.now) }
         ensures kept { OnErr result (folder_held self.new ≡ folder_held self.old) }
         ensures cause { FailsCounted (folder_faults self.old) (folder_faults self.new) result }
-
-        // It answers `Failed` exactly where its number is in the list, and the count rises by one there, and else not.
-        ensures fails { IsTrue (folder_fails self.old) → result ≡ Err Failed }
-        ensures works { folder_fails self.old ≡ false → result ≢ Err Failed }
-        ensures calls { folder_calls self.new ≡ min (folder_calls self.old + 1) 0xffff_ffff_ffff_ffff }
-        ensures failing { folder_failing self.new ≡ folder_failing self.old }
-        ensures quiet { folder_fails self.old ≡ false → folder_faults self.new ≡ folder_faults self.old }
-        ensures raised { IsTrue (folder_fails self.old) → folder_faults self.new ≡ min (folder_faults self.old + 1) 0xffff_ffff_ffff_ffff }
-        ensures never { folder_failing self.old ≡ [] → folder_faults self.new ≡ folder_faults self.old }
+        ensures counted { CountsCall self.old self.new result }
     {
         self.begin()?;
         self.put_copy(name, bytes)
     }
 
     fn faults(&self) -> u64 {
-        self.faults
+        self.failing.faults
     }
 
     ghost names_differ = { λ f told. f.differ };

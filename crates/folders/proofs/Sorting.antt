@@ -13,9 +13,10 @@ use Rattle.std.proofs.lemmas.List.Kept.{IsStrictlySortedBy-dedup}
 use Rattle.std.proofs.lemmas.List.Sorted.{IsPermutation-trans}
 use Rattle.std.proofs.lemmas.Map.Keys.{IsDistinct-cons, IsDistinct-head, IsDistinct-tail, IsDistinct-IsPermutation, Less-from_sorted}
 use Rattle.folders.specs.declared.folder.Held.{Held}
-use Rattle.folders.specs.Files.{is_named, names_of, distinct, IsNames}
-use Rattle.publisher.proofs.Ordered.{one_order}
-use Rattle.publisher.proofs.Putting.{distinct_first, distinct_rest}
+use Rattle.folders.specs.Files.{is_named, names_of, distinct, IsNames, HasOneList}
+use Rattle.folders.proofs.Filing.{distinct_first, distinct_rest}
+use Rattle.folders.proofs.NameLists.{names_exist}
+use Rattle.folders.proofs.NameOrder.{one_order}
 
 -- names that differ from the one before them are kept
 kept_from : (k : List ℕ) (xs : List (List ℕ)) → IsDistinct bytes_eq (k ∷ xs) → dedup_from bytes_eq k xs ≡ k ∷ xs
@@ -77,3 +78,8 @@ sorted_names files names differ are =
 pub one_list : (files : List Held) (names others : List (List ℕ)) → distinct files ≡ true → IsNames files names → IsNames files others → names ≡ others
 one_list files names others differ are also =
     one_order (names_of files) names others are.exact also.exact (sorted_names files names differ are) (sorted_names files others differ also)
+
+pub has_one_list : (files : List Held) → distinct files ≡ true → HasOneList files
+has_one_list files differ =
+    let list = names_exist files in
+    record { names = list.0; are = list.1; only = λ others also. one_list files others list.0 differ also list.1 }
