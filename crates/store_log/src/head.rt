@@ -2,13 +2,11 @@
 ghost use Rattle.std.specs.Prelude.{◌≡◌, ◌↔◌, IsTrue, ◌<◌, ◌≤◌, ◌+◌, ◌^◌, ℕ, List, ◌++◌, length, drop, IfOk, IfSome, IfNone, OnOk};
 ghost use Rattle.store_log.specs.Log.{head_of, head_with, zeros};
 
+use small_types::limits::BLOCK_LIMIT;
 use std::alloc::{AllocError, Global};
 
 // The length of the head block.
 pub(crate) const HEAD: usize = 4096;
-
-// The most blocks that a journal may have.
-const MAX_BLOCKS: u64 = 65_536;
 
 fn push_zeros(bytes: &mut Vec<u8>, count: usize) -> Result<(), AllocError>
     requires { count < 2 ^ 32 }
@@ -51,7 +49,7 @@ pub(crate) fn read_head(alloc: Global, bytes: &[u8]) -> Result<Option<u64>, Allo
     let blocks = u64::from_be_bytes([
         bytes[8], bytes[9], bytes[10], bytes[11], bytes[12], bytes[13], bytes[14], bytes[15],
     ]);
-    if blocks == 0 || blocks > MAX_BLOCKS {
+    if blocks == 0 || blocks > BLOCK_LIMIT {
         return Ok(None);
     }
     let head = head_bytes(alloc, blocks, 1)?;
