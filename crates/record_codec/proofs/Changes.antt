@@ -6,9 +6,10 @@ use Rattle.std.proofs.lemmas.Bool.{eqb-true, eq-eqb}
 use Rattle.std.proofs.lemmas.List.{append-nil}
 use Rattle.identity.specs.declared.version.Version.{Version}
 use Rattle.identity.specs.declared.key.Key.{Key}
-use Rattle.identity.specs.Key.{IsKey, name_limit, short_limit}
+use Rattle.identity.specs.Key.{IsKey}
 use Rattle.identity.specs.Version.{IsVersion}
 use Rattle.small_types.specs.Reading.{◌>>=◌}
+use Rattle.small_types.specs.declared.limits.TheConstants.{IDENTITY_PART_LIMIT, NAME_LIMIT}
 use Rattle.store_state.specs.declared.change.Change.{Change}
 use Rattle.store_state.specs.declared.change.Change.TheVariants.{Boot, Require}
 use Rattle.record_codec.specs.declared.fault.CodecFault.{CodecFault}
@@ -46,14 +47,14 @@ four_stand bytes a b c d place next stands =
 pub key_takes : (bytes : List ℕ) (place : ℕ) (x : Key × ℕ) → IsBytes bytes → place ≤ length bytes → key_at bytes place ≡ Ok x → Stands bytes place (key_field x.0) x.1 × IsKey x.0
 unfolding key_at key_field
 key_takes bytes place x fits within e =
-    let a = bind_ok (text_at name_limit bytes place) (λ name. text_at short_limit bytes name.1 >>= λ token. text_at short_limit bytes token.1 >>= λ language. text_at short_limit bytes language.1 >>= λ architecture. Ok (record { name = name.0; token = token.0; language = language.0; architecture = architecture.0 }, architecture.1)) x e in
-    let b = bind_ok (text_at short_limit bytes a.0.1) (λ token. text_at short_limit bytes token.1 >>= λ language. text_at short_limit bytes language.1 >>= λ architecture. Ok (record { name = a.0.0; token = token.0; language = language.0; architecture = architecture.0 }, architecture.1)) x a.2 in
-    let c = bind_ok (text_at short_limit bytes b.0.1) (λ language. text_at short_limit bytes language.1 >>= λ architecture. Ok (record { name = a.0.0; token = b.0.0; language = language.0; architecture = architecture.0 }, architecture.1)) x b.2 in
-    let d = bind_ok (text_at short_limit bytes c.0.1) (λ architecture. Ok (record { name = a.0.0; token = b.0.0; language = c.0.0; architecture = architecture.0 }, architecture.1)) x c.2 in
-    let ta = text_takes name_limit bytes place a.0 fits within a.1 in
-    let tb = text_takes short_limit bytes a.0.1 b.0 fits ta.0.within b.1 in
-    let tc = text_takes short_limit bytes b.0.1 c.0 fits tb.0.within c.1 in
-    let td = text_takes short_limit bytes c.0.1 d.0 fits tc.0.within d.1 in
+    let a = bind_ok (text_at NAME_LIMIT bytes place) (λ name. text_at IDENTITY_PART_LIMIT bytes name.1 >>= λ token. text_at IDENTITY_PART_LIMIT bytes token.1 >>= λ language. text_at IDENTITY_PART_LIMIT bytes language.1 >>= λ architecture. Ok (record { name = name.0; token = token.0; language = language.0; architecture = architecture.0 }, architecture.1)) x e in
+    let b = bind_ok (text_at IDENTITY_PART_LIMIT bytes a.0.1) (λ token. text_at IDENTITY_PART_LIMIT bytes token.1 >>= λ language. text_at IDENTITY_PART_LIMIT bytes language.1 >>= λ architecture. Ok (record { name = a.0.0; token = token.0; language = language.0; architecture = architecture.0 }, architecture.1)) x a.2 in
+    let c = bind_ok (text_at IDENTITY_PART_LIMIT bytes b.0.1) (λ language. text_at IDENTITY_PART_LIMIT bytes language.1 >>= λ architecture. Ok (record { name = a.0.0; token = b.0.0; language = language.0; architecture = architecture.0 }, architecture.1)) x b.2 in
+    let d = bind_ok (text_at IDENTITY_PART_LIMIT bytes c.0.1) (λ architecture. Ok (record { name = a.0.0; token = b.0.0; language = c.0.0; architecture = architecture.0 }, architecture.1)) x c.2 in
+    let ta = text_takes NAME_LIMIT bytes place a.0 fits within a.1 in
+    let tb = text_takes IDENTITY_PART_LIMIT bytes a.0.1 b.0 fits ta.0.within b.1 in
+    let tc = text_takes IDENTITY_PART_LIMIT bytes b.0.1 c.0 fits tb.0.within c.1 in
+    let td = text_takes IDENTITY_PART_LIMIT bytes c.0.1 d.0 fits tc.0.within d.1 in
     let made : Key × ℕ = (record { name = a.0.0; token = b.0.0; language = c.0.0; architecture = d.0.0 }, d.0.1) in
     subst (λ (y : Key × ℕ). Stands bytes place (key_field y.0) y.1 × IsKey y.0) (ok_is made x d.2) (
       Stands-four bytes (text_field a.0.0) (text_field b.0.0) (text_field c.0.0) (text_field d.0.0) place a.0.1 b.0.1 c.0.1 d.0.1 ta.0 tb.0 tc.0 td.0,
@@ -64,7 +65,7 @@ pub key_again : (bytes : List ℕ) (place : ℕ) (key : Key) (next : ℕ) → Is
 unfolding key_at key_field
 key_again bytes place key next fits stands =
     let four = four_stand bytes (text_field key.name) (text_field key.token) (text_field key.language) (text_field key.architecture) place next stands in
-    rw (text_again name_limit bytes place key.name _ (omega arith) fits.name four.first, text_again short_limit bytes _ key.token _ (omega arith) fits.token four.second, text_again short_limit bytes _ key.language _ (omega arith) fits.language four.third, text_again short_limit bytes _ key.architecture next (omega arith) fits.architecture four.fourth) refl
+    rw (text_again NAME_LIMIT bytes place key.name _ (omega arith) fits.name four.first, text_again IDENTITY_PART_LIMIT bytes _ key.token _ (omega arith) fits.token four.second, text_again IDENTITY_PART_LIMIT bytes _ key.language _ (omega arith) fits.language four.third, text_again IDENTITY_PART_LIMIT bytes _ key.architecture next (omega arith) fits.architecture four.fourth) refl
 
 -- ---- versions
 

@@ -5,8 +5,8 @@ use Rattle.std.specs.Int.{Width, w16, w32, w64, byte_len, from_be_bytes}
 use Rattle.std.specs.Str.{is_utf8}
 use Rattle.identity.specs.declared.version.Version.{Version}
 use Rattle.identity.specs.declared.key.Key.{Key}
-use Rattle.identity.specs.Key.{name_limit, short_limit}
 use Rattle.small_types.specs.Reading.{◌>>=◌}
+use Rattle.small_types.specs.declared.limits.TheConstants.{IDENTITY_PART_LIMIT, NAME_LIMIT}
 use Rattle.store_state.specs.declared.change.Change.{Change}
 use Rattle.store_state.specs.declared.change.Change.TheVariants.{Boot, Require}
 use Rattle.record_codec.specs.declared.fault.CodecFault.{CodecFault}
@@ -48,10 +48,10 @@ text_at limit bytes place = do
 
 unfoldable pub key_at : List ℕ → ℕ → Result (Key × ℕ) CodecFault
 key_at bytes place = do
-  name ← text_at name_limit bytes place
-  token ← text_at short_limit bytes name.1
-  language ← text_at short_limit bytes token.1
-  architecture ← text_at short_limit bytes language.1
+  name ← text_at NAME_LIMIT bytes place
+  token ← text_at IDENTITY_PART_LIMIT bytes name.1
+  language ← text_at IDENTITY_PART_LIMIT bytes token.1
+  architecture ← text_at IDENTITY_PART_LIMIT bytes language.1
   Ok (record { name = name.0; token = token.0; language = language.0; architecture = architecture.0 }, architecture.1)
 
 unfoldable pub version_at : List ℕ → ℕ → Result (Version × ℕ) CodecFault

@@ -9,13 +9,9 @@ ghost use Rattle.record_codec.specs.Reading.{Gives, IsWithin, number_at, sized_a
 use crate::CodecFault;
 use identity::{Key, Version};
 use small_types::Text;
+use small_types::limits::{IDENTITY_PART_LIMIT, NAME_LIMIT};
 use std::alloc::Global;
 use store_state::Change;
-
-// The most bytes of a key's name, and of each of its other parts.
-const NAME_LIMIT: usize = 240;
-
-const SHORT_LIMIT: usize = 64;
 
 // The fault of the field that begins at the place.
 fn bad(place: usize) -> CodecFault
@@ -152,9 +148,9 @@ pub fn read_key(alloc: Global, bytes: &[u8], place: usize) -> Result<(Key, usize
     ensures fault { IfErr result (IsWithin (length bytes.now)) }
 {
     let (name, next) = read_text(alloc, bytes, place, NAME_LIMIT)?;
-    let (token, next) = read_text(alloc, bytes, next, SHORT_LIMIT)?;
-    let (language, next) = read_text(alloc, bytes, next, SHORT_LIMIT)?;
-    let (architecture, next) = read_text(alloc, bytes, next, SHORT_LIMIT)?;
+    let (token, next) = read_text(alloc, bytes, next, IDENTITY_PART_LIMIT)?;
+    let (language, next) = read_text(alloc, bytes, next, IDENTITY_PART_LIMIT)?;
+    let (architecture, next) = read_text(alloc, bytes, next, IDENTITY_PART_LIMIT)?;
     let key = Key {
         name,
         token,

@@ -13,10 +13,9 @@ pub use app::AppState;
 pub use change::Change;
 pub use command::{Command, LineFault};
 pub use event::{Event, Heard};
-pub use small_types::Limit;
 pub use reply::Reply;
 pub use report::{Report, ReportLine};
-pub use state::{APPLICATION_LIMIT, BOOT_LIMIT, StateFault, StoreState};
+pub use state::{StateFault, StoreState};
 
 #[cfg(test)]
 mod tests;

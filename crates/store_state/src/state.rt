@@ -13,17 +13,12 @@ ghost use Rattle.store_state.specs.Change.{Fits, IsBoot, effect};
 
 use crate::{AppState, Change};
 use identity::{Key, PrintFault, Version};
+use small_types::limits::{APPLICATION_LIMIT, NUMBER_LIMIT};
 use small_types::{List, Text};
 use std::alloc::Global;
 use std::cmp::Ordering;
 use std::marker::Model;
 use std::mem::replace;
-
-/// The most applications of a store.
-pub const APPLICATION_LIMIT: usize = 256;
-
-/// The greatest boot number.
-pub const BOOT_LIMIT: u64 = 1 << 62;
 
 /// Why a call on the tables failed.
 #[derive(Clone, Copy, Debug, PartialEq, Eq)]
@@ -187,7 +182,7 @@ impl StoreState {
         ensures { IfOk result (λ b. IsTrue b ↔ Fits self.now change.now) }
     {
         match change {
-            Change::Boot { boot } => Ok(*boot <= BOOT_LIMIT),
+            Change::Boot { boot } => Ok(*boot <= NUMBER_LIMIT),
             Change::Require { key, version } => self.fits_require(alloc, key, *version),
         }
     }

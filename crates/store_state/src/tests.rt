@@ -1,6 +1,7 @@
-use crate::{AppState, BOOT_LIMIT, Change, StoreState};
+use crate::{AppState, Change, StoreState};
 use identity::{Key, Version};
 use small_types::Text;
+use small_types::limits::NUMBER_LIMIT;
 use std::alloc::Global;
 use std::test::Fail;
 
@@ -78,7 +79,7 @@ fn a_minimum_only_rises(rt: HostRuntime) -> Result<(), Fail> {
 #[test]
 fn boot_numbers(rt: HostRuntime) -> Result<(), Fail> {
     let mut state = StoreState::empty(rt.alloc())?;
-    assert!(rt; make(rt.alloc(), &mut state, Change::Boot { boot: BOOT_LIMIT })?);
+    assert!(rt; make(rt.alloc(), &mut state, Change::Boot { boot: NUMBER_LIMIT })?);
     assert_eq!(rt; state.boot, 4_611_686_018_427_387_904);
     let above = Change::Boot {
         boot: 4_611_686_018_427_387_905,
