@@ -1,3 +1,2 @@
 pub mod InputLemmas
-mod NumberLemmas
 mod WordLemmas

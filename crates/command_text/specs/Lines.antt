@@ -1,7 +1,6 @@
 -- How lines are read, and how replies are written.
-use Rattle.std.specs.Prelude.{◌≡◌, ◌⊎◌, ◌==◌, ℕ, List, [], ◌∷◌, ◌++◌, length, nat_le, if◌then◌else◌, codes, Option, Some, None, Result, Ok, Err}
+use Rattle.std.specs.Prelude.{◌≡◌, ◌⊎◌, ℕ, List, [], ◌∷◌, ◌++◌, length, nat_le, if◌then◌else◌, codes, Option, Some, None, Result, Ok, Err}
 use Rattle.std.specs.Fmt.{decimal}
-use Rattle.std.specs.List.{slice_split}
 use Rattle.std.specs.Str.{bytes_eq}
 use Rattle.std.specs.Str.Lines.{lines}
 use Rattle.identity.specs.declared.version.Version.{Version}
@@ -17,15 +16,16 @@ use Rattle.store_state.specs.declared.command.LineFault.TheVariants.{LineTooLong
 use Rattle.store_state.specs.declared.command.LineFault.TheVariants as fault
 use Rattle.store_state.specs.declared.event.Event.{Event}
 use Rattle.store_state.specs.declared.event.Event.TheVariants.{Line, Unread}
-use Rattle.small_types.specs.declared.limit.Limit.{Limit}
-use Rattle.small_types.specs.declared.limit.Limit.TheVariants.{Applications, Views, Files, Locals, Hashes, Links, Jobs}
+use Rattle.small_types.specs.Cuts.{parts_between}
+use Rattle.small_types.specs.Limit.{limit_text}
+use Rattle.small_types.specs.declared.limits.TheConstants.{LINE_LIMIT}
 use Rattle.store_state.specs.declared.reply.Reply.{Reply}
 use Rattle.store_state.specs.declared.reply.Reply.TheVariants.{Minimum, TooMany}
 use Rattle.store_state.specs.declared.reply.Reply.TheVariants as reply
 
 -- words are separated by one space each
 abbrev pub words_of : List ℕ → List (List ℕ)
-words_of line = slice_split (λ b. b == 32) line
+words_of line = parts_between 32 line
 
 -- the words behind a first word: none where no space follows it
 abbrev pub words_behind : Option (List ℕ) → List (List ℕ)
@@ -52,7 +52,7 @@ command_words (name ∷ args) = if bytes_eq name (codes "require") then require_
 
 -- what a line asks for, or why it is no command
 unfoldable pub command_of : List ℕ → Result Command LineFault
-command_of line = if nat_le (length line) 65536 then command_words (words_of line) else Err LineTooLong
+command_of line = if nat_le (length line) LINE_LIMIT then command_words (words_of line) else Err LineTooLong
 
 -- an error of a call is that of the reading, unless memory ran out
 abbrev pub Fails : LineFault → Result Command LineFault → Type 0
@@ -91,19 +91,10 @@ fault_text WordCount = codes "no line words\n"
 fault_text (BadWord place) = codes "no line word " ++ (decimal place ++ codes "\n")
 fault_text fault.Memory = codes "no memory\n"
 
-abbrev pub limit_name : Limit → List ℕ
-limit_name Applications = codes "applications"
-limit_name Views = codes "views"
-limit_name Files = codes "files"
-limit_name Locals = codes "locals"
-limit_name Hashes = codes "hashes"
-limit_name Links = codes "links"
-limit_name Jobs = codes "jobs"
-
 -- the bytes of a reply
 unfoldable pub reply_text : Reply → List ℕ
 reply_text (Minimum version) = codes "ok minimum " ++ (version_text version ++ codes "\n")
-reply_text (TooMany what limit) = codes "no too-many " ++ (limit_name what ++ (codes " " ++ (decimal limit ++ codes "\n")))
+reply_text (TooMany what limit) = codes "no too-many " ++ (limit_text what ++ (codes " " ++ (decimal limit ++ codes "\n")))
 reply_text (reply.Line fault) = fault_text fault
 reply_text reply.Memory = codes "no memory\n"
 

@@ -8,6 +8,6 @@ mod replies;
 mod tests;
 mod words;
 
-pub use lines::{LINE_LIMIT, read_line, strip_carriage_return};
-pub use numbers::{NUMBER_LIMIT, read_number};
+pub use lines::{read_line, strip_carriage_return};
+pub use numbers::read_number;
 pub use replies::print_reply;

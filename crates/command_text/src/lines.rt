@@ -7,11 +7,9 @@ ghost use Rattle.command_text.specs.Lines.{Gives, IsCommand, command_of, require
 
 use crate::words::{first_word, two_words};
 use identity::{Key, KeyFault, Version};
+use small_types::limits::LINE_LIMIT;
 use std::alloc::Global;
 use store_state::{Command, LineFault};
-
-/// The most bytes of a line, without its line feed and the carriage return before that.
-pub const LINE_LIMIT: usize = 65_536;
 
 // The command of the two words behind `require`.
 fn read_require(alloc: Global, key: &[u8], version: &[u8]) -> Result<Command, LineFault>

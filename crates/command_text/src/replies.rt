@@ -3,13 +3,15 @@ ghost use Rattle.std.specs.Prelude.{◌≡◌, ◌+◌, ◌≤◌, ◌++◌, len
 ghost use Rattle.arrayvec.specs.ArrayVec.{array_vec_len};
 ghost use Rattle.identity.specs.Version.{version_text};
 ghost use Rattle.outside.specs.Streams.{Appends, AppendsPart, Causes};
-ghost use Rattle.command_text.specs.Lines.{fault_text, limit_name, reply_text};
+ghost use Rattle.small_types.specs.Limit.{limit_text};
+ghost use Rattle.command_text.specs.Lines.{fault_text, reply_text};
 
 use arrayvec::ArrayVec;
 use identity::Version;
 use itoa::Buffer;
 use outside::{Failed, Sink, write_all};
-use store_state::{Limit, LineFault, Reply};
+use small_types::Limit;
+use store_state::{LineFault, Reply};
 
 // A reply's text. The longest has 46 bytes.
 type Text = ArrayVec<u8, 64>;
@@ -66,27 +68,12 @@ fn minimum_text(version: Version) -> Text
     text
 }
 
-// The word of what there may be too many of.
-fn name_of(what: Limit) -> &'static [u8]
-    ensures { result.now ≡ limit_name what }
-{
-    match what {
-        Limit::Applications => b"applications",
-        Limit::Views => b"views",
-        Limit::Files => b"files",
-        Limit::Locals => b"locals",
-        Limit::Hashes => b"hashes",
-        Limit::Links => b"links",
-        Limit::Jobs => b"jobs",
-    }
-}
-
 // The reply of too many.
 fn too_many_text(what: Limit, limit: u64) -> Text
-    ensures { result.items ≡ codes "no too-many " ++ (limit_name what ++ (codes " " ++ (decimal limit ++ codes "\n"))) }
+    ensures { result.items ≡ codes "no too-many " ++ (limit_text what ++ (codes " " ++ (decimal limit ++ codes "\n"))) }
 {
     let mut text = text_of(b"no too-many ");
-    append(&mut text, name_of(what));
+    append(&mut text, what.word());
     append(&mut text, b" ");
     append_number(&mut text, limit);
     append(&mut text, b"\n");

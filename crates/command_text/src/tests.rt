@@ -1,10 +1,11 @@
-use crate::{NUMBER_LIMIT, print_reply, read_line, read_number, strip_carriage_return};
+use crate::{print_reply, read_line, read_number, strip_carriage_return};
 use identity::{Key, Version};
 use outside::{Failed, MemSink, Sink};
-use small_types::{Bytes, List, Text};
+use small_types::limits::NUMBER_LIMIT;
+use small_types::{Bytes, Limit, List, Text};
 use std::alloc::{AllocError, Global};
 use std::test::Fail;
-use store_state::{Command, Limit, LineFault, Reply};
+use store_state::{Command, LineFault, Reply};
 
 fn text(alloc: Global, text: &str) -> Result<Text, AllocError> {
     Ok(Text::from_string(String::from_str(alloc, text)?))

@@ -1,23 +1,18 @@
 // The words of a line, which one space each separates.
-ghost use Rattle.std.specs.Prelude.{◌≡◌, ◌≢◌, ◌==◌, [], ◌∷◌, length, position, IfSome, IfNone};
+ghost use Rattle.std.specs.Prelude.{◌≡◌, ◌≢◌, [], ◌∷◌, length, IfSome, IfNone};
 ghost use Rattle.std.specs.Option.{option_copied};
 ghost use Rattle.command_text.specs.Lines.{words_of, words_behind};
 
-// Where the first space stands.
-fn first_space(line: &[u8]) -> Option<usize>
-    ensures { result ≡ position (λ b. b == 32) line.now }
-{
-    line.iter().position(|b| *b == b' ')
-}
+use small_types::cut_once;
 
 /// The bytes before the first space, and those behind it where there is one.
 pub(crate) fn first_word(line: &[u8]) -> (&[u8], Option<&[u8]>)
     ensures { words_of line.now ≡ result.0.now ∷ words_behind (option_copied result.1) }
 {
-    let Some(place) = first_space(line) else {
-        return (line, None);
-    };
-    (&line[..place], Some(&line[place + 1..]))
+    match cut_once(line, b' ') {
+        Some((first, rest)) => (first, Some(rest)),
+        None => (line, None),
+    }
 }
 
 /// The words, where there are two.
