@@ -1,8 +1,9 @@
 -- A digest and its text, which is base64 (RFC 4648, section 4) with white space anywhere.
-use Rattle.std.specs.Prelude.{◌≡◌, ℕ, Bool, List, length, filter, not, ◌==◌, ◌||◌, if◌then◌else◌, Result, Ok, Err}
+use Rattle.std.specs.Prelude.{◌≡◌, ℕ, Bool, true, false, List, length, filter, not, ◌==◌, ◌||◌, if◌then◌else◌, Result, Ok, Err}
 use Rattle.base64.specs.declared.decode.DecodeError.{DecodeError}
 use Rattle.base64.specs.Engines.{standard}
 use Rattle.base64.specs.GeneralPurpose.{decode_of}
+use Rattle.small_types.specs.Reading.{GivesBut}
 use Rattle.digest_list.specs.declared.algorithm.Algorithm.{Algorithm}
 use Rattle.digest_list.specs.declared.digest.Digest.{Digest}
 use Rattle.digest_list.specs.declared.digest.DigestFault.{DigestFault}
@@ -30,12 +31,11 @@ digest_of_value algorithm (Err _) = Err Bad
 unfoldable pub digest_of : Algorithm → List ℕ → Result Digest DigestFault
 digest_of algorithm text = digest_of_value algorithm (decode_of standard (without_space text))
 
--- an error of a call is that of the reading, unless memory ran out
-abbrev pub Fails : DigestFault → Result Digest DigestFault → Type 0
-Fails Memory read = Unit {0}
-Fails e read = read ≡ Err e
+-- want of memory is no fault of the text
+abbrev pub is_memory : DigestFault → Bool
+is_memory Memory = true
+is_memory Bad = false
 
 -- a call gives what the reading gives, unless memory ran out
 abbrev pub Gives : Result Digest DigestFault → Result Digest DigestFault → Type 0
-Gives (Ok digest) read = read ≡ Ok digest
-Gives (Err e) read = Fails e read
+Gives result read = GivesBut is_memory (λ (digest : Digest). digest) result read

@@ -12,6 +12,8 @@ use crate::room::Room;
 use crate::{Difference, Digest, DigestList};
 use small_types::{CopyFault, Duplicate};
 use std::alloc::{AllocError, Global};
+use std::error::Error;
+use std::fmt;
 
 /// Why bytes were not found to match.
 #[derive(Drop, Debug, PartialEq, Eq)]
@@ -21,6 +23,17 @@ pub enum CheckFault {
     /// There was no memory for the checker. Only `new` answers this.
     Memory,
 }
+
+impl fmt::Display for CheckFault {
+    fn fmt<W: fmt::Write>(&self, f: &mut fmt::Formatter<W>) -> fmt::Result {
+        match self {
+            CheckFault::Differs { difference } => write!(f, "{difference}"),
+            CheckFault::Memory => write!(f, "out of memory"),
+        }
+    }
+}
+
+impl Error for CheckFault {}
 
 impl From<AllocError> for CheckFault {
     ghost from_gives = { λ _ e. e ≡ Memory };

@@ -1,5 +1,6 @@
 use crate::Algorithm;
 use small_types::Bytes;
+use std::fmt;
 
 /// How bytes differ from what is listed.
 #[derive(Drop, Debug, PartialEq, Eq)]
@@ -16,4 +17,15 @@ pub enum Difference {
         listed: Bytes,
         found: Bytes,
     },
+}
+
+impl fmt::Display for Difference {
+    fn fmt<W: fmt::Write>(&self, f: &mut fmt::Formatter<W>) -> fmt::Result {
+        match self {
+            Difference::Size { listed, found } => write!(f, "{found} bytes, listed {listed}"),
+            Difference::Digest { algorithm, .. } => {
+                write!(f, "another {} digest than listed", algorithm.name())
+            }
+        }
+    }
 }

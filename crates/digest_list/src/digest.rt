@@ -1,15 +1,24 @@
-ghost use Rattle.std.specs.Prelude.{◌≡◌, ◌≢◌, Ok, Err, List, ℕ, filter, length, not, IfOk, string_bytes};
+ghost use Rattle.std.specs.Prelude.{◌≡◌, ◌≢◌, ◌<◌, ◌≤◌, Ok, Err, List, ℕ, false, length, take, IfOk, IfSome, IfNone, IsOk, IsTrue};
 ghost use Rattle.base64.specs.Engines.{standard};
-ghost use Rattle.base64.specs.GeneralPurpose.{encode_of, IsBytes};
+ghost use Rattle.base64.specs.GeneralPurpose.{decode_of, encode_of, IsBytes};
 ghost use Rattle.hex.specs.Hex.{encode_lower};
+ghost use Rattle.digest_list.specs.declared.digest.DigestFault.TheVariants.{Memory};
 ghost use Rattle.digest_list.specs.Algorithm.{size_of};
 ghost use Rattle.digest_list.specs.Digest.{IsSized, Gives, digest_of, is_space, without_space};
 
 use crate::{Algorithm, PrintFault};
-use base64::DecodeAllocError;
+use arrayvec::ArrayVec;
 use base64::engine::general_purpose::STANDARD;
 use small_types::{Bytes, CopyFault, Duplicate, Text};
 use std::alloc::{AllocError, Global};
+use std::error::Error;
+use std::fmt;
+
+// The length of the base64 of the longest digest.
+const TEXT_LIMIT: usize = 88;
+
+// The bytes that so much base64 stands for at most.
+const ROOM: usize = 66;
 
 /// A digest under an algorithm. What is read has just the algorithm's length.
 #[derive(Drop, Debug, PartialEq, Eq)]
@@ -27,9 +36,18 @@ pub enum DigestFault {
     Memory,
 }
 
-impl From<AllocError> for DigestFault {
-    ghost use Rattle.digest_list.specs.declared.digest.DigestFault.TheVariants.{Memory};
+impl fmt::Display for DigestFault {
+    fn fmt<W: fmt::Write>(&self, f: &mut fmt::Formatter<W>) -> fmt::Result {
+        match self {
+            DigestFault::Bad => write!(f, "no digest"),
+            DigestFault::Memory => write!(f, "out of memory"),
+        }
+    }
+}
 
+impl Error for DigestFault {}
+
+impl From<AllocError> for DigestFault {
     ghost from_gives = { λ _ e. e ≡ Memory };
 
     fn from(_: AllocError) -> DigestFault {
@@ -44,39 +62,59 @@ fn is_white(byte: u8) -> bool
     byte == b' ' || byte == b'\t' || byte == b'\n' || byte == b'\r'
 }
 
-// The text without its white space.
-fn dense_text(alloc: Global, text: &[u8]) -> Result<Vec<u8>, AllocError>
-    ensures { IfOk result (λ kept. kept.items ≡ without_space text.now) }
+// The text without its white space, where that is no longer than the base64 of a digest.
+fn dense_text(text: &[u8]) -> Option<ArrayVec<u8, TEXT_LIMIT>>
+    ensures dense { IfSome result (λ kept. kept.items ≡ without_space text.now) }
+    ensures long { IfNone result (88 < length (without_space text.now)) }
 {
-    let mut kept = Vec::with_capacity(alloc, text.len())?;
+    let mut kept = ArrayVec::new();
     for byte in text {
         if !is_white(*byte) {
-            kept.push(*byte)?;
+            if kept.is_full() {
+                return None;
+            }
+            kept.push(*byte);
         }
     }
-    Ok(kept)
+    Some(kept)
+}
+
+// The value of that length that the base64 stands for, at the front of the buffer.
+fn decode_here(size: usize, text: &[u8], out: &mut [u8]) -> bool
+    requires short { length text.now ≤ 88 }
+    requires room { length out.old ≡ 66 }
+    requires small { size ≤ 64 }
+    ensures value { IsTrue result → decode_of standard text.now ≡ Ok (take size out.new) }
+    ensures other { result ≡ false → IfOk (decode_of standard text.now) (λ value. length value ≢ size) }
+    ensures room { length out.new ≡ 66 }
+{
+    match STANDARD.decode_slice_unchecked(text, out) {
+        Ok(count) => count == size,
+        Err(_) => false,
+    }
 }
 
 impl Digest {
     /// The digest that the text spells: without spaces, tabs, line feeds and carriage returns it is the standard
     /// base64 (RFC 4648, section 4) of a value of the algorithm's length, with its padding and with zeros for the
-    /// bits left over. `Bad` comes exactly where it is not. `Memory` may come at any text.
+    /// bits left over. `Bad` comes exactly where it is not. `Memory` may come at any text that spells a digest.
     pub fn read(alloc: Global, algorithm: Algorithm, text: &[u8]) -> Result<Digest, DigestFault>
         ensures exact { Gives result (digest_of algorithm text.now) }
         ensures sized { IfOk result IsSized }
         ensures spelled { IfOk result (λ d. without_space text.now ≡ encode_of standard d.value) }
         ensures refused { result ≡ Err DigestFault.Bad
             → (b : List ℕ) → IsBytes b → length b ≡ size_of algorithm → without_space text.now ≢ encode_of standard b }
+        ensures memory { result ≡ Err DigestFault.Memory → IsOk (digest_of algorithm text.now) }
     {
-        let kept = dense_text(alloc, text)?;
-        let value = match STANDARD.decode(alloc, kept.as_slice()) {
-            Ok(value) => value,
-            Err(DecodeAllocError::OutOfMemory) => return Err(DigestFault::Memory),
-            Err(DecodeAllocError::DecodeError(_)) => return Err(DigestFault::Bad),
+        let Some(kept) = dense_text(text) else {
+            return Err(DigestFault::Bad);
         };
-        if value.len() != algorithm.size() {
+        let size = algorithm.size();
+        let mut room = [0; ROOM];
+        if !decode_here(size, &kept, &mut room) {
             return Err(DigestFault::Bad);
         }
+        let value = Vec::from_slice(alloc, &room[..size])?;
         Ok(Digest {
             algorithm,
             value: Bytes::from_vec(value),

@@ -1,6 +1,8 @@
 ghost use Rattle.std.specs.Prelude.{◌≡◌};
 
 use std::alloc::AllocError;
+use std::error::Error;
+use std::fmt;
 
 /// Why printing failed.
 #[derive(Clone, Copy, Debug, PartialEq, Eq)]
@@ -8,6 +10,14 @@ pub enum PrintFault {
     /// There was no memory for the text.
     Memory,
 }
+
+impl fmt::Display for PrintFault {
+    fn fmt<W: fmt::Write>(&self, f: &mut fmt::Formatter<W>) -> fmt::Result {
+        write!(f, "out of memory")
+    }
+}
+
+impl Error for PrintFault {}
 
 impl From<AllocError> for PrintFault {
     ghost use Rattle.digest_list.specs.declared.fault.PrintFault.TheVariants.{Memory};

@@ -1,4 +1,5 @@
 use crate::Digest;
+use small_types::limits::HASH_LIMIT;
 use small_types::{CopyFault, Duplicate, List};
 use std::alloc::Global;
 use std::marker::Model;
@@ -33,7 +34,7 @@ impl DigestList {
         ensures value { IfSome result (λ list. list ≡ digests) }
     {
         let count = digests.as_slice().len();
-        if count == 0 || count > 8 {
+        if count == 0 || count > HASH_LIMIT {
             return None;
         }
         Some(DigestList { held: digests })
