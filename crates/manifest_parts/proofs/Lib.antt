@@ -1,6 +1,5 @@
 pub mod Lookups
 pub mod Manifests
-pub mod Numbers
 pub mod Hashes
 pub mod Readings
 pub mod Roots

@@ -2,7 +2,8 @@
 use Rattle.std.proofs.Common.{◌≡◌, ℕ, Bool, true, false, List, [], ◌∷◌, length, Option, Some, None, Result, Ok, Err, refl, sym, ap, subst, ◌∙◌, arith}
 use Rattle.manifest_parts.specs.declared.fault.ManifestFault.{ManifestFault}
 use Rattle.manifest_parts.specs.declared.fault.ManifestFault.TheVariants as fault
-use Rattle.manifest_parts.specs.Elements.{Read, ◌>>=◌}
+use Rattle.manifest_parts.specs.Elements.{Read}
+use Rattle.small_types.specs.Reading.{◌>>=◌}
 use Rattle.manifest_parts.specs.Outcome.{Fails, Gives, Refused, refusal}
 
 -- a refusal, of whatever is read

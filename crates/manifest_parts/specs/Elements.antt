@@ -11,12 +11,6 @@ use Rattle.manifest_parts.specs.declared.fault.ManifestFault.TheVariants.{Missin
 abbrev pub Read : Type 0 → Type 0
 Read A = Result A ManifestFault
 
--- the first refusal ends the reading
-infixl 10 ◌>>=◌
-abbrev pub ◌>>=◌ : {A B : Type 0} → Read A → (A → Read B) → Read B
-(Ok x) >>= f = f x
-(Err e) >>= f = Err e
-
 -- ---- names
 
 -- what follows the last `:`, where so much is kept so far

@@ -2,7 +2,9 @@
 use Rattle.std.specs.Prelude.{◌≡◌, ℕ, Bool, true, false, ◌&&◌, ◌||◌, not, ◌==◌, nat_lt, List, [], ◌∷◌, ◌++◌, length, codes, Option, Some, None, Result, Ok, Err, if◌then◌else◌}
 use Rattle.std.specs.List.{flat_map, list_all}
 use Rattle.std.specs.Str.{bytes_eq}
+use Rattle.small_types.specs.Reading.{◌>>=◌}
 use Rattle.small_types.specs.declared.limit.Limit.TheVariants.{Hashes}
+use Rattle.small_types.specs.declared.limits.TheConstants.{NAME_LIMIT, IDENTITY_PART_LIMIT, HASH_LIMIT}
 use Rattle.identity.specs.declared.identity.Identity.{Identity}
 use Rattle.identity.specs.declared.key.Key.{Key}
 use Rattle.identity.specs.declared.version.Version.{Version}
@@ -19,21 +21,21 @@ use Rattle.digest_list.specs.Digest.{digest_of}
 use Rattle.manifest_parts.specs.declared.fault.ManifestFault.{ManifestFault}
 use Rattle.manifest_parts.specs.declared.fault.ManifestFault.TheVariants.{Missing, Signed, BadValue, NoDigest, TooMany}
 use Rattle.manifest_parts.specs.declared.fault.ManifestFault.TheVariants as fault
-use Rattle.manifest_parts.specs.Elements.{Read, ◌>>=◌, attribute, text_of, called, children_called, once, has_called}
+use Rattle.manifest_parts.specs.Elements.{Read, attribute, text_of, called, children_called, once, has_called}
 use Rattle.manifest_parts.specs.Values.{needed, filled, within, defaulted, version_value}
 
 -- ---- identities
 
 -- the name: 1 to 240 bytes
 unfoldable pub named : Tree → Read (List ℕ)
-named t = needed (codes "name") (attribute (codes "name") t) >>= filled 240 (codes "name")
+named t = needed (codes "name") (attribute (codes "name") t) >>= filled NAME_LIMIT (codes "name")
 
 unfoldable pub versioned : Tree → Read Version
 versioned t = needed (codes "version") (attribute (codes "version") t) >>= version_value (codes "version")
 
 -- another attribute: at most 64 bytes, absent or empty the default
 unfoldable pub short_of : List ℕ → List ℕ → Tree → Read (List ℕ)
-short_of what default t = defaulted 64 what default (attribute what t)
+short_of what default t = defaulted IDENTITY_PART_LIMIT what default (attribute what t)
 
 -- the key of the name
 unfoldable pub key_of : List ℕ → Tree → Read Key
@@ -119,7 +121,7 @@ some_digest file (digest ∷ digests) = Ok (digest ∷ digests)
 
 -- at most eight hashes
 abbrev pub counted : List Tree → Read (List Digest)
-counted found = if nat_lt 8 (length found) then Err (TooMany Hashes) else hashes found
+counted found = if nat_lt HASH_LIMIT (length found) then Err (TooMany Hashes) else hashes found
 
 -- the digests of a file, from the elements `hash`
 unfoldable pub digests_of : List ℕ → Tree → Read (List Digest)

@@ -4,12 +4,14 @@ use Rattle.std.specs.Char.{is_ascii_digit}
 use Rattle.std.specs.List.{list_all}
 use Rattle.std.specs.Str.{bytes_eq}
 use Rattle.std.specs.Str.Parse.{digits_value}
+use Rattle.small_types.specs.Reading.{◌>>=◌}
+use Rattle.small_types.specs.declared.limits.TheConstants.{DIGIT_LIMIT}
 use Rattle.identity.specs.declared.version.Version.{Version}
 use Rattle.identity.specs.declared.version.VersionFault.{VersionFault}
 use Rattle.identity.specs.Version.{version_of}
 use Rattle.manifest_parts.specs.declared.fault.ManifestFault.{ManifestFault}
 use Rattle.manifest_parts.specs.declared.fault.ManifestFault.TheVariants.{Missing, BadValue}
-use Rattle.manifest_parts.specs.Elements.{Read, ◌>>=◌}
+use Rattle.manifest_parts.specs.Elements.{Read}
 
 -- an attribute that must be there
 abbrev pub needed : List ℕ → Option (List ℕ) → Read (List ℕ)
@@ -60,7 +62,7 @@ number_of digits limit what value = valid what (number_in digits limit value)
 
 -- a size in bytes: one to nineteen digits, and at most the limit
 abbrev pub size_of : ℕ → Option (List ℕ) → Read ℕ
-size_of limit value = needed (codes "size") value >>= number_of 19 limit (codes "size")
+size_of limit value = needed (codes "size") value >>= number_of DIGIT_LIMIT limit (codes "size")
 
 -- a version
 abbrev pub as_version : List ℕ → Result Version VersionFault → Read Version

@@ -11,11 +11,9 @@ use crate::fault::ManifestFault;
 use crate::refusals::{bad_value, no_digest};
 use digest_list::{Algorithm, Digest, DigestFault, DigestList};
 use manifest_tree::Node;
+use small_types::limits::HASH_LIMIT;
 use small_types::{Limit, List};
 use std::alloc::Global;
-
-// The most elements `hash` of a file.
-const HASH_LIMIT: usize = 8;
 
 // The only transform that is known: it leaves the bytes as they are.
 const IDENTITY: &str = "urn:schemas-microsoft-com:HashTransforms.Identity";
@@ -161,7 +159,7 @@ fn hashes_of(alloc: Global, node: &Node) -> Result<Vec<Digest>, ManifestFault>
 // The same, where there are at most eight.
 fn counted(alloc: Global, node: &Node) -> Result<Vec<Digest>, ManifestFault>
     ensures digests { Gives (λ v. v.items) result (counted_hashes (children_called (codes "hash") (tree_of node.now))) }
-    ensures few { IfOk result (λ v. length v.items ≤ 8) }
+    ensures few { IfOk result (λ v. length v.items ≤ HASH_LIMIT) }
 {
     if count_hashes(node) > HASH_LIMIT {
         return Err(ManifestFault::TooMany {
@@ -173,7 +171,7 @@ fn counted(alloc: Global, node: &Node) -> Result<Vec<Digest>, ManifestFault>
 
 // The list of the digests, where there is one.
 fn some_digest(alloc: Global, file: &str, digests: Vec<Digest>) -> Result<DigestList, ManifestFault>
-    requires { length digests.items ≤ 8 }
+    requires { length digests.items ≤ HASH_LIMIT }
     ensures { Gives (λ l. l) result (some_read file.now digests.items) }
 {
     match DigestList::from_list(List::from_vec(digests)) {

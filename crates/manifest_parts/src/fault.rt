@@ -6,6 +6,13 @@ use identity::Version;
 use manifest_tree::TreeFault;
 use small_types::{CopyFault, Limit, Text};
 use std::alloc::{AllocError, AllocFailed};
+use std::error::Error;
+use std::fmt;
+
+// What there is too many of.
+fn noun(what: Limit) -> &'static str {
+    str::from_utf8(what.word()).unwrap_or("parts")
+}
 
 /// Why a manifest is refused.
 #[derive(Drop, Debug, PartialEq, Eq)]
@@ -35,6 +42,27 @@ pub enum ManifestFault {
     /// There was no memory.
     Memory,
 }
+
+impl fmt::Display for ManifestFault {
+    fn fmt<W: fmt::Write>(&self, f: &mut fmt::Formatter<W>) -> fmt::Result {
+        match self {
+            ManifestFault::Tree(fault) => write!(f, "{fault}"),
+            ManifestFault::Missing { what } => write!(f, "no {}", what.as_str()),
+            ManifestFault::Twice { what } => write!(f, "{} stands twice", what.as_str()),
+            ManifestFault::BadValue { what } => write!(f, "bad value of {}", what.as_str()),
+            ManifestFault::Signed => write!(f, "signed"),
+            ManifestFault::NoDigest { file } => write!(f, "no known digest of {}", file.as_str()),
+            ManifestFault::BadName { file } => write!(f, "no file name: {}", file.as_str()),
+            ManifestFault::TwiceNamed { file } => write!(f, "two files named {}", file.as_str()),
+            ManifestFault::MinimumAboveVersion { .. } => write!(f, "minimum above the version"),
+            ManifestFault::OnlineOnly => write!(f, "only run online"),
+            ManifestFault::TooMany { what } => write!(f, "too many {}", noun(*what)),
+            ManifestFault::Memory => write!(f, "out of memory"),
+        }
+    }
+}
+
+impl Error for ManifestFault {}
 
 impl From<AllocError> for ManifestFault {
     ghost from_gives = { λ _ e. e ≡ Memory };

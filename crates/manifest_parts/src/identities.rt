@@ -9,13 +9,8 @@ use crate::values::{defaulted, filled, needed, version};
 use identity::{Identity, Key, Version};
 use manifest_tree::Node;
 use small_types::Text;
+use small_types::limits::{IDENTITY_PART_LIMIT, NAME_LIMIT};
 use std::alloc::Global;
-
-// The most bytes of a name.
-const NAME_LIMIT: usize = 240;
-
-// The most bytes of a token, a language, an architecture or a kind.
-const SHORT_LIMIT: usize = 64;
 
 // The name of an identity.
 #[tactic(auto, unfolding(crate::specs::Parts::named))]
@@ -40,7 +35,13 @@ fn version_in(alloc: Global, node: &Node) -> Result<Version, ManifestFault>
 fn short_in(alloc: Global, node: &Node, what: &str, default: &str) -> Result<Text, ManifestFault>
     ensures { Gives (λ t. t) result (short_of what.now default.now (tree_of node.now)) }
 {
-    defaulted(alloc, SHORT_LIMIT, what, default, attribute(node, what))
+    defaulted(
+        alloc,
+        IDENTITY_PART_LIMIT,
+        what,
+        default,
+        attribute(node, what),
+    )
 }
 
 // The key of the name.

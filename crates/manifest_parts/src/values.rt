@@ -1,15 +1,13 @@
 // The values of attributes. A refusal has the local name of the attribute.
-ghost use Rattle.std.specs.Prelude.{◌≡◌, ◌<◌, IsTrue, Some, None, length, nat_lt, if◌then◌else◌};
-ghost use Rattle.std.specs.Char.{is_ascii_digit};
-ghost use Rattle.std.specs.List.{list_all};
-ghost use Rattle.std.specs.Str.Parse.{digits_value};
+ghost use Rattle.std.specs.Prelude.{◌≡◌};
 ghost use Rattle.manifest_parts.specs.Values.{needed as needed_value, filled as filled_value, within as value_within, defaulted as defaulted_value, truth as truth_value, valid as valid_value, number_in as number_read, number_of, size_of, version_value, truth_of};
 ghost use Rattle.manifest_parts.specs.Outcome.{Gives, text_at, maybe_text};
 
 use crate::fault::ManifestFault;
 use crate::refusals::{bad_value, missing, text_of};
 use identity::Version;
-use small_types::{Duplicate, Text};
+use small_types::limits::DIGIT_LIMIT;
+use small_types::{Duplicate, Text, are_digits, parse_digits};
 use std::alloc::Global;
 
 /// A value that must be there: `Missing` where it is not.
@@ -115,28 +113,12 @@ pub fn truth(
     }
 }
 
-// Whether each byte is a digit.
-fn are_digits(bytes: &[u8]) -> bool
-    ensures { result ≡ list_all is_ascii_digit bytes.now }
-{
-    bytes.iter().all(|b| b.is_ascii_digit())
-}
-
-// The number that the digits write, where it fits.
-fn parse_digits(digits: &str) -> Option<u64>
-    requires digits { IsTrue (list_all is_ascii_digit digits.now) }
-    requires some { 0 < length digits.now }
-    ensures { result ≡ (if nat_lt 18446744073709551615 (digits_value 10 digits.now) then None else Some (digits_value 10 digits.now)) }
-{
-    digits.parse().ok()
-}
-
 // A number of one to so many decimal digits that is at most the limit.
 #[tactic(auto, unfolding(crate::specs::Values::number_in))]
-fn number_in(digits: usize, limit: u64, text: &str) -> Option<u64>
+fn number_in(digits: usize, limit: u64, text: &[u8]) -> Option<u64>
     ensures { result ≡ number_read digits limit text.now }
 {
-    if text.is_empty() || text.len() > digits || !are_digits(text.as_bytes()) {
+    if text.is_empty() || text.len() > digits || !are_digits(text) {
         return None;
     }
     match parse_digits(text) {
@@ -155,7 +137,7 @@ pub fn number(
 ) -> Result<u64, ManifestFault>
     ensures { Gives (λ n. n) result (number_of digits limit what.now value.now) }
 {
-    valid(alloc, what, number_in(digits, limit, value.as_str()))
+    valid(alloc, what, number_in(digits, limit, value.as_bytes()))
 }
 
 /// A size in bytes: one to nineteen decimal digits, and at most the limit. `Missing` where there is none, `BadValue` for
@@ -164,7 +146,7 @@ pub fn size(alloc: Global, limit: u64, value: Option<&Text>) -> Result<u64, Mani
     ensures { Gives (λ n. n) result (size_of limit (maybe_text value.entry)) }
 {
     let value = needed(alloc, "size", value)?;
-    number(alloc, 19, limit, "size", value)
+    number(alloc, DIGIT_LIMIT, limit, "size", value)
 }
 
 /// A version: `BadValue` for any other text.
