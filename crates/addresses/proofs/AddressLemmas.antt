@@ -18,11 +18,12 @@ use Rattle.url.specs.Parts.{Parts, kind_of, has_credentials, IsValid, IsHierarch
 use Rattle.url.specs.Parser.{parse_url}
 use Rattle.url.proofs.ValidLemmas.{hierarchical, special_has_authority, base_from_authority}
 use Rattle.url.proofs.PathLemmas.{rooted}
+use Rattle.small_types.specs.declared.limits.TheConstants.{URL_LIMIT}
 use Rattle.small_types.specs.declared.target.Target.{Target}
 use Rattle.small_types.specs.Reading.{◌>>=◌}
 use Rattle.addresses.specs.declared.fault.UrlFault.{UrlFault}
 use Rattle.addresses.specs.declared.fault.UrlFault.TheVariants.{BadUrl}
-use Rattle.addresses.specs.Address.{http, host_of, query_text, address, is_too_long, is_refused, target_of_url, url_of, url_limit, target_of_text, IsAddress, Gives}
+use Rattle.addresses.specs.Address.{http, host_of, query_text, address, is_too_long, is_refused, target_of_url, url_of, target_of_text, IsAddress, Gives}
 
 -- ---- the host
 
@@ -118,14 +119,14 @@ other_text text other =
     grind (arith, nat_tests)
 
 -- a text within the limit is read by the standard
-pub short_text : (text : List ℕ) → length text ≤ url_limit → IsUtf8 text → target_of_text text ≡ (url_of (parse_url None text) >>= target_of_url)
+pub short_text : (text : List ℕ) → length text ≤ URL_LIMIT → IsUtf8 text → target_of_text text ≡ (url_of (parse_url None text) >>= target_of_url)
 unfolding target_of_text
 short_text text short utf8 =
     let is = is_utf8-from_IsUtf8 text utf8 in
     grind (arith, nat_tests)
 
 -- and then by the URL that it gives
-pub gives_then : (r : Result Target UrlFault) (bytes text : List ℕ) (url : Parts) → length bytes ≤ url_limit → text ≡ bytes → IsUtf8 bytes → url_of (parse_url None text) ≡ Ok url → Gives r (target_of_url url) → Gives r (target_of_text bytes)
+pub gives_then : (r : Result Target UrlFault) (bytes text : List ℕ) (url : Parts) → length bytes ≤ URL_LIMIT → text ≡ bytes → IsUtf8 bytes → url_of (parse_url None text) ≡ Ok url → Gives r (target_of_url url) → Gives r (target_of_text bytes)
 gives_then r bytes text url short same utf8 parsed gives =
     let whole : target_of_text bytes ≡ target_of_url url = short_text bytes short utf8 ∙ ap (λ (t : List ℕ). url_of (parse_url None t) >>= target_of_url) (sym same) ∙ ap (λ (p : Result Parts UrlFault). p >>= target_of_url) parsed in
     subst (Gives r) (sym whole) gives

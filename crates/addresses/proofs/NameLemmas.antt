@@ -4,14 +4,15 @@ use Rattle.std.specs.Prelude.{codes, decimal}
 use Rattle.std.specs.List.{list_all}
 use Rattle.std.specs.Str.{is_utf8}
 use Rattle.std.proofs.lemmas.Bool.{cond-true, cond-false, cond_both, cases_Bool, both_ways, and_parts, eq-eqb, lt-ltb, ltb-true}
+use Rattle.small_types.specs.declared.limits.TheConstants.{NAME_LIMIT, URL_LIMIT}
 use Rattle.small_types.specs.declared.target.Target.{Target}
-use Rattle.small_types.specs.Name.{name_limit, name_parts, is_name_byte, is_name_part, is_name, IsName}
+use Rattle.small_types.specs.Name.{name_parts, is_name_byte, is_name_part, is_name, IsName}
 use Rattle.small_types.specs.Reading.{◌>>=◌}
 use Rattle.url.specs.Parts.{Parts, HasSameHost, serialize}
 use Rattle.url.specs.Parser.{Parsed, parse_url}
 use Rattle.addresses.specs.declared.fault.UrlFault.{UrlFault}
 use Rattle.addresses.specs.declared.fault.UrlFault.TheVariants.{BadUrl, NotHttp, Memory}
-use Rattle.addresses.specs.Address.{http, url_of, url_limit, is_too_long, address, Gives}
+use Rattle.addresses.specs.Address.{http, url_of, is_too_long, address, Gives}
 use Rattle.addresses.specs.Join.{target_text, base_of, resolved, file_reference, file_target_of, short_address, IsUnreachable, NamesAreJoined}
 use Rattle.addresses.proofs.BaseLemmas.{IsHttp, front_http}
 use Rattle.addresses.proofs.ReferenceLemmas.{IsRelative, reference_plain, reference_relative, reference_joined}
@@ -44,7 +45,7 @@ name_parts_of name is =
     let all = and_parts _ (is_utf8 name) is in
     let parts = and_parts _ (list_all is_name_part (name_parts name)) all.0 in
     let bytes = and_parts _ (list_all is_name_byte name) parts.0 in
-    let lengths = and_parts (nat_lt 0 (length name)) (nat_le (length name) name_limit) bytes.0 in
+    let lengths = and_parts (nat_lt 0 (length name)) (nat_le (length name) NAME_LIMIT) bytes.0 in
     (ltb-true 0 (length name) lengths.0, parts.1)
 
 -- ---- the join
@@ -97,12 +98,12 @@ refused_target = Err BadUrl
 abbrev found : Parts → Result Target UrlFault
 found url = Ok (address url)
 
-short_refused : (url : Parts) → short_address url ≡ Err BadUrl → url_limit < length (serialize url)
+short_refused : (url : Parts) → short_address url ≡ Err BadUrl → URL_LIMIT < length (serialize url)
 unfolding short_address is_too_long
 short_refused url refused =
-    ⊎_elim (λ long. ltb-true url_limit (length (serialize url)) long)
+    ⊎_elim (λ long. ltb-true URL_LIMIT (length (serialize url)) long)
     (λ short. absurd (let failed : found url ≡ Err BadUrl = sym (cond-false _ _ _ short) ∙ refused in cc))
-    (cases_Bool (nat_lt url_limit (length (serialize url))))
+    (cases_Bool (nat_lt URL_LIMIT (length (serialize url))))
 
 unreachable_beside : (base : Target) (mapped : Bool) (name : List ℕ) (url : Parts) → resolved base (file_reference mapped name) ≡ Ok url → file_target_of base mapped name ≡ Err BadUrl → IsUnreachable base mapped name
 unfolding file_target_of
@@ -120,9 +121,9 @@ refused_from_gives r base mapped name is gives refused =
 
 -- ---- what a call answers there
 
-too_long_refused : (url : Parts) → url_limit < length (serialize url) → short_address url ≡ Err BadUrl
+too_long_refused : (url : Parts) → URL_LIMIT < length (serialize url) → short_address url ≡ Err BadUrl
 unfolding short_address is_too_long
-too_long_refused url long = cond-true _ _ _ (lt-ltb url_limit (length (serialize url)) long)
+too_long_refused url long = cond-true _ _ _ (lt-ltb URL_LIMIT (length (serialize url)) long)
 
 refused_where : (base : Target) (mapped : Bool) (name : List ℕ) → IsUnreachable base mapped name → file_target_of base mapped name ≡ Err BadUrl
 unfolding file_target_of resolved

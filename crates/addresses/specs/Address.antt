@@ -1,17 +1,14 @@
 -- Network addresses: which URLs are one, and what is asked of which host.
-use Rattle.std.specs.Prelude.{◌≡◌, ℕ, ◌<◌, Bool, not, ◌||◌, nat_lt, List, [], ◌++◌, length, codes, bytes_eq, Option, Some, None, is_none, unwrap_or, option_map, Result, Ok, Err, if◌then◌else◌}
+use Rattle.std.specs.Prelude.{◌≡◌, ℕ, ◌<◌, Bool, true, false, not, ◌||◌, nat_lt, List, [], ◌++◌, length, codes, bytes_eq, Option, Some, None, is_none, unwrap_or, option_map, Result, Ok, Err, if◌then◌else◌}
 use Rattle.std.specs.Str.{is_utf8}
 use Rattle.url.specs.Host.{host_text}
 use Rattle.url.specs.Parts.{Parts, has_credentials, nonempty_host, serialize}
 use Rattle.url.specs.Parser.{Parsed, parse_url}
+use Rattle.small_types.specs.declared.limits.TheConstants.{URL_LIMIT}
 use Rattle.small_types.specs.declared.target.Target.{Target}
-use Rattle.small_types.specs.Reading.{◌>>=◌}
+use Rattle.small_types.specs.Reading.{◌>>=◌, GivesBut}
 use Rattle.addresses.specs.declared.fault.UrlFault.{UrlFault}
 use Rattle.addresses.specs.declared.fault.UrlFault.TheVariants.{BadUrl, NotHttp, Memory}
-
--- the most bytes of an address, as it is given and as a URL writes it
-abbrev pub url_limit : ℕ
-url_limit = 2048
 
 -- the scheme of an address, and the port where it names none
 abbrev pub http : List ℕ
@@ -39,7 +36,7 @@ address url = record {
 
 -- the URL, as it is written with its fragment, is over the limit
 unfoldable pub is_too_long : Parts → Bool
-is_too_long url = nat_lt url_limit (length (serialize url))
+is_too_long url = nat_lt URL_LIMIT (length (serialize url))
 
 -- it is refused whatever its scheme
 unfoldable pub is_refused : Parts → Bool
@@ -60,7 +57,7 @@ url_of (Err e) = Err BadUrl
 -- the address that the bytes spell
 unfoldable pub target_of_text : List ℕ → Result Target UrlFault
 target_of_text text =
-    if nat_lt url_limit (length text) || not (is_utf8 text) then Err BadUrl
+    if nat_lt URL_LIMIT (length text) || not (is_utf8 text) then Err BadUrl
     else url_of (parse_url None text) >>= target_of_url
 
 -- there is a host, and the path begins with `/`
@@ -68,12 +65,12 @@ pub record IsAddress (target : Target) : Type 0 where
   pub host : 0 < length target.host
   pub path : (rest : List ℕ) × (target.path ≡ codes "/" ++ rest)
 
--- an error of a call is that of the reading, unless memory ran out
-abbrev pub Fails : {X : Type 0} → UrlFault → Result X UrlFault → Type 0
-Fails Memory read = Unit {0}
-Fails e read = read ≡ Err e
+-- want of memory is no fault of the text
+abbrev pub is_memory : UrlFault → Bool
+is_memory Memory = true
+is_memory BadUrl = false
+is_memory (NotHttp scheme) = false
 
 -- a call gives what the reading gives, unless memory ran out
 abbrev pub Gives : {X : Type 0} → Result X UrlFault → Result X UrlFault → Type 0
-Gives (Ok x) read = read ≡ Ok x
-Gives (Err e) read = Fails e read
+Gives {X} result read = GivesBut is_memory (λ (x : X). x) result read

@@ -2,13 +2,14 @@
 use Rattle.std.specs.Prelude.{◌≡◌, ◌<◌, ◌⊎◌, ℕ, Bool, List, length, [], ◌++◌, codes, decimal, Some, None, Result, Ok, Err, if◌then◌else◌}
 use Rattle.url.specs.Parts.{Parts, HasSameHost, serialize}
 use Rattle.url.specs.Parser.{parse_url}
+use Rattle.small_types.specs.declared.limits.TheConstants.{URL_LIMIT}
 use Rattle.small_types.specs.declared.target.Target.{Target}
 use Rattle.small_types.specs.Name.{IsName}
 use Rattle.identity.specs.Key.{word_text}
 use Rattle.small_types.specs.Reading.{◌>>=◌}
 use Rattle.addresses.specs.declared.fault.UrlFault.{UrlFault}
 use Rattle.addresses.specs.declared.fault.UrlFault.TheVariants.{BadUrl}
-use Rattle.addresses.specs.Address.{address, http, is_too_long, target_of_url, url_limit, url_of}
+use Rattle.addresses.specs.Address.{address, http, is_too_long, target_of_url, url_of}
 
 -- `http://HOST:PORT` and the path
 unfoldable pub target_text : Target → List ℕ
@@ -42,7 +43,7 @@ file_target_of base mapped name = resolved base (file_reference mapped name) >>=
 abbrev pub IsUnreachable : Target → Bool → List ℕ → Type 0
 IsUnreachable base mapped name =
     (base_of base ≡ Err BadUrl)
-    ⊎ ((url : Parts) × (resolved base (file_reference mapped name) ≡ Ok url) × (url_limit < length (serialize url)))
+    ⊎ ((url : Parts) × (resolved base (file_reference mapped name) ≡ Ok url) × (URL_LIMIT < length (serialize url)))
 
 -- each name is joined to every base that is a URL, and stays on its host
 abbrev pub NamesAreJoined : Type 0

@@ -6,12 +6,10 @@ ghost use Rattle.addresses.specs.Address as spec;
 ghost use Rattle.addresses.specs.Address.{Gives, IsAddress, address, is_refused, query_text, target_of_text, target_of_url, url_of};
 
 use crate::UrlFault;
+use small_types::limits::URL_LIMIT;
 use small_types::{Target, Text};
 use std::alloc::{AllocError, Global};
 use url::Url;
-
-/// The most bytes of an address, both as it is given and as a URL writes it.
-pub const URL_LIMIT: usize = 2048;
 
 // The port of an address that names none.
 const HTTP_PORT: u16 = 80;

@@ -3,6 +3,8 @@ ghost use Rattle.std.specs.Prelude.{◌≡◌};
 use identity::PrintFault;
 use small_types::Text;
 use std::alloc::AllocError;
+use std::error::Error;
+use std::fmt;
 use url::ParseError;
 
 /// Why a text is no address.
@@ -15,6 +17,18 @@ pub enum UrlFault {
     /// There was no memory for the address, or the URL came to 4 GB on the way.
     Memory,
 }
+
+impl fmt::Display for UrlFault {
+    fn fmt<W: fmt::Write>(&self, f: &mut fmt::Formatter<W>) -> fmt::Result {
+        match self {
+            UrlFault::BadUrl => write!(f, "no address"),
+            UrlFault::NotHttp { scheme } => write!(f, "scheme {}, not http", scheme.as_str()),
+            UrlFault::Memory => write!(f, "out of memory"),
+        }
+    }
+}
+
+impl Error for UrlFault {}
 
 impl From<AllocError> for UrlFault {
     ghost use Rattle.addresses.specs.declared.fault.UrlFault.TheVariants.{Memory};

@@ -8,7 +8,7 @@ mod laws;
 #[cfg(test)]
 mod tests;
 
-pub use address::{URL_LIMIT, target_of};
+pub use address::target_of;
 pub use fault::UrlFault;
 pub use join::{app_target, file_target};
 pub use laws::{bases_are_http, names_are_joined};
