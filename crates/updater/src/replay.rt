@@ -7,15 +7,12 @@ ghost use Rattle.identity.specs.declared.version.Version.{Version};
 ghost use Rattle.updater.specs.Stands.{Loads};
 ghost use Rattle.updater.specs.Replay.{Makes, FitsNone};
 
-use crate::requirement::APPLICATIONS;
 use identity::Key;
-use small_types::Bytes;
 use record_codec::{CodecFault, decode_change};
+use small_types::Bytes;
+use small_types::limits::{APPLICATION_LIMIT, NUMBER_LIMIT};
 use std::alloc::Global;
 use store_state::{Change, StateFault, StoreState};
-
-// The greatest boot number: 2^62.
-const BOOT_LIMIT: u64 = 0x4000_0000_0000_0000;
 
 // Whether there are at most 256 applications once the key has an entry.
 fn has_room(alloc: Global, state: &StoreState, key: &Key) -> Result<bool, StateFault>
@@ -23,8 +20,8 @@ fn has_room(alloc: Global, state: &StoreState, key: &Key) -> Result<bool, StateF
 {
     let count = state.count();
     match state.entry(alloc, key)? {
-        Some(_) => Ok(count <= APPLICATIONS),
-        None => Ok(count < APPLICATIONS),
+        Some(_) => Ok(count <= APPLICATION_LIMIT),
+        None => Ok(count < APPLICATION_LIMIT),
     }
 }
 
@@ -34,7 +31,7 @@ fn fits(alloc: Global, state: &StoreState, change: &Change) -> Result<bool, Stat
     ensures { IfOk result (λ fits. IsTrue fits ↔ Fits state.now change.now) }
 {
     match change {
-        Change::Boot { boot } => Ok(*boot <= BOOT_LIMIT),
+        Change::Boot { boot } => Ok(*boot <= NUMBER_LIMIT),
         Change::Require { key, .. } => has_room(alloc, state, key),
     }
 }

@@ -3,11 +3,9 @@ ghost use Rattle.std.specs.Prelude.{IfOk};
 ghost use Rattle.updater.specs.Requirement.{ComesTo};
 
 use identity::{Key, Version};
+use small_types::limits::APPLICATION_LIMIT;
 use std::alloc::Global;
 use store_state::{StateFault, StoreState};
-
-// The most applications of a store.
-pub(crate) const APPLICATIONS: usize = 256;
 
 /// What requiring a version of a key comes to.
 #[derive(Clone, Copy, Debug, PartialEq, Eq)]
@@ -31,12 +29,12 @@ pub(crate) fn requirement_of(
 {
     let count = state.count();
     let Some(app) = state.entry(alloc, key)? else {
-        if count < APPLICATIONS {
+        if count < APPLICATION_LIMIT {
             return Ok(Requirement::Raises);
         }
         return Ok(Requirement::TooMany);
     };
-    if count > APPLICATIONS {
+    if count > APPLICATION_LIMIT {
         return Ok(Requirement::TooMany);
     }
     let Some(minimum) = app.minimum else {

@@ -3,14 +3,14 @@ ghost use Rattle.identity.specs.Version.{IsVersion};
 ghost use Rattle.updater.specs.Updater.{IsCommand};
 
 use crate::{RecoverFault, Updater};
-use identity::{Key, Version};
 use disks::{Disk, MemDisk};
-use small_types::{Bytes, List};
+use identity::{Key, Version};
+use small_types::{Bytes, Limit, List};
 use std::alloc::Global;
 use std::process::Abort;
 use std::test::Fail;
 use store_log::Log;
-use store_state::{Command, Limit, Reply};
+use store_state::{Command, Reply};
 
 // A disk of these bytes, whose call of the number `failing`, counted from 1, fails.
 fn disk_of(alloc: Global, bytes: &[u8], failing: u64) -> Result<MemDisk, Fail> {

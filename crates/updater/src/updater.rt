@@ -17,14 +17,15 @@ use crate::RecoverFault;
 use crate::fault::StepFault;
 use crate::piece::piece_of;
 use crate::replay::replay;
-use crate::requirement::{APPLICATIONS, Requirement, requirement_of};
-use identity::{Key, Version};
+use crate::requirement::{Requirement, requirement_of};
 use disks::Disk;
+use identity::{Key, Version};
 use outside::Failed;
-use small_types::Duplicate;
+use small_types::limits::APPLICATION_LIMIT;
+use small_types::{Duplicate, Limit};
 use std::alloc::Global;
 use store_log::{Log, LogFault};
-use store_state::{Change, Command, Limit, Reply, StoreState};
+use store_state::{Change, Command, Reply, StoreState};
 
 /// A store that is open: its log and its tables.
 #[derive(Debug, Drop)]
@@ -215,7 +216,7 @@ impl Updater {
         match requirement {
             Requirement::TooMany => Ok(Reply::TooMany {
                 what: Limit::Applications,
-                limit: APPLICATIONS as u64,
+                limit: APPLICATION_LIMIT as u64,
             }),
             Requirement::Holds { minimum } => Ok(Reply::Minimum { version: minimum }),
             Requirement::Raises => self.raise(alloc, disk, key, version),
