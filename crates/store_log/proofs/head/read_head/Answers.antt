@@ -3,7 +3,7 @@ use Rattle.std.proofs.Common.{rules}
 use Rattle.store_log.specs.Log.{head_of}
 use Rattle.store_log.proofs.HeadBlock.{no_head, wrong_count, other_head, is_head_of}
 use Rattle.store_log.proofs.head.read_head.Goals as goal
-use Rattle.store_log.proofs.head.read_head.Goals.{then-blocks-eq0-via-then-blocks-eq0, then-blocks-eq0-via-else-blocks-eq0+then-blocks-gt-MAX_BLOCKS}
+use Rattle.store_log.proofs.head.read_head.Goals.{then-blocks-eq0-via-then-blocks-eq0, then-blocks-eq0-via-else-blocks-eq0+then-blocks-gt-BLOCK_LIMIT}
 
 pub returns-then-bytes-lt-HEAD-clause-none : goal.returns-then-bytes-lt-HEAD-clause-none
 returns-then-bytes-lt-HEAD-clause-none c = no_head c.args.bytes.now c.if-bytes-lt-HEAD.true
@@ -12,7 +12,7 @@ pub returns-then-blocks-eq0-clause-none : goal.returns-then-blocks-eq0-clause-no
 returns-then-blocks-eq0-clause-none c =
     wrong_count c.args.bytes.now c.from_be_bytes-blocks.result c.from_be_bytes-blocks.ensures (λ some limit. elim c.then-blocks-eq0.branch [
       | then-blocks-eq0-via-then-blocks-eq0 w ↦ omega (arith, w.if-blocks-eq0.true)
-      | then-blocks-eq0-via-else-blocks-eq0+then-blocks-gt-MAX_BLOCKS w ↦ omega (arith, w.if-blocks-gt-MAX_BLOCKS.true)
+      | then-blocks-eq0-via-else-blocks-eq0+then-blocks-gt-BLOCK_LIMIT w ↦ omega (arith, w.if-blocks-gt-BLOCK_LIMIT.true)
     ])
 
 pub returns-then-is_same-clause-found : goal.returns-then-is_same-clause-found
