@@ -151,6 +151,7 @@ impl Updater {
         ensures later { D.moment disk.old ≤ D.moment disk.new }
         ensures count { D.count disk.old ≤ D.count disk.new }
         ensures cause { result ≡ Err step.DiskFault → Rose (D.count disk.old) (D.count disk.new) }
+        ensures quiet { OnOk result (D.count disk.new ≡ D.count disk.old) }
     {
         let mut piece = piece_of(alloc, &change)?;
         self.state.apply(alloc, change)?;
