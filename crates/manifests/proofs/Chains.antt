@@ -1,9 +1,10 @@
 -- What a call gives whose steps end at the first refusal.
-use Rattle.std.proofs.Common.{◌≡◌, ℕ, List, Result, Ok, Err, refl, sym, subst}
+use Rattle.std.proofs.Common.{◌≡◌, ℕ, List, Ok, Err, sym, subst}
 use Rattle.std.specs.Result.{IsErr, IsErrAnd, IfErr}
 use Rattle.manifest_tree.specs.Tree.{Tree}
 use Rattle.manifest_parts.specs.declared.fault.ManifestFault.{ManifestFault}
-use Rattle.manifest_parts.specs.Elements.{Read, ◌>>=◌}
+use Rattle.manifest_parts.specs.Elements.{Read}
+use Rattle.small_types.specs.Reading.{◌>>=◌}
 use Rattle.manifest_parts.specs.Outcome.{Fails, Gives}
 use Rattle.manifest_parts.specs.Parts.{RefusesBytes, Answers}
 

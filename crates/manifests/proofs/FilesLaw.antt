@@ -1,25 +1,23 @@
 -- The files of every application are few, and their names differ.
-use Rattle.std.proofs.Common.{◌≡◌, ℕ, zero, suc, ◌+◌, ◌<◌, ◌≤◌, Bool, true, false, List, [], ◌∷◌, ◌++◌, length, Option, Some, None, Result, Ok, Err, refl, sym, ap, subst, ◌∙◌, arith, length-append}
-use Rattle.std.specs.Prelude.{◌&&◌, ◌||◌, nat_le, nat_lt, slice_index_or, if◌then◌else◌}
-use Rattle.std.specs.List.{AllPairs}
-use Rattle.std.specs.Str.{bytes_eq}
+use Rattle.std.proofs.Common.{◌≡◌, ℕ, ◌+◌, ◌<◌, ◌≤◌, Bool, true, false, List, [], ◌∷◌, ◌++◌, length, Option, Some, None, Ok, Err, refl, sym, ap, subst, ◌∙◌, arith, length-append}
+use Rattle.std.specs.Prelude.{◌&&◌, nat_le, if◌then◌else◌}
 use Rattle.std.proofs.lemmas.Bool.Decides.{nat_tests}
-use Rattle.std.proofs.lemmas.List.{get_or_append_left}
-use Rattle.std.proofs.lemmas.Slice.Eq.{bytes_eq-Decides}
-use Rattle.std.proofs.Math.Seq.{get_or-append_seam}
 use Rattle.small_types.specs.declared.limit.Limit.TheVariants.{Files, Locals}
+use Rattle.small_types.specs.declared.limits.TheConstants.{FILE_COUNT_LIMIT, LOCAL_COUNT_LIMIT}
 use Rattle.digest_list.specs.declared.digest.Digest.{Digest}
 use Rattle.manifest_tree.specs.Tree.{Tree}
 use Rattle.manifest_parts.specs.declared.fault.ManifestFault.TheVariants.{TooMany, TwiceNamed}
-use Rattle.manifest_parts.specs.Elements.{Read, ◌>>=◌, children_of}
+use Rattle.manifest_parts.specs.Elements.{Read, children_of}
+use Rattle.small_types.specs.Reading.{◌>>=◌}
 use Rattle.manifest_parts.specs.Values.{needed, size_of}
 use Rattle.manifest_parts.specs.Parts.{identity_in, digests_of, root_of, manifest_of}
 use Rattle.manifest_parts.proofs.Readings.{ok_at}
 use Rattle.identity.specs.declared.identity.Identity.{Identity}
 use Rattle.manifests.specs.declared.facts.FileEntry.{FileEntry}
 use Rattle.manifests.specs.declared.facts.Application.{Application}
-use Rattle.manifests.specs.Applications.{Listing, Start, listing_of, is_taken, listed_name, new_name, file_name, group_of, locals, counted, file_of, with_file, child_file, files_from, start_of, application_facts, application_of}
+use Rattle.manifests.specs.Applications.{Listing, Start, listing_of, is_taken, listed_name, new_name, file_name, group_of, locals, counted, size_limit, file_of, with_file, child_file, files_from, start_of, application_facts, application_of}
 use Rattle.manifests.specs.FileLists.{AreFiles, ApplicationsHaveFiles}
+use Rattle.manifests.proofs.Differing.{differ_more}
 use Rattle.manifests.proofs.KnownFiles.{locals_more, locals_of_local, locals_of_other}
 
 -- ---- what is read was read in steps
@@ -35,8 +33,8 @@ ok_is x y h = cc
 
 record IsNew (before : List FileEntry) (e : FileEntry) : Type 0 where
   name_new : is_taken before e.name ≡ false
-  room : length before < 16384
-  room_local : e.local ≡ true → locals before < 256
+  room : length before < FILE_COUNT_LIMIT
+  room_local : e.local ≡ true → locals before < LOCAL_COUNT_LIMIT
 
 choice_ok : (files data_files : Bool) (x e : FileEntry) → (if files then Err (TooMany Files) else if data_files then Err (TooMany Locals) else ok_at x) ≡ ok_at e
     → (files ≡ false) × (data_files ≡ false) × (x ≡ e)
@@ -50,12 +48,12 @@ under limit n h = grind (arith, nat_tests)
 counted_new : (before : List FileEntry) (x e : FileEntry) → is_taken before x.name ≡ false → counted before x ≡ Ok e → IsNew before e
 unfolding counted
 counted_new before x e fresh h =
-    let over = x.local && nat_le 256 (locals before) in
-    let c = choice_ok (nat_le 16384 (length before)) over x e h in
+    let over = x.local && nat_le LOCAL_COUNT_LIMIT (locals before) in
+    let c = choice_ok (nat_le FILE_COUNT_LIMIT (length before)) over x e h in
     subst (λ (f : FileEntry). IsNew before f) c.2 (record {
       name_new = fresh;
-      room = under 16384 (length before) c.0;
-      room_local = λ is. under 256 (locals before) (sym (ap (λ (b : Bool). b && nat_le 256 (locals before)) is) ∙ c.1);
+      room = under FILE_COUNT_LIMIT (length before) c.0;
+      room_local = λ is. under LOCAL_COUNT_LIMIT (locals before) (sym (ap (λ (b : Bool). b && nat_le LOCAL_COUNT_LIMIT (locals before)) is) ∙ c.1);
     })
 
 free_ok : (taken : Bool) (n name : List ℕ) → (if taken then Err (TwiceNamed n) else ok_at n) ≡ ok_at name → (taken ≡ false) × (n ≡ name)
@@ -81,60 +79,32 @@ module _ (before : List FileEntry) (l : Listing) where
   behind_size name size = digests_of name l.hashed >>= behind_digests name size
 
   abbrev behind_name : List ℕ → Read FileEntry
-  behind_name name = size_of 67108864 l.size >>= behind_size name
+  behind_name name = size_of (size_limit l.is_local) l.size >>= behind_size name
 
   file_new : (e : FileEntry) → file_of before l ≡ Ok e → IsNew before e
   unfolding file_of
   file_new e h =
       let a = bind_ok (file_name before l) behind_name e h in
-      let b = bind_ok (size_of 67108864 l.size) (behind_size a.0) e a.2 in
+      let b = bind_ok (size_of (size_limit l.is_local) l.size) (behind_size a.0) e a.2 in
       let d = bind_ok (digests_of a.0 l.hashed) (behind_digests a.0 b.0) e b.2 in
       let g = bind_ok (group_of l) (behind_group a.0 b.0 d.0) e d.2 in
       counted_new before (record { name = a.0; size = b.0; list = d.0; group = g.0; local = l.is_local }) e (name_fresh before l a.0 a.1) g.2
 
 -- ---- with one more
 
-or_parts : (a b : Bool) → (a || b) ≡ false → (a ≡ false) × (b ≡ false)
-or_parts true b h = absurd cc
-or_parts false b h = (refl, h)
-
-not_taken : (before : List FileEntry) (name : List ℕ) → is_taken before name ≡ false → (i : ℕ) (d : FileEntry) → i < length before → ¬ ((slice_index_or before i d).name ≡ name)
-not_taken [] name h i d lt = absurd (omega arith)
-not_taken (e ∷ es) name h zero d lt = λ same.
-    let p = or_parts (bytes_eq e.name name) (is_taken es name) h in
-    let clash : true ≡ false = sym ((bytes_eq-Decides e.name name).1 same) ∙ p.0 in
-    absurd cc
-not_taken (e ∷ es) name h (suc i) d lt = not_taken es name (or_parts (bytes_eq e.name name) (is_taken es name) h).1 i d (omega arith)
-
-local_case : (b : Bool) (e : FileEntry) (n : ℕ) → e.local ≡ b → (e.local ≡ true → n < 256) → n ≤ 256 → n + locals (e ∷ []) ≤ 256
+local_case : (b : Bool) (e : FileEntry) (n : ℕ) → e.local ≡ b → (e.local ≡ true → n < LOCAL_COUNT_LIMIT) → n ≤ LOCAL_COUNT_LIMIT → n + locals (e ∷ []) ≤ LOCAL_COUNT_LIMIT
 local_case true e n is room most = let one = locals_of_local e is in let below = room is in omega arith
 local_case false e n is room most = let none = locals_of_other e is in omega arith
 
 module _ (before : List FileEntry) (e : FileEntry) (are : AreFiles before) (new : IsNew before e) where
-  at_left : (i : ℕ) (d : FileEntry) → i < length before → slice_index_or (before ++ e ∷ []) i d ≡ slice_index_or before i d
-  at_left i d lt = get_or_append_left before (e ∷ []) d i lt
-
-  at_last : (j : ℕ) (d : FileEntry) → j ≡ length before → slice_index_or (before ++ e ∷ []) j d ≡ e
-  at_last j d is = ap (λ (k : ℕ). slice_index_or (before ++ e ∷ []) k d) is ∙ get_or-append_seam before e [] d
-
-  pair : (b : Bool) (i j : ℕ) (d : FileEntry) → nat_lt j (length before) ≡ b → i < j → j < length before + 1
-      → ¬ ((slice_index_or (before ++ e ∷ []) i d).name ≡ (slice_index_or (before ++ e ∷ []) j d).name)
-  pair true i j d test lt within = λ same.
-      let left : j < length before = grind (arith, nat_tests) in
-      are.differ i j d lt left (ap (λ (f : FileEntry). f.name) (sym (at_left i d (omega arith))) ∙ same ∙ ap (λ (f : FileEntry). f.name) (at_left j d left))
-  pair false i j d test lt within = λ same.
-      let last : j ≡ length before = grind (arith, nat_tests) in
-      not_taken before e.name new.name_new i d (omega arith)
-      (ap (λ (f : FileEntry). f.name) (sym (at_left i d (omega arith))) ∙ same ∙ ap (λ (f : FileEntry). f.name) (at_last j d last))
-
   one_more : AreFiles (before ++ e ∷ [])
   one_more =
       let size : length (before ++ e ∷ []) ≡ length before + 1 = length-append before (e ∷ []) in
       let room = new.room in
       record {
         few = omega arith;
-        few_local = subst (λ (n : ℕ). n ≤ 256) (sym (locals_more before e (locals before) refl)) (local_case e.local e (locals before) refl new.room_local are.few_local);
-        differ = λ i j d lt within. pair (nat_lt j (length before)) i j d refl lt (omega arith);
+        few_local = subst (λ (n : ℕ). n ≤ LOCAL_COUNT_LIMIT) (sym (locals_more before e (locals before) refl)) (local_case e.local e (locals before) refl new.room_local are.few_local);
+        differ = differ_more before e are.differ new.name_new;
       }
 
 -- ---- all

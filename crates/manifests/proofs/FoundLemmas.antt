@@ -1,11 +1,12 @@
 -- The assemblies that are to be installed, judged one by one.
-use Rattle.std.proofs.Common.{◌≡◌, ℕ, Bool, true, false, List, [], ◌∷◌, ◌++◌, map, drop, Result, Ok, Err, refl, sym, ap, subst, ◌∙◌, append_assoc}
+use Rattle.std.proofs.Common.{◌≡◌, ℕ, Bool, List, [], ◌∷◌, ◌++◌, map, Ok, Err, refl, sym, ap, subst, ◌∙◌}
 use Rattle.std.specs.Prelude.{codes, filter, if◌then◌else◌}
 use Rattle.std.specs.List.{flat_map}
 use Rattle.manifest_tree.specs.declared.node.Node.{Node}
 use Rattle.manifest_tree.specs.Tree.{Tree, tree_of}
 use Rattle.manifest_parts.specs.declared.fault.ManifestFault.{ManifestFault}
-use Rattle.manifest_parts.specs.Elements.{Read, ◌>>=◌, called, children_called, children_of}
+use Rattle.manifest_parts.specs.Elements.{Read, called, children_called, children_of}
+use Rattle.small_types.specs.Reading.{◌>>=◌}
 use Rattle.manifest_parts.specs.Outcome.{Fails}
 use Rattle.manifests.specs.declared.deployment_entry.Found.{Found}
 use Rattle.manifests.specs.declared.deployment_entry.Found.TheVariants.{Nothing}

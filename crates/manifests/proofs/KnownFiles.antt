@@ -1,9 +1,7 @@
 -- What is kept beside the files that were read so far, and one more.
-use Rattle.std.proofs.Common.{◌≡◌, ℕ, ◌+◌, ◌<◌, ◌≤◌, Bool, true, false, List, [], ◌∷◌, ◌++◌, length, refl, sym, ap, subst, ◌∙◌, arith, length-append}
+use Rattle.std.proofs.Common.{◌≡◌, ℕ, ◌+◌, ◌≤◌, Bool, true, false, List, [], ◌∷◌, ◌++◌, length, refl, sym, ap, ◌∙◌, arith, length-append}
 use Rattle.std.specs.Prelude.{◌||◌, filter, cond, String, string_bytes}
 use Rattle.std.specs.Str.{bytes_eq}
-use Rattle.std.specs.Cmp.Lexicographic.{slice_cmp}
-use Rattle.std.specs.Ordering.{nat_cmp}
 use Rattle.std.specs.String.{string_cmp}
 use Rattle.std.specs.BTreeSet.{BTreeSet, Updates, contains_text}
 use Rattle.std.proofs.lemmas.Map.Text.{btree_set_updates_text}
@@ -40,14 +38,20 @@ locals_of_local e is = rw is refl
 pub locals_of_other : (e : FileEntry) → e.local ≡ false → locals (e ∷ []) ≡ 0
 locals_of_other e is = rw is refl
 
+-- a set with the names of the files, and one name more
+pub names_more : {A : Type 0} (entries : List FileEntry) (e : FileEntry) (before after : BTreeSet (String A)) (name : String A)
+    → ((cs : List ℕ) → contains_text before cs ≡ is_taken entries cs) → string_bytes name ≡ e.name → Updates string_cmp before after name true
+    → (cs : List ℕ) → contains_text after cs ≡ is_taken (entries ++ e ∷ []) cs
+names_more entries e before after name known same updates cs =
+    btree_set_updates_text (string_bytes name) before after true updates cs
+    ∙ ap (λ (bs : List ℕ). cond (bytes_eq bs cs) true (contains_text before cs)) same
+    ∙ ap (λ (b : Bool). cond (bytes_eq e.name cs) true b) (known cs)
+    ∙ either_way (bytes_eq e.name cs) (is_taken entries cs)
+    ∙ sym (taken_more entries e cs)
+
 pub known_more : {A : Type 0} (entries : List FileEntry) (e : FileEntry) (before after : BTreeSet (String A)) (n m : ℕ) (name : String A)
     → AreKnown entries before n → string_bytes name ≡ e.name → Updates string_cmp before after name true → m ≡ n + locals (e ∷ []) → AreKnown (entries ++ e ∷ []) after m
 known_more entries e before after n m name known same updates is = record {
-  names_are = λ cs.
-      btree_set_updates_text (string_bytes name) before after true updates cs
-      ∙ ap (λ (bs : List ℕ). cond (bytes_eq bs cs) true (contains_text before cs)) same
-      ∙ ap (λ (b : Bool). cond (bytes_eq e.name cs) true b) (known.names_are cs)
-      ∙ either_way (bytes_eq e.name cs) (is_taken entries cs)
-      ∙ sym (taken_more entries e cs);
+  names_are = names_more entries e before after name known.names_are same updates;
   data_is = is ∙ sym (locals_more entries e n known.data_is);
 }

@@ -8,3 +8,9 @@ pub mod CountLemmas
 pub mod ReleaseLemmas
 pub mod ListingLemmas
 pub mod FilesLaw
+pub mod ApplicationsLaw
+pub mod SpelledValues
+pub mod DeploymentsLaw
+pub mod Differing
+pub mod FoundValues
+pub mod SaidParts

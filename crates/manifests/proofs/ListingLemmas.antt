@@ -1,9 +1,10 @@
 -- What a child of the root lists.
-use Rattle.std.proofs.Common.{◌≡◌, ℕ, Bool, true, false, List, Option, Some, None, Result, Ok, Err, refl, sym, ap, ◌∙◌}
+use Rattle.std.proofs.Common.{◌≡◌, Bool, true, false, Option, Some, None, Ok, sym, ap, ◌∙◌}
 use Rattle.std.specs.Prelude.{codes, if◌then◌else◌}
 use Rattle.manifest_tree.specs.Tree.{Tree}
 use Rattle.manifest_parts.specs.declared.fault.ManifestFault.{ManifestFault}
-use Rattle.manifest_parts.specs.Elements.{Read, ◌>>=◌, called}
+use Rattle.manifest_parts.specs.Elements.{Read, called}
+use Rattle.small_types.specs.Reading.{◌>>=◌}
 use Rattle.manifest_parts.specs.Outcome.{Fails}
 use Rattle.manifest_parts.proofs.Readings.{fails_then, fails_same}
 use Rattle.manifests.specs.Types.{installed_type}

@@ -1,8 +1,9 @@
 -- Whether a file of a name may be installed.
-use Rattle.std.proofs.Common.{◌≡◌, ℕ, Bool, true, false, List, Option, Some, None, Result, Ok, Err, refl, sym, ap, subst, ◌∙◌}
+use Rattle.std.proofs.Common.{◌≡◌, ℕ, Bool, true, false, List, Option, Some, None, Ok, Err, refl, sym, ap, ◌∙◌}
 use Rattle.std.specs.Prelude.{◌↔◌, ◌&&◌, ◌||◌, not, nat_le, length, codes, slice_get, if◌then◌else◌}
 use Rattle.std.specs.Bool.{IsTrue}
 use Rattle.std.proofs.lemmas.Slice.Eq.{bytes_eq-Decides}
+use Rattle.small_types.specs.declared.limits.TheConstants.{LOCAL_NAME_LIMIT}
 use Rattle.small_types.specs.declared.name.NameFault.{NameFault}
 use Rattle.small_types.specs.Name.{name_of, name_parts, IsBelowPre}
 use Rattle.manifest_parts.specs.declared.fault.ManifestFault.TheVariants.{BadName, TwiceNamed}
@@ -52,7 +53,7 @@ module _ (before : List FileEntry) (name : List ℕ) where
 -- ---- the test of a name
 
 abbrev fits : Bool → Bool → List ℕ → Bool
-fits below is_local name = not below && (not is_local || nat_le (length name) 235)
+fits below is_local name = not below && (not is_local || nat_le (length name) LOCAL_NAME_LIMIT)
 
 module _ (below is_local : Bool) (name : List ℕ) (h : IsTrue below ↔ IsBelowPre name) where
   listed_is : fits below is_local name ≡ is_listed_name is_local name
@@ -64,5 +65,5 @@ module _ (below is_local : Bool) (name : List ℕ) (h : IsTrue below ↔ IsBelow
   pub program_is_listed : below ≡ false → is_local ≡ false → true ≡ is_listed_name is_local name
   program_is_listed is program = sym (ap (λ (b : Bool). fits b is_local name) is ∙ ap (λ (l : Bool). fits false l name) program) ∙ listed_is
 
-  pub data_is_listed : below ≡ false → is_local ≡ true → nat_le (length name) 235 ≡ is_listed_name is_local name
+  pub data_is_listed : below ≡ false → is_local ≡ true → nat_le (length name) LOCAL_NAME_LIMIT ≡ is_listed_name is_local name
   data_is_listed is data_file = sym (ap (λ (b : Bool). fits b is_local name) is ∙ ap (λ (l : Bool). fits false l name) data_file) ∙ listed_is

@@ -1,15 +1,16 @@
 -- The facts of an application manifest, found in its whole tree; or the first refusal in this order.
-use Rattle.std.specs.Prelude.{◌≡◌, ℕ, Bool, true, false, ◌&&◌, ◌||◌, not, ◌==◌, nat_le, nat_lt, List, [], ◌∷◌, ◌++◌, length, filter, slice_get, codes, Option, Some, None, Result, Ok, Err, if◌then◌else◌}
+use Rattle.std.specs.Prelude.{ℕ, Bool, true, false, ◌&&◌, ◌||◌, not, nat_le, List, [], ◌∷◌, ◌++◌, length, filter, slice_get, codes, Option, Some, None, Result, Ok, Err, if◌then◌else◌}
 use Rattle.std.specs.List.{list_any}
 use Rattle.std.specs.Option.{option_or}
 use Rattle.std.specs.Str.{bytes_eq}
 use Rattle.small_types.specs.declared.limit.Limit.TheVariants.{Files, Locals}
+use Rattle.small_types.specs.declared.limits.TheConstants.{FILE_COUNT_LIMIT, FILE_SIZE_LIMIT, LOCAL_COUNT_LIMIT, LOCAL_NAME_LIMIT, LOCAL_SIZE_LIMIT, NAME_LIMIT, URL_LIMIT}
 use Rattle.small_types.specs.declared.name.NameFault.{NameFault}
 use Rattle.small_types.specs.Name.{name_of, name_parts}
-use Rattle.digest_list.specs.declared.digest.Digest.{Digest}
 use Rattle.manifest_tree.specs.Tree.{Tree}
-use Rattle.manifest_parts.specs.declared.fault.ManifestFault.TheVariants.{Missing, BadValue, BadName, TwiceNamed, TooMany}
-use Rattle.manifest_parts.specs.Elements.{Read, ◌>>=◌, attribute, called, children_of, first_called, once}
+use Rattle.manifest_parts.specs.declared.fault.ManifestFault.TheVariants.{BadName, TwiceNamed, TooMany}
+use Rattle.manifest_parts.specs.Elements.{Read, attribute, called, children_of, first_called, once}
+use Rattle.small_types.specs.Reading.{◌>>=◌}
 use Rattle.manifest_parts.specs.Values.{needed, filled, within, truth, size_of}
 use Rattle.manifest_parts.specs.Parts.{identity_in, digests_of, manifest_of}
 use Rattle.manifests.specs.declared.facts.FileEntry.{FileEntry}
@@ -92,7 +93,7 @@ is_below_pre name = is_pre (slice_get (name_parts name) 0)
 
 -- a name that may be installed: not below `.pre`, and of a data file at most 235 bytes
 abbrev pub is_listed_name : Bool → List ℕ → Bool
-is_listed_name is_local name = not (is_below_pre name) && (not is_local || nat_le (length name) 235)
+is_listed_name is_local name = not (is_below_pre name) && (not is_local || nat_le (length name) LOCAL_NAME_LIMIT)
 
 -- what a value names, where a file of that name may be installed
 abbrev pub fit_name : Bool → List ℕ → Result (List ℕ) NameFault → Read (List ℕ)
@@ -117,7 +118,7 @@ in_group wanted (c ∷ cs) = if wanted then Some (c ∷ cs) else None
 unfoldable pub group_of : Listing → Read (Option (List ℕ))
 group_of l = do
   optional ← truth (codes "optional") false l.optional
-  group ← within 240 (codes "group") l.group
+  group ← within NAME_LIMIT (codes "group") l.group
   Ok (in_group (optional && not l.is_local) group)
 
 -- how many data files there are
@@ -127,14 +128,19 @@ locals entries = length (filter (λ (e : FileEntry). e.local) entries)
 -- at most 16,384 files, and at most 256 data files
 unfoldable pub counted : List FileEntry → FileEntry → Read FileEntry
 counted before entry =
-    if nat_le 16384 (length before) then Err (TooMany Files) else
-    if entry.local && nat_le 256 (locals before) then Err (TooMany Locals) else Ok entry
+    if nat_le FILE_COUNT_LIMIT (length before) then Err (TooMany Files) else
+    if entry.local && nat_le LOCAL_COUNT_LIMIT (locals before) then Err (TooMany Locals) else Ok entry
+
+-- the most bytes of a file, which are fewer of a data file
+abbrev pub size_limit : Bool → ℕ
+size_limit true = LOCAL_SIZE_LIMIT
+size_limit false = FILE_SIZE_LIMIT
 
 -- the file that is listed behind these
 unfoldable pub file_of : List FileEntry → Listing → Read FileEntry
 file_of before l = do
   name ← file_name before l
-  size ← size_of 67108864 l.size
+  size ← size_of (size_limit l.is_local) l.size
   digests ← digests_of name l.hashed
   group ← group_of l
   counted before (record { name = name; size = size; list = digests; group = group; local = l.is_local })
@@ -165,8 +171,8 @@ start_of t = do
   point ← once (codes "entryPoint") t
   command ← once (codes "commandLine") point
   given ← needed (codes "file") (attribute (codes "file") command)
-  entry ← filled 240 (codes "file") given
-  parameters ← within 2048 (codes "parameters") (attribute (codes "parameters") command)
+  entry ← filled NAME_LIMIT (codes "file") given
+  parameters ← within URL_LIMIT (codes "parameters") (attribute (codes "parameters") command)
   Ok (record { entry = entry; parameters = parameters })
 
 -- the facts of an `assembly`

@@ -1,17 +1,18 @@
 -- The facts of a deployment manifest, found in its whole tree; or the first refusal in this order.
-use Rattle.std.specs.Prelude.{◌≡◌, ℕ, ◌*◌, Bool, true, false, ◌&&◌, ◌||◌, not, ◌==◌, List, [], ◌∷◌, ◌++◌, filter, codes, Option, Some, None, is_some, Result, Ok, Err, if◌then◌else◌}
+use Rattle.std.specs.Prelude.{ℕ, ◌*◌, Bool, true, false, List, [], ◌∷◌, codes, Option, Some, None, is_some, Result, Ok, Err, if◌then◌else◌}
 use Rattle.std.specs.List.{flat_map}
 use Rattle.std.specs.Str.{bytes_eq}
 use Rattle.std.specs.Ordering.{is_lt}
+use Rattle.small_types.specs.declared.limits.TheConstants.{MANIFEST_LIMIT, URL_LIMIT}
 use Rattle.small_types.specs.declared.target.Target.{Target}
 use Rattle.addresses.specs.declared.fault.UrlFault.{UrlFault}
 use Rattle.addresses.specs.Address.{target_of_text}
-use Rattle.identity.specs.declared.identity.Identity.{Identity}
 use Rattle.identity.specs.declared.version.Version.{Version}
 use Rattle.identity.specs.Version.{version_cmp}
 use Rattle.manifest_tree.specs.Tree.{Tree}
 use Rattle.manifest_parts.specs.declared.fault.ManifestFault.TheVariants.{Missing, Twice, BadValue, OnlineOnly, MinimumAboveVersion}
-use Rattle.manifest_parts.specs.Elements.{Read, ◌>>=◌, attribute, children_called, first_called, once}
+use Rattle.manifest_parts.specs.Elements.{Read, attribute, children_called, first_called, once}
+use Rattle.small_types.specs.Reading.{◌>>=◌}
 use Rattle.manifest_parts.specs.Values.{needed, filled, truth, number_of, size_of, version_value}
 use Rattle.manifest_parts.specs.Parts.{identity_in, digests_of, manifest_of}
 use Rattle.manifests.specs.Types.{installed_type}
@@ -118,8 +119,8 @@ unfoldable pub terms_of : Version → Tree → Read Terms
 terms_of version t = do
   deployment ← once (codes "deployment") t
   install ← truth (codes "install") true (attribute (codes "install") deployment)
-  mapped ← truth (codes "mapFileExtensions") false (attribute (codes "mapFileExtensions") deployment)
   offline ← installed_only install
+  mapped ← truth (codes "mapFileExtensions") false (attribute (codes "mapFileExtensions") deployment)
   minimum ← minimum_of version (attribute (codes "minimumRequiredVersion") deployment)
   rule ← rule_of deployment
   Ok (record { minimum = minimum; mapped = mapped; rule = rule; provider = provider_of deployment })
@@ -129,8 +130,8 @@ unfoldable pub entry_of : Tree → Read Entry
 entry_of t = do
   assembly ← assembly_of t
   given ← needed (codes "codebase") (attribute (codes "codebase") assembly)
-  codebase ← filled 2048 (codes "codebase") given
-  size ← size_of 4194304 (attribute (codes "size") assembly)
+  codebase ← filled URL_LIMIT (codes "codebase") given
+  size ← size_of MANIFEST_LIMIT (attribute (codes "size") assembly)
   app ← identity_in assembly
   digests ← digests_of codebase assembly
   Ok (record { codebase = codebase; size = size; app = app; digests = digests })

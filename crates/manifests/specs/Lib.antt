@@ -1,5 +1,7 @@
+pub mod Ages
 pub mod Applications
 pub mod Deployments
+pub mod Facts
 pub mod Files
 pub mod Found
 pub mod Listings

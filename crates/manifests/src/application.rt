@@ -17,14 +17,9 @@ use manifest_parts::{
     ManifestFault, attribute, children, filled, identity_in, once, read_root, within,
 };
 use manifest_tree::Node;
+use small_types::limits::{NAME_LIMIT, URL_LIMIT};
 use small_types::{List, Text};
 use std::alloc::Global;
-
-/// The most bytes of the file that is started.
-const ENTRY_LIMIT: usize = 240;
-
-/// The most bytes of what it is started with.
-const PARAMETERS_LIMIT: usize = 2_048;
 
 // What is started.
 #[derive(Drop)]
@@ -40,10 +35,10 @@ fn start_of(alloc: Global, root: &Node) -> Result<Start, ManifestFault>
     let point = once(alloc, root, "entryPoint")?;
     let command = once(alloc, point, "commandLine")?;
     let given = needed_attribute(alloc, command, "file")?;
-    let entry = filled(alloc, ENTRY_LIMIT, "file", given)?;
+    let entry = filled(alloc, NAME_LIMIT, "file", given)?;
     let parameters = within(
         alloc,
-        PARAMETERS_LIMIT,
+        URL_LIMIT,
         "parameters",
         attribute(command, "parameters"),
     )?;

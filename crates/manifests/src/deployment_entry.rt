@@ -14,13 +14,8 @@ use manifest_parts::{
 };
 use manifest_tree::Node;
 use small_types::Text;
+use small_types::limits::{MANIFEST_LIMIT, URL_LIMIT};
 use std::alloc::Global;
-
-// The most bytes of a codebase.
-const CODEBASE_LIMIT: usize = 2048;
-
-// The most bytes of an application manifest.
-const MANIFEST_LIMIT: u64 = 4_194_304;
 
 // What is said of the application manifest.
 #[derive(Drop)]
@@ -107,8 +102,8 @@ pub(crate) fn entry_of(alloc: Global, root: &Node) -> Result<Entry, ManifestFaul
 {
     let assembly = assembly_of(alloc, root)?;
     let given = needed_attribute(alloc, assembly, "codebase")?;
-    let codebase = filled(alloc, CODEBASE_LIMIT, "codebase", given)?;
-    let size = size_attribute(alloc, assembly, MANIFEST_LIMIT)?;
+    let codebase = filled(alloc, URL_LIMIT, "codebase", given)?;
+    let size = size_attribute(alloc, assembly, MANIFEST_LIMIT as u64)?;
     let app = identity_in(alloc, assembly)?;
     let digests = digests_of(alloc, codebase.as_str(), assembly)?;
     Ok(Entry {

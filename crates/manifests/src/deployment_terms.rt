@@ -138,10 +138,10 @@ pub(crate) fn terms_of(alloc: Global, offered: Version, root: &Node) -> Result<T
 {
     let deployment = once(alloc, root, "deployment")?;
     let install = truth_attribute(alloc, deployment, "install", true)?;
-    let mapped = truth_attribute(alloc, deployment, "mapFileExtensions", false)?;
     if !install {
         return Err(ManifestFault::OnlineOnly);
     }
+    let mapped = truth_attribute(alloc, deployment, "mapFileExtensions", false)?;
     let minimum = minimum_of(alloc, offered, deployment)?;
     let rule = rule_of(alloc, deployment)?;
     let provider = provider_of(alloc, deployment)?;

@@ -10,29 +10,18 @@ use crate::listing::Listing;
 use manifest_parts::{
     ManifestFault, bad_name, digests_of, needed, size, truth, twice_named, within,
 };
+use small_types::limits::{
+    FILE_COUNT_LIMIT, FILE_SIZE_LIMIT, LOCAL_COUNT_LIMIT, LOCAL_NAME_LIMIT, LOCAL_SIZE_LIMIT,
+    NAME_LIMIT,
+};
 use small_types::{Limit, Name, NameFault, Text};
 use std::alloc::Global;
-
-/// The most bytes of a file.
-const FILE_LIMIT: u64 = 67_108_864;
-
-/// The most bytes of a data file's name.
-const DATA_NAME_LIMIT: usize = 235;
-
-/// The most bytes of a group's name.
-const GROUP_LIMIT: usize = 240;
-
-/// The most files.
-const FILES: usize = 16_384;
-
-/// The most data files.
-const DATA_FILES: usize = 256;
 
 // Whether a file of the name may be installed.
 fn is_listed(local: bool, name: &Name) -> bool
     ensures { result ≡ spec.is_listed_name local name.now }
 {
-    !name.is_below_pre() && (!local || name.as_bytes().len() <= DATA_NAME_LIMIT)
+    !name.is_below_pre() && (!local || name.as_bytes().len() <= LOCAL_NAME_LIMIT)
 }
 
 // The name that the value spells, where it may be installed.
@@ -78,7 +67,7 @@ fn group_of(alloc: Global, listing: &Listing<'_>) -> Result<Option<Text>, Manife
     ensures { Gives (λ g. g) result (spec.group_of (listed listing.now)) }
 {
     let optional = truth(alloc, "optional", false, listing.optional)?;
-    let group = within(alloc, GROUP_LIMIT, "group", listing.group)?;
+    let group = within(alloc, NAME_LIMIT, "group", listing.group)?;
     Ok(kept_group(optional, listing.local, group))
 }
 
@@ -86,15 +75,26 @@ fn group_of(alloc: Global, listing: &Listing<'_>) -> Result<Option<Text>, Manife
 fn counted(before: &Files, entry: FileEntry) -> Result<FileEntry, ManifestFault>
     ensures { Gives (λ e. e) result (spec.counted before.now entry) }
 {
-    if before.count() >= FILES {
+    if before.count() >= FILE_COUNT_LIMIT {
         return Err(ManifestFault::TooMany { what: Limit::Files });
     }
-    if entry.local && before.count_data() >= DATA_FILES {
+    if entry.local && before.count_data() >= LOCAL_COUNT_LIMIT {
         return Err(ManifestFault::TooMany {
             what: Limit::Locals,
         });
     }
     Ok(entry)
+}
+
+/// The most bytes of a file, which are fewer of a data file.
+pub(crate) fn size_limit(local: bool) -> u64
+    ensures { result ≡ spec.size_limit local }
+{
+    if local {
+        LOCAL_SIZE_LIMIT
+    } else {
+        FILE_SIZE_LIMIT
+    }
 }
 
 /// The file that is listed behind these.
@@ -106,7 +106,7 @@ pub(crate) fn file_of(
     ensures { Gives (λ e. e) result (spec.file_of before.now (listed listing.now)) }
 {
     let name = file_name(alloc, before, listing)?;
-    let size = size(alloc, FILE_LIMIT, listing.size)?;
+    let size = size(alloc, size_limit(listing.local), listing.size)?;
     let list = digests_of(alloc, name.as_str(), listing.hashed)?;
     let group = group_of(alloc, listing)?;
     let local = listing.local;

@@ -1,5 +1,4 @@
 // What manifests say.
-ghost use Rattle.std.specs.Prelude.{◌≡◌, IfOk};
 
 use digest_list::DigestList;
 use identity::{Identity, Version};
@@ -22,7 +21,7 @@ pub enum Rule {
 pub struct FileEntry {
     /// Its name, with `/` between parts.
     pub name: Name,
-    /// Its length in bytes, at most 67,108,864.
+    /// Its length in bytes, at most 67,108,864, and of a data file at most 1,048,576.
     pub size: u64,
     /// Its digests.
     pub list: DigestList,
@@ -32,23 +31,13 @@ pub struct FileEntry {
     pub local: bool,
 }
 
-// An equal text, where there is one.
-fn maybe_copy(text: &Option<Text>, alloc: Global) -> Result<Option<Text>, CopyFault>
-    ensures { IfOk result (λ made. made ≡ text.now) }
-{
-    match text {
-        Some(text) => Ok(Some(text.copy(alloc)?)),
-        None => Ok(None),
-    }
-}
-
 impl Duplicate for FileEntry {
     fn copy(&self, alloc: Global) -> Result<Self, CopyFault> {
         Ok(FileEntry {
             name: self.name.copy(alloc)?,
             size: self.size,
             list: self.list.copy(alloc)?,
-            group: maybe_copy(&self.group, alloc)?,
+            group: self.group.copy(alloc)?,
             local: self.local,
         })
     }
@@ -85,7 +74,7 @@ impl Duplicate for Deployment {
             minimum: self.minimum,
             mapped: self.mapped,
             rule: self.rule,
-            provider: maybe_copy(&self.provider, alloc)?,
+            provider: self.provider.copy(alloc)?,
             codebase: self.codebase.copy(alloc)?,
             app: self.app.copy(alloc)?,
             app_size: self.app_size,

@@ -11,6 +11,8 @@ use digest_list::{CheckFault, Checker, Difference};
 use identity::{Key, Version};
 use small_types::{CopyFault, Duplicate};
 use std::alloc::Global;
+use std::error::Error;
+use std::fmt;
 
 /// Why a deployment and an application do not belong together.
 #[derive(Drop, Debug, PartialEq, Eq)]
@@ -24,6 +26,22 @@ pub enum ReleaseFault {
     /// There was no memory.
     Memory,
 }
+
+impl fmt::Display for ReleaseFault {
+    fn fmt<W: fmt::Write>(&self, f: &mut fmt::Formatter<W>) -> fmt::Result {
+        match self {
+            ReleaseFault::Mismatch { .. } => write!(
+                f,
+                "another application manifest than is listed"
+            ),
+            ReleaseFault::IdentityDiffers { .. } => write!(f, "another key than is listed"),
+            ReleaseFault::VersionDiffers { .. } => write!(f, "another version than is listed"),
+            ReleaseFault::Memory => write!(f, "out of memory"),
+        }
+    }
+}
+
+impl Error for ReleaseFault {}
 
 impl From<CopyFault> for ReleaseFault {
     ghost from_gives = { λ _ e. e ≡ Memory };

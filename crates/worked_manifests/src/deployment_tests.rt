@@ -141,6 +141,10 @@ fn terms_of_deployments(rt: HostRuntime) -> Result<(), Fail> {
         ("<deployment install='maybe'/>", "bad install"),
         (
             "<deployment install='0' mapFileExtensions='2'/>",
+            "OnlineOnly",
+        ),
+        (
+            "<deployment mapFileExtensions='2'/>",
             "bad mapFileExtensions",
         ),
         (

@@ -35,6 +35,11 @@ fn deployments(rt: &HostRuntime) -> io::Result<()> {
         ("install=\"true\"", "install=\"false\""),
         ("install=\"true\"", "install=\"yes\""),
         (
+            "install=\"true\" mapFileExtensions=\"true\"",
+            "install=\"false\" mapFileExtensions=\"x\"",
+        ),
+        ("mapFileExtensions=\"true\"", "mapFileExtensions=\"x\""),
+        (
             "minimumRequiredVersion=\"1.0.0.0\"",
             "minimumRequiredVersion=\"1.0.0.1\"",
         ),
@@ -101,6 +106,15 @@ fn second_files(rt: &HostRuntime) -> io::Result<()> {
             "name=\"b\" size=\"1\" writeableType=\"applicationData\" optional=\"1\" group=\"g\"",
             HASH,
         ),
+        (
+            "name=\"b\" size=\"1048576\" writeableType=\"applicationData\"",
+            HASH,
+        ),
+        (
+            "name=\"b\" size=\"1048577\" writeableType=\"applicationData\"",
+            HASH,
+        ),
+        ("name=\"b\" size=\"1048577\"", HASH),
     ] {
         let second = format!(in rt.alloc(); "{ENTRY}<file {attributes}>{hash}</file>")?;
         let text = changed(rt, APPLICATION, ENTRY, &second)?;

@@ -1,5 +1,5 @@
-use Rattle.std.proofs.Common.{◌≡◌, List, [], map, sym, ap, ◌∙◌, arith}
-use Rattle.manifest_tree.specs.Tree.{Tree, tree_of}
+use Rattle.std.proofs.Common.{List, [], sym, ap, ◌∙◌, arith}
+use Rattle.manifest_tree.specs.Tree.{Tree}
 use Rattle.manifest_parts.proofs.Readings.{fails_same}
 use Rattle.manifests.specs.Applications.{files_from}
 use Rattle.manifests.proofs.Chains.{handed_on}

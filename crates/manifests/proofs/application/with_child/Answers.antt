@@ -1,4 +1,4 @@
-use Rattle.std.proofs.Common.{Option, Ok, ap, ◌∙◌}
+use Rattle.std.proofs.Common.{Option, ap, ◌∙◌}
 use Rattle.manifest_tree.specs.Tree.{tree_of}
 use Rattle.manifest_parts.proofs.Readings.{ok_at, gives_same}
 use Rattle.manifests.specs.declared.listing.Listing as reader

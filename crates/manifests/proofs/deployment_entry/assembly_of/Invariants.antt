@@ -1,6 +1,6 @@
-use Rattle.std.proofs.Common.{◌≡◌, List, drop, map}
+use Rattle.std.proofs.Common.{◌≡◌, drop, map}
 use Rattle.std.specs.Prelude.{filter, codes}
-use Rattle.manifest_tree.specs.Tree.{Tree, tree_of}
+use Rattle.manifest_tree.specs.Tree.{tree_of}
 use Rattle.manifest_parts.specs.Elements.{called}
 use Rattle.manifests.specs.declared.deployment_entry.Found.TheVariants.{Nothing}
 use Rattle.manifests.specs.Found.{one_with}

@@ -1,4 +1,4 @@
-use Rattle.std.proofs.Common.{◌≡◌, ap, refl}
+use Rattle.std.proofs.Common.{refl}
 use Rattle.manifest_parts.proofs.Readings.{fails_then}
 use Rattle.manifests.specs.Deployments.{entry_of}
 use Rattle.manifests.proofs.Chains.{then_fails, handed_on}

@@ -1,4 +1,4 @@
-use Rattle.std.proofs.Common.{◌≤◌, ◌*◌, arith, refl}
+use Rattle.std.proofs.Common.{◌≤◌, arith, refl}
 use Rattle.manifest_parts.proofs.Readings.{fails_then}
 use Rattle.manifests.specs.Deployments.{age_of}
 use Rattle.manifests.proofs.Chains.{then_fails, handed_on}

@@ -1,7 +1,7 @@
-use Rattle.std.proofs.Common.{refl, ap, sym}
+use Rattle.std.proofs.Common.{ap, sym}
 use Rattle.manifest_parts.proofs.Readings.{ok_at, fails_then}
 use Rattle.manifests.specs.Applications.{group_of}
-use Rattle.manifests.proofs.Chains.{then_fails, then_gives, handed_on}
+use Rattle.manifests.proofs.Chains.{then_fails, handed_on}
 use Rattle.manifests.proofs.entry.group_of.Goals as goal
 
 pub returns-in_err-optional : goal.returns-in_err-optional

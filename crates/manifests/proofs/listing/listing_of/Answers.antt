@@ -1,4 +1,4 @@
-use Rattle.std.proofs.Common.{◌≡◌, sym, ap, ◌∙◌}
+use Rattle.std.proofs.Common.{sym, ap, ◌∙◌}
 use Rattle.manifest_tree.specs.Tree.{tree_of}
 use Rattle.manifest_parts.proofs.Readings.{gives_same}
 use Rattle.manifests.proofs.ListingLemmas.{some_read, file_lists, dependency_lists, other_lists}

@@ -1,4 +1,4 @@
-use Rattle.std.proofs.Common.{◌≡◌, Ok, sym, ap, ◌∙◌}
+use Rattle.std.proofs.Common.{Ok, sym, ap, ◌∙◌}
 use Rattle.manifest_tree.specs.Tree.{tree_of}
 use Rattle.manifests.proofs.Chains.{handed_on}
 use Rattle.manifests.proofs.ListingLemmas.{some_read, type_refused, installed_lists, other_lists_none}

@@ -1,6 +1,6 @@
 use Rattle.std.proofs.Common.{[], refl}
 use Rattle.std.proofs.lemmas.Bool.{false≢true}
-use Rattle.manifests.proofs.ReleaseLemmas.{checker_refused, refused_bytes}
+use Rattle.manifests.proofs.ReleaseLemmas.{checker_refused}
 use Rattle.manifests.proofs.releases.check_bytes.Goals as goal
 
 pub returns-in_err-finish-clause-refused : goal.returns-in_err-finish-clause-refused

@@ -1,5 +1,5 @@
-use Rattle.std.proofs.Common.{◌≡◌, List, ◌++◌, map, drop, sym, ap, ◌∙◌, arith}
-use Rattle.std.specs.Prelude.{codes, filter}
+use Rattle.std.proofs.Common.{List, ◌++◌, sym, ap, ◌∙◌, arith}
+use Rattle.std.specs.Prelude.{codes}
 use Rattle.manifest_tree.specs.Tree.{Tree, tree_of}
 use Rattle.manifest_parts.specs.Elements.{called}
 use Rattle.manifest_parts.proofs.Lookups.{filter_hits, filter_skips, filter_ends}

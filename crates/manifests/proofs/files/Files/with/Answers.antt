@@ -1,4 +1,4 @@
-use Rattle.std.proofs.Common.{◌≡◌, ◌+◌, List, [], ◌∷◌, ap, sym, subst, ◌∙◌, ℕ, arith}
+use Rattle.std.proofs.Common.{◌+◌, List, [], ◌∷◌, ap, sym, subst, ◌∙◌, ℕ, arith}
 use Rattle.manifests.specs.declared.facts.FileEntry.{FileEntry}
 use Rattle.manifests.specs.Files.{AreKnown}
 use Rattle.manifests.proofs.KnownFiles.{locals_within, known_more}

@@ -1,7 +1,7 @@
--- How an age is written: as a number of units.
+-- Ages as numbers of units.
 use Rattle.std.specs.Prelude.{ℕ, ◌/◌, ◌%◌, ◌==◌, List, codes, if◌then◌else◌}
-use Rattle.manifest_writer.specs.declared.ages.AgeUnit.{AgeUnit}
-use Rattle.manifest_writer.specs.declared.ages.AgeUnit.TheVariants.{Hours, Days, Weeks}
+use Rattle.manifests.specs.declared.ages.AgeUnit.{AgeUnit}
+use Rattle.manifests.specs.declared.ages.AgeUnit.TheVariants.{Hours, Days, Weeks}
 
 -- the seconds of a unit
 abbrev pub seconds_in : AgeUnit → ℕ
@@ -15,12 +15,12 @@ unit_word Days = codes "days"
 unit_word Weeks = codes "weeks"
 
 -- the largest unit of which whole hours are a multiple; days for none
-unfoldable pub unit_of : ℕ → AgeUnit
-unit_of seconds =
+unfoldable pub largest_unit : ℕ → AgeUnit
+largest_unit seconds =
     if seconds == 0 then Days else
     if seconds % 604800 == 0 then Weeks else
     if seconds % 86400 == 0 then Days else Hours
 
 -- how many of its units an age has
 abbrev pub count_of : ℕ → ℕ
-count_of seconds = seconds / seconds_in (unit_of seconds)
+count_of seconds = seconds / seconds_in (largest_unit seconds)

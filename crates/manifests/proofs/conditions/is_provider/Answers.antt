@@ -1,4 +1,4 @@
-use Rattle.manifest_writer.proofs.conditions.can_write_provider.Goals as goal
+use Rattle.manifests.proofs.conditions.is_provider.Goals as goal
 
 pub returns-in-Some : goal.returns-in-Some
 returns-in-Some c = rw c.in-Some.is c.is_address.ensures
