@@ -1,6 +1,7 @@
 -- What inspecting a manifest writes, and how it ends.
-use Rattle.std.specs.Prelude.{◌≡◌, ◌≢◌, ◌⊎◌, ℕ, List, Result, Ok, Err, take}
+use Rattle.std.specs.Prelude.{◌≡◌, ◌≢◌, ◌⊎◌, ℕ, ◌+◌, List, Ok, Err, take}
 use Rattle.outside.specs.Streams.{Appends, AppendsPart}
+use Rattle.small_types.specs.declared.limits.TheConstants.{MANIFEST_LIMIT}
 use Rattle.manifest_tree.specs.Tree.{Tree}
 use Rattle.manifest_parts.specs.declared.fault.ManifestFault.{ManifestFault}
 use Rattle.manifest_parts.specs.declared.fault.ManifestFault.TheVariants.{Memory}
@@ -16,7 +17,7 @@ use Rattle.inspection.specs.declared.manifest.End.TheVariants as ends
 
 -- the most bytes that are read: one more than a manifest may have
 abbrev pub most : ℕ
-most = 4194305
+most = MANIFEST_LIMIT + 1
 
 -- the exit status
 abbrev pub code_of : End → ℕ

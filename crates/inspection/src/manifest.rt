@@ -1,11 +1,12 @@
 // Inspecting a manifest.
-ghost use Rattle.std.specs.Prelude.{◌≡◌, ◌⊎◌, ◌≤◌, drop};
+ghost use Rattle.std.specs.Prelude.{◌≡◌, ◌≢◌, ◌⊎◌, ◌≤◌, drop};
 ghost use Rattle.outside.specs.Streams.{Rose};
 ghost use Rattle.inspection.specs.declared.manifest.End.TheVariants as ends;
-ghost use Rattle.inspection.specs.Inspection.{code_of as status_of, Inspects};
+ghost use Rattle.inspection.specs.Inspection.{code_of as status_of, Inspects, most};
 
 use crate::lines::lines_of;
 use outside::{ReadFault, Sink, Source, read_all, write_all};
+use small_types::limits::MANIFEST_LIMIT;
 use std::alloc::Global;
 
 /// Which manifest is read.
@@ -46,18 +47,21 @@ impl End {
 }
 
 /// The most bytes that are read: one more than a manifest may have.
-const MOST: usize = 4_194_305;
+const MOST: usize = MANIFEST_LIMIT + 1;
 
 /// Reads a manifest of the kind from the source, at most 4,194,305 bytes, and writes what it says to the sink, or
-/// why it is refused. Where the source fails, or memory runs out, nothing is written.
+/// why it is refused. Where the source fails, or memory runs out, nothing is written. A fault of the source or of the
+/// sink is told as such: any other answer leaves its count of faults.
 pub fn inspect<S: Source, K: Sink>(alloc: Global, kind: Kind, source: &mut S, sink: &mut K) -> End
     ensures says { Inspects kind S.tells K.tells (S.left source.old) (K.taken sink.old) (K.taken sink.new) (status_of result) }
-    ensures left { S.tells → (result ≡ ends.Done) ⊎ ((result ≡ ends.Refused) ⊎ (result ≡ ends.SinkFault)) → S.left source.new ≡ drop 4194305 (S.left source.old) }
+    ensures left { S.tells → (result ≡ ends.Done) ⊎ ((result ≡ ends.Refused) ⊎ (result ≡ ends.SinkFault)) → S.left source.new ≡ drop most (S.left source.old) }
     ensures nothing { (result ≡ ends.SourceFault) ⊎ (result ≡ ends.Memory) → sink.new ≡ sink.old }
     ensures source_count { S.count source.old ≤ S.count source.new }
     ensures sink_count { K.count sink.old ≤ K.count sink.new }
     ensures source_cause { result ≡ ends.SourceFault → Rose (S.count source.old) (S.count source.new) }
     ensures sink_cause { result ≡ ends.SinkFault → Rose (K.count sink.old) (K.count sink.new) }
+    ensures source_quiet { result ≢ ends.SourceFault → S.count source.new ≡ S.count source.old }
+    ensures sink_quiet { result ≢ ends.SinkFault → K.count sink.new ≡ K.count sink.old }
 {
     let bytes = match read_all(alloc, source, MOST) {
         Ok(bytes) => bytes,

@@ -1,8 +1,7 @@
 -- The lines that say what a manifest says, or why it is refused.
 use Rattle.std.specs.Prelude.{ℕ, Bool, true, false, List, [], ◌∷◌, ◌++◌, codes, decimal, Option, Some, None, if◌then◌else◌}
 use Rattle.std.specs.List.{flat_map}
-use Rattle.small_types.specs.declared.limit.Limit.{Limit}
-use Rattle.small_types.specs.declared.limit.Limit.TheVariants.{Applications, Views, Files, Locals, Hashes, Links, Jobs}
+use Rattle.small_types.specs.Limit.{limit_text}
 use Rattle.identity.specs.declared.identity.Identity.{Identity}
 use Rattle.identity.specs.declared.version.Version.{Version}
 use Rattle.identity.specs.Key.{key_text, word_text}
@@ -12,7 +11,6 @@ use Rattle.digest_list.specs.Algorithm.{name_of}
 use Rattle.hex.specs.Hex.{encode_lower}
 use Rattle.manifest_tree.specs.declared.fault.TreeKind.{TreeKind}
 use Rattle.manifest_tree.specs.declared.fault.TreeKind.TheVariants as kind
-use Rattle.manifest_tree.specs.declared.fault.TreeFault.{TreeFault}
 use Rattle.manifest_parts.specs.declared.fault.ManifestFault.{ManifestFault}
 use Rattle.manifest_parts.specs.declared.fault.ManifestFault.TheVariants as fault
 use Rattle.manifests.specs.declared.facts.Rule.{Rule}
@@ -101,15 +99,6 @@ kind_text kind.TagMismatch = codes "tag"
 kind_text kind.AttributeTwice = codes "attribute-twice"
 kind_text kind.TooDeep = codes "too-deep"
 kind_text kind.TooLong = codes "too-long"
-
-abbrev pub limit_text : Limit → List ℕ
-limit_text Applications = codes "applications"
-limit_text Views = codes "views"
-limit_text Files = codes "files"
-limit_text Locals = codes "locals"
-limit_text Hashes = codes "hashes"
-limit_text Links = codes "links"
-limit_text Jobs = codes "jobs"
 
 -- want of memory is no refusal of a manifest; no program writes it so
 abbrev pub cause_text : ManifestFault → List ℕ

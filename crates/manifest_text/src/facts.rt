@@ -7,9 +7,11 @@ ghost use Rattle.identity.specs.Version.{version_text};
 ghost use Rattle.manifest_parts.specs.Outcome.{maybe_text};
 ghost use Rattle.manifest_text.specs.Lines as spec;
 
-use crate::lines::{digest_lines, identity_line, line, number_line, text_line, two};
-use identity::{PrintFault, Version, word_escape};
-use itoa::Buffer;
+use crate::lines::{
+    begin, digest_lines, end, identity_line, line, number_line, push_escaped, push_number,
+    push_version, text_line,
+};
+use identity::{PrintFault, Version};
 use manifests::{Application, Deployment, FileEntry, Rule};
 use small_types::{Bytes, Text};
 use std::alloc::Global;
@@ -20,26 +22,27 @@ fn truth(value: bool) -> &'static [u8]
     if value { b"true" } else { b"false" }
 }
 
-fn minimum_line(alloc: Global, out: &mut Bytes, minimum: Option<Version>) -> Result<(), PrintFault>
+fn minimum_line(out: &mut Bytes, minimum: Option<Version>) -> Result<(), PrintFault>
     ensures { OnOk result (out.new ≡ out.old ++ spec.line (codes "minimum") (spec.version_or_none minimum)) }
 {
     let Some(version) = minimum else {
         return line(out, b"minimum", b"-");
     };
-    let text = version.print(alloc)?;
-    line(out, b"minimum", text.as_bytes())
+    begin(out, b"minimum")?;
+    push_version(out, version)?;
+    end(out)
 }
 
-fn rule_line(alloc: Global, out: &mut Bytes, rule: Rule) -> Result<(), PrintFault>
+fn rule_line(out: &mut Bytes, rule: Rule) -> Result<(), PrintFault>
     ensures { OnOk result (out.new ≡ out.old ++ spec.line (codes "rule") (spec.rule_text rule)) }
 {
     match rule {
         Rule::Never => line(out, b"rule", b"never"),
         Rule::Before => line(out, b"rule", b"before"),
         Rule::Age { seconds } => {
-            let mut buffer = Buffer::new();
-            let said = two(alloc, b"age", buffer.format(seconds).as_bytes())?;
-            line(out, b"rule", said.as_slice())
+            begin(out, b"rule age")?;
+            push_number(out, seconds)?;
+            end(out)
         }
     }
 }
@@ -62,10 +65,10 @@ pub fn write_deployment(
     ensures { OnOk result (out.new ≡ out.old ++ spec.deployment_text deployment.now) }
 {
     identity_line(alloc, out, b"deployment", &deployment.identity)?;
-    minimum_line(alloc, out, deployment.minimum)?;
+    minimum_line(out, deployment.minimum)?;
     line(out, b"install", truth(deployment.install))?;
     line(out, b"map", truth(deployment.mapped))?;
-    rule_line(alloc, out, deployment.rule)?;
+    rule_line(out, deployment.rule)?;
     provider_line(alloc, out, deployment.provider.as_ref())?;
     text_line(alloc, out, b"codebase", deployment.codebase.as_bytes())?;
     identity_line(alloc, out, b"application", &deployment.app)?;
@@ -74,39 +77,33 @@ pub fn write_deployment(
     Ok(())
 }
 
-// When a file is fetched.
-fn use_text(alloc: Global, entry: &FileEntry) -> Result<Bytes, PrintFault>
-    ensures { IfOk result (λ b. b ≡ spec.use_of entry.now) }
+// Adds when a file is fetched.
+fn push_use(alloc: Global, out: &mut Bytes, entry: &FileEntry) -> Result<(), PrintFault>
+    ensures { OnOk result (out.new ≡ out.old ++ spec.use_of entry.now) }
 {
-    let mut out = Bytes::from_vec(Vec::new(alloc));
     if entry.local {
         out.extend(b"local")?;
-        return Ok(out);
+        return Ok(());
     }
     let Some(group) = &entry.group else {
         out.extend(b"required")?;
-        return Ok(out);
+        return Ok(());
     };
-    let escaped = word_escape(alloc, group.as_bytes())?;
     out.extend(b"group:")?;
-    out.extend(escaped.as_bytes())?;
-    Ok(out)
+    push_escaped(alloc, out, group.as_bytes())
 }
 
 // Adds the line of a file.
 fn file_line(alloc: Global, out: &mut Bytes, entry: &FileEntry) -> Result<(), PrintFault>
     ensures { OnOk result (out.new ≡ out.old ++ spec.file_line entry.now) }
 {
-    let name = word_escape(alloc, entry.name.as_bytes())?;
-    let mut buffer = Buffer::new();
-    let usage = use_text(alloc, entry)?;
-    let rest = two(
-        alloc,
-        buffer.format(entry.size).as_bytes(),
-        usage.as_slice(),
-    )?;
-    let said = two(alloc, name.as_bytes(), rest.as_slice())?;
-    line(out, b"file", said.as_slice())
+    begin(out, b"file")?;
+    push_escaped(alloc, out, entry.name.as_bytes())?;
+    out.push(b' ')?;
+    push_number(out, entry.size)?;
+    out.push(b' ')?;
+    push_use(alloc, out, entry)?;
+    end(out)
 }
 
 // Adds the lines of a file.

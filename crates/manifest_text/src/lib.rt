@@ -7,4 +7,4 @@ mod refusal;
 
 pub use facts::{write_application, write_deployment};
 pub use lines::{line, two};
-pub use refusal::{about, limit_text, write_refusal};
+pub use refusal::{about, write_refusal};

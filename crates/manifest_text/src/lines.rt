@@ -1,5 +1,5 @@
 // Lines, and the words in them.
-ghost use Rattle.std.specs.Prelude.{◌≡◌, ◌++◌, IfOk, OnOk};
+ghost use Rattle.std.specs.Prelude.{◌≡◌, [], ◌∷◌, ◌++◌, IfOk, OnOk};
 ghost use Rattle.std.specs.List.{flat_map};
 ghost use Rattle.std.specs.Prelude.{codes, decimal};
 ghost use Rattle.identity.specs.Key.{word_text};
@@ -7,7 +7,7 @@ ghost use Rattle.identity.specs.Version.{version_text};
 ghost use Rattle.manifest_text.specs.Lines as spec;
 
 use digest_list::Digest;
-use identity::{Identity, PrintFault, word_escape};
+use identity::{Identity, PrintFault, Version, word_escape};
 use itoa::Buffer;
 use small_types::Bytes;
 use std::alloc::Global;
@@ -34,12 +34,58 @@ pub fn two(alloc: Global, first: &[u8], second: &[u8]) -> Result<Bytes, PrintFau
     Ok(out)
 }
 
+// Adds a word and the space behind it.
+pub(crate) fn begin(out: &mut Bytes, word: &[u8]) -> Result<(), PrintFault>
+    ensures { OnOk result (out.new ≡ out.old ++ (word.now ++ 32 ∷ [])) }
+{
+    out.extend(word)?;
+    out.push(b' ')?;
+    Ok(())
+}
+
+// Ends a line.
+pub(crate) fn end(out: &mut Bytes) -> Result<(), PrintFault>
+    ensures { OnOk result (out.new ≡ out.old ++ 10 ∷ []) }
+{
+    out.push(b'\n')?;
+    Ok(())
+}
+
+// Adds a number.
+pub(crate) fn push_number(out: &mut Bytes, number: u64) -> Result<(), PrintFault>
+    ensures { OnOk result (out.new ≡ out.old ++ decimal number) }
+{
+    let mut buffer = Buffer::new();
+    out.extend(buffer.format(number).as_bytes())?;
+    Ok(())
+}
+
+// Adds a version.
+pub(crate) fn push_version(out: &mut Bytes, version: Version) -> Result<(), PrintFault>
+    ensures { OnOk result (out.new ≡ out.old ++ version_text version) }
+{
+    let mut text = [0; 23];
+    let length = version.write(&mut text);
+    out.extend(&text[..length])?;
+    Ok(())
+}
+
+// Adds an escaped text.
+pub(crate) fn push_escaped(alloc: Global, out: &mut Bytes, text: &[u8]) -> Result<(), PrintFault>
+    ensures { OnOk result (out.new ≡ out.old ++ word_text text.now) }
+{
+    let escaped = word_escape(alloc, text)?;
+    out.extend(escaped.as_bytes())?;
+    Ok(())
+}
+
 // Adds a line of a word and a number.
 pub(crate) fn number_line(out: &mut Bytes, word: &[u8], number: u64) -> Result<(), PrintFault>
     ensures { OnOk result (out.new ≡ out.old ++ spec.line word.now (decimal number)) }
 {
-    let mut buffer = Buffer::new();
-    line(out, word, buffer.format(number).as_bytes())
+    begin(out, word)?;
+    push_number(out, number)?;
+    end(out)
 }
 
 // Adds a line of a word and an escaped text.
@@ -51,8 +97,9 @@ pub(crate) fn text_line(
 ) -> Result<(), PrintFault>
     ensures { OnOk result (out.new ≡ out.old ++ spec.line word.now (word_text text.now)) }
 {
-    let escaped = word_escape(alloc, text)?;
-    line(out, word, escaped.as_bytes())
+    begin(out, word)?;
+    push_escaped(alloc, out, text)?;
+    end(out)
 }
 
 // Adds a line of a word, a key and a version.
@@ -65,9 +112,10 @@ pub(crate) fn identity_line(
     ensures { OnOk result (out.new ≡ out.old ++ spec.line word.now (spec.identity_text identity.now)) }
 {
     let key = identity.key.print(alloc)?;
-    let version = identity.version.print(alloc)?;
-    let said = two(alloc, key.as_bytes(), version.as_bytes())?;
-    line(out, word, said.as_slice())
+    begin(out, word)?;
+    begin(out, key.as_bytes())?;
+    push_version(out, identity.version)?;
+    end(out)
 }
 
 // Adds the line of a digest.
@@ -77,8 +125,10 @@ fn digest_line(alloc: Global, out: &mut Bytes, digest: &Digest) -> Result<(), Pr
     let Ok(value) = digest.print(alloc) else {
         return Err(PrintFault::Memory);
     };
-    let said = two(alloc, digest.algorithm.name().as_bytes(), value.as_bytes())?;
-    line(out, b"digest", said.as_slice())
+    begin(out, b"digest")?;
+    begin(out, digest.algorithm.name().as_bytes())?;
+    out.extend(value.as_bytes())?;
+    end(out)
 }
 
 // Adds the lines of digests.

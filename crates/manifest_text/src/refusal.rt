@@ -10,7 +10,7 @@ use identity::{PrintFault, Version, word_escape};
 use itoa::Buffer;
 use manifest_parts::ManifestFault;
 use manifest_tree::{TreeFault, TreeKind};
-use small_types::{Bytes, Limit};
+use small_types::Bytes;
 use std::alloc::Global;
 
 fn kind_text(kind: TreeKind) -> &'static [u8]
@@ -24,21 +24,6 @@ fn kind_text(kind: TreeKind) -> &'static [u8]
         TreeKind::AttributeTwice => b"attribute-twice",
         TreeKind::TooDeep => b"too-deep",
         TreeKind::TooLong => b"too-long",
-    }
-}
-
-/// The word for what there are too many of.
-pub fn limit_text(what: Limit) -> &'static [u8]
-    ensures { result.now ≡ spec.limit_text what }
-{
-    match what {
-        Limit::Applications => b"applications",
-        Limit::Views => b"views",
-        Limit::Files => b"files",
-        Limit::Locals => b"locals",
-        Limit::Hashes => b"hashes",
-        Limit::Links => b"links",
-        Limit::Jobs => b"jobs",
     }
 }
 
@@ -96,7 +81,7 @@ fn cause(alloc: Global, fault: &ManifestFault) -> Result<Bytes, PrintFault>
             minimum_above(alloc, *minimum, *version)
         }
         ManifestFault::OnlineOnly => word(alloc, b"online-only"),
-        ManifestFault::TooMany { what } => two(alloc, b"too-many", limit_text(*what)),
+        ManifestFault::TooMany { what } => two(alloc, b"too-many", what.word()),
         ManifestFault::Memory => word(alloc, b"memory"),
     }
 }

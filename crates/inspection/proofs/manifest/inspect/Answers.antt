@@ -1,5 +1,5 @@
-use Rattle.std.proofs.Common.{◌≡◌, ◌⊎◌, inl, inr, arith, refl, sym, ◌∙◌, ap, subst, List, ℕ}
-use Rattle.inspection.specs.Inspection.{Inspects, CutOff, Says, code_of, most}
+use Rattle.std.proofs.Common.{◌≡◌, ◌⊎◌, inl, inr, arith, refl, sym, ◌∙◌, subst, List, ℕ}
+use Rattle.inspection.specs.Inspection.{Says, code_of}
 use Rattle.inspection.proofs.manifest.inspect.Goals as goal
 
 three : (n : ℕ) → n ≡ 3 → (n ≡ 0) ⊎ (n ≡ 7) → ⊥
