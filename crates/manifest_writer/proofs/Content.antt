@@ -1,5 +1,5 @@
 -- What is written of numbers, versions, digests and names has only bytes that a manifest may hold.
-use Rattle.std.proofs.Common.{◌≡◌, ℕ, zero, suc, ◌+◌, ◌*◌, ◌/◌, ◌%◌, ◌^◌, ◌<◌, Bool, true, List, [], ◌∷◌, ◌++◌, length, map, refl, ap₂, ◌∙◌, arith, decimal}
+use Rattle.std.proofs.Common.{◌≡◌, ℕ, zero, suc, ◌+◌, ◌*◌, ◌/◌, ◌%◌, ◌^◌, ◌<◌, ◌≤◌, Bool, true, false, List, [], ◌∷◌, ◌++◌, length, map, refl, ap₂, ◌∙◌, arith, decimal}
 use Rattle.std.specs.Prelude.{◌&&◌, nat_le, nat_lt, ◌==◌, slice_index, replicate, if◌then◌else◌}
 use Rattle.std.specs.Char.{is_ascii_digit}
 use Rattle.std.specs.List.{list_all}
@@ -11,12 +11,14 @@ use Rattle.std.proofs.lemmas.Fmt.{digits_decimal}
 use Rattle.base64.specs.Engines.{standard}
 use Rattle.base64.specs.GeneralPurpose.{encode_of, engine_symbols, IsBytes}
 use Rattle.base64.specs.Rfc4648.{encode_symbols, padding_len}
-use Rattle.small_types.specs.Name.{name_limit, name_parts, is_name, is_name_byte, is_name_part, IsName}
+use Rattle.small_types.specs.declared.limits.TheConstants.{FILE_SIZE_LIMIT, NAME_LIMIT}
+use Rattle.small_types.specs.Name.{name_parts, is_name, is_name_byte, is_name_part, IsName}
 use Rattle.identity.specs.declared.version.Version.{Version}
 use Rattle.identity.specs.Version.{IsVersion, version_text}
-use Rattle.identity.proofs.VersionLemmas.{own}
+use Rattle.small_types.proofs.DecimalLemmas.{own}
 use Rattle.manifest_tree.specs.Lexis.{allowed}
 use Rattle.manifest_tree.specs.Writing.{is_content}
+use Rattle.manifests.specs.Applications.{size_limit}
 use Rattle.manifest_writer.specs.Applications.{backslashed}
 
 -- ---- lists
@@ -107,6 +109,12 @@ equals_allowed = refl
 pub base64_content : (m : List ℕ) → IsBytes m → is_content (encode_of standard m) ≡ true
 base64_content m are = joined (encode_symbols symbols m) (replicate (padding_len (length m)) 61) (symbols_content m are) (repeated (padding_len (length m)) 61 equals_allowed)
 
+-- ---- sizes
+
+pub size_limit_most : (is_local : Bool) → size_limit is_local ≤ FILE_SIZE_LIMIT
+size_limit_most true = omega arith
+size_limit_most false = omega arith
+
 -- ---- names
 
 abbrev pub backslash : ℕ → ℕ
@@ -119,7 +127,7 @@ name_byte_allowed b h = grind (arith, nat_tests)
 pub name_bytes : (name : List ℕ) → IsName name → list_all is_name_byte name ≡ true
 unfolding is_name
 name_bytes name is =
-    let sized = nat_lt 0 (length name) && nat_le (length name) name_limit in
+    let sized = nat_lt 0 (length name) && nat_le (length name) NAME_LIMIT in
     let bytes = list_all is_name_byte name in
     let parted = list_all is_name_part (name_parts name) in
     let first = and_parts (sized && bytes && parted) (is_utf8 name) is in

@@ -9,21 +9,23 @@ use Rattle.std.proofs.Math.Seq.{get_or-append_seam}
 use Rattle.std.proofs.lemmas.List.Elements.{All-head, All-tail, filter-append}
 use Rattle.std.proofs.lemmas.Slice.Eq.{bytes_eq-Decides}
 use Rattle.identity.specs.Version.{IsVersion}
+use Rattle.small_types.specs.declared.limits.TheConstants.{DIGIT_LIMIT, FILE_COUNT_LIMIT, LOCAL_COUNT_LIMIT, LOCAL_NAME_LIMIT, NAME_LIMIT, URL_LIMIT}
 use Rattle.small_types.specs.Name.{name_text, name_of, name_parts, is_name_byte, IsName, IsBelowPre}
 use Rattle.manifest_tree.specs.Tree.{Tree, trees}
-use Rattle.manifest_parts.specs.Elements.{Read, ◌>>=◌, local, declares, value_of, called, children_called, once, children_of, attribute, has_called, any_called}
+use Rattle.manifest_parts.specs.Elements.{Read, local, declares, value_of, called, children_called, once, children_of, attribute, has_called, any_called}
+use Rattle.small_types.specs.Reading.{◌>>=◌}
 use Rattle.manifest_parts.specs.Values.{needed, within, truth_of, truth, size_of}
 use Rattle.manifest_parts.specs.Parts.{identity_in, digests_of, root_of, manifest_of}
 use Rattle.manifest_parts.proofs.Lookups.{listed_trees}
 use Rattle.manifests.specs.declared.facts.FileEntry.{FileEntry}
 use Rattle.manifests.specs.declared.facts.Application.{Application}
-use Rattle.manifests.specs.Applications.{Listing, is_data, file_listing, listing_of, is_taken, is_below_pre, is_pre, is_listed_name, file_name, in_group, group_of, locals, counted, file_of, child_file, files_from, start_of, application_facts, application_of}
+use Rattle.manifests.specs.Applications.{Listing, is_data, file_listing, listing_of, is_taken, is_below_pre, is_pre, is_listed_name, file_name, in_group, group_of, locals, counted, size_limit, file_of, child_file, files_from, start_of, application_facts, application_of}
 use Rattle.manifests.specs.FileLists.{AreFiles}
 use Rattle.manifest_writer.specs.Applications.{entry_tree, backslashed, use_attributes, file_tree, application_tree}
 use Rattle.manifest_writer.specs.Elements.{named, leaf, root_tree, own_identity_tree, identity_tree, hash_trees}
-use Rattle.manifest_writer.specs.Facts.{IsValue, IsFile, AreApplicationFacts}
+use Rattle.manifests.specs.Facts.{IsValue, IsFile, AreApplicationFacts}
 use Rattle.manifest_writer.specs.Held.{IsHeldFile}
-use Rattle.manifest_writer.proofs.Content.{backslash, name_bytes}
+use Rattle.manifest_writer.proofs.Content.{backslash, name_bytes, size_limit_most}
 use Rattle.manifest_writer.proofs.ReadParts.{number_read, filled_read, within_read, identity_read, hashes_called, hashes_unsigned, digests_read}
 
 -- ---- names
@@ -52,8 +54,8 @@ above_pre : (name : List ℕ) → ¬ IsBelowPre name → is_below_pre name ≡ f
 unfolding is_below_pre
 above_pre name above = no_pre (slice_get (name_parts name) 0) above
 
-fits_name : (is_local : Bool) (name : List ℕ) → is_below_pre name ≡ false → (is_local ≡ true → length name ≤ 235) → is_listed_name is_local name ≡ true
-fits_name true name above short = rw (above, le-leb (length name) 235 (short refl)) refl
+fits_name : (is_local : Bool) (name : List ℕ) → is_below_pre name ≡ false → (is_local ≡ true → length name ≤ LOCAL_NAME_LIMIT) → is_listed_name is_local name ≡ true
+fits_name true name above short = rw (above, le-leb (length name) LOCAL_NAME_LIMIT (short refl)) refl
 fits_name false name above short = rw above refl
 
 -- ---- a file
@@ -73,28 +75,28 @@ local_read name size true group alone = refl
 local_read name size false None alone = refl
 local_read name size false (Some group) alone = refl
 
-group_in : (name size : List ℕ) (is_local : Bool) (group : Option (List ℕ)) → (is_local ≡ true → group ≡ None) → IfSome group (IsValue 1 240) → (
+group_in : (name size : List ℕ) (is_local : Bool) (group : Option (List ℕ)) → (is_local ≡ true → group ≡ None) → IfSome group (IsValue 1 NAME_LIMIT) → (
     let attributes = named (codes "name") name ∷ named (codes "size") size ∷ use_attributes is_local group in
-    (truth (codes "optional") false (value_of (codes "optional") attributes) >>= λ optional. within 240 (codes "group") (value_of (codes "group") attributes) >>= λ found. Ok (in_group (optional && not is_local) found))
+    (truth (codes "optional") false (value_of (codes "optional") attributes) >>= λ optional. within NAME_LIMIT (codes "group") (value_of (codes "group") attributes) >>= λ found. Ok (in_group (optional && not is_local) found))
     ≡ Ok group)
 unfolding value_of declares local truth_of within
 group_in name size true group alone is = ap (λ (g : Option (List ℕ)). Ok g) (sym (alone refl))
 group_in name size false None alone is = refl
 group_in name size false (Some []) alone is = absurd (let some = is.some in omega arith)
-group_in name size false (Some (c ∷ cs)) alone is = rw (le-leb (length (c ∷ cs)) 240 is.few) refl
+group_in name size false (Some (c ∷ cs)) alone is = rw (le-leb (length (c ∷ cs)) NAME_LIMIT is.few) refl
 
 -- whether it is a data file is read too
-local_group : (name size : List ℕ) (is_local : Bool) (group : Option (List ℕ)) → (is_local ≡ true → group ≡ None) → IfSome group (IsValue 1 240) → (
+local_group : (name size : List ℕ) (is_local : Bool) (group : Option (List ℕ)) → (is_local ≡ true → group ≡ None) → IfSome group (IsValue 1 NAME_LIMIT) → (
     let attributes = named (codes "name") name ∷ named (codes "size") size ∷ use_attributes is_local group in
     let found_local = is_data (value_of (codes "writeableType") attributes) in
-    (truth (codes "optional") false (value_of (codes "optional") attributes) >>= λ optional. within 240 (codes "group") (value_of (codes "group") attributes) >>= λ found. Ok (in_group (optional && not found_local) found))
+    (truth (codes "optional") false (value_of (codes "optional") attributes) >>= λ optional. within NAME_LIMIT (codes "group") (value_of (codes "group") attributes) >>= λ found. Ok (in_group (optional && not found_local) found))
     ≡ Ok group)
 local_group name size is_local group alone is = rw (local_read name size is_local group alone) (group_in name size is_local group alone is)
 
-counted_fits : (before : List FileEntry) (e : FileEntry) (is_local : Bool) → e.local ≡ is_local → length before < 16384 → (is_local ≡ true → locals before < 256) → counted before e ≡ Ok e
+counted_fits : (before : List FileEntry) (e : FileEntry) (is_local : Bool) → e.local ≡ is_local → length before < FILE_COUNT_LIMIT → (is_local ≡ true → locals before < LOCAL_COUNT_LIMIT) → counted before e ≡ Ok e
 unfolding counted
-counted_fits before e true is room room_local = rw (is, lt-leb 16384 (length before) room, lt-leb 256 (locals before) (room_local refl)) refl
-counted_fits before e false is room room_local = rw (is, lt-leb 16384 (length before) room) refl
+counted_fits before e true is room room_local = rw (is, lt-leb FILE_COUNT_LIMIT (length before) room, lt-leb LOCAL_COUNT_LIMIT (locals before) (room_local refl)) refl
+counted_fits before e false is room room_local = rw (is, lt-leb FILE_COUNT_LIMIT (length before) room) refl
 
 module _ (e : FileEntry) (is : IsFile e) (held : IsHeldFile e) where
   is_local : (listing e).is_local ≡ e.local
@@ -105,9 +107,18 @@ module _ (e : FileEntry) (is : IsFile e) (held : IsHeldFile e) where
   unfolding file_tree value_of declares local
   name_of_it = refl
 
-  size_read : size_of 67108864 (listing e).size ≡ Ok e.size
+  size_given : (listing e).size ≡ Some (decimal e.size)
   unfolding file_tree value_of declares local
-  size_read = let small = is.size in number_read 19 67108864 (codes "size") e.size (omega arith) is.size (omega arith) (omega arith)
+  size_given = refl
+
+  own_size : (data_file : Bool) → data_file ≡ e.local → size_of (size_limit data_file) (Some (decimal e.size)) ≡ Ok e.size
+  own_size data_file same =
+      let small = is.size in
+      let most = size_limit_most e.local in
+      rw same (number_read DIGIT_LIMIT (size_limit e.local) (codes "size") e.size (omega arith) is.size (omega arith) (omega arith))
+
+  size_read : size_of (size_limit (listing e).is_local) (listing e).size ≡ Ok e.size
+  size_read = rw size_given (own_size (listing e).is_local is_local)
 
   group_read : group_of (listing e) ≡ Ok e.group
   unfolding group_of file_tree
@@ -122,11 +133,11 @@ module _ (e : FileEntry) (is : IsFile e) (held : IsHeldFile e) where
     unfolding file_name
     own_name_read = rw (name_of_it, is_local, name_read e.name held.name, fits_name e.local e.name (above_pre e.name is.above) is.short, fresh) refl
 
-    file_read : length before < 16384 → (e.local ≡ true → locals before < 256) → file_of before (listing e) ≡ Ok e
+    file_read : length before < FILE_COUNT_LIMIT → (e.local ≡ true → locals before < LOCAL_COUNT_LIMIT) → file_of before (listing e) ≡ Ok e
     unfolding file_of
     file_read room room_local = rw (own_name_read, size_read, list_read, group_read, is_local) (counted_fits before e e.local refl room room_local)
 
-    child_read : length before < 16384 → (e.local ≡ true → locals before < 256) → child_file before (file_tree e) ≡ Ok (before ++ e ∷ [])
+    child_read : length before < FILE_COUNT_LIMIT → (e.local ≡ true → locals before < LOCAL_COUNT_LIMIT) → child_file before (file_tree e) ≡ Ok (before ++ e ∷ [])
     unfolding child_file
     child_read room room_local = rw (listed_file e, file_read room room_local) refl
 
@@ -157,10 +168,10 @@ module _ (before : List FileEntry) (e : FileEntry) (rest : List FileEntry) (are 
       are.differ i (length before) d lt (omega (arith, size_is))
       (ap (λ (f : FileEntry). f.name) (get_or_append_left before (e ∷ rest) d i lt) ∙ same ∙ ap (λ (f : FileEntry). f.name) (sym (get_or-append_seam before e rest d))))
 
-  has_room : length before < 16384
+  has_room : length before < FILE_COUNT_LIMIT
   has_room = let few = are.few in omega (arith, size_is)
 
-  has_local_room : e.local ≡ true → locals before < 256
+  has_local_room : e.local ≡ true → locals before < LOCAL_COUNT_LIMIT
   has_local_room is = let few = are.few_local in omega (arith, local_more before e rest is)
 
   moved : AreFiles ((before ++ e ∷ []) ++ rest)
@@ -197,9 +208,9 @@ file_given : (a : Application) → needed (codes "file") (attribute (codes "file
 unfolding command_tree value_of declares local
 file_given a = refl
 
-parameters_read : (a : Application) → AreApplicationFacts a → within 2048 (codes "parameters") (attribute (codes "parameters") (command_tree a)) ≡ Ok a.parameters
+parameters_read : (a : Application) → AreApplicationFacts a → within URL_LIMIT (codes "parameters") (attribute (codes "parameters") (command_tree a)) ≡ Ok a.parameters
 unfolding command_tree value_of declares local
-parameters_read a facts = within_read 2048 (codes "parameters") a.parameters facts.parameters
+parameters_read a facts = within_read URL_LIMIT (codes "parameters") a.parameters facts.parameters
 
 module _ (a : Application) (facts : AreApplicationFacts a) (fits : IsVersion a.identity.version) (held : All IsHeldFile a.files) where
   abbrev whole : Tree
@@ -226,7 +237,7 @@ module _ (a : Application) (facts : AreApplicationFacts a) (fits : IsVersion a.i
 
   start_read : start_of whole ≡ Ok (record { entry = a.entry; parameters = a.parameters })
   unfolding start_of
-  start_read = rw (once_entry, once_command a, file_given a, filled_read 240 (codes "file") a.entry facts.entry, parameters_read a facts) refl
+  start_read = rw (once_entry, once_command a, file_given a, filled_read NAME_LIMIT (codes "file") a.entry facts.entry, parameters_read a facts) refl
 
   all_read : files_from [] (children_of whole) ≡ Ok a.files
   unfolding child_file listing_of called local identity_tree entry_tree

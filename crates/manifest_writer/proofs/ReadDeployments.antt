@@ -2,12 +2,14 @@
 use Rattle.std.proofs.Common.{◌≡◌, ℕ, ◌*◌, ◌/◌, ◌%◌, Bool, true, false, List, [], ◌∷◌, ◌++◌, Option, Some, None, Ok, refl, sym, ap, ◌∙◌, arith, decimal}
 use Rattle.std.specs.Prelude.{codes, ◌==◌, IfSome, filter, if◌then◌else◌}
 use Rattle.std.proofs.lemmas.Bool.{eqb-true}
+use Rattle.small_types.specs.declared.limits.TheConstants.{DIGIT_LIMIT, MANIFEST_LIMIT, URL_LIMIT}
 use Rattle.identity.specs.declared.version.Version.{Version}
 use Rattle.identity.specs.Version.{IsVersion}
 use Rattle.identity.proofs.VersionLemmas.{version_read-version_text}
 use Rattle.manifest_tree.specs.declared.node.Attribute.{Attribute}
 use Rattle.manifest_tree.specs.Tree.{Tree, trees}
-use Rattle.manifest_parts.specs.Elements.{◌>>=◌, local, declares, value_of, called, children_called, first_called, one_of, once, children_of, attribute, has_called, any_called}
+use Rattle.manifest_parts.specs.Elements.{local, declares, value_of, called, children_called, first_called, one_of, once, children_of, attribute, has_called, any_called}
+use Rattle.small_types.specs.Reading.{◌>>=◌}
 use Rattle.manifest_parts.specs.Values.{needed, truth_of, truth, number_of, size_of}
 use Rattle.manifest_parts.specs.Parts.{identity_in, digests_of, root_of, manifest_of}
 use Rattle.manifest_parts.proofs.Lookups.{listed_trees}
@@ -16,12 +18,12 @@ use Rattle.manifests.specs.declared.facts.Rule.TheVariants.{Never, Before, Age}
 use Rattle.manifests.specs.declared.facts.Deployment.{Deployment}
 use Rattle.manifests.specs.Types.{installed_type}
 use Rattle.manifests.specs.Deployments.{minimum_of, unit_of as unit_of_word, age_of, update_rule, rule_of, provider_of, kept_address, assembly_of, terms_of, entry_of, deployment_facts, deployment_of}
-use Rattle.manifest_writer.specs.declared.ages.AgeUnit.{AgeUnit}
-use Rattle.manifest_writer.specs.declared.ages.AgeUnit.TheVariants.{Hours, Days, Weeks}
-use Rattle.manifest_writer.specs.Ages.{seconds_in, unit_of, unit_word, count_of}
+use Rattle.manifests.specs.declared.ages.AgeUnit.{AgeUnit}
+use Rattle.manifests.specs.declared.ages.AgeUnit.TheVariants.{Hours, Days, Weeks}
+use Rattle.manifests.specs.Ages.{seconds_in, largest_unit, unit_word, count_of}
 use Rattle.manifest_writer.specs.Deployments.{truth_text, minimum_attributes, terms_attributes, age_tree, rule_trees, provider_trees, terms_tree, assembly_tree, dependency_tree, deployment_tree}
 use Rattle.manifest_writer.specs.Elements.{named, element, root_tree, own_identity_tree, identity_tree, hash_trees}
-use Rattle.manifest_writer.specs.Facts.{IsRule, IsProvider, IsMinimum, IsAge, AreDeploymentFacts}
+use Rattle.manifests.specs.Facts.{IsRule, IsProvider, IsMinimum, IsAge, AreDeploymentFacts}
 use Rattle.manifest_writer.specs.Held.{IsHeldDeployment}
 use Rattle.manifest_writer.proofs.ReadParts.{number_read, filled_read, identity_read, hashes_called, hashes_uncalled, hashes_unsigned, digests_read}
 
@@ -56,8 +58,8 @@ by_tests seconds false true days a b c whole = let e : seconds % 604800 ≡ 0 = 
 by_tests seconds false false true a b c whole = let e : seconds % 86400 ≡ 0 = eqb-true (seconds % 86400) 0 c in omega arith
 by_tests seconds false false false a b c whole = omega arith
 
-whole_units : (seconds : ℕ) → seconds % 3600 ≡ 0 → count_of seconds * seconds_in (unit_of seconds) ≡ seconds
-unfolding unit_of
+whole_units : (seconds : ℕ) → seconds % 3600 ≡ 0 → count_of seconds * seconds_in (largest_unit seconds) ≡ seconds
+unfolding largest_unit
 whole_units seconds whole = by_tests seconds (seconds == 0) (seconds % 604800 == 0) (seconds % 86400 == 0) refl refl refl whole
 
 unit_read : (unit : AgeUnit) → unit_of_word (unit_word unit) ≡ Ok (seconds_in unit)
@@ -66,14 +68,14 @@ unit_read Days = refl
 unit_read Weeks = refl
 
 age_parts : (seconds : ℕ) → age_of (age_tree seconds) ≡
-    (number_of 9 999999999 (codes "maximumAge") (decimal (count_of seconds)) >>= λ age. unit_of_word (unit_word (unit_of seconds)) >>= λ unit. Ok (Age (age * unit)))
+    (number_of 9 999999999 (codes "maximumAge") (decimal (count_of seconds)) >>= λ age. unit_of_word (unit_word (largest_unit seconds)) >>= λ unit. Ok (Age (age * unit)))
 unfolding age_of age_tree value_of declares local
 age_parts seconds = refl
 
 age_read : (seconds : ℕ) → IsAge seconds → age_of (age_tree seconds) ≡ Ok (Age seconds)
 age_read seconds is =
     let few = is.few in
-    age_parts seconds ∙ rw (number_read 9 999999999 (codes "maximumAge") (count_of seconds) (omega arith) is.few (omega arith) (omega arith), unit_read (unit_of seconds), whole_units seconds is.whole) refl
+    age_parts seconds ∙ rw (number_read 9 999999999 (codes "maximumAge") (count_of seconds) (omega arith) is.few (omega arith) (omega arith), unit_read (largest_unit seconds), whole_units seconds is.whole) refl
 
 -- the element `deployment`, by its rule and its provider
 abbrev of_terms : List Attribute → Rule → Option (List ℕ) → Tree
@@ -144,9 +146,9 @@ module _ (d : Deployment) (facts : AreDeploymentFacts d) (held : IsHeldDeploymen
     unfolding value_of declares local
     codebase_given = refl
 
-    size_read : size_of 4194304 (attribute (codes "size") (assembly_tree d)) ≡ Ok d.app_size
+    size_read : size_of MANIFEST_LIMIT (attribute (codes "size") (assembly_tree d)) ≡ Ok d.app_size
     unfolding value_of declares local
-    size_read = let small = facts.app_size in number_read 19 4194304 (codes "size") d.app_size (omega arith) facts.app_size (omega arith) (omega arith)
+    size_read = let small = facts.app_size in number_read DIGIT_LIMIT MANIFEST_LIMIT (codes "size") d.app_size (omega arith) facts.app_size (omega arith) (omega arith)
 
     app_called : filter (called (codes "assemblyIdentity")) (children_of (assembly_tree d)) ≡ identity_tree (codes "assemblyIdentity") d.app ∷ []
     unfolding called identity_tree local
@@ -172,7 +174,7 @@ module _ (d : Deployment) (facts : AreDeploymentFacts d) (held : IsHeldDeploymen
 
     entry_read : entry_of whole ≡ Ok (record { codebase = d.codebase; size = d.app_size; app = d.app; digests = d.app_list })
     unfolding entry_of
-    entry_read = rw (one_assembly, codebase_given, filled_read 2048 (codes "codebase") d.codebase facts.codebase, size_read, app_read, app_list_read) refl
+    entry_read = rw (one_assembly, codebase_given, filled_read URL_LIMIT (codes "codebase") d.codebase facts.codebase, size_read, app_read, app_list_read) refl
 
     -- ---- the whole
 

@@ -8,10 +8,12 @@ use Rattle.std.proofs.lemmas.Fmt.{digits_decimal, digits_value-decimal, length-d
 use Rattle.base64.specs.Engines.{standard}
 use Rattle.base64.proofs.EngineFacts.{decode_of-encode_of}
 use Rattle.base64.specs.GeneralPurpose.{encode_of}
+use Rattle.small_types.specs.declared.limits.TheConstants.{HASH_LIMIT, IDENTITY_PART_LIMIT, NAME_LIMIT}
+use Rattle.small_types.proofs.DecimalLemmas.{own}
 use Rattle.identity.specs.declared.identity.Identity.{Identity}
 use Rattle.identity.specs.declared.key.Key.{Key}
 use Rattle.identity.specs.Version.{IsVersion, version_text}
-use Rattle.identity.proofs.VersionLemmas.{own, version_read-version_text}
+use Rattle.identity.proofs.VersionLemmas.{version_read-version_text}
 use Rattle.digest_list.specs.declared.digest.Digest.{Digest}
 use Rattle.digest_list.specs.declared.algorithm.Algorithm.{Algorithm}
 use Rattle.digest_list.specs.declared.algorithm.Algorithm.TheVariants.{Sha1, Sha256, Sha384, Sha512}
@@ -19,11 +21,12 @@ use Rattle.digest_list.specs.Algorithm.{uri_of, sha256_other_uri, algorithm_of}
 use Rattle.digest_list.specs.Digest.{IsSized, digest_of}
 use Rattle.digest_list.proofs.TextLemmas.{digest_of-encode_of}
 use Rattle.manifest_tree.specs.Tree.{Tree, trees}
-use Rattle.manifest_parts.specs.Elements.{◌>>=◌, local, declares, value_of, called, children_called, once, has_called, any_called}
+use Rattle.manifest_parts.specs.Elements.{local, declares, value_of, called, children_called, once, has_called, any_called}
+use Rattle.small_types.specs.Reading.{◌>>=◌}
 use Rattle.manifest_parts.specs.Values.{filled, within, defaulted, number_in, number_of, as_version}
 use Rattle.manifest_parts.specs.Parts.{named as named_of, versioned, short_of, key_of, identity_of, is_plain, digest_by, hash_of, hashes, counted, some_digest}
 use Rattle.manifest_writer.specs.Elements.{key_attributes, kind_attributes, identity_tree, hash_tree, hash_trees}
-use Rattle.manifest_writer.specs.Facts.{IsValue, IsIdentity}
+use Rattle.manifests.specs.Facts.{IsValue, IsIdentity}
 use Rattle.manifest_writer.specs.Held.{IsHeldDigest, AreHeldDigests}
 
 -- ---- numbers
@@ -50,10 +53,10 @@ pub within_read : (most : ℕ) (what value : List ℕ) → IsValue 0 most value 
 unfolding within
 within_read most what value is = rw (le-leb (length value) most is.few) refl
 
-pub short_read : (what default value : List ℕ) → IsValue 1 64 value → defaulted 64 what default (Some value) ≡ Ok value
+pub short_read : (what default value : List ℕ) → IsValue 1 IDENTITY_PART_LIMIT value → defaulted IDENTITY_PART_LIMIT what default (Some value) ≡ Ok value
 unfolding defaulted within
 short_read what default [] is = absurd (let some = is.some in omega arith)
-short_read what default (c ∷ cs) is = rw (le-leb (length (c ∷ cs)) 64 is.few) refl
+short_read what default (c ∷ cs) is = rw (le-leb (length (c ∷ cs)) IDENTITY_PART_LIMIT is.few) refl
 
 -- ---- identities
 
@@ -63,7 +66,7 @@ module _ (name : List ℕ) (identity : Identity) (is : IsIdentity identity) (fit
 
   name_read : named_of of_it ≡ Ok identity.key.name
   unfolding named_of identity_tree value_of declares local
-  name_read = filled_read 240 (codes "name") identity.key.name is.name
+  name_read = filled_read NAME_LIMIT (codes "name") identity.key.name is.name
 
   version_read : versioned of_it ≡ Ok identity.version
   unfolding versioned identity_tree value_of declares local
@@ -85,10 +88,10 @@ module _ (name : List ℕ) (identity : Identity) (is : IsIdentity identity) (fit
   unfolding key_of
   key_read = rw (token_read, language_read, architecture_read) refl
 
-kind_in : (key : Key) (version kind : List ℕ) → IsValue 0 64 kind → defaulted 64 (codes "type") [] (value_of (codes "type") (key_attributes key version ++ kind_attributes kind)) ≡ Ok kind
+kind_in : (key : Key) (version kind : List ℕ) → IsValue 0 IDENTITY_PART_LIMIT kind → defaulted IDENTITY_PART_LIMIT (codes "type") [] (value_of (codes "type") (key_attributes key version ++ kind_attributes kind)) ≡ Ok kind
 unfolding defaulted within value_of declares local
 kind_in key version [] is = refl
-kind_in key version (c ∷ cs) is = rw (le-leb (length (c ∷ cs)) 64 is.few) refl
+kind_in key version (c ∷ cs) is = rw (le-leb (length (c ∷ cs)) IDENTITY_PART_LIMIT is.few) refl
 
 kind_read : (name : List ℕ) (identity : Identity) → IsIdentity identity → short_of (codes "type") [] (identity_tree name identity) ≡ Ok identity.kind
 unfolding short_of identity_tree
@@ -134,8 +137,8 @@ some_read file (digest ∷ digests) some = refl
 
 pub digests_read : (file : List ℕ) (digests : List Digest) → AreHeldDigests digests → All IsSized digests → (counted (hash_trees digests) >>= some_digest file) ≡ Ok digests
 digests_read file digests held sized =
-    let few : length (hash_trees digests) ≤ 8 = rw length-map held.count.within in
-    rw (le-ltb 8 (length (hash_trees digests)) few, hashes_read digests held.each sized, some_read file digests held.count.some) refl
+    let few : length (hash_trees digests) ≤ HASH_LIMIT = rw length-map held.count.within in
+    rw (le-ltb HASH_LIMIT (length (hash_trees digests)) few, hashes_read digests held.each sized, some_read file digests held.count.some) refl
 
 -- ---- elements among others
 

@@ -1,11 +1,12 @@
 -- The trees of manifests can be written.
 use Rattle.std.proofs.Common.{◌≡◌, ℕ, suc, ◌<◌, ◌≤◌, Bool, true, false, List, [], ◌∷◌, ◌++◌, map, Option, Some, None, refl, ap, ◌∙◌, arith, decimal}
-use Rattle.std.specs.Prelude.{◌&&◌, codes, nat_lt, All, IfSome}
-use Rattle.std.proofs.lemmas.Bool.{and_parts, lt-ltb}
+use Rattle.std.specs.Prelude.{◌&&◌, codes, nat_le, All, IfSome}
+use Rattle.std.proofs.lemmas.Bool.{and_parts, le-leb}
 use Rattle.std.proofs.lemmas.List.Elements.{All-head, All-tail}
 use Rattle.manifest_tree.specs.Lexis.{allowed, name_byte, name_first}
 use Rattle.manifest_tree.specs.Tree.{Tree, trees}
 use Rattle.manifest_tree.specs.Writing.{is_name, is_content, are_attributes, is_element, are_elements}
+use Rattle.small_types.specs.declared.limits.TheConstants.{LEVEL_LIMIT, NAME_LIMIT}
 use Rattle.identity.specs.declared.identity.Identity.{Identity}
 use Rattle.identity.specs.declared.key.Key.{Key}
 use Rattle.identity.specs.declared.version.Version.{Version}
@@ -19,15 +20,15 @@ use Rattle.manifests.specs.declared.facts.Rule.TheVariants.{Never, Before, Age}
 use Rattle.manifests.specs.declared.facts.Deployment.{Deployment}
 use Rattle.manifests.specs.declared.facts.FileEntry.{FileEntry}
 use Rattle.manifests.specs.declared.facts.Application.{Application}
-use Rattle.manifest_writer.specs.declared.ages.AgeUnit.{AgeUnit}
-use Rattle.manifest_writer.specs.declared.ages.AgeUnit.TheVariants.{Hours, Days, Weeks}
-use Rattle.manifest_writer.specs.Ages.{unit_of, unit_word, count_of}
+use Rattle.manifests.specs.declared.ages.AgeUnit.{AgeUnit}
+use Rattle.manifests.specs.declared.ages.AgeUnit.TheVariants.{Hours, Days, Weeks}
+use Rattle.manifests.specs.Ages.{largest_unit, unit_word, count_of}
 use Rattle.manifest_writer.specs.Applications.{backslashed, use_attributes, file_tree, entry_tree, application_tree}
 use Rattle.manifest_writer.specs.Deployments.{truth_text, minimum_attributes, description_tree, age_attributes, age_tree, rule_trees, provider_trees, terms_tree, assembly_attributes, assembly_tree, dependency_tree, deployment_tree}
 use Rattle.manifest_writer.specs.Elements.{named, root_tree, key_attributes, kind_attributes, identity_tree, transforms_tree, method_tree, value_tree, hash_tree, hash_trees}
-use Rattle.manifest_writer.specs.Facts.{IsValue, IsIdentity, IsRule, IsProvider, AreDeploymentFacts, IsFile, AreApplicationFacts}
+use Rattle.manifests.specs.Facts.{IsValue, IsIdentity, IsRule, IsProvider, AreDeploymentFacts, IsFile, AreApplicationFacts}
 use Rattle.manifest_writer.specs.Held.{IsHeldDigest, IsHeldDeployment, IsHeldFile}
-use Rattle.manifest_writer.proofs.Content.{decimal_content, version_content, base64_content, name_content}
+use Rattle.manifest_writer.proofs.Content.{decimal_content, version_content, base64_content, name_content, size_limit_most}
 
 -- ---- parts
 
@@ -38,8 +39,8 @@ next {b = b} p q = ap (λ (x : Bool). x && b) p ∙ q
 value : (held : List ℕ) → is_content held ≡ true → (is_content held && true) ≡ true
 value held p = next p refl
 
-low : (level : ℕ) → level < 65 → nat_lt level 65 ≡ true
-low level h = lt-ltb level 65 h
+low : (level : ℕ) → level ≤ LEVEL_LIMIT → nat_le level LEVEL_LIMIT ≡ true
+low level h = le-leb level LEVEL_LIMIT h
 
 pub appended : (level : ℕ) (xs ys : List Tree) → are_elements level (trees xs) ≡ true → are_elements level (trees ys) ≡ true → are_elements level (trees (xs ++ ys)) ≡ true
 appended level [] ys p q = q
@@ -77,7 +78,7 @@ contents identity is fits = record {
   kind_is = is.kind.allowed;
 }
 
-identity_writable : (level : ℕ) (name : List ℕ) (identity : Identity) → level < 65 → is_name name ≡ true → IsIdentity identity → IsVersion identity.version → is_element level (identity_tree name identity) ≡ true
+identity_writable : (level : ℕ) (name : List ℕ) (identity : Identity) → level ≤ LEVEL_LIMIT → is_name name ≡ true → IsIdentity identity → IsVersion identity.version → is_element level (identity_tree name identity) ≡ true
 unfolding identity_tree
 identity_writable level name identity lt named is fits =
     next (low level lt) (next named (next (attributes_writable identity.key (version_text identity.version) identity.kind (contents identity is fits)) refl))
@@ -143,7 +144,7 @@ age_attributes_writable count unit p q = next (value count p) (next (value unit 
 age_writable : (seconds : ℕ) → count_of seconds ≤ 999999999 → is_element 5 (age_tree seconds) ≡ true
 unfolding age_tree name_byte name_first
 age_writable seconds few =
-    next (age_attributes_writable (decimal (count_of seconds)) (unit_word (unit_of seconds)) (decimal_content (count_of seconds) (omega arith)) (word_content (unit_of seconds))) refl
+    next (age_attributes_writable (decimal (count_of seconds)) (unit_word (largest_unit seconds)) (decimal_content (count_of seconds) (omega arith)) (word_content (largest_unit seconds))) refl
 
 rule_writable : (rule : Rule) → IsRule rule → are_elements 3 (trees (rule_trees rule)) ≡ true
 unfolding name_byte name_first
@@ -205,7 +206,7 @@ entry_writable : (a : Application) → AreApplicationFacts a → is_element 2 (e
 unfolding entry_tree name_byte name_first
 entry_writable a facts = next (next (next (value a.entry facts.entry.allowed) (next (value a.parameters facts.parameters.allowed) refl)) refl) refl
 
-file_attributes_writable : (name size : List ℕ) (local : Bool) (group : Option (List ℕ)) → is_content name ≡ true → is_content size ≡ true → IfSome group (IsValue 1 240)
+file_attributes_writable : (name size : List ℕ) (local : Bool) (group : Option (List ℕ)) → is_content name ≡ true → is_content size ≡ true → IfSome group (IsValue 1 NAME_LIMIT)
     → are_attributes [] (named (codes "name") name ∷ named (codes "size") size ∷ use_attributes local group) ≡ true
 unfolding allowed name_byte name_first
 file_attributes_writable name size true group p q is = next (value name p) (next (value size q) refl)
@@ -216,6 +217,7 @@ file_writable : (e : FileEntry) → IsFile e → IsHeldFile e → is_element 2 (
 unfolding file_tree name_byte name_first
 file_writable e is held =
     let small = is.size in
+    let most = size_limit_most e.local in
     next (file_attributes_writable (backslashed e.name) (decimal e.size) e.local e.group (name_content e.name held.name) (decimal_content e.size (omega arith)) is.group)
     (hashes_writable 3 e.list (omega arith) held.list.each)
 

@@ -8,7 +8,7 @@ use Rattle.manifest_tree.specs.Writing.{written}
 use Rattle.manifests.specs.declared.facts.Rule.{Rule}
 use Rattle.manifests.specs.declared.facts.Rule.TheVariants.{Never, Before, Age}
 use Rattle.manifests.specs.declared.facts.Deployment.{Deployment}
-use Rattle.manifest_writer.specs.Ages.{unit_of, unit_word, count_of}
+use Rattle.manifests.specs.Ages.{largest_unit, unit_word, count_of}
 use Rattle.manifest_writer.specs.Elements.{named, element, leaf, root_tree, identity_tree, own_identity_tree, hash_trees}
 
 -- whose the application is, and what it is called
@@ -38,7 +38,7 @@ age_attributes count unit = named (codes "maximumAge") count ∷ named (codes "u
 
 -- an age, in the largest unit of which it is a multiple
 unfoldable pub age_tree : ℕ → Tree
-age_tree seconds = leaf (codes "expiration") (age_attributes (decimal (count_of seconds)) (unit_word (unit_of seconds)))
+age_tree seconds = leaf (codes "expiration") (age_attributes (decimal (count_of seconds)) (unit_word (largest_unit seconds)))
 
 -- before each start
 abbrev pub before_tree : Tree

@@ -1,11 +1,12 @@
 // Writing application manifests.
 ghost use Rattle.std.specs.Prelude.{◌≡◌, ◌<◌, ◌^◌, length, IfOk, IfErr, OnOk, Ok};
+ghost use Rattle.small_types.specs.declared.limits.TheConstants.{MANIFEST_LIMIT};
 ghost use Rattle.manifest_tree.specs.Tree.{tree_of};
 ghost use Rattle.manifest_tree.specs.Writing.{IsUnwritten};
 ghost use Rattle.manifest_parts.specs.Parts.{Tells};
 ghost use Rattle.manifests.specs.Applications.{application_of};
 ghost use Rattle.manifest_writer.specs.Applications.{entry_tree, application_tree, application_text};
-ghost use Rattle.manifest_writer.specs.Facts.{AreApplicationFacts};
+ghost use Rattle.manifests.specs.Facts.{AreApplicationFacts};
 
 use crate::elements::{add_child, attributes, element, element_around, root};
 use crate::fault::NoMemory;
@@ -64,7 +65,7 @@ pub fn write_application(alloc: Global, a: &Application) -> Result<Bytes, WriteF
     // Reading the text gives what it says.
     ensures facts { IfOk result (λ text. Tells application_of text (Ok a.now)) }
     // A text that is too long is not written.
-    ensures too_long { let count = length (application_text a.now) in 4194304 < count → count < 2 ^ 64 → OnOk result ⊥ }
+    ensures too_long { let count = length (application_text a.now) in MANIFEST_LIMIT < count → count < 2 ^ 64 → OnOk result ⊥ }
     // The fault is that the text is too long, and says how long; or memory ran out.
     ensures fault { IfErr result (IsUnwritten (application_text a.now)) }
 {

@@ -1,11 +1,12 @@
 // Writing deployment manifests.
 ghost use Rattle.std.specs.Prelude.{◌≡◌, ◌<◌, ◌^◌, length, IsTrue, IfOk, IfErr, OnOk, Ok};
+ghost use Rattle.small_types.specs.declared.limits.TheConstants.{MANIFEST_LIMIT};
 ghost use Rattle.manifest_tree.specs.Tree.{tree_of};
 ghost use Rattle.manifest_tree.specs.Writing.{is_content, IsUnwritten};
 ghost use Rattle.manifest_parts.specs.Parts.{Tells};
 ghost use Rattle.manifests.specs.Deployments.{deployment_of};
 ghost use Rattle.manifest_writer.specs.Deployments.{description_tree, dependency_tree, assembly_attributes, assembly_tree, deployment_tree, deployment_text};
-ghost use Rattle.manifest_writer.specs.Facts.{AreDeploymentFacts};
+ghost use Rattle.manifests.specs.Facts.{AreDeploymentFacts};
 
 use crate::digests::add_hashes;
 use crate::elements::{add_child, attributes, element, element_around, root};
@@ -121,7 +122,7 @@ pub fn write_deployment(
     ensures facts { IfOk result (λ text. Tells deployment_of text (Ok d.now)) }
     // A text that is too long is not written.
     ensures too_long { let count = length (deployment_text d.now publisher.now product.now) in
-        4194304 < count → count < 2 ^ 64 → OnOk result ⊥ }
+        MANIFEST_LIMIT < count → count < 2 ^ 64 → OnOk result ⊥ }
     // The fault is that the text is too long, and says how long; or memory ran out.
     ensures fault { IfErr result (IsUnwritten (deployment_text d.now publisher.now product.now)) }
 {

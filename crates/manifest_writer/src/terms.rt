@@ -3,12 +3,11 @@ ghost use Rattle.std.specs.Prelude.{◌≡◌, [], ◌∷◌, ◌++◌, map, IfO
 ghost use Rattle.manifest_tree.specs.Tree.{tree_of};
 ghost use Rattle.manifest_writer.specs.Deployments.{truth_text, terms_attributes, age_attributes, age_tree, before_tree, subscription_tree, rule_trees, provider_tree, provider_trees, terms_tree};
 
-use crate::ages::unit_of;
 use crate::elements::{add_attribute, add_child, attributes, element, element_around};
 use crate::fault::NoMemory;
 use itoa::Buffer;
 use manifest_tree::{Attribute, Node};
-use manifests::{Deployment, Rule};
+use manifests::{AgeUnit, Deployment, Rule};
 use small_types::Text;
 use std::alloc::Global;
 
@@ -48,7 +47,7 @@ fn age_attributes(alloc: Global, count: &str, unit: &str) -> Result<Vec<Attribut
 fn age_node(alloc: Global, seconds: u64) -> Result<Node, NoMemory>
     ensures { IfOk result (λ made. tree_of made ≡ age_tree seconds) }
 {
-    let unit = unit_of(seconds);
+    let unit = AgeUnit::largest_of(seconds);
     let mut buffer = Buffer::new();
     let count = buffer.format(seconds / unit.seconds());
     let named = age_attributes(alloc, count, unit.word())?;
