@@ -5,11 +5,11 @@ use Rattle.publish_plan.specs.declared.fault.PlanFault.{PlanFault}
 use Rattle.publish_plan.specs.declared.fault.PlanFault.TheVariants.{BadName}
 use Rattle.publish_plan.specs.declared.options.Options.{Options}
 use Rattle.publish_plan.specs.Early.{early_of, overlap, above}
-use Rattle.publish_plan.specs.Places.{is_word, manifest_name}
+use Rattle.publish_plan.specs.Places.{is_plain_name, manifest_name}
 
 pub record AreFit (o : Options) : Type 0 where
-  pub name : is_word o.name ≡ true
-  pub entry : is_word o.entry ≡ true
+  pub name : is_plain_name o.name ≡ true
+  pub entry : is_plain_name o.entry ≡ true
   pub apart : overlap o.from o.to ≡ false
   pub short : length (manifest_name o) ≤ 240
   pub minimum : above o.version o.minimum ≡ None
@@ -22,13 +22,13 @@ passed false e rest is = (refl, is)
 pub options_fit : (o : Options) → early_of o ≡ None → AreFit o
 unfolding early_of
 options_fit o is =
-    let name = passed (not (is_word o.name)) (BadName (codes "name")) _ is in
-    let entry = passed (not (is_word o.entry)) (BadName (codes "entry")) _ name.1 in
+    let name = passed (not (is_plain_name o.name)) (BadName (codes "name")) _ is in
+    let entry = passed (not (is_plain_name o.entry)) (BadName (codes "entry")) _ name.1 in
     let apart = passed (overlap o.from o.to) (BadName (codes "to")) _ entry.1 in
     let short = passed (nat_lt 240 (length (manifest_name o))) (BadName (codes "entry")) _ apart.1 in
     record {
-      name = not-false (is_word o.name) name.0;
-      entry = not-false (is_word o.entry) entry.0;
+      name = not-false (is_plain_name o.name) name.0;
+      entry = not-false (is_plain_name o.entry) entry.0;
       apart = apart.0;
       short = ltb-false 240 (length (manifest_name o)) short.0;
       minimum = short.1;
@@ -47,20 +47,20 @@ module _ (o : Options) where
   words unfit = if unfit then Some (BadName (codes "entry")) else folders (overlap o.from o.to)
 
   abbrev all : Bool → Option PlanFault
-  all unfit = if unfit then Some (BadName (codes "name")) else words (not (is_word o.entry))
+  all unfit = if unfit then Some (BadName (codes "name")) else words (not (is_plain_name o.entry))
 
-  early_is : early_of o ≡ all (not (is_word o.name))
+  early_is : early_of o ≡ all (not (is_plain_name o.name))
   unfolding early_of
   early_is = refl
 
-  pub name_first : not (is_word o.name) ≡ true → early_of o ≡ Some (BadName (codes "name"))
+  pub name_first : not (is_plain_name o.name) ≡ true → early_of o ≡ Some (BadName (codes "name"))
   name_first h = early_is ∙ ap all h
 
-  module _ (name : not (is_word o.name) ≡ false) where
-    pub entry_next : not (is_word o.entry) ≡ true → early_of o ≡ Some (BadName (codes "entry"))
+  module _ (name : not (is_plain_name o.name) ≡ false) where
+    pub entry_next : not (is_plain_name o.entry) ≡ true → early_of o ≡ Some (BadName (codes "entry"))
     entry_next h = early_is ∙ ap all name ∙ ap words h
 
-    module _ (entry : not (is_word o.entry) ≡ false) where
+    module _ (entry : not (is_plain_name o.entry) ≡ false) where
       pub folders_next : overlap o.from o.to ≡ true → early_of o ≡ Some (BadName (codes "to"))
       folders_next h = early_is ∙ ap all name ∙ ap words entry ∙ ap folders h
 

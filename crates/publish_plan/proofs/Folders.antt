@@ -8,7 +8,7 @@ use Rattle.std.proofs.lemmas.List.Folds.{list_all-append}
 use Rattle.std.proofs.lemmas.Slice.Eq.{bytes_eq-Decides}
 use Rattle.publish_plan.specs.declared.options.Options.{Options}
 use Rattle.publish_plan.specs.Early.{overlap}
-use Rattle.publish_plan.specs.Places.{within, front_of, has_front, behind, lies_below, is_word, release_word, version_folder, deploy_end, target_name, manifest_end, manifest_name, deployment_name}
+use Rattle.publish_plan.specs.Places.{within, front_of, has_front, behind, lies_below, is_plain_name, release_word, version_folder, deploy_end, target_name, manifest_end, manifest_name, deployment_name}
 use Rattle.publish_plan.proofs.PathLemmas.{is_plain, IsPlain, plain_joined, behind_rest}
 use Rattle.publish_plan.proofs.PlaceLemmas.{word_plain}
 
@@ -62,7 +62,7 @@ pub source_outside : (o : Options) (file : List ℕ) → overlap o.from o.to ≡
 source_outside o file apart = false_from_ne_true (lies_below (version_folder o) (within o.from file)) (λ below.
     both_ways (overlap o.from o.to) apart (overlapping o.from o.to (nested o.from o.to file _ (sym (in_version o (within o.from file) below)))))
 
-deployment_plain : (o : Options) → is_word o.name ≡ true → IsPlain (o.name ++ codes ".application")
+deployment_plain : (o : Options) → is_plain_name o.name ≡ true → IsPlain (o.name ++ codes ".application")
 deployment_plain o word = plain_joined o.name (codes ".application") (word_plain o.name word).0 (record { each = refl })
 
 no_slash_inside : (front rest : List ℕ) → list_all is_plain (within front rest) ≡ true → ⊥
@@ -71,7 +71,7 @@ no_slash_inside front rest plain =
     both_ways (list_all is_plain (47 ∷ rest)) refl parts.1
 
 -- nor does the deployment manifest
-pub deployment_outside : (o : Options) → is_word o.name ≡ true → lies_below (version_folder o) (deployment_name o) ≡ false
+pub deployment_outside : (o : Options) → is_plain_name o.name ≡ true → lies_below (version_folder o) (deployment_name o) ≡ false
 unfolding deployment_name
 deployment_outside o word = false_from_ne_true (lies_below (version_folder o) (within o.to (o.name ++ codes ".application"))) (λ below.
     let name = o.name ++ codes ".application" in

@@ -8,14 +8,14 @@ use Rattle.std.proofs.lemmas.Bool.Decides.{nat_tests}
 use Rattle.std.proofs.lemmas.Fmt.{digits_decimal}
 use Rattle.identity.specs.declared.version.Version.{Version}
 use Rattle.identity.specs.Version.{IsVersion}
-use Rattle.identity.proofs.VersionLemmas.{own}
+use Rattle.small_types.proofs.DecimalLemmas.{own}
 use Rattle.small_types.specs.Name.{is_name_byte, IsName}
 use Rattle.publish_plan.specs.declared.options.Options.{Options}
 use Rattle.publish_plan.specs.Paths.{IsPath}
-use Rattle.publish_plan.specs.Places.{is_word_byte, is_word, within, version_word, release_word, version_folder, manifest_end, manifest_name, deploy_end, target_name, deployment_name}
+use Rattle.publish_plan.specs.Places.{is_plain_byte, is_plain_name, within, version_word, release_word, version_folder, manifest_end, manifest_name, deploy_end, target_name, deployment_name}
 use Rattle.publish_plan.proofs.PathLemmas.{is_plain, IsPlain, plain_joined, plain_path, path_within, path_ended, name_is_path}
 
-word_byte_plain : (b : ℕ) → is_word_byte b ≡ true → is_plain b ≡ true
+word_byte_plain : (b : ℕ) → is_plain_byte b ≡ true → is_plain b ≡ true
 word_byte_plain b is = grind (arith, nat_tests)
 
 digit_plain : (b : ℕ) → is_ascii_digit b ≡ true → is_plain b ≡ true
@@ -25,12 +25,12 @@ each_also : (p q : ℕ → Bool) → ((b : ℕ) → p b ≡ true → q b ≡ tru
 each_also p q also [] all = refl
 each_also p q also (x ∷ xs) all = let both = and_parts (p x) (list_all p xs) all in and_from _ _ (also x both.0) (each_also p q also xs both.1)
 
-pub word_plain : (word : List ℕ) → is_word word ≡ true → IsPlain word × (0 < length word)
-unfolding is_word
+pub word_plain : (word : List ℕ) → is_plain_name word ≡ true → IsPlain word × (0 < length word)
+unfolding is_plain_name
 word_plain word is =
-    let outer = and_parts (nat_lt 0 (length word) && nat_le (length word) 100) (list_all is_word_byte word) is in
+    let outer = and_parts (nat_lt 0 (length word) && nat_le (length word) 100) (list_all is_plain_byte word) is in
     let lengths = and_parts (nat_lt 0 (length word)) (nat_le (length word) 100) outer.0 in
-    (record { each = each_also is_word_byte is_plain word_byte_plain word outer.1 }, ltb-true 0 (length word) lengths.0)
+    (record { each = each_also is_plain_byte is_plain word_byte_plain word outer.1 }, ltb-true 0 (length word) lengths.0)
 
 number_plain : (n : ℕ) → n < 2 ^ 16 → IsPlain (decimal n)
 number_plain n small = record { each = each_also is_ascii_digit is_plain digit_plain (decimal n) (digits_decimal own n (omega arith)) }
@@ -49,7 +49,7 @@ version_plain v fits =
       simp length-append (omega arith),
     )
 
-pub release_plain : (o : Options) → is_word o.name ≡ true → IsVersion o.version → IsPlain (release_word o) × (2 < length (release_word o))
+pub release_plain : (o : Options) → is_plain_name o.name ≡ true → IsVersion o.version → IsPlain (release_word o) × (2 < length (release_word o))
 unfolding release_word
 release_plain o word fits =
     let name = word_plain o.name word in
@@ -59,14 +59,14 @@ release_plain o word fits =
 files_path : IsPath (codes "Application Files")
 files_path = plain_path (codes "Application Files") (record { each = refl }) (lit< tt)
 
-pub folder_path : (o : Options) → IsName o.to → is_word o.name ≡ true → IsVersion o.version → IsPath (version_folder o)
+pub folder_path : (o : Options) → IsName o.to → is_plain_name o.name ≡ true → IsVersion o.version → IsPath (version_folder o)
 unfolding version_folder
 folder_path o to word fits =
     let release = release_plain o word fits in
     path_within o.to (within (codes "Application Files") (release_word o)) (name_is_path o.to to)
     (path_within (codes "Application Files") (release_word o) files_path (plain_path (release_word o) release.0 release.1))
 
-pub manifest_path : (o : Options) → IsPath (version_folder o) → is_word o.entry ≡ true → IsPath (manifest_name o)
+pub manifest_path : (o : Options) → IsPath (version_folder o) → is_plain_name o.entry ≡ true → IsPath (manifest_name o)
 unfolding manifest_name
 manifest_path o folder word =
     let end : IsPlain manifest_end = record { each = refl } in
@@ -74,7 +74,7 @@ manifest_path o folder word =
     path_within (version_folder o) (o.entry ++ manifest_end) folder
     (plain_path (o.entry ++ manifest_end) plain (omega (arith, length-append o.entry manifest_end)))
 
-pub deployment_path : (o : Options) → IsName o.to → is_word o.name ≡ true → IsPath (deployment_name o)
+pub deployment_path : (o : Options) → IsName o.to → is_plain_name o.name ≡ true → IsPath (deployment_name o)
 unfolding deployment_name
 deployment_path o to word =
     let end : IsPlain (codes ".application") = record { each = refl } in

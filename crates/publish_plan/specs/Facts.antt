@@ -2,6 +2,7 @@
 use Rattle.std.specs.Prelude.{◌≡◌, ◌≤◌, ℕ, Bool, true, false, List, [], ◌∷◌, ◌++◌, map, length, All, count_by, Option, None, Ok}
 use Rattle.std.specs.List.{IsDistinct, list_any}
 use Rattle.std.specs.Str.{bytes_eq}
+use Rattle.small_types.specs.declared.limits.TheConstants.{FILE_COUNT_LIMIT, LOCAL_COUNT_LIMIT, LOCAL_NAME_LIMIT}
 use Rattle.small_types.specs.Name.{IsBelowPre}
 use Rattle.publish_plan.specs.declared.options.Options.{Options}
 use Rattle.publish_plan.specs.declared.options.Plan.{Plan}
@@ -21,11 +22,11 @@ target_of file = file.target
 abbrev pub written_names : Plan → List (List ℕ)
 written_names plan = map target_of plan.files ++ plan.manifest ∷ plan.deployment ∷ []
 
--- a planned file that an application manifest can list: not below `.pre`, a data file's name of at most 235 bytes, and
--- no data file in a group
+-- a planned file that an application manifest can list: not below `.pre`, a data file's name of at
+-- most 235 bytes, and no data file in a group
 pub record IsListed (file : PlannedFile) : Type 0 where
   pub above : ¬ IsBelowPre file.file
-  pub short : file.local ≡ true → length file.file ≤ 235
+  pub short : file.local ≡ true → length file.file ≤ LOCAL_NAME_LIMIT
   pub alone : file.local ≡ true → file.group ≡ None
 
 -- it is written in the folder of the version, and what is read for it does not stand there
@@ -37,8 +38,8 @@ pub record AreFacts (o : Options) (names : List (List ℕ)) (plan : Plan) : Type
   pub files : plan.files ≡ planned_files o (input_names o.from names)
   pub manifest : plan.manifest ≡ manifest_name o
   pub deployment : plan.deployment ≡ deployment_name o
-  pub few : length plan.files ≤ 16384
-  pub few_local : count_by is_local_file plan.files ≤ 256
+  pub few : length plan.files ≤ FILE_COUNT_LIMIT
+  pub few_local : count_by is_local_file plan.files ≤ LOCAL_COUNT_LIMIT
   pub listed : All IsListed plan.files
   pub apart : All (IsApart (version_folder o)) plan.files
   pub entry : is_among (map file_of plan.files) o.entry ≡ true
@@ -51,4 +52,5 @@ pub record AreFacts (o : Options) (names : List (List ℕ)) (plan : Plan) : Type
 
 -- each plan is so
 abbrev pub PlansHaveFacts : Type 0
-PlansHaveFacts = (o : Options) (names : List (List ℕ)) (plan : Plan) → early_of o ≡ None → plan_of o names ≡ Ok plan → AreFacts o names plan
+PlansHaveFacts = (o : Options) (names : List (List ℕ)) (plan : Plan)
+    → early_of o ≡ None → plan_of o names ≡ Ok plan → AreFacts o names plan

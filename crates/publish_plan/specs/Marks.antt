@@ -45,4 +45,6 @@ is_good files before mark = is_among files mark.file && not (is_marked before ma
 -- the file of the first mark, behind these, that does not
 abbrev pub bad_mark : List (List ℕ) → List Mark → List Mark → Option (List ℕ)
 bad_mark files before [] = None
-bad_mark files before (mark ∷ marks) = if is_good files before mark then bad_mark files (before ++ mark ∷ []) marks else Some mark.file
+bad_mark files before (mark ∷ marks) =
+    if is_good files before mark then bad_mark files (before ++ mark ∷ []) marks
+    else Some mark.file

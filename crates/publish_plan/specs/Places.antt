@@ -4,14 +4,16 @@ use Rattle.std.specs.Char.{is_ascii_alphanumeric}
 use Rattle.std.specs.List.{join_with_byte, list_all, starts_with}
 use Rattle.identity.specs.declared.version.Version.{Version}
 use Rattle.publish_plan.specs.declared.options.Options.{Options}
+use Rattle.publish_plan.specs.declared.places.TheConstants.{PLAIN_NAME_LIMIT}
 
 -- a letter, a digit, `.`, `_`, `-` or a space
-abbrev pub is_word_byte : ℕ → Bool
-is_word_byte b = is_ascii_alphanumeric b || b == 46 || b == 95 || b == 45 || b == 32
+abbrev pub is_plain_byte : ℕ → Bool
+is_plain_byte b = is_ascii_alphanumeric b || b == 46 || b == 95 || b == 45 || b == 32
 
 -- 1 to 100 such bytes
-unfoldable pub is_word : List ℕ → Bool
-is_word word = nat_lt 0 (length word) && nat_le (length word) 100 && list_all is_word_byte word
+unfoldable pub is_plain_name : List ℕ → Bool
+is_plain_name word =
+    nat_lt 0 (length word) && nat_le (length word) PLAIN_NAME_LIMIT && list_all is_plain_byte word
 
 -- a name in a folder
 abbrev pub within : List ℕ → List ℕ → List ℕ

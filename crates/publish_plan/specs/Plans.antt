@@ -3,6 +3,7 @@ use Rattle.std.specs.Prelude.{ℕ, Bool, List, [], ◌∷◌, map, length, find,
 use Rattle.std.specs.List.{list_any}
 use Rattle.std.specs.Str.{bytes_eq}
 use Rattle.small_types.specs.declared.limit.Limit.TheVariants.{Files, Locals}
+use Rattle.small_types.specs.declared.limits.TheConstants.{FILE_COUNT_LIMIT, LOCAL_COUNT_LIMIT, LOCAL_NAME_LIMIT, NAME_LIMIT}
 use Rattle.small_types.specs.Reading.{◌>>=◌}
 use Rattle.manifests.specs.Applications.{is_below_pre}
 use Rattle.publish_plan.specs.declared.fault.PlanFault.{PlanFault}
@@ -22,11 +23,13 @@ standing o names = unless (option_map VersionExists (find (lies_below (version_f
 abbrev pub some_input : Options → List (List ℕ) → Read (Unit {0})
 some_input o names = if list_any (lies_below o.from) names then Ok tt else Err EmptyInput
 
--- The first part of the name is `.pre`, the written name has more than 240 bytes, the name of a data file has more than
--- 235, or the written name is that of the application manifest.
+-- The first part of the name is `.pre`, the written name has more than 240 bytes, the name of a
+-- data file has more than 235, or the written name is that of the application manifest.
 unfoldable pub is_bad_input : Options → List ℕ → Bool
 is_bad_input o file =
-    is_below_pre file || (nat_lt 240 (length (target_name o file)) || (is_data o.marks file && nat_lt 235 (length file)))
+    is_below_pre file
+    || (nat_lt NAME_LIMIT (length (target_name o file))
+    || (is_data o.marks file && nat_lt LOCAL_NAME_LIMIT (length file)))
     || bytes_eq (target_name o file) (manifest_name o)
 
 abbrev pub fit_inputs : Options → List (List ℕ) → Read (Unit {0})
@@ -52,12 +55,13 @@ is_local_file file = file.local
 -- at most 16,384 files, and at most 256 data files
 abbrev pub few : List PlannedFile → Read (Unit {0})
 few files =
-    if nat_lt 16384 (length files) then Err (TooMany Files) else
-    if nat_lt 256 (count_by is_local_file files) then Err (TooMany Locals) else Ok tt
+    if nat_lt FILE_COUNT_LIMIT (length files) then Err (TooMany Files) else
+    if nat_lt LOCAL_COUNT_LIMIT (count_by is_local_file files) then Err (TooMany Locals) else Ok tt
 
 -- the file that is started is published, and has no mark
 abbrev pub with_entry : Options → List (List ℕ) → Read (Unit {0})
-with_entry o inputs = if is_among inputs o.entry && not (is_marked o.marks o.entry) then Ok tt else Err NoEntryPoint
+with_entry o inputs =
+    if is_among inputs o.entry && not (is_marked o.marks o.entry) then Ok tt else Err NoEntryPoint
 
 -- each mark names a file that no earlier one named
 abbrev pub good_marks : Options → List (List ℕ) → Read (Unit {0})
@@ -73,7 +77,11 @@ plan_for o inputs = do
   counted ← few (planned_files o inputs)
   started ← with_entry o inputs
   marked ← good_marks o inputs
-  Ok (record { files = planned_files o inputs; manifest = manifest_name o; deployment = deployment_name o })
+  Ok (record {
+    files = planned_files o inputs;
+    manifest = manifest_name o;
+    deployment = deployment_name o;
+  })
 
 -- the plan over a folder with these names, or the first refusal
 unfoldable pub plan_of : Options → List (List ℕ) → Read Plan

@@ -10,7 +10,11 @@ use Rattle.publish_plan.specs.Marks.{is_marked, is_data, is_local, group_in, gro
 
 -- what these marks say of a file
 abbrev pub seen_of : List Mark → List ℕ → Seen
-seen_of marks file = record { named = is_marked marks file; local = is_data marks file; group = group_of marks file }
+seen_of marks file = record {
+  named = is_marked marks file;
+  local = is_data marks file;
+  group = group_of marks file;
+}
 
 -- a file that no mark names
 abbrev pub unmarked : Seen
@@ -34,9 +38,12 @@ row table file = get (slice_cmp nat_cmp) table file
 
 -- the rows of these files are what these marks say of them, and there are no others
 abbrev pub Knows : BTreeMap (List ℕ) Seen → List (List ℕ) → List Mark → Type 0
-Knows table files marks = (q : List ℕ) → row table q ≡ (if is_among files q then Some (seen_of marks q) else None)
+Knows table files marks =
+    (q : List ℕ) → row table q ≡ (if is_among files q then Some (seen_of marks q) else None)
 
 -- one mark more
 abbrev pub Adds : BTreeMap (List ℕ) Seen → BTreeMap (List ℕ) Seen → Mark → Type 0
 Adds old new mark =
-    (q : List ℕ) → row new q ≡ (if bytes_eq mark.file q then option_map (λ (s : Seen). more s mark) (row old q) else row old q)
+    (q : List ℕ) → row new q
+    ≡ (if bytes_eq mark.file q then option_map (λ (s : Seen). more s mark) (row old q)
+    else row old q)

@@ -4,14 +4,12 @@ ghost use Rattle.publish_plan.specs.Early as spec;
 ghost use Rattle.publish_plan.specs.Outcome.{Fails, Gives, unless};
 ghost use Rattle.publish_plan.specs.Places.{manifest_name, lies_below};
 
-use crate::places::{front_of, has_front, is_word, manifest_text, version_folder};
+use crate::places::{front_of, has_front, is_plain_name, manifest_name, version_folder};
 use crate::{Options, PlanFault};
 use identity::Version;
+use small_types::limits::NAME_LIMIT;
 use small_types::{Name, Text};
 use std::alloc::{AllocError, Global};
-
-/// The most bytes of a name.
-const NAME_LIMIT: usize = 240;
 
 // The fault of the option of this word, or that there was no memory for it.
 fn bad_name(alloc: Global, word: &str) -> PlanFault
@@ -44,10 +42,10 @@ fn overlap(alloc: Global, from: &Name, to: &Name) -> Result<bool, AllocError>
 
 // Whether the written name of the application manifest is too long.
 fn has_long_manifest(alloc: Global, options: &Options) -> Result<bool, AllocError>
-    ensures { IfOk result (λ b. b ≡ nat_lt 240 (length (manifest_name options.now))) }
+    ensures { IfOk result (λ b. b ≡ nat_lt NAME_LIMIT (length (manifest_name options.now))) }
 {
     let folder = version_folder(alloc, options)?;
-    let manifest = manifest_text(alloc, folder.as_str(), &options.entry)?;
+    let manifest = manifest_name(alloc, folder.as_str(), &options.entry)?;
     Ok(manifest.as_str().len() > NAME_LIMIT)
 }
 
@@ -74,10 +72,10 @@ fn check_minimum(version: &Version, minimum: Option<Version>) -> Result<(), Plan
 pub fn check_options(alloc: Global, options: &Options) -> Result<(), PlanFault>
     ensures { Gives result (unless (spec.early_of options.now)) }
 {
-    if !is_word(options.name.as_bytes()) {
+    if !is_plain_name(options.name.as_bytes()) {
         return Err(bad_name(alloc, "name"));
     }
-    if !is_word(options.entry.as_bytes()) {
+    if !is_plain_name(options.entry.as_bytes()) {
         return Err(bad_name(alloc, "entry"));
     }
     if overlap(alloc, &options.from, &options.to)? {

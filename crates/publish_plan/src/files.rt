@@ -10,18 +10,13 @@ ghost use Rattle.publish_plan.specs.Plans as spec;
 ghost use Rattle.publish_plan.specs.Seen.{row, seen_of, Knows};
 ghost use Rattle.publish_plan.specs.Written.{AreWritten, is_unfit};
 
-use crate::marked::{Marked, Seen, maybe_copy};
-use crate::places::{has_front, name_behind, name_from, target_text};
+use crate::marked::{Marked, Seen};
+use crate::places::{has_front, name_behind, name_from, target_name};
 use crate::written::Written;
 use crate::{Options, PlanFault, PlannedFile};
+use small_types::limits::{LOCAL_NAME_LIMIT, NAME_LIMIT};
 use small_types::{Duplicate, Name};
 use std::alloc::Global;
-
-/// The most bytes of a name.
-const NAME_LIMIT: usize = 240;
-
-/// The most bytes of a data file's name.
-const DATA_NAME_LIMIT: usize = 235;
 
 // Whether the first part of the name is `.pre`.
 fn is_below_pre(file: &Name) -> bool
@@ -32,9 +27,10 @@ fn is_below_pre(file: &Name) -> bool
 
 // Whether the written name of a file is too long, or the name of a data file.
 fn is_long(local: bool, file: &Name, target: &str) -> bool
-    ensures { result ≡ (nat_lt 240 (length target.now) || (local && nat_lt 235 (length file.now))) }
+    ensures { result ≡ (nat_lt NAME_LIMIT (length target.now)
+        || (local && nat_lt LOCAL_NAME_LIMIT (length file.now))) }
 {
-    target.len() > NAME_LIMIT || (local && file.as_bytes().len() > DATA_NAME_LIMIT)
+    target.len() > NAME_LIMIT || (local && file.as_bytes().len() > LOCAL_NAME_LIMIT)
 }
 
 // Whether a file of this name and this written name can't be written.
@@ -60,7 +56,7 @@ fn planned_file(
     requires source { source.now ≡ within options.now.from file }
     ensures { Gives result (spec.fitting options.now file) }
 {
-    let target = target_text(alloc, written.folder.as_str(), options.mapped, &file)?;
+    let target = target_name(alloc, written.folder.as_str(), options.mapped, &file)?;
     if is_unfit(
         written.manifest.as_str(),
         seen.local,
@@ -71,7 +67,7 @@ fn planned_file(
     }
     let target = name_from(alloc, target.as_bytes())?;
     let source = source.copy(alloc)?;
-    let group = maybe_copy(alloc, &seen.group)?;
+    let group = seen.group.copy(alloc)?;
     Ok(PlannedFile {
         source,
         file,
@@ -94,14 +90,16 @@ fn file_of(
     requires below { has_front (string_bytes written.now.front) name.now ≡ true }
     requires known { row marked.now.table (behind (string_bytes written.now.front) name.now)
         ≡ Some (seen_of options.now.marks (behind (string_bytes written.now.front) name.now)) }
-    ensures { Gives result (spec.fitting options.now (behind (string_bytes written.now.front) name.now)) }
+    ensures { let file = behind (string_bytes written.now.front) name.now in
+        Gives result (spec.fitting options.now file) }
 {
     let file = name_behind(alloc, written.front.as_bytes(), name)?;
     let seen = marked.get(&file).unwrap();
     planned_file(alloc, options, written, seen, name, file)
 }
 
-/// The files of these names that stand in the folder that is published, as they will be written, or `BadInput`.
+/// The files of these names that stand in the folder that is published, as they will be written, or
+/// `BadInput`.
 pub(crate) fn planned_files(
     alloc: Global,
     options: &Options,
@@ -111,11 +109,13 @@ pub(crate) fn planned_files(
 ) -> Result<Vec<PlannedFile>, PlanFault>
     requires early { early_of options.now ≡ None }
     requires written { AreWritten options.now written.now }
-    requires known { Knows marked.now.table (all_behind (string_bytes written.now.front) names.now) options.now.marks }
-    ensures { MatchResult result
-        (λ files. (spec.fit_inputs options.now (all_behind (string_bytes written.now.front) names.now) ≡ Ok tt)
-        × (files.items ≡ spec.planned_files options.now (all_behind (string_bytes written.now.front) names.now)))
-        (λ e. Fails e (spec.fit_inputs options.now (all_behind (string_bytes written.now.front) names.now))) }
+    requires known { let files = all_behind (string_bytes written.now.front) names.now in
+        Knows marked.now.table files options.now.marks }
+    ensures { let inputs = all_behind (string_bytes written.now.front) names.now in
+        MatchResult result
+        (λ files. (spec.fit_inputs options.now inputs ≡ Ok tt)
+        × (files.items ≡ spec.planned_files options.now inputs))
+        (λ e. Fails e (spec.fit_inputs options.now inputs)) }
 {
     let mut files = Vec::new(alloc);
     let front = written.front.as_bytes();

@@ -34,16 +34,6 @@ pub(crate) struct Marked {
     pub(crate) bad: Option<Name>,
 }
 
-/// An equal text, where there is one.
-pub(crate) fn maybe_copy(alloc: Global, text: &Option<Text>) -> Result<Option<Text>, CopyFault>
-    ensures { IfOk result (λ made. made ≡ text.now) }
-{
-    match text {
-        Some(text) => Ok(Some(text.copy(alloc)?)),
-        None => Ok(None),
-    }
-}
-
 // The group that the mark gives its file.
 fn group_in(alloc: Global, kind: &MarkKind) -> Result<Option<Text>, CopyFault>
     ensures { IfOk result (λ made. made ≡ group_in kind.now) }
@@ -75,10 +65,11 @@ impl Seen {
 
     // The group that counts with one more mark that names it.
     fn group_with(&self, alloc: Global, mark: &Mark) -> Result<Option<Text>, CopyFault>
-        ensures { IfOk result (λ made. made ≡ (if self.now.named then self.now.group else group_in mark.now.kind)) }
+        ensures { IfOk result (λ made. made
+            ≡ (if self.now.named then self.now.group else group_in mark.now.kind)) }
     {
         if self.named {
-            return maybe_copy(alloc, &self.group);
+            return self.group.copy(alloc);
         }
         group_in(alloc, &mark.kind)
     }
@@ -152,7 +143,8 @@ fn bad_with(
     is_good: bool,
     mark: &Mark,
 ) -> Result<Option<Name>, PlanFault>
-    ensures made { IfOk result (λ made. made ≡ option_or bad (if is_good then None else Some mark.now.file)) }
+    ensures made { IfOk result (λ made. made
+        ≡ option_or bad (if is_good then None else Some mark.now.file)) }
     ensures memory { IfErr result (λ e. e ≡ PlanFault.Memory) }
 {
     if is_good || bad.is_some() {
@@ -162,7 +154,8 @@ fn bad_with(
 }
 
 impl Marked {
-    /// What the marks say of the files whose names have the front. It fails only for want of memory.
+    /// What the marks say of the files whose names have the front. It fails only for want of
+    /// memory.
     pub(crate) fn new(
         alloc: Global,
         front: &[u8],

@@ -12,29 +12,29 @@ use identity::Version;
 use small_types::{Name, Text};
 use std::alloc::{AllocError, Global};
 
-/// The most bytes of a word.
-const WORD_LIMIT: usize = 100;
+/// The most bytes of the name that is published, and of that of the file that is started.
+const PLAIN_NAME_LIMIT: usize = 100;
 
 // Whether a word may have the byte.
-fn is_word_byte(byte: u8) -> bool
-    ensures { result ≡ spec.is_word_byte byte }
+fn is_plain_byte(byte: u8) -> bool
+    ensures { result ≡ spec.is_plain_byte byte }
 {
     byte.is_ascii_alphanumeric() || byte == b'.' || byte == b'_' || byte == b'-' || byte == b' '
 }
 
 // Whether a word may have each of the bytes.
-fn are_word_bytes(word: &[u8]) -> bool
-    ensures { result ≡ list_all spec.is_word_byte word.now }
+fn are_plain_bytes(word: &[u8]) -> bool
+    ensures { result ≡ list_all spec.is_plain_byte word.now }
 {
-    word.iter().all(|b| is_word_byte(*b))
+    word.iter().all(|b| is_plain_byte(*b))
 }
 
 /// Whether they are 1 to 100 bytes, each a letter, a digit, `.`, `_`, `-` or a space.
-#[tactic(auto, unfolding(crate::specs::Places::is_word))]
-pub(crate) fn is_word(word: &[u8]) -> bool
-    ensures { result ≡ spec.is_word word.now }
+#[tactic(auto, unfolding(crate::specs::Places::is_plain_name))]
+pub(crate) fn is_plain_name(word: &[u8]) -> bool
+    ensures { result ≡ spec.is_plain_name word.now }
 {
-    !word.is_empty() && word.len() <= WORD_LIMIT && are_word_bytes(word)
+    !word.is_empty() && word.len() <= PLAIN_NAME_LIMIT && are_plain_bytes(word)
 }
 
 /// With what the names in a folder begin.
@@ -83,7 +83,7 @@ fn release_word(alloc: Global, options: &Options) -> Result<String, AllocError>
 #[tactic(auto, unfolding(crate::specs::Places::version_folder))]
 pub(crate) fn version_folder(alloc: Global, options: &Options) -> Result<String, AllocError>
     ensures text { IfOk result (λ t. string_bytes t ≡ spec.version_folder options.now) }
-    ensures path { spec.is_word options.now.name ≡ true → IsPath (spec.version_folder options.now) }
+    ensures path { spec.is_plain_name options.now.name ≡ true → IsPath (spec.version_folder options.now) }
 {
     let to = options.to.as_str();
     let release = release_word(alloc, options)?;
@@ -93,21 +93,23 @@ pub(crate) fn version_folder(alloc: Global, options: &Options) -> Result<String,
 }
 
 /// The name that the application manifest is written under, in the folder of the version.
-pub(crate) fn manifest_text(alloc: Global, folder: &str, entry: &Name) -> Result<String, AllocError>
-    ensures { IfOk result (λ t. string_bytes t ≡ spec.within folder.now (entry.now ++ spec.manifest_end)) }
+pub(crate) fn manifest_name(alloc: Global, folder: &str, entry: &Name) -> Result<String, AllocError>
+    ensures { IfOk result (λ t. string_bytes t
+        ≡ spec.within folder.now (entry.now ++ spec.manifest_end)) }
 {
     let entry = entry.as_str();
     format!(in alloc; "{folder}/{entry}.manifest")
 }
 
 /// The name that a file is written under, in the folder of the version.
-pub(crate) fn target_text(
+pub(crate) fn target_name(
     alloc: Global,
     folder: &str,
     mapped: bool,
     file: &Name,
 ) -> Result<String, AllocError>
-    ensures { IfOk result (λ t. string_bytes t ≡ spec.within folder.now (file.now ++ spec.deploy_end mapped)) }
+    ensures { IfOk result (λ t. string_bytes t
+        ≡ spec.within folder.now (file.now ++ spec.deploy_end mapped)) }
 {
     let file = file.as_str();
     if mapped {
@@ -118,9 +120,9 @@ pub(crate) fn target_text(
 
 /// The name that the deployment manifest is written under.
 #[tactic(auto, unfolding(crate::specs::Places::deployment_name))]
-pub(crate) fn deployment_text(alloc: Global, options: &Options) -> Result<String, AllocError>
+pub(crate) fn deployment_name(alloc: Global, options: &Options) -> Result<String, AllocError>
     ensures text { IfOk result (λ t. string_bytes t ≡ spec.deployment_name options.now) }
-    ensures path { spec.is_word options.now.name ≡ true → IsPath (spec.deployment_name options.now) }
+    ensures path { spec.is_plain_name options.now.name ≡ true → IsPath (spec.deployment_name options.now) }
 {
     let to = options.to.as_str();
     let name = options.name.as_str();

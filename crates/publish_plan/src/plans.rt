@@ -11,17 +11,12 @@ ghost use Rattle.std.specs.Prelude.{find, count_by, option_copied};
 
 use crate::files::planned_files;
 use crate::marked::Marked;
-use crate::places::{deployment_text, front_of, has_front, name_from};
+use crate::places::{deployment_name, front_of, has_front, name_from};
 use crate::written::Written;
 use crate::{Options, Plan, PlanFault, PlannedFile};
+use small_types::limits::{FILE_COUNT_LIMIT, LOCAL_COUNT_LIMIT};
 use small_types::{Duplicate, Limit, List, Name};
 use std::alloc::Global;
-
-/// The most files.
-const FILES: usize = 16_384;
-
-/// The most data files.
-const DATA_FILES: usize = 256;
 
 // The first name that has the front.
 fn first_of<'a>(front: &[u8], names: &'a [Name]) -> Option<&'a Name>
@@ -39,7 +34,8 @@ fn some_has_front(front: &[u8], names: &[Name]) -> bool
 
 // No file stands in the folder, or `VersionExists` for the first that does.
 fn check_standing(alloc: Global, folder: &str, names: &[Name]) -> Result<(), PlanFault>
-    ensures { Gives result (unless (option_map PlanFault.VersionExists (find (lies_below folder.now) names.now))) }
+    ensures { let first = find (lies_below folder.now) names.now in
+        Gives result (unless (option_map PlanFault.VersionExists first)) }
 {
     let front = front_of(alloc, folder)?;
     match first_of(front.as_bytes(), names) {
@@ -52,7 +48,8 @@ fn check_standing(alloc: Global, folder: &str, names: &[Name]) -> Result<(), Pla
 
 // Some name has the front, or `EmptyInput`.
 fn check_input(front: &[u8], names: &[Name]) -> Result<(), PlanFault>
-    ensures { result ≡ (if list_any (has_front front.now) names.now then Ok tt else Err PlanFault.EmptyInput) }
+    ensures { result
+        ≡ (if list_any (has_front front.now) names.now then Ok tt else Err PlanFault.EmptyInput) }
 {
     if some_has_front(front, names) {
         return Ok(());
@@ -71,10 +68,10 @@ fn count_data(files: &[PlannedFile]) -> usize
 fn check_count(files: &[PlannedFile]) -> Result<(), PlanFault>
     ensures { result ≡ spec.few files.now }
 {
-    if files.len() > FILES {
+    if files.len() > FILE_COUNT_LIMIT {
         return Err(PlanFault::TooMany { what: Limit::Files });
     }
-    if count_data(files) > DATA_FILES {
+    if count_data(files) > LOCAL_COUNT_LIMIT {
         return Err(PlanFault::TooMany {
             what: Limit::Locals,
         });
@@ -84,7 +81,8 @@ fn check_count(files: &[PlannedFile]) -> Result<(), PlanFault>
 
 // The file that is started is published and no mark names it, or `NoEntryPoint`.
 fn check_entry(marked: &Marked, entry: &Name) -> Result<(), PlanFault>
-    ensures { result ≡ (if is_fresh (row marked.now.table entry.now) then Ok tt else Err PlanFault.NoEntryPoint) }
+    ensures { let seen = row marked.now.table entry.now in
+        result ≡ (if is_fresh seen then Ok tt else Err PlanFault.NoEntryPoint) }
 {
     match marked.get(entry) {
         Some(seen) if !seen.named => Ok(()),
@@ -129,7 +127,7 @@ pub fn plan(alloc: Global, options: &Options, names: &[Name]) -> Result<Plan, Pl
     check_entry(&marked, &options.entry)?;
     check_marks(marked)?;
     let manifest = name_from(alloc, written.manifest.as_bytes())?;
-    let deployment = deployment_text(alloc, options)?;
+    let deployment = deployment_name(alloc, options)?;
     let deployment = name_from(alloc, deployment.as_bytes())?;
     Ok(Plan {
         files: List::from_vec(files),

@@ -3,7 +3,7 @@ ghost use Rattle.std.specs.Prelude.{◌≡◌, None, IfOk, IfErr};
 ghost use Rattle.publish_plan.specs.Early.{early_of};
 ghost use Rattle.publish_plan.specs.Written.{AreWritten};
 
-use crate::places::{front_of, manifest_text, version_folder};
+use crate::places::{front_of, manifest_name, version_folder};
 use crate::{Options, PlanFault};
 use std::alloc::{AllocError, Global};
 
@@ -26,7 +26,7 @@ impl Written {
     {
         let front = front_of(alloc, options.from.as_str())?;
         let folder = version_folder(alloc, options)?;
-        let manifest = manifest_text(alloc, folder.as_str(), &options.entry)?;
+        let manifest = manifest_name(alloc, folder.as_str(), &options.entry)?;
         Ok(Written {
             front,
             folder,
