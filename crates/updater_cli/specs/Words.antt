@@ -1,6 +1,7 @@
 -- What the words of the command line ask for.
 use Rattle.std.specs.Prelude.{ℕ, ◌≤◌, ◌^◌, List, [], ◌∷◌, drop, Bool, false, ◌&&◌, nat_le, if◌then◌else◌, codes, Option, Some, None}
 use Rattle.std.specs.Str.{bytes_eq}
+use Rattle.small_types.specs.declared.limits.TheConstants.{BLOCK_LIMIT}
 use Rattle.command_text.specs.Numbers.{number_of}
 use Rattle.updater_cli.specs.declared.words.Request.{Request}
 use Rattle.updater_cli.specs.declared.words.Request.TheVariants.{Format, Session, Inspect}
@@ -12,7 +13,7 @@ use Rattle.inspection.specs.declared.manifest.Kind.TheVariants.{Deployment, Appl
 -- a number of blocks is 1 to 65,536
 abbrev pub format_of : Option ℕ → Option Request
 format_of None = None
-format_of (Some blocks) = if nat_le 1 blocks && nat_le blocks 65536 then Some (Format blocks) else None
+format_of (Some blocks) = if nat_le 1 blocks && nat_le blocks BLOCK_LIMIT then Some (Format blocks) else None
 
 abbrev pub session_of : Option ℕ → Option ℕ → Option Request
 session_of (Some boot) (Some now) = Some (Session boot now)
@@ -67,6 +68,6 @@ ForInspect (Some (Inspect kind)) P = P kind
 
 -- the numbers of what is asked for are within their limits
 abbrev pub IsRequest : Request → Type 0
-IsRequest (Format blocks) = (1 ≤ blocks) × (blocks ≤ 65536)
+IsRequest (Format blocks) = (1 ≤ blocks) × (blocks ≤ BLOCK_LIMIT)
 IsRequest (Session boot now) = (boot ≤ 2 ^ 62) × (now ≤ 2 ^ 62)
 IsRequest (Inspect kind) = Unit {0}

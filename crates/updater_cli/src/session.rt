@@ -15,11 +15,9 @@ use crate::status::Status;
 use command_text::strip_carriage_return;
 use disks::Disk;
 use outside::{Failed, Sink, Source};
+use small_types::limits::INPUT_LIMIT;
 use std::alloc::Global;
 use updater::Updater;
-
-/// The most bytes of a session's input.
-const INPUT_LIMIT: usize = 65_536;
 
 /// How many bytes are asked of the source at a time.
 const PIECE: usize = 4_096;

@@ -7,6 +7,7 @@ ghost use Rattle.command_text.specs.Numbers.{number_of};
 use command_text::read_number;
 use inspection::Kind;
 use small_types::Word;
+use small_types::limits::BLOCK_LIMIT;
 
 /// What the words ask for.
 #[derive(Clone, Copy, Debug, PartialEq, Eq)]
@@ -25,7 +26,7 @@ fn read_format(blocks: &[u8]) -> Option<Request>
     ensures small { IfSome result IsRequest }
 {
     let blocks = read_number(blocks)?;
-    if blocks < 1 || blocks > 65_536 {
+    if blocks < 1 || blocks > BLOCK_LIMIT {
         return None;
     }
     Some(Request::Format { blocks })
