@@ -2,14 +2,12 @@
 #![tactic(auto)]
 
 use manifest_tree::WriteFault;
-use manifest_writer::{
-    can_write_application, can_write_deployment, can_write_value, write_application,
-    write_deployment,
-};
+use manifest_writer::{write_application, write_deployment};
 use manifests::{
-    Application, Deployment, applications_have_files, read_application, read_deployment,
+    Application, Deployment, FileEntry, are_application_facts, are_deployment_facts, are_files,
+    is_file, is_provider, is_value, read_application, read_deployment,
 };
-use small_types::{Bytes, Text};
+use small_types::{Bytes, Duplicate, Text};
 use std::alloc::{AllocError, Global};
 use std::io::{self, ErrorKind};
 
@@ -64,9 +62,9 @@ fn written(
     publisher: &Text,
 ) -> io::Result<Result<Bytes, u64>> {
     let product = text_of(alloc, "demo")?;
-    if !can_write_deployment(alloc, deployment).unwrap_or(false)
-        || !can_write_value(publisher, 0, usize::MAX)
-        || !can_write_value(&product, 0, usize::MAX)
+    if !are_deployment_facts(alloc, deployment).unwrap_or(false)
+        || !is_value(publisher, 0, usize::MAX)
+        || !is_value(&product, 0, usize::MAX)
     {
         return bad();
     }
@@ -151,8 +149,7 @@ fn application(rt: &HostRuntime) -> io::Result<()> {
     let Ok(application) = read_application(alloc, APPLICATION.as_bytes()) else {
         return bad();
     };
-    applications_have_files();
-    if !can_write_application(&application) {
+    if !are_application_facts(alloc, &application).unwrap_or(false) {
         return bad();
     }
     let Ok(text) = write_application(alloc, &application) else {
@@ -164,8 +161,63 @@ fn application(rt: &HostRuntime) -> io::Result<()> {
     print(rt, text.as_slice())
 }
 
+// Values and addresses that a manifest can say, and others.
+fn values(rt: &HostRuntime) -> io::Result<()> {
+    let alloc = rt.alloc();
+    let text = text_of(alloc, "A \"&\" <B>\n")?;
+    let bell = text_of(alloc, "\u{7}")?;
+    println!(rt;
+        "{} {} {}",
+        is_value(&text, 0, 10),
+        is_value(&text, 0, 9),
+        is_value(&bell, 0, 10)
+    )?;
+    for address in ["http://example.com/demo.application", "demo.application"] {
+        let provider = Some(text_of(alloc, address)?);
+        println!(rt; "{}", is_provider(alloc, &provider).unwrap_or(false))?;
+    }
+    Ok(())
+}
+
+fn copied(alloc: Global, file: &FileEntry) -> io::Result<FileEntry> {
+    match file.copy(alloc) {
+        Ok(file) => Ok(file),
+        Err(_) => Err(ErrorKind::OutOfMemory.into()),
+    }
+}
+
+// Files that a manifest can say, and others.
+fn files(rt: &HostRuntime) -> io::Result<()> {
+    let alloc = rt.alloc();
+    let Ok(application) = read_application(alloc, APPLICATION.as_bytes()) else {
+        return bad();
+    };
+    let Some(first) = application.files.as_slice().first() else {
+        return bad();
+    };
+    for (local, size) in [
+        (false, 67_108_864),
+        (false, 67_108_865),
+        (true, 1_048_576),
+        (true, 1_048_577),
+    ] {
+        let mut file = copied(alloc, first)?;
+        file.local = local;
+        file.size = size;
+        println!(rt; "{}", is_file(&file))?;
+    }
+    let mut files = Vec::new(alloc);
+    for _ in 0..2 {
+        files.push(copied(alloc, first)?)?;
+        println!(rt; "{}", are_files(alloc, &files).unwrap_or(false))?;
+    }
+    Ok(())
+}
+
 fn main(rt: HostRuntime) -> io::Result<()> {
     deployments(&rt)?;
     lengths(&rt)?;
-    application(&rt)
+    application(&rt)?;
+    values(&rt)?;
+    files(&rt)
 }
