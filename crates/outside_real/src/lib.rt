@@ -3,6 +3,7 @@
 #![tactic(auto)]
 
 mod counted;
+mod durable_file;
 mod file;
 mod file_disk;
 #[cfg(test)]
