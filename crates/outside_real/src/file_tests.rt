@@ -112,6 +112,50 @@ fn read_at<D: Disk>(disk: &mut D, place: u64) -> Result<(usize, [u8; 6]), Failed
     Ok((n, buf))
 }
 
+fn length<D: Disk>(disk: &mut D) -> Result<u64, Failed> {
+    disk.length()
+}
+
+fn write<D: Disk>(disk: &mut D, place: u64, bytes: &[u8]) -> Result<(), Failed> {
+    disk.write_at(place, bytes)
+}
+
+fn cut<D: Disk>(disk: &mut D, size: u64) -> Result<(), Failed> {
+    if size > disk.length()? {
+        return Err(Failed);
+    }
+    disk.cut(size)
+}
+
+fn cut_all<D: Disk>(disk: &mut D) -> Result<(), Failed> {
+    disk.cut(0)
+}
+
+fn sync<D: Disk>(disk: &mut D) -> Result<(), Failed> {
+    disk.sync()
+}
+
+fn counts<D: Disk>(disk: &D) -> (u64, u64, u64) {
+    (disk.calls(), disk.written(), disk.faults())
+}
+
+// How many of one call of each kind fail.
+fn failing<D: Disk>(disk: &mut D) -> u64 {
+    let mut failed = 0;
+    for done in [
+        sync(disk).is_ok(),
+        length(disk).is_ok(),
+        read_at(disk, 1).is_ok(),
+        write(disk, 0, b"").is_ok(),
+        cut_all(disk).is_ok(),
+    ] {
+        if !done {
+            failed = u64::wrapping_add(failed, 1);
+        }
+    }
+    failed
+}
+
 fn disk_at(rt: HostRuntime, path: &str) -> Result<FileDisk<HostRuntime>, AllocError> {
     let alloc = rt.alloc();
     Ok(FileDisk::new(rt, text(alloc, path)?))
@@ -131,24 +175,23 @@ fn a_file_keeps_what_was_written(rt: HostRuntime) -> Result<(), Fail> {
     clear(&rt, &[path]);
     let mut disk = disk_at(rt.clone()?, path)?;
     assert!(rt; !fs::exists(&rt, path)?, "nothing is made yet");
-    assert_eq!(rt; disk.length(), Ok(0));
+    assert_eq!(rt; length(&mut disk), Ok(0));
     assert!(rt; fs::exists(&rt, path)?);
-    disk.write_at(2, b"abcd")?;
-    disk.sync()?;
+    write(&mut disk, 2, b"abcd")?;
+    sync(&mut disk)?;
     assert_eq!(rt; read_at(&mut disk, 0), Ok((6, *b"\0\0abcd")));
     assert_eq!(rt; read_at(&mut disk, 4), Ok((2, *b"cd....")));
     assert_eq!(rt; read_at(&mut disk, 9), Ok((0, *b"......")));
     drop(disk);
     let mut again = disk_at(rt.clone()?, path)?;
     assert_eq!(rt; read_at(&mut again, 1), Ok((5, *b"\0abcd.")));
-    again.write_at(0, b"AB")?;
-    again.cut(4)?;
-    again.cut(9)?;
-    assert_eq!(rt; again.length(), Ok(4));
-    again.write_at(7, b"")?;
-    again.sync()?;
+    write(&mut again, 0, b"AB")?;
+    cut(&mut again, 4)?;
+    assert_eq!(rt; length(&mut again), Ok(4));
+    write(&mut again, 7, b"")?;
+    sync(&mut again)?;
     assert_eq!(rt; fs::read(&rt, path)?.as_slice(), b"ABab\0\0\0".as_slice());
-    assert_eq!(rt; (again.calls(), again.written(), again.faults()), (5, 2, 0));
+    assert_eq!(rt; counts(&again), (4, 2, 0));
     clear(&rt, &[path]);
     Ok(())
 }
@@ -158,17 +201,17 @@ fn one_disk_at_a_time_has_the_file(rt: HostRuntime) -> Result<(), Fail> {
     let path = "locked";
     clear(&rt, &[path]);
     let mut first = disk_at(rt.clone()?, path)?;
-    first.write_at(0, b"mine")?;
+    write(&mut first, 0, b"mine")?;
     let mut second = disk_at(rt.clone()?, path)?;
-    assert_eq!(rt; second.length(), Err(Failed));
+    assert_eq!(rt; length(&mut second), Err(Failed));
     let mut third = disk_at(rt.clone()?, path)?;
-    assert_eq!(rt; third.write_at(0, b"yours"), Err(Failed));
+    assert_eq!(rt; write(&mut third, 0, b"yours"), Err(Failed));
     assert_eq!(rt; fs::read(&rt, path)?.as_slice(), b"mine".as_slice());
     drop(first);
-    assert_eq!(rt; third.length(), Err(Failed));
-    assert_eq!(rt; (third.calls(), third.written(), third.faults()), (1, 5, 2));
-    assert_eq!(rt; second.length(), Ok(4));
-    assert_eq!(rt; second.faults(), 1);
+    assert_eq!(rt; length(&mut third), Err(Failed));
+    assert_eq!(rt; counts(&third), (1, 5, 2));
+    assert_eq!(rt; length(&mut second), Ok(4));
+    assert_eq!(rt; counts(&second), (0, 0, 1));
     clear(&rt, &[path]);
     Ok(())
 }
@@ -179,12 +222,10 @@ fn what_is_no_file_fails(rt: HostRuntime) -> Result<(), Fail> {
     fs::create_dir(&rt, "folder")?;
     for path in ["folder", "absent/file", ""] {
         let mut disk = disk_at(rt.clone()?, path)?;
-        assert_eq!(rt; disk.length(), Err(Failed), "{path}");
+        assert_eq!(rt; length(&mut disk), Err(Failed), "{path}");
         assert_eq!(rt; read_at(&mut disk, 0), Err(Failed), "{path}");
-        assert_eq!(rt; disk.write_at(0, b"ab"), Err(Failed), "{path}");
-        assert_eq!(rt; disk.cut(0), Err(Failed), "{path}");
-        assert_eq!(rt; disk.sync(), Err(Failed), "{path}");
-        assert_eq!(rt; (disk.calls(), disk.written(), disk.faults()), (3, 2, 5));
+        assert_eq!(rt; failing(&mut disk), 5, "{path}");
+        assert_eq!(rt; counts(&disk), (3, 0, 7), "{path}");
     }
     clear(&rt, &["folder"]);
     Ok(())
@@ -195,10 +236,10 @@ fn a_new_file_in_a_folder(rt: HostRuntime) -> Result<(), Fail> {
     clear(&rt, &["below/new", "below"]);
     fs::create_dir(&rt, "below")?;
     let mut disk = disk_at(rt.clone()?, "below/new")?;
-    disk.sync()?;
+    sync(&mut disk)?;
     assert!(rt; fs::exists(&rt, "below/new")?);
     assert_eq!(rt; read_at(&mut disk, u64::MAX), Ok((0, *b"......")));
-    assert_eq!(rt; (disk.calls(), disk.faults()), (1, 0));
+    assert_eq!(rt; counts(&disk), (1, 0, 0));
     clear(&rt, &["below/new", "below"]);
     Ok(())
 }
@@ -223,29 +264,39 @@ fn a_file_that_gives_and_takes_little(rt: HostRuntime) -> Result<(), Fail> {
     Ok(())
 }
 
-// Each change that fails is the last call that is made, also where the next one would be done.
+// What fails in a sealed file, and then whether every call does, also those that the system would answer.
+fn fail_once(
+    rt: &HostRuntime,
+    path: &str,
+    turn: u64,
+) -> Result<(bool, u64, (u64, u64, u64)), AllocError> {
+    let mut disk = FileDisk::new(Sealed(rt.clone()?), text(rt.alloc(), path)?);
+    let stood = stands_still(&mut disk);
+    let failed = match turn {
+        0 => write(&mut disk, 0, b"ab"),
+        1 => write(&mut disk, 1 << 63, b"ab"),
+        2 => write(&mut disk, u64::MAX, b"ab"),
+        _ => cut_all(&mut disk),
+    };
+    Ok((stood && failed.is_err(), failing(&mut disk), counts(&disk)))
+}
+
+// Whether a sync and a read of a file that holds "stands" are done.
+fn stands_still<D: Disk>(disk: &mut D) -> bool {
+    sync(disk).is_ok() && read_at(disk, 1) == Ok((5, *b"tands."))
+}
+
 #[test]
 fn a_failed_change_is_the_last_call(rt: HostRuntime) -> Result<(), Fail> {
     let path = "sealed";
     clear(&rt, &[path]);
     fs::write(&rt, path, b"stands".as_slice())?;
-    for turn in 0..4u64 {
-        let mut disk = FileDisk::new(Sealed(rt.clone()?), text(rt.alloc(), path)?);
-        disk.sync()?;
-        assert_eq!(rt; read_at(&mut disk, 1), Ok((5, *b"tands.")));
-        let failed = match turn {
-            0 => disk.write_at(0, b"ab"),
-            1 => disk.write_at(1 << 63, b"ab"),
-            2 => disk.write_at(u64::MAX, b"ab"),
-            _ => disk.cut(2),
-        };
-        assert_eq!(rt; failed, Err(Failed), "{turn}");
-        assert_eq!(rt; disk.sync(), Err(Failed), "{turn}");
-        assert_eq!(rt; disk.length(), Err(Failed), "{turn}");
-        assert_eq!(rt; read_at(&mut disk, 1), Err(Failed), "{turn}");
-        assert_eq!(rt; disk.write_at(0, b""), Err(Failed), "{turn}");
-        assert_eq!(rt; disk.cut(6), Err(Failed), "{turn}");
-        assert_eq!(rt; (disk.calls(), disk.faults()), (5, 6), "{turn}");
+    for (turn, written) in [(0, 2), (1, 2), (2, 2), (3, 0)] {
+        assert_eq!(rt;
+            fail_once(&rt, path, turn),
+            Ok((true, 5, (5, written, 6))),
+            "{turn}"
+        );
     }
     assert_eq!(rt; fs::read(&rt, path)?.as_slice(), b"stands".as_slice());
     clear(&rt, &[path]);
