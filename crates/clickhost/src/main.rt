@@ -3,8 +3,8 @@
 
 use host_cli::{host_run, read_port};
 use outside::{Failed, Sink, write_all};
-use small_types::Word;
 use outside_real::{RealFolder, StdSink, TcpDoor};
+use small_types::Word;
 use std::alloc::AllocError;
 use std::env;
 use std::io::ErrorKind;

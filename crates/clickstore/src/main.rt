@@ -2,8 +2,8 @@
 #![tactic(auto)]
 
 use outside::{Failed, Sink, write_all};
-use small_types::{List, Word};
 use outside_real::{FileDisk, RealFolder, StdSink, StdSource};
+use small_types::{List, Word};
 use std::alloc::AllocError;
 use std::env;
 use std::io::ErrorKind;

@@ -1,6 +1,6 @@
 // Runs of the top call with the words of `inspect`.
-use folders::MemFolder;
 use disks::MemDisk;
+use folders::MemFolder;
 use outside::{MemSink, MemSource};
 use small_types::{Bytes, List, Word};
 use std::alloc::{AllocError, Global};

@@ -1,6 +1,6 @@
 // A site in memory: a folder, and runs of the top call over it.
-use folders::{Folder, Held, MemFolder, are_distinct};
 use disks::MemDisk;
+use folders::{Folder, Held, MemFolder, are_distinct};
 use outside::{MemSink, MemSource};
 use small_types::{Bytes, List, Name, Word};
 use std::alloc::Global;

@@ -1,6 +1,6 @@
 // A machine in memory: a disk, and runs of the top call over it.
-use folders::MemFolder;
 use disks::MemDisk;
+use folders::MemFolder;
 use outside::{MemSink, MemSource};
 use small_types::{Bytes, List, Word};
 use std::alloc::{AllocError, Global};

@@ -4,8 +4,8 @@
 
 mod machine;
 
-use machine::{disk_of, run_words};
 use disks::{Disk, MemDisk, Pick};
+use machine::{disk_of, run_words};
 use std::alloc::AllocError;
 use std::io;
 
