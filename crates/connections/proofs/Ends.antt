@@ -24,7 +24,8 @@ pub record SameEnd {A : Type 0} (xs ys : List A) (x y : A) : Type 0 where
   pub earlier : xs ≡ ys
   pub last : x ≡ y
 
-never_empty : {A : Type 0} → (xs : List A) (x : A) → [] ≡ xs ++ x ∷ [] → ⊥
+-- what ends in an item is not empty
+pub never_empty : {A : Type 0} → (xs : List A) (x : A) → [] ≡ xs ++ x ∷ [] → ⊥
 never_empty [] x is = cc
 never_empty (y ∷ xs) x is = cc
 

@@ -1,5 +1,5 @@
-use Rattle.std.specs.Prelude.{◌≡◌, ℕ, ◌+◌, ◌==◌, List, [], ◌∷◌, ◌++◌, Bool, length, drop, min}
-use Rattle.std.specs.List.{list_any}
+use Rattle.std.specs.Prelude.{◌≡◌, ℕ, List, [], ◌∷◌, ◌++◌, Bool, length, drop}
+use Rattle.outside.specs.FailingCalls.{fails_next}
 use Rattle.connections.specs.declared.mem_door.MemDoor.{MemDoor}
 use Rattle.connections.specs.Door.{Accepted, fresh}
 use Rattle.connections.specs.Receiving.{accepted_of}
@@ -17,22 +17,22 @@ abbrev pub door_sent : MemDoor → List (List ℕ)
 door_sent d = d.sent
 
 abbrev pub door_faults : MemDoor → ℕ
-door_faults d = d.faults
+door_faults d = d.failing.faults
 
 abbrev pub door_missed : MemDoor → ℕ
 door_missed d = d.missed
 
 -- how many calls there were
 abbrev pub door_calls : MemDoor → ℕ
-door_calls d = d.calls
+door_calls d = d.failing.calls
 
 -- the numbers of the calls that are to fail
 abbrev pub door_failing : MemDoor → List ℕ
-door_failing d = d.failing
+door_failing d = d.failing.numbers
 
 -- whether the next call is one of them
 abbrev pub door_fails : MemDoor → Bool
-door_fails d = list_any (λ n. n == min (d.calls + 1) 0xffff_ffff_ffff_ffff) d.failing
+door_fails d = fails_next d.failing
 
 -- the connection of the next request was accepted
 pub record AcceptsNext (old new : MemDoor) : Type 0 where

@@ -1,5 +1,5 @@
-use Rattle.std.specs.Prelude.{◌≡◌, ℕ, ◌+◌, ◌==◌, List, ◌∷◌, Bool, Option, Some, length, drop, min}
-use Rattle.std.specs.List.{list_any}
+use Rattle.std.specs.Prelude.{◌≡◌, ℕ, List, ◌∷◌, Bool, Option, Some, length, drop}
+use Rattle.outside.specs.FailingCalls.{fails_next}
 use Rattle.connections.specs.declared.mem_wire.MemWire.{MemWire}
 use Rattle.connections.specs.Present.{present_of, over_of}
 use Rattle.connections.specs.Wire.{Made, begun}
@@ -17,19 +17,19 @@ abbrev pub wire_present : MemWire → Option Made
 wire_present w = present_of w.present w.sent
 
 abbrev pub wire_faults : MemWire → ℕ
-wire_faults w = w.faults
+wire_faults w = w.failing.faults
 
 -- how many calls there were
 abbrev pub wire_calls : MemWire → ℕ
-wire_calls w = w.calls
+wire_calls w = w.failing.calls
 
 -- the numbers of the calls that are to fail
 abbrev pub wire_failing : MemWire → List ℕ
-wire_failing w = w.failing
+wire_failing w = w.failing.numbers
 
 -- whether the next call is one of them
 abbrev pub wire_fails : MemWire → Bool
-wire_fails w = list_any (λ n. n == min (w.calls + 1) 0xffff_ffff_ffff_ffff) w.failing
+wire_fails w = fails_next w.failing
 
 -- the connection to the host's port that gives the next answer was made
 pub record ConnectsNext (host : List ℕ) (port : ℕ) (old new : MemWire) : Type 0 where

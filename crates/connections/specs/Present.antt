@@ -8,7 +8,13 @@ use Rattle.outside.specs.Streams.{Consumes}
 abbrev pub present_of : Option Present → List (List ℕ) → Option Made
 present_of None sent = None
 present_of (Some p) sent =
-    Some (record { host = p.host; port = p.port; answer = p.answer; left = drop p.place p.answer; sent = slice_index_or sent (length sent - 1) [] })
+    Some (record {
+      host = p.host;
+      port = p.port;
+      answer = p.answer;
+      left = drop p.place p.answer;
+      sent = slice_index_or sent (length sent - 1) [];
+    })
 
 -- what was sent on the connections that are over
 abbrev pub over_of : Option Present → List (List ℕ) → List (List ℕ)

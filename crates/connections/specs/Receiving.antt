@@ -12,13 +12,18 @@ abbrev pub accepted_of : List ℕ → List (List ℕ) → List (List ℕ) → Li
 accepted_of [] _ _ = []
 accepted_of (place ∷ places) [] _ = []
 accepted_of (place ∷ places) (request ∷ requests) [] = []
-accepted_of (place ∷ places) (request ∷ requests) (one ∷ sent) = connection place request one ∷ accepted_of places requests sent
+accepted_of (place ∷ places) (request ∷ requests) (one ∷ sent) =
+    connection place request one ∷ accepted_of places requests sent
+
+-- the request behind those of the earlier connections
+abbrev pub last_request : List (List ℕ) → List ℕ → List ℕ
+last_request requests earlier = slice_index_or requests (length earlier) []
 
 -- the first n bytes that were left of the last request stand in the buffer
-pub record ReceivesAt (requests : List (List ℕ)) (old new : List ℕ) (buf : List ℕ) (n : ℕ) : Type 0 where
+pub record ReceivesAt (requests : List (List ℕ)) (old new buf : List ℕ) (n : ℕ) : Type 0 where
   pub earlier : List ℕ
   pub place : ℕ
   pub next : ℕ
   pub before : old ≡ earlier ++ place ∷ []
   pub after : new ≡ earlier ++ next ∷ []
-  pub given : Consumes (drop place (slice_index_or requests (length earlier) [])) (drop next (slice_index_or requests (length earlier) [])) buf n
+  pub given : Consumes (drop place (last_request requests earlier)) (drop next (last_request requests earlier)) buf n

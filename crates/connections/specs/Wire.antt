@@ -12,7 +12,8 @@ pub record Made : Type 0 where
 
 -- a connection on which nothing was received or sent
 abbrev pub begun : List ℕ → ℕ → List ℕ → Made
-begun host port answer = record { host = host; port = port; answer = answer; left = answer; sent = [] }
+begun host port answer =
+    record { host = host; port = port; answer = answer; left = answer; sent = [] }
 
 -- what was sent on each connection, the present one last, if there is one
 abbrev pub all_sent : List (List ℕ) → Option Made → List (List ℕ)

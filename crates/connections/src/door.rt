@@ -25,7 +25,6 @@ pub trait Door {
         ensures made { tells → OnOk result (Accepts (accepted self.old) (accepted self.new)) }
         ensures kept { tells → OnErr result (accepted self.new ≡ accepted self.old) }
         ensures cause { Causes (misses self.old) (misses self.new) result }
-        ensures quiet { OnOk result (misses self.new ≡ misses self.old) }
         ensures count_kept { count self.new ≡ count self.old };
 
     /// Puts the first bytes that the present connection has left to the front of the buffer, and answers how many.
@@ -33,10 +32,10 @@ pub trait Door {
     fn receive(&mut self, buf: &mut [u8]) -> Result<usize, Failed>
         requires { 0 < length buf.old }
         ensures within { IfOk result (λ n. ReadsAtMost n buf.old buf.new) }
-        ensures bytes { tells → IfOk result (λ n. ReceivesOnLast (accepted self.old) (accepted self.new) buf.new n) }
+        ensures bytes { tells
+            → IfOk result (λ n. ReceivesOnLast (accepted self.old) (accepted self.new) buf.new n) }
         ensures kept { tells → OnErr result (accepted self.new ≡ accepted self.old) }
         ensures cause { Causes (count self.old) (count self.new) result }
-        ensures quiet { OnOk result (count self.new ≡ count self.old) }
         ensures misses_kept { misses self.new ≡ misses self.old };
 
     /// Sends the first of the bytes, at least one, on the present connection, and answers how many. A call that fails
@@ -44,10 +43,10 @@ pub trait Door {
     fn send(&mut self, bytes: &[u8]) -> Result<usize, Failed>
         requires { 0 < length bytes.now }
         ensures within { IfOk result (λ n. TakesSome n bytes.now) }
-        ensures bytes { tells → IfOk result (λ n. SendsOnLast (accepted self.old) (accepted self.new) (take n bytes.now)) }
+        ensures bytes { tells → IfOk result (λ n.
+            SendsOnLast (accepted self.old) (accepted self.new) (take n bytes.now)) }
         ensures kept { tells → OnErr result (accepted self.new ≡ accepted self.old) }
         ensures cause { Causes (count self.old) (count self.new) result }
-        ensures quiet { OnOk result (count self.new ≡ count self.old) }
         ensures misses_kept { misses self.new ≡ misses self.old };
 
     /// How often `accept` failed. The count never falls.

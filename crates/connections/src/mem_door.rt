@@ -3,12 +3,12 @@ ghost use Rattle.std.specs.Prelude.{◌≡◌, ◌≢◌, ◌+◌, ◌<◌, ◌�
 ghost use Rattle.std.specs.Bool.{OnTrue, OnFalse};
 ghost use Rattle.connections.specs.Door.{Accepts, ReceivesOnLast, SendsOnLast};
 ghost use Rattle.connections.specs.Receiving.{ReceivesAt};
-ghost use Rattle.outside.specs.Streams.{Causes, ReadsAtMost, TakesSome};
+ghost use Rattle.outside.specs.Streams.{Causes, ReadsAtMost, TakesSome, total};
 ghost use Rattle.connections.specs.Wire.{SendsLast};
 
 use crate::Door;
 use crate::parts::send_last;
-use outside::{Failed, copy_from};
+use outside::{Failed, FailingCalls, copy_from};
 use small_types::{Bytes, List};
 use std::alloc::Global;
 
@@ -23,10 +23,10 @@ pub struct MemDoor {
     // How much of the request of each accepted connection was received.
     places: Vec<usize>,
     sent: List<Bytes>,
-    failing: List<u64>,
-    calls: u64,
+    // The calls, and how often `receive` and `send` failed.
+    failing: FailingCalls,
+    // How often `accept` failed.
     missed: u64,
-    faults: u64,
     ghost paired: { length places.items ≡ length sent },
     ghost known: { length places.items ≤ length requests },
 }
@@ -53,7 +53,8 @@ fn receive_last(requests: &[Bytes], places: &mut Vec<usize>, buf: &mut [u8]) -> 
     requires room { 0 < length buf.old }
     requires known { length places.old.items ≤ length requests.now }
     ensures within { IfSome result (λ n. ReadsAtMost n buf.old buf.new) }
-    ensures bytes { IfSome result (λ n. ReceivesAt requests.now places.old.items places.new.items buf.new n) }
+    ensures bytes { IfSome result (λ n.
+        ReceivesAt requests.now places.old.items places.new.items buf.new n) }
     ensures none { IfNone result (places.old.items ≡ []) }
     ensures kept { IfNone result (places.new.items ≡ places.old.items) }
 {
@@ -82,10 +83,8 @@ impl MemDoor {
             requests,
             places: Vec::new(alloc),
             sent: List::from_vec(Vec::new(alloc)),
-            failing,
-            calls: 0,
+            failing: FailingCalls::new(failing),
             missed: 0,
-            faults: 0,
         }
     }
 
@@ -105,7 +104,7 @@ impl Door for MemDoor {
 
     ghost accepted = { λ d. accepted_of d.places.items d.requests d.sent };
 
-    ghost count = { λ d. d.faults };
+    ghost count = { λ d. d.failing.faults };
 
     ghost misses = { λ d. d.missed };
 
@@ -125,13 +124,11 @@ impl Door for MemDoor {
         // rises by one where it fails, and else not.
         ensures fails { IsTrue (door_fails self.old) → IsErr result }
         ensures end { door_requests self.old ≡ [] → IsErr result }
-        ensures calls { door_calls self.new ≡ min (door_calls self.old + 1) 0xffff_ffff_ffff_ffff }
+        ensures calls { door_calls self.new ≡ total (door_calls self.old) 1 }
         ensures failing { door_failing self.new ≡ door_failing self.old }
-        ensures quiet { OnOk result (door_missed self.new ≡ door_missed self.old) }
-        ensures raised { OnErr result (door_missed self.new ≡ min (door_missed self.old + 1) 0xffff_ffff_ffff_ffff) }
+        ensures raised { OnErr result (door_missed self.new ≡ total (door_missed self.old) 1) }
     {
-        self.calls = self.calls.saturating_add(1);
-        if is_failing(self.failing.as_slice(), self.calls)
+        if self.failing.next()
             || self.places.len() >= self.requests.as_slice().len()
             || !open(self.alloc, &mut self.places, &mut self.sent)
         {
@@ -144,29 +141,29 @@ impl Door for MemDoor {
     fn receive(&mut self, buf: &mut [u8]) -> Result<usize, Failed>
         requires { 0 < length buf.old }
         ensures within { IfOk result (λ n. ReadsAtMost n buf.old buf.new) }
-        ensures bytes { IfOk result (λ n. ReceivesOnLast (door_accepted self.old) (door_accepted self.new) buf.new n) }
+        ensures bytes { IfOk result (λ n.
+            ReceivesOnLast (door_accepted self.old) (door_accepted self.new) buf.new n) }
         ensures kept { OnErr result (door_accepted self.new ≡ door_accepted self.old) }
         ensures cause { Causes (door_faults self.old) (door_faults self.new) result }
         ensures misses_kept { door_missed self.new ≡ door_missed self.old }
 
-        // It fails exactly where its number is in the list and, by `bytes`, before the first connection. The count rises
-        // by one where it fails, and else not.
+        // It fails exactly where its number is in the list and before the first connection. The count rises by one where
+        // it fails, and else not.
         ensures fails { IsTrue (door_fails self.old) → IsErr result }
+        ensures first { door_accepted self.old ≡ [] → IsErr result }
         ensures works { door_fails self.old ≡ false → door_accepted self.old ≢ [] → IsOk result }
         ensures requests_kept { door_requests self.new ≡ door_requests self.old }
         ensures sent_kept { door_sent self.new ≡ door_sent self.old }
-        ensures calls { door_calls self.new ≡ min (door_calls self.old + 1) 0xffff_ffff_ffff_ffff }
+        ensures calls { door_calls self.new ≡ total (door_calls self.old) 1 }
         ensures failing { door_failing self.new ≡ door_failing self.old }
-        ensures quiet { OnOk result (door_faults self.new ≡ door_faults self.old) }
-        ensures raised { OnErr result (door_faults self.new ≡ min (door_faults self.old + 1) 0xffff_ffff_ffff_ffff) }
+        ensures raised { OnErr result (door_faults self.new ≡ total (door_faults self.old) 1) }
     {
-        self.calls = self.calls.saturating_add(1);
-        if is_failing(self.failing.as_slice(), self.calls) {
-            self.faults = self.faults.saturating_add(1);
+        if self.failing.next() {
+            self.failing.fail();
             return Err(Failed);
         }
         let Some(n) = receive_last(self.requests.as_slice(), &mut self.places, buf) else {
-            self.faults = self.faults.saturating_add(1);
+            self.failing.fail();
             return Err(Failed);
         };
         Ok(n)
@@ -175,27 +172,26 @@ impl Door for MemDoor {
     fn send(&mut self, bytes: &[u8]) -> Result<usize, Failed>
         requires { 0 < length bytes.now }
         ensures within { IfOk result (λ n. TakesSome n bytes.now) }
-        ensures bytes { IfOk result (λ n. SendsOnLast (door_accepted self.old) (door_accepted self.new) (take n bytes.now)) }
+        ensures bytes { IfOk result (λ n.
+            SendsOnLast (door_accepted self.old) (door_accepted self.new) (take n bytes.now)) }
         ensures kept { OnErr result (door_accepted self.new ≡ door_accepted self.old) }
         ensures cause { Causes (door_faults self.old) (door_faults self.new) result }
         ensures misses_kept { door_missed self.new ≡ door_missed self.old }
 
-        // It fails where its number is in the list and, by `bytes`, before the first connection, else only for want of
-        // memory. The count rises by one where it fails, and else not.
+        // It fails where its number is in the list and before the first connection, else only for want of memory. The
+        // count rises by one where it fails, and else not.
         ensures fails { IsTrue (door_fails self.old) → IsErr result }
-        ensures sent { IfOk result (λ n. SendsLast (door_sent self.old) (door_sent self.new) (take n bytes.now)) }
+        ensures first { door_accepted self.old ≡ [] → IsErr result }
+        ensures sent { IfOk result (λ n.
+            SendsLast (door_sent self.old) (door_sent self.new) (take n bytes.now)) }
         ensures sent_kept { OnErr result (door_sent self.new ≡ door_sent self.old) }
         ensures requests_kept { door_requests self.new ≡ door_requests self.old }
-        ensures calls { door_calls self.new ≡ min (door_calls self.old + 1) 0xffff_ffff_ffff_ffff }
+        ensures calls { door_calls self.new ≡ total (door_calls self.old) 1 }
         ensures failing { door_failing self.new ≡ door_failing self.old }
-        ensures quiet { OnOk result (door_faults self.new ≡ door_faults self.old) }
-        ensures raised { OnErr result (door_faults self.new ≡ min (door_faults self.old + 1) 0xffff_ffff_ffff_ffff) }
+        ensures raised { OnErr result (door_faults self.new ≡ total (door_faults self.old) 1) }
     {
-        self.calls = self.calls.saturating_add(1);
-        if is_failing(self.failing.as_slice(), self.calls)
-            || !send_last(self.alloc, &mut self.sent, bytes)
-        {
-            self.faults = self.faults.saturating_add(1);
+        if self.failing.next() || !send_last(self.alloc, &mut self.sent, bytes) {
+            self.failing.fail();
             return Err(Failed);
         }
         Ok(bytes.len())
@@ -206,6 +202,6 @@ impl Door for MemDoor {
     }
 
     fn faults(&self) -> u64 {
-        self.faults
+        self.failing.faults
     }
 }

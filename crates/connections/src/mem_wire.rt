@@ -1,12 +1,12 @@
 // A client's connections in memory.
 ghost use Rattle.std.specs.Prelude.{◌≡◌, ◌≢◌, ◌+◌, ◌<◌, ◌≤◌, ℕ, List, [], ◌∷◌, ◌++◌, None, length, take, min, false, slice_index_or, option_to_list, IfOk, IsOk, IsErr, OnOk, OnErr, OnSome, IfSome, IfNone, IsTrue};
-ghost use Rattle.outside.specs.Streams.{Causes, ReadsAtMost, TakesSome};
+ghost use Rattle.outside.specs.Streams.{Causes, ReadsAtMost, TakesSome, total};
 ghost use Rattle.connections.specs.Wire.{Connects, Receives, Sends, all_sent};
 ghost use Rattle.connections.specs.Present.{ReceivesHere};
 
 use crate::Wire;
 use crate::parts::send_last;
-use outside::{Failed, copy_from};
+use outside::{Failed, FailingCalls, copy_from};
 use small_types::{Bytes, Duplicate, List, Text};
 use std::alloc::Global;
 
@@ -29,9 +29,7 @@ pub struct MemWire {
     answers: List<Bytes>,
     present: Option<Present>,
     sent: List<Bytes>,
-    failing: List<u64>,
-    calls: u64,
-    faults: u64,
+    failing: FailingCalls,
     ghost paired: { length (option_to_list present) ≤ length sent },
 }
 
@@ -45,7 +43,12 @@ fn next_connection(
     port: u16,
 ) -> Option<Present>
     ensures there { OnSome result (length sent.old < length answers.now) }
-    ensures made { IfSome result (λ p. p ≡ record { host = host.now; port = port; answer = slice_index_or answers.now (length sent.old) []; place = 0 }) }
+    ensures made { IfSome result (λ p. p ≡ record {
+      host = host.now;
+      port = port;
+      answer = slice_index_or answers.now (length sent.old) [];
+      place = 0;
+    }) }
     ensures sent { OnSome result (sent.new ≡ sent.old ++ [] ∷ []) }
     ensures kept { IfNone result (sent.new ≡ sent.old) }
 {
@@ -95,9 +98,7 @@ impl MemWire {
             answers,
             present: None,
             sent: List::from_vec(Vec::new(alloc)),
-            failing,
-            calls: 0,
-            faults: 0,
+            failing: FailingCalls::new(failing),
         }
     }
 
@@ -119,7 +120,7 @@ impl Wire for MemWire {
 
     ghost present = { λ w. present_of w.present w.sent };
 
-    ghost count = { λ w. w.faults };
+    ghost count = { λ w. w.failing.faults };
 
     fn connect(&mut self, host: &Text, port: u16) -> Result<(), Failed>
         ensures ended { wire_over self.new ≡ all_sent (wire_over self.old) (wire_present self.old) }
@@ -135,15 +136,13 @@ impl Wire for MemWire {
         // rises by one where it fails, and else not.
         ensures fails { IsTrue (wire_fails self.old) → IsErr result }
         ensures end { wire_answers self.old ≡ [] → IsErr result }
-        ensures calls { wire_calls self.new ≡ min (wire_calls self.old + 1) 0xffff_ffff_ffff_ffff }
+        ensures calls { wire_calls self.new ≡ total (wire_calls self.old) 1 }
         ensures failing { wire_failing self.new ≡ wire_failing self.old }
-        ensures quiet { OnOk result (wire_faults self.new ≡ wire_faults self.old) }
-        ensures raised { OnErr result (wire_faults self.new ≡ min (wire_faults self.old + 1) 0xffff_ffff_ffff_ffff) }
+        ensures raised { OnErr result (wire_faults self.new ≡ total (wire_faults self.old) 1) }
     {
         self.present = None;
-        self.calls = self.calls.saturating_add(1);
-        if is_failing(self.failing.as_slice(), self.calls) {
-            self.faults = self.faults.saturating_add(1);
+        if self.failing.next() {
+            self.failing.fail();
             return Err(Failed);
         }
         let made = next_connection(
@@ -154,7 +153,7 @@ impl Wire for MemWire {
             port,
         );
         let Some(present) = made else {
-            self.faults = self.faults.saturating_add(1);
+            self.failing.fail();
             return Err(Failed);
         };
         self.present = Some(present);
@@ -164,28 +163,28 @@ impl Wire for MemWire {
     fn receive(&mut self, buf: &mut [u8]) -> Result<usize, Failed>
         requires { 0 < length buf.old }
         ensures within { IfOk result (λ n. ReadsAtMost n buf.old buf.new) }
-        ensures bytes { IfOk result (λ n. Receives (wire_present self.old) (wire_present self.new) buf.new n) }
+        ensures bytes { IfOk result (λ n.
+            Receives (wire_present self.old) (wire_present self.new) buf.new n) }
         ensures kept { OnErr result (wire_present self.new ≡ wire_present self.old) }
         ensures over_kept { wire_over self.new ≡ wire_over self.old }
         ensures cause { Causes (wire_faults self.old) (wire_faults self.new) result }
 
-        // It fails exactly where its number is in the list and, by `bytes`, without a present connection. The count
-        // rises by one where it fails, and else not.
+        // It fails exactly where its number is in the list and without a present connection. The count rises by one where
+        // it fails, and else not.
         ensures fails { IsTrue (wire_fails self.old) → IsErr result }
+        ensures alone { wire_present self.old ≡ None → IsErr result }
         ensures works { wire_fails self.old ≡ false → wire_present self.old ≢ None → IsOk result }
         ensures answers_kept { wire_answers self.new ≡ wire_answers self.old }
-        ensures calls { wire_calls self.new ≡ min (wire_calls self.old + 1) 0xffff_ffff_ffff_ffff }
+        ensures calls { wire_calls self.new ≡ total (wire_calls self.old) 1 }
         ensures failing { wire_failing self.new ≡ wire_failing self.old }
-        ensures quiet { OnOk result (wire_faults self.new ≡ wire_faults self.old) }
-        ensures raised { OnErr result (wire_faults self.new ≡ min (wire_faults self.old + 1) 0xffff_ffff_ffff_ffff) }
+        ensures raised { OnErr result (wire_faults self.new ≡ total (wire_faults self.old) 1) }
     {
-        self.calls = self.calls.saturating_add(1);
-        if is_failing(self.failing.as_slice(), self.calls) {
-            self.faults = self.faults.saturating_add(1);
+        if self.failing.next() {
+            self.failing.fail();
             return Err(Failed);
         }
         let Some(n) = receive_here(&mut self.present, buf) else {
-            self.faults = self.faults.saturating_add(1);
+            self.failing.fail();
             return Err(Failed);
         };
         Ok(n)
@@ -194,32 +193,32 @@ impl Wire for MemWire {
     fn send(&mut self, bytes: &[u8]) -> Result<usize, Failed>
         requires { 0 < length bytes.now }
         ensures within { IfOk result (λ n. TakesSome n bytes.now) }
-        ensures bytes { IfOk result (λ n. Sends (wire_present self.old) (wire_present self.new) (take n bytes.now)) }
+        ensures bytes { IfOk result (λ n.
+            Sends (wire_present self.old) (wire_present self.new) (take n bytes.now)) }
         ensures kept { OnErr result (wire_present self.new ≡ wire_present self.old) }
         ensures over_kept { wire_over self.new ≡ wire_over self.old }
         ensures cause { Causes (wire_faults self.old) (wire_faults self.new) result }
 
-        // It fails where its number is in the list and, by `bytes`, without a present connection, else only for want of
-        // memory. The count rises by one where it fails, and else not.
+        // It fails where its number is in the list and without a present connection, else only for want of memory. The
+        // count rises by one where it fails, and else not.
         ensures fails { IsTrue (wire_fails self.old) → IsErr result }
+        ensures alone { wire_present self.old ≡ None → IsErr result }
         ensures answers_kept { wire_answers self.new ≡ wire_answers self.old }
-        ensures calls { wire_calls self.new ≡ min (wire_calls self.old + 1) 0xffff_ffff_ffff_ffff }
+        ensures calls { wire_calls self.new ≡ total (wire_calls self.old) 1 }
         ensures failing { wire_failing self.new ≡ wire_failing self.old }
-        ensures quiet { OnOk result (wire_faults self.new ≡ wire_faults self.old) }
-        ensures raised { OnErr result (wire_faults self.new ≡ min (wire_faults self.old + 1) 0xffff_ffff_ffff_ffff) }
+        ensures raised { OnErr result (wire_faults self.new ≡ total (wire_faults self.old) 1) }
     {
-        self.calls = self.calls.saturating_add(1);
-        if is_failing(self.failing.as_slice(), self.calls)
+        if self.failing.next()
             || self.present.is_none()
             || !send_last(self.alloc, &mut self.sent, bytes)
         {
-            self.faults = self.faults.saturating_add(1);
+            self.failing.fail();
             return Err(Failed);
         }
         Ok(bytes.len())
     }
 
     fn faults(&self) -> u64 {
-        self.faults
+        self.failing.faults
     }
 }

@@ -27,30 +27,29 @@ pub trait Wire {
         ensures ended { tells → over self.new ≡ all_sent (over self.old) (present self.old) }
         ensures made { tells → OnOk result (Connects host.now port (present self.new)) }
         ensures none { tells → OnErr result (present self.new ≡ None) }
-        ensures cause { Causes (count self.old) (count self.new) result }
-        ensures quiet { OnOk result (count self.new ≡ count self.old) };
+        ensures cause { Causes (count self.old) (count self.new) result };
 
     /// Puts the first bytes that are left to the front of the buffer, and answers how many. Zero is the end. Without a
     /// present connection it fails.
     fn receive(&mut self, buf: &mut [u8]) -> Result<usize, Failed>
         requires { 0 < length buf.old }
         ensures within { IfOk result (λ n. ReadsAtMost n buf.old buf.new) }
-        ensures bytes { tells → IfOk result (λ n. Receives (present self.old) (present self.new) buf.new n) }
+        ensures bytes { tells
+            → IfOk result (λ n. Receives (present self.old) (present self.new) buf.new n) }
         ensures kept { tells → OnErr result (present self.new ≡ present self.old) }
         ensures over_kept { tells → over self.new ≡ over self.old }
-        ensures cause { Causes (count self.old) (count self.new) result }
-        ensures quiet { OnOk result (count self.new ≡ count self.old) };
+        ensures cause { Causes (count self.old) (count self.new) result };
 
     /// Sends the first of the bytes, at least one, on the present connection, and answers how many. A call that fails
     /// sends nothing. Without a present connection it fails.
     fn send(&mut self, bytes: &[u8]) -> Result<usize, Failed>
         requires { 0 < length bytes.now }
         ensures within { IfOk result (λ n. TakesSome n bytes.now) }
-        ensures bytes { tells → IfOk result (λ n. Sends (present self.old) (present self.new) (take n bytes.now)) }
+        ensures bytes { tells
+            → IfOk result (λ n. Sends (present self.old) (present self.new) (take n bytes.now)) }
         ensures kept { tells → OnErr result (present self.new ≡ present self.old) }
         ensures over_kept { tells → over self.new ≡ over self.old }
-        ensures cause { Causes (count self.old) (count self.new) result }
-        ensures quiet { OnOk result (count self.new ≡ count self.old) };
+        ensures cause { Causes (count self.old) (count self.new) result };
 
     /// How often it failed. The count never falls.
     fn faults(&self) -> u64
