@@ -3,9 +3,10 @@ use Rattle.std.specs.Prelude.{◌≡◌, ◌≤◌, ◌⊎◌, ℕ, ◌+◌, ◌
 use Rattle.outside.specs.Streams.{Rose}
 use Rattle.connections.specs.Door.{Accepted}
 use Rattle.folders.specs.declared.folder.Held.{Held}
-use Rattle.http_plain.specs.Head.{IsEnough, IsNear, head_limit}
+use Rattle.http_plain.specs.Head.{IsEnough, IsNear}
+use Rattle.http_plain.specs.declared.head.TheConstants.{HEAD_LIMIT}
 use Rattle.http_plain.specs.Served.{Answer, Serves}
-use Rattle.plain_host.specs.Serving.{piece_limit}
+use Rattle.plain_host.specs.declared.receiving.TheConstants.{REQUEST_PIECE}
 
 -- at most n of the items are none that P holds for
 abbrev pub AllBut : {A : Type 0} → (A → Type 0) → List A → ℕ → Type 0
@@ -16,8 +17,8 @@ AllBut P (x ∷ xs) n = (P x × AllBut P xs n) ⊎ ((m : ℕ) × (n ≡ m + 1) �
 pub record IsHeard (connection : Accepted) : Type 0 where
   pub front : List ℕ
   pub heard : connection.request ≡ front ++ connection.left
-  pub few : length front ≤ head_limit
-  pub near : IsNear piece_limit front
+  pub few : length front ≤ HEAD_LIMIT
+  pub near : IsNear REQUEST_PIECE front
 
 -- what was sent on the connection is what a host of these files answers to its request, and no more; enough of the request
 -- was received to know the answer

@@ -15,11 +15,13 @@ use Rattle.httparse.specs.Ascii.{crlf_bytes}
 use Rattle.httparse.specs.Grammar.{Field, IsField, crlf, is_token_byte, is_value_byte, is_ows, skip_ows, trim_ows, print_field, ResponseHead, IsResponseHead, print_response}
 use Rattle.httparse.proofs.TrimLemmas.{trim_ows_space}
 use Rattle.http_plain.specs.declared.lengths.Named.TheVariants.{Nothing, Length}
-use Rattle.http_plain.specs.Exchange.{Gives, GivesBy, IsResponse, given, is_encoded, joined, length_in, length_of, named_by}
+use Rattle.http_plain.specs.Exchange.{Gives, GivesBy, IsResponse, given, is_encoded, joined, length_in, named_by}
 use Rattle.http_plain.specs.Fields.{pairs_of, values_of}
-use Rattle.http_plain.specs.Head.{head_limit, head_end, Whole, front_of, behind_head}
+use Rattle.http_plain.specs.Head.{head_end, Whole, front_of, behind_head}
+use Rattle.http_plain.specs.declared.head.TheConstants.{HEAD_LIMIT}
 use Rattle.http_plain.specs.Served.{answer_head, file_answer, head_text, type_line, type_of}
-use Rattle.http_plain.proofs.Digits.{AreDigits, own}
+use Rattle.small_types.specs.Decimal.{decimal_of}
+use Rattle.small_types.proofs.DecimalLemmas.{AreDigits, own, decimal_of-digits}
 use Rattle.http_plain.proofs.Fronts.{behind_longer, ended_longer}
 use Rattle.http_plain.proofs.Lines.{is_clean, lines_text, head_ends, head_length, both}
 
@@ -98,16 +100,12 @@ digits_back (d ∷ ds) digits =
 digits_trimmed : (ds : List ℕ) → AreDigits ds → trim_ows (32 ∷ ds) ≡ ds
 digits_trimmed ds digits = trim_ows_space ds (bare ds digits) (bare (reverse ds) (digits_back ds digits))
 
-length_by_digits : (ds : List ℕ) (n : ℕ) → 0 < length ds → length ds ≤ 19 → AreDigits ds → digits_value 10 ds ≡ n → length_of ds ≡ Some n
-unfolding length_of
-length_by_digits ds n some short digits value =
-    ap (λ t. cond t (Some (digits_value 10 ds)) None) (and_true (and_true (ltb_true some) (leb_true short)) digits) ∙ ap Some value
-
-length_of_decimal : (n : ℕ) → n < 10 ^ 19 → length_of (decimal n) ≡ Some n
-length_of_decimal n small =
+decimal_of_decimal : (n : ℕ) → n < 10 ^ 19 → decimal_of (decimal n) ≡ Some n
+decimal_of_decimal n small =
     let wide : n < 10 ^ 64 = omega (arith, small) in
     let numeral = decimal_is_IsNumeral_wide n wide in
-    length_by_digits (decimal n) n numeral.0.0 (length-decimal-le_wide 19 n (omega arith) small wide) (decimal_digits n wide) numeral.1
+    decimal_of-digits (decimal n) (decimal_digits n wide) numeral.0.0 (length-decimal-le_wide 19 n (omega arith) small wide)
+    ∙ ap Some numeral.1
 
 -- ---- the head
 
@@ -144,7 +142,7 @@ is_ok_head type n types digits = record {
   fields = fields_are type n types digits;
 }
 
-decimal_200 : decimal 200 ≡ codes "200"
+pub decimal_200 : decimal 200 ≡ codes "200"
 decimal_200 = decimal-digits_value own (codes "200") refl (omega arith) (λ e. cc) (omega arith)
 
 abbrev pub ok_lines : List ℕ → ℕ → List (List ℕ)
@@ -153,7 +151,7 @@ ok_lines type n = (codes "Content-Type: " ++ type) ∷ (codes "Content-Length: "
 abbrev pub ok_text : List ℕ → ℕ → List ℕ
 ok_text type n = head_text (codes "HTTP/1.1 200 OK" ∷ ok_lines type n)
 
-text_is : (name : List ℕ) (n : ℕ) → answer_head 200 (type_line name ∷ []) n ≡ ok_text (type_of name) n
+text_is : (name : List ℕ) (n : ℕ) → answer_head 200 (codes "OK") (type_line name ∷ []) n ≡ ok_text (type_of name) n
 unfolding answer_head
 text_is name n = ap (λ code. head_text ((codes "HTTP/1.1 " ++ code ++ codes " " ++ codes "OK") ∷ ok_lines (type_of name) n)) decimal_200
 
@@ -175,7 +173,7 @@ named_is : (type : List ℕ) (n : ℕ) → n < 10 ^ 19 → named_by (values_of (
 named_is type n small =
     ap named_by (pairs_values type n)
     ∙ ap (λ value. named_by (value ∷ [])) (digits_trimmed (decimal n) (decimal_digits n (omega (arith, small))))
-    ∙ ap (λ m. joined m Nothing) (length_of_decimal n small)
+    ∙ ap (λ m. joined m Nothing) (decimal_of_decimal n small)
 
 length_is : (type : List ℕ) (n : ℕ) → n < 10 ^ 19 → length_in (ok_head type n) ≡ Ok n
 unfolding length_in
@@ -197,7 +195,7 @@ line_length : (name value rest : List ℕ) → length (((name ++ value) ++ crlf_
 line_length name value rest =
     omega (arith, length-append ((name ++ value) ++ crlf_bytes) rest, length-append (name ++ value) crlf_bytes, length-append name value)
 
-text_short : (type : List ℕ) (n : ℕ) → length type ≤ 32 → length (decimal n) ≤ 19 → length (ok_text type n) ≤ head_limit
+text_short : (type : List ℕ) (n : ℕ) → length type ≤ 32 → length (decimal n) ≤ 19 → length (ok_text type n) ≤ HEAD_LIMIT
 text_short type n few short =
     let close : List ℕ = lines_text (codes "Connection: close" ∷ []) in
     let behind : List ℕ = lines_text ((codes "Content-Length: " ++ decimal n) ∷ codes "Connection: close" ∷ []) in
@@ -225,7 +223,7 @@ text_gives : (type bytes : List ℕ) (n : ℕ) → are_values type ≡ true → 
     → Gives (ok_text type n ++ bytes) (Ok n) × (behind_head (ok_text type n ++ bytes) ≡ bytes)
 text_gives type bytes n types clean few small =
     let text : List ℕ = ok_text type n in
-    let short : length text ≤ head_limit = text_short type n few (length-decimal-le_wide 19 n (omega arith) small (omega (arith, small))) in
+    let short : length text ≤ HEAD_LIMIT = text_short type n few (length-decimal-le_wide 19 n (omega arith) small (omega (arith, small))) in
     let end : head_end text ≡ Some (length text) = ap head_end (sym (append-nil text)) ∙ text_ends type [] n clean small in
     let front : front_of (text ++ bytes) ≡ Whole text = ended_longer text bytes (length text) short end ∙ ap Whole (take-length text) in (
       subst (λ f. GivesBy f (Ok n)) (sym front) (Some (ok_head type n), text_reads type n types small, sym (length_is type n small)),

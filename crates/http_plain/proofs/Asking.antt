@@ -1,22 +1,24 @@
 -- From the front of a message to the whole.
 use Rattle.std.proofs.Common.{◌≡◌, ◌≤◌, ◌+◌, ℕ, zero, suc, min, Bool, true, false, cond, List, [], ◌∷◌, ◌++◌, length, take, drop, ltb, eqb, codes, Option, Some, None, Result, Ok, Err, refl, inl, inr, ap, sym, subst, ◌∙◌, arith, length-take}
-use Rattle.std.specs.Result.{IfOk}
+use Rattle.std.specs.Result.{IfOk, OnErr}
 use Rattle.std.specs.Option.{IfSome, IsSome}
 use Rattle.std.proofs.lemmas.List.{take_all}
 use Rattle.httparse.specs.Grammar.{ResponseHead, status_code}
-use Rattle.http_plain.specs.declared.request.Asked.{Asked}
 use Rattle.http_plain.specs.declared.begun.Begun.{Begun}
 use Rattle.http_plain.specs.declared.demand.Demand.{Demand}
 use Rattle.http_plain.specs.declared.demand.Demand.TheVariants.{Silent, Refused}
 use Rattle.http_plain.specs.declared.fault.ExchangeFault.{ExchangeFault}
 use Rattle.http_plain.specs.declared.fault.ExchangeFault.TheVariants.{ReadFault, WriteFault, Cut, HeadTooLong, Malformed, Missing, Status, Encoded, NoLength, Memory}
 use Rattle.http_plain.specs.declared.lengths.Named.{Named}
-use Rattle.http_plain.specs.Asked.{AsksBy}
+use Rattle.http_plain.specs.declared.refusals.Refusal.{Refusal}
+use Rattle.http_plain.specs.declared.refusals.Refusal.TheVariants.{BadRequest, FieldsTooLarge}
+use Rattle.http_plain.specs.Asked.{Asked, AsksBy}
 use Rattle.http_plain.specs.Begin.{Comes, IsRefusedBy}
 use Rattle.http_plain.specs.Exchange.{Gives, GivesBy, given, is_encoded, length_in, named_by}
 use Rattle.http_plain.specs.Fields.{pairs_of, values_of}
-use Rattle.http_plain.specs.Head.{head_limit, head_end, Whole, TooLong, Short, front_at, front_of, behind_head, IsEnough}
-use Rattle.http_plain.specs.Served.{Asks, Demands, demand_of}
+use Rattle.http_plain.specs.Head.{head_end, Whole, TooLong, Short, front_at, front_of, behind_head, IsEnough}
+use Rattle.http_plain.specs.declared.head.TheConstants.{HEAD_LIMIT}
+use Rattle.http_plain.specs.Served.{Asks, AsksForFile, Demands, DemandsFile, IsFile, demand_of}
 use Rattle.http_plain.proofs.Ends.{end_bounds, no_end}
 use Rattle.http_plain.proofs.Fronts.{front_longer, behind_longer}
 
@@ -37,11 +39,11 @@ take_min (suc n) (b ∷ bytes) =
     let one : min (suc (length bytes)) (suc n) ≡ suc (min (length bytes) n) = omega arith in
     ap (λ k. take k (b ∷ bytes)) one ∙ ap (λ rest. b ∷ rest) (take_min n bytes)
 
-pub end_in : (bytes : List ℕ) (end : Option ℕ) → end ≡ head_end (take head_limit bytes) → IfSome end (λ n. n ≤ length bytes)
+pub end_in : (bytes : List ℕ) (end : Option ℕ) → end ≡ head_end (take HEAD_LIMIT bytes) → IfSome end (λ n. n ≤ length bytes)
 end_in bytes None e = tt
-end_in bytes (Some n) e = omega (arith, end_bounds (take head_limit bytes) n (sym e), length-take head_limit bytes)
+end_in bytes (Some n) e = omega (arith, end_bounds (take HEAD_LIMIT bytes) n (sym e), length-take HEAD_LIMIT bytes)
 
-pub front_by : (bytes : List ℕ) (end : Option ℕ) → end ≡ head_end (take head_limit bytes) → front_of bytes ≡ front_at bytes end
+pub front_by : (bytes : List ℕ) (end : Option ℕ) → end ≡ head_end (take HEAD_LIMIT bytes) → front_of bytes ≡ front_at bytes end
 unfolding front_of
 front_by bytes end e = ap (front_at bytes) (sym e)
 
@@ -52,18 +54,28 @@ pub asked_demands : (head : List ℕ) (asked : Asked) {E : Type 0} (r : Result D
 asked_demands head asked (Ok demand) asks e = (Some asked, asks, e)
 asked_demands head asked (Err fault) asks e = tt
 
-pub head_demands : (bytes : List ℕ) (n : ℕ) {E : Type 0} (r : Result Demand E) → Some n ≡ head_end (take head_limit bytes)
+-- a head that asks for a file
+pub asked_file : (head : List ℕ) (asked : Asked) {E : Type 0} (r : Result Demand E) → AsksBy head (Some asked)
+    → OnErr r (IsFile (demand_of asked)) → OnErr r (DemandsFile (Whole head))
+asked_file head asked (Ok demand) asks file = tt
+asked_file head asked (Err fault) asks file = record { demand = demand_of asked; demands = (Some asked, asks, refl); file = file }
+
+pub head_file : (bytes : List ℕ) (n : ℕ) {E : Type 0} (r : Result Demand E) → Some n ≡ head_end (take HEAD_LIMIT bytes)
+    → OnErr r (DemandsFile (Whole (take n bytes))) → OnErr r (DemandsFile (front_of bytes))
+head_file bytes n r e file = subst (λ front. OnErr r (DemandsFile front)) (sym (front_by bytes (Some n) e)) file
+
+pub head_demands : (bytes : List ℕ) (n : ℕ) {E : Type 0} (r : Result Demand E) → Some n ≡ head_end (take HEAD_LIMIT bytes)
     → IfOk r (Demands (Whole (take n bytes))) → IfOk r (Demands (front_of bytes))
 head_demands bytes n r e demands = subst (λ front. IfOk r (Demands front)) (sym (front_by bytes (Some n) e)) demands
 
-unended_code : (short : Bool) (code : ℕ) → code ≡ cond short 400 431 → Demands (cond short Short TooLong) (Refused code)
-unended_code true code e = ap Refused e
-unended_code false code e = ap Refused e
+unended_why : (short : Bool) (why : Refusal) → why ≡ cond short BadRequest FieldsTooLarge → Demands (cond short Short TooLong) (Refused why)
+unended_why true why e = ap Refused e
+unended_why false why e = ap Refused e
 
-pub unended_demands : (bytes : List ℕ) (code : ℕ) → None ≡ head_end (take head_limit bytes) → code ≡ cond (ltb (length bytes) head_limit) 400 431
-    → Demands (front_of bytes) (Refused code)
-unended_demands bytes code e is =
-    subst (λ front. Demands front (Refused code)) (sym (front_by bytes None e)) (unended_code (ltb (length bytes) head_limit) code is)
+pub unended_demands : (bytes : List ℕ) (why : Refusal) → None ≡ head_end (take HEAD_LIMIT bytes)
+    → why ≡ cond (ltb (length bytes) HEAD_LIMIT) BadRequest FieldsTooLarge → Demands (front_of bytes) (Refused why)
+unended_demands bytes why e is =
+    subst (λ front. Demands front (Refused why)) (sym (front_by bytes None e)) (unended_why (ltb (length bytes) HEAD_LIMIT) why is)
 
 asks_longer : (front left : List ℕ) (demand : Demand) → eqb (length front) 0 ≡ false → IsEnough front left → Demands (front_of front) demand
     → Asks (front ++ left) demand
@@ -75,6 +87,12 @@ pub asks_in : (front : List ℕ) {E : Type 0} (r : Result Demand E) → eqb (len
     → IfOk r (λ demand. (left : List ℕ) → IsEnough front left → Asks (front ++ left) demand)
 asks_in front (Ok demand) some demands = λ left enough. asks_longer front left demand some enough demands
 asks_in front (Err fault) some demands = tt
+
+pub file_in_front : (front : List ℕ) {E : Type 0} (r : Result Demand E) → eqb (length front) 0 ≡ false → OnErr r (DemandsFile (front_of front))
+    → OnErr r ((left : List ℕ) → IsEnough front left → AsksForFile (front ++ left))
+file_in_front front (Ok demand) some file = tt
+file_in_front front (Err fault) some file = λ left enough.
+    record { demand = file.demand; asks = asks_longer front left file.demand some enough file.demands; file = file.file }
 
 no_end_some : IsSome (head_end []) → ⊥
 no_end_some some = elim_none (head_end []) no_end some
@@ -99,7 +117,7 @@ judged h code encoded named pairs e p q r =
     ∙ ap (λ b. given (status_code h) b named) (q ∙ ap is_encoded p)
     ∙ ap (given (status_code h) (is_encoded (pairs_of h.fields))) (r ∙ ap (λ x. named_by (values_of (codes "content-length") x)) p)
 
-pub gives_longer : (front left : List ℕ) (n : ℕ) (r : Result ℕ ExchangeFault) → Some n ≡ head_end (take head_limit front) → IsEnough front left
+pub gives_longer : (front left : List ℕ) (n : ℕ) (r : Result ℕ ExchangeFault) → Some n ≡ head_end (take HEAD_LIMIT front) → IsEnough front left
     → GivesBy (Whole (take n front)) r → Gives (front ++ left) r
 gives_longer front left n r e enough gives =
     subst (λ f. GivesBy f r) (sym (front_longer front left enough ∙ front_by front (Some n) e)) gives
@@ -122,11 +140,11 @@ refused_by answer (Status code) gives = gives
 refused_by answer Encoded gives = gives
 refused_by answer NoLength gives = gives
 
-pub unended_refuses : (front left : List ℕ) (fault : ExchangeFault) → None ≡ head_end (take head_limit front)
-    → fault ≡ cond (ltb (length front) head_limit) Cut HeadTooLong → IsEnough front left → IsRefusedBy (front ++ left) fault
+pub unended_refuses : (front left : List ℕ) (fault : ExchangeFault) → None ≡ head_end (take HEAD_LIMIT front)
+    → fault ≡ cond (ltb (length front) HEAD_LIMIT) Cut HeadTooLong → IsEnough front left → IsRefusedBy (front ++ left) fault
 unended_refuses front left fault e is enough =
     refused_by (front ++ left) fault
-    (unended_gives (ltb (length front) head_limit) (front ++ left) fault is (front_longer front left enough ∙ front_by front None e))
+    (unended_gives (ltb (length front) HEAD_LIMIT) (front ++ left) fault is (front_longer front left enough ∙ front_by front None e))
 
 -- what is left may as well stand behind all that came
 take_early : (n : ℕ) (bytes left : List ℕ) → take n (take n bytes ++ left) ≡ take n (bytes ++ left)
@@ -134,11 +152,11 @@ take_early zero bytes left = refl
 take_early (suc n) [] left = refl
 take_early (suc n) (b ∷ bytes) left = ap (λ rest. b ∷ rest) (take_early n bytes left)
 
-pub comes : (front left : List ℕ) (end : ℕ) (begun : Begun) (size : ℕ) → length front ≤ head_limit → Some end ≡ head_end (take head_limit front)
+pub comes : (front left : List ℕ) (end : ℕ) (begun : Begun) (size : ℕ) → length front ≤ HEAD_LIMIT → Some end ≡ head_end (take HEAD_LIMIT front)
     → IsEnough front left → GivesBy (Whole (take end front)) (Ok size)
     → begun.length ≡ size → begun.early ≡ take size (drop end front) → Comes (front ++ left) left begun
 comes front left end begun size fits e enough gives is_length is_early =
-    let ends : head_end front ≡ Some end = ap head_end (sym (take_all head_limit front fits)) ∙ sym e in
+    let ends : head_end front ≡ Some end = ap head_end (sym (take_all HEAD_LIMIT front fits)) ∙ sym e in
     record {
       gives = subst (λ n. Gives (front ++ left) (Ok n)) (sym is_length) (gives_longer front left end (Ok size) e enough gives);
       within = omega (arith, length-take size (drop end front), ap length is_early, is_length);

@@ -4,7 +4,7 @@ use Rattle.std.specs.Option.{option_map, IfSome}
 use Rattle.std.specs.List.{starts_with}
 use Rattle.std.proofs.lemmas.List.{take-append-le, take-append-drop, drop_all, length-take}
 use Rattle.std.specs.Cmp.Lexicographic.{same_text}
-use Rattle.std.proofs.Math.Seq.{drop-cons}
+use Rattle.std.proofs.Math.Seq.{drop-cons, take-add}
 use lib.Pointwise.{pointwise}
 use Rattle.http_plain.specs.Head.{head_mark, head_end, IsNear}
 
@@ -232,6 +232,14 @@ near_grown piece n old new none grows kept fits =
     let whole : old ++ drop (length old) new ≡ new = ap (λ l. l ++ drop (length old) new) (sym kept) ∙ take-append-drop (length old) new in
     let few : length (drop (length old) new) ≤ piece = omega (arith, length-append old (drop (length old) new), ap length whole) in
     subst (IsNear piece) whole (near_piece piece old (drop (length old) new) none few)
+
+-- the same, of bytes at the front of a buffer
+pub near_taken : (piece used n : ℕ) (old new : List ℕ) → head_end (take used old) ≡ None → take used new ≡ take used old → n ≤ piece
+    → IsNear piece (take (used + n) new)
+near_taken piece used n old new none kept few =
+    let whole : take used new ++ take n (drop used new) ≡ take (used + n) new = sym (take-add used n new) in
+    subst (IsNear piece) whole
+    (near_piece piece (take used new) (take n (drop used new)) (ap head_end kept ∙ none) (omega (arith, length-take n (drop used new))))
 
 whole_by : (piece : ℕ) (front left : List ℕ) (first second : Option ℕ) → head_end front ≡ first → head_end (front ++ left) ≡ second
     → IfSome first (λ n. length front < n + piece)

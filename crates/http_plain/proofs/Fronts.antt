@@ -3,7 +3,8 @@ use Rattle.std.proofs.Common.{◌≡◌, ◌≤◌, ◌+◌, ◌-◌, inl, inr, 
 use Rattle.std.specs.Option.{IsSome}
 use Rattle.std.proofs.lemmas.List.{take-append-le, drop-append-le, take_all, append-nil}
 use Rattle.std.proofs.Math.Seq.{take-append-add}
-use Rattle.http_plain.specs.Head.{head_limit, head_end, Whole, TooLong, Short, front_at, front_of, behind, behind_head, IsEnough}
+use Rattle.http_plain.specs.Head.{head_end, Whole, TooLong, Short, front_at, front_of, behind, behind_head, IsEnough}
+use Rattle.http_plain.specs.declared.head.TheConstants.{HEAD_LIMIT}
 use Rattle.http_plain.proofs.Ends.{end_bounds, end_longer}
 
 some_end : (end : Option ℕ) → IsSome end → (n : ℕ) × (end ≡ Some n)
@@ -11,50 +12,50 @@ some_end None h = cc
 some_end (Some n) h = (n, refl)
 
 -- bytes within the limit are their own front
-pub own_front : (bytes : List ℕ) → length bytes ≤ head_limit → front_of bytes ≡ front_at bytes (head_end bytes)
+pub own_front : (bytes : List ℕ) → length bytes ≤ HEAD_LIMIT → front_of bytes ≡ front_at bytes (head_end bytes)
 unfolding front_of
-own_front bytes fits = ap (λ t. front_at bytes (head_end t)) (take_all head_limit bytes fits)
+own_front bytes fits = ap (λ t. front_at bytes (head_end t)) (take_all HEAD_LIMIT bytes fits)
 
 pub not_below : (m n : ℕ) → n ≤ m → ltb m n ≡ false
 not_below m n h = grind arith
 
 -- enough bytes for the limit
-at_longer : (front left : List ℕ) (end : Option ℕ) → head_end front ≡ end → length front ≡ head_limit
+at_longer : (front left : List ℕ) (end : Option ℕ) → head_end front ≡ end → length front ≡ HEAD_LIMIT
     → front_at (front ++ left) end ≡ front_at front end
 at_longer front left None e full =
-    let more : ltb (length (front ++ left)) head_limit ≡ false = not_below (length (front ++ left)) head_limit (omega (arith, length-append front left)) in
-    let same : ltb (length front) head_limit ≡ false = not_below (length front) head_limit (omega arith) in
+    let more : ltb (length (front ++ left)) HEAD_LIMIT ≡ false = not_below (length (front ++ left)) HEAD_LIMIT (omega (arith, length-append front left)) in
+    let same : ltb (length front) HEAD_LIMIT ≡ false = not_below (length front) HEAD_LIMIT (omega arith) in
     ap (λ t. cond t Short TooLong) (more ∙ sym same)
 at_longer front left (Some n) e full = ap Whole (take-append-le n front left (end_bounds front n e).1)
 
-at_limit : (front left : List ℕ) → length front ≡ head_limit
-    → front_at (front ++ left) (head_end (take head_limit front)) ≡ front_at front (head_end (take head_limit front))
+at_limit : (front left : List ℕ) → length front ≡ HEAD_LIMIT
+    → front_at (front ++ left) (head_end (take HEAD_LIMIT front)) ≡ front_at front (head_end (take HEAD_LIMIT front))
 at_limit front left full =
-    let whole : take head_limit front ≡ front = take_all head_limit front (omega arith) in
+    let whole : take HEAD_LIMIT front ≡ front = take_all HEAD_LIMIT front (omega arith) in
     ap (λ t. front_at (front ++ left) (head_end t)) whole
     ∙ at_longer front left (head_end front) refl full
     ∙ ap (λ t. front_at front (head_end t)) (sym whole)
 
-full_longer : (front left : List ℕ) → length front ≡ head_limit → front_of (front ++ left) ≡ front_of front
+full_longer : (front left : List ℕ) → length front ≡ HEAD_LIMIT → front_of (front ++ left) ≡ front_of front
 unfolding front_of
 full_longer front left full =
-    let reaches : head_limit ≤ length front = omega arith in
-    ap (λ t. front_at (front ++ left) (head_end t)) (take-append-le head_limit front left reaches)
+    let reaches : HEAD_LIMIT ≤ length front = omega arith in
+    ap (λ t. front_at (front ++ left) (head_end t)) (take-append-le HEAD_LIMIT front left reaches)
     ∙ at_limit front left full
 
 -- a front that holds the end of the head
-pub ended_longer : (front left : List ℕ) (n : ℕ) → length front ≤ head_limit → head_end front ≡ Some n
+pub ended_longer : (front left : List ℕ) (n : ℕ) → length front ≤ HEAD_LIMIT → head_end front ≡ Some n
     → front_of (front ++ left) ≡ Whole (take n front)
 unfolding front_of
 ended_longer front left n fits e =
-    let room : head_limit ≡ length front + (head_limit - length front) = omega arith in
-    let cut : take head_limit (front ++ left) ≡ front ++ take (head_limit - length front) left =
-    ap (λ k. take k (front ++ left)) room ∙ take-append-add front left (head_limit - length front) in
+    let room : HEAD_LIMIT ≡ length front + (HEAD_LIMIT - length front) = omega arith in
+    let cut : take HEAD_LIMIT (front ++ left) ≡ front ++ take (HEAD_LIMIT - length front) left =
+    ap (λ k. take k (front ++ left)) room ∙ take-append-add front left (HEAD_LIMIT - length front) in
     ap (λ t. front_at (front ++ left) (head_end t)) cut
-    ∙ ap (front_at (front ++ left)) (end_longer front (take (head_limit - length front) left) n e)
+    ∙ ap (front_at (front ++ left)) (end_longer front (take (HEAD_LIMIT - length front) left) n e)
     ∙ ap Whole (take-append-le n front left (end_bounds front n e).1)
 
-pub ended_front : (front : List ℕ) (n : ℕ) → length front ≤ head_limit → head_end front ≡ Some n
+pub ended_front : (front : List ℕ) (n : ℕ) → length front ≤ HEAD_LIMIT → head_end front ≡ Some n
     → front_of front ≡ Whole (take n front)
 ended_front front n fits e = own_front front fits ∙ ap (front_at front) e
 

@@ -1,12 +1,12 @@
 pub mod Asking
 pub mod Determined
-pub mod Digits
 pub mod Ends
 pub mod Fronts
-pub mod Tokens
 pub mod Values
 pub mod Sending
 pub mod Flat_text
 pub mod Answered
 pub mod Lines
+pub mod Names
+pub mod RefusalTexts
 pub mod Requested

@@ -16,13 +16,14 @@ use Rattle.httparse.specs.Grammar.{Field, IsField, crlf, is_token_byte, is_uri_b
 use Rattle.small_types.specs.declared.target.Target.{Target}
 use Rattle.folders.specs.declared.folder.Held.{Held}
 use Rattle.folders.specs.Files.{file_in}
-use Rattle.http_plain.specs.declared.request.Asked.{Asked}
 use Rattle.http_plain.specs.declared.demand.Demand.{Demand}
 use Rattle.http_plain.specs.declared.demand.Demand.TheVariants.{Refused}
-use Rattle.http_plain.specs.Asked.{IsRequest, asked_of}
+use Rattle.http_plain.specs.declared.refusals.Refusal.TheVariants.{BadRequest, FieldsTooLarge}
+use Rattle.http_plain.specs.Asked.{Asked, IsRequest, asked_of}
 use Rattle.http_plain.specs.Exchange.{host_value, request_text}
 use Rattle.http_plain.specs.Fields.{pairs_of, values_of}
-use Rattle.http_plain.specs.Head.{head_limit, head_end, Whole, TooLong, Short, front_at, front_of}
+use Rattle.http_plain.specs.Head.{head_end, Whole, TooLong, Short, front_at, front_of}
+use Rattle.http_plain.specs.declared.head.TheConstants.{HEAD_LIMIT}
 use Rattle.http_plain.specs.Path.{name_in_path}
 use Rattle.http_plain.specs.Reading.{is_visible, IsPlain, ReadsAs, Fetches}
 use Rattle.http_plain.specs.Served.{Asks, Demands, Answer, answer_of, demand_of, file_answer, file_demand, found_answer, head_text, Serves}
@@ -164,7 +165,7 @@ unfolding demand_of
 demand_is path = refl
 
 asks_file : (path host : List ℕ) → 0 < length path → list_all is_visible path ≡ true → are_values host ≡ true → is_clean host ≡ true
-    → length (get_text path host) ≤ head_limit → Asks (get_text path host) (file_demand true (name_in_path path))
+    → length (get_text path host) ≤ HEAD_LIMIT → Asks (get_text path host) (file_demand true (name_in_path path))
 asks_file path host some visible values clean fits =
     let text : List ℕ = get_text path host in
     let front : front_of text ≡ Whole text = ended_front text (length text) fits (text_ends path host visible clean) ∙ ap Whole (take-length text) in
@@ -177,25 +178,25 @@ asks_file path host some visible values clean fits =
 some_same : (m n : ℕ) → ◌≡◌ {A = Option ℕ} (Some m) (Some n) → m ≡ n
 some_same m n e = cc
 
-no_early_end : (text : List ℕ) (end : Option ℕ) → head_end (take head_limit text) ≡ end → head_end text ≡ Some (length text) → head_limit < length text
-    → head_end (take head_limit text) ≡ None
+no_early_end : (text : List ℕ) (end : Option ℕ) → head_end (take HEAD_LIMIT text) ≡ end → head_end text ≡ Some (length text) → HEAD_LIMIT < length text
+    → head_end (take HEAD_LIMIT text) ≡ None
 no_early_end text None is whole long = is
 no_early_end text (Some m) is whole long =
-    let longer : head_end text ≡ Some m = ap head_end (sym (take-append-drop head_limit text)) ∙ end_longer (take head_limit text) (drop head_limit text) m is in
+    let longer : head_end text ≡ Some m = ap head_end (sym (take-append-drop HEAD_LIMIT text)) ∙ end_longer (take HEAD_LIMIT text) (drop HEAD_LIMIT text) m is in
     let same : m ≡ length text = some_same m (length text) (sym longer ∙ whole) in
-    absurd (omega (arith, same, long, end_bounds (take head_limit text) m is, length-take head_limit text))
+    absurd (omega (arith, same, long, end_bounds (take HEAD_LIMIT text) m is, length-take HEAD_LIMIT text))
 
-too_long : (text : List ℕ) → head_end text ≡ Some (length text) → head_limit < length text → front_of text ≡ TooLong
+too_long : (text : List ℕ) → head_end text ≡ Some (length text) → HEAD_LIMIT < length text → front_of text ≡ TooLong
 unfolding front_of
 too_long text whole long =
-    ap (front_at text) (no_early_end text (head_end (take head_limit text)) refl whole long)
-    ∙ ap (λ t. cond t Short TooLong) (not_below (length text) head_limit (omega (arith, long)))
+    ap (front_at text) (no_early_end text (head_end (take HEAD_LIMIT text)) refl whole long)
+    ∙ ap (λ t. cond t Short TooLong) (not_below (length text) HEAD_LIMIT (omega (arith, long)))
 
-asks_too_much : (path host : List ℕ) → list_all is_visible path ≡ true → is_clean host ≡ true → head_limit < length (get_text path host)
-    → Asks (get_text path host) (Refused 431)
+asks_too_much : (path host : List ℕ) → list_all is_visible path ≡ true → is_clean host ≡ true → HEAD_LIMIT < length (get_text path host)
+    → Asks (get_text path host) (Refused FieldsTooLarge)
 asks_too_much path host visible clean long =
     let text : List ℕ = get_text path host in
-    subst (λ f. Demands f (Refused 431)) (sym (too_long text (text_ends path host visible clean) long)) refl
+    subst (λ f. Demands f (Refused FieldsTooLarge)) (sym (too_long text (text_ends path host visible clean) long)) refl
 
 -- ---- what is answered
 
@@ -224,28 +225,28 @@ held_by files target answer name (Some bytes) named is e =
 
 named_by_path : (files : List Held) (target : Target) (answer : List ℕ) (name : Option (List ℕ)) → name_in_path target.path ≡ name
     → ok_answer answer ≡ answer_of files (file_demand true name) → Fetches files target answer
-named_by_path files target answer None is e = absurd (other_code (answer_of files (Refused 400)) answer 400 refl (omega arith) e)
+named_by_path files target answer None is e = absurd (other_code (answer_of files (Refused BadRequest)) answer 400 refl (omega arith) e)
 named_by_path files target answer (Some name) is e = held_by files target answer name (file_in name files) is refl e
 
-fetches_by : (files : List Held) (target : Target) (answer : List ℕ) (long : Bool) → ltb head_limit (length (get_text target.path (host_value target))) ≡ long
+fetches_by : (files : List Held) (target : Target) (answer : List ℕ) (long : Bool) → ltb HEAD_LIMIT (length (get_text target.path (host_value target))) ≡ long
     → IsPlain target → Serves files (get_text target.path (host_value target)) (ok_answer answer) → Fetches files target answer
 fetches_by files target answer true is plain serves =
     let text : List ℕ = get_text target.path (host_value target) in
-    let same : serves.demand ≡ Refused 431 =
-    one_demand text serves.demand (Refused 431) serves.asks
-    (asks_too_much target.path (host_value target) plain.path (host_clean target plain) (ltb-true head_limit (length text) is)) in
-    absurd (other_code (answer_of files (Refused 431)) answer 431 refl (omega arith) (serves.answers ∙ ap (answer_of files) same))
+    let same : serves.demand ≡ Refused FieldsTooLarge =
+    one_demand text serves.demand (Refused FieldsTooLarge) serves.asks
+    (asks_too_much target.path (host_value target) plain.path (host_clean target plain) (ltb-true HEAD_LIMIT (length text) is)) in
+    absurd (other_code (answer_of files (Refused FieldsTooLarge)) answer 431 refl (omega arith) (serves.answers ∙ ap (answer_of files) same))
 fetches_by files target answer false is plain serves =
     let text : List ℕ = get_text target.path (host_value target) in
     let demand : Demand = file_demand true (name_in_path target.path) in
     let same : serves.demand ≡ demand =
     one_demand text serves.demand demand serves.asks
-    (asks_file target.path (host_value target) plain.some plain.path (host_values target plain) (host_clean target plain) (ltb-false head_limit (length text) is)) in
+    (asks_file target.path (host_value target) plain.some plain.path (host_values target plain) (host_clean target plain) (ltb-false HEAD_LIMIT (length text) is)) in
     named_by_path files target answer (name_in_path target.path) refl (serves.answers ∙ ap (answer_of files) same)
 
 -- an answer of status 200 is read as the file that the path names
 pub fetches : (files : List Held) (target : Target) (answer : List ℕ) → IsPlain target → Serves files (request_text target) (ok_answer answer)
     → Fetches files target answer
 fetches files target answer plain serves =
-    fetches_by files target answer (ltb head_limit (length (get_text target.path (host_value target)))) refl plain
+    fetches_by files target answer (ltb HEAD_LIMIT (length (get_text target.path (host_value target)))) refl plain
     (subst (λ (text : List ℕ). Serves files text (ok_answer answer)) (text_is target) serves)

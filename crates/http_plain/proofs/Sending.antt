@@ -1,17 +1,20 @@
 -- What is sent and received on a connection, piece by piece.
-use Rattle.std.proofs.Common.{◌≡◌, ◌≤◌, ◌<◌, ◌+◌, ℕ, suc, true, List, [], ◌∷◌, ◌++◌, length, take, drop, eqb, Option, Some, None, Result, Ok, Err, refl, inl, inr, ap, sym, subst, ◌∙◌, arith, append_assoc, take-append-drop, length-append, length-take}
+use Rattle.std.proofs.Common.{◌≡◌, ◌≢◌, ◌≤◌, ◌<◌, ◌+◌, ℕ, suc, true, List, [], ◌∷◌, ◌++◌, length, take, drop, eqb, Option, Some, None, Result, Ok, Err, refl, inl, inr, ap, sym, subst, ◌∙◌, arith, append_assoc, take-append-drop, length-append, length-take}
 use Rattle.std.specs.Option.{IsSome, IfSome}
-use Rattle.std.specs.Result.{IfErr, IsErr, IsErrAnd}
-use Rattle.std.proofs.lemmas.List.{append-nil, nil_from_length}
-use Rattle.outside.specs.declared.reading.ReadFault.{ReadFault as PieceFault}
+use Rattle.std.specs.Result.{IfOk, IfErr}
+use Rattle.std.proofs.lemmas.List.{append-nil, nil_from_length, take-append-le}
+use Rattle.std.proofs.Math.Seq.{take-append-add}
+use Rattle.outside.specs.Streams.{ReadsAtMost}
 use Rattle.small_types.specs.declared.target.Target.{Target}
 use Rattle.connections.specs.Wire.{Made, begun, Connects, Receives, Sends, all_sent}
 use Rattle.http_plain.specs.declared.begun.Begun.{Begun}
 use Rattle.http_plain.specs.declared.fault.ExchangeFault.{ExchangeFault}
 use Rattle.http_plain.specs.declared.fault.ExchangeFault.TheVariants.{ReadFault, WriteFault, Cut, HeadTooLong, Malformed, Missing, Status, Encoded, NoLength, Memory}
 use Rattle.http_plain.specs.Exchange.{request_text}
-use Rattle.http_plain.specs.Begin.{Answers, Exchanges, ExchangesBy, IsHalfAsked, IsHalfHeard, IsMade, IsRead, IsReadFront, IsReadLost, IsReadPart, IsReadSome, RunsOut, piece_limit, IsSending, IsSent, IsSentPart, IsOwn}
-use Rattle.http_plain.specs.Head.{head_end, head_limit, IsEnough, IsNear}
+use Rattle.http_plain.specs.Begin.{Answers, Exchanges, ExchangesBy, IsHalfAsked, IsHalfHeard, IsMade, IsRead, IsReadFront, IsReadPart, GivesLength, RunsOut, IsSending, IsSent, IsSentPart, IsOwn}
+use Rattle.http_plain.specs.declared.exchange.TheConstants.{ANSWER_PIECE}
+use Rattle.http_plain.specs.Head.{head_end, IsEnough, IsNear}
+use Rattle.http_plain.specs.declared.head.TheConstants.{HEAD_LIMIT}
 use Rattle.http_plain.proofs.Ends.{near_piece, near_none, near_whole}
 
 long_not_zero : (n : ℕ) → eqb (suc n) 0 ≡ true → ⊥
@@ -62,6 +65,26 @@ read_more made old new front buf n so_far receives =
           ∙ sym (append_assoc front (take n buf) receives.left);
     }
 
+-- a piece behind the first bytes of a buffer lengthens them
+pub front_grown : (old new buf tail : List ℕ) (used n : ℕ) → new ≡ take used old ++ (buf ++ tail) → used ≤ length old → n ≤ length buf
+    → take (used + n) new ≡ take used old ++ take n buf
+front_grown old new buf tail used n is within fits =
+    let short : length (take used old) ≡ used = omega (arith, length-take used old) in
+    ap (take (used + n)) is
+    ∙ ap (λ k. take (k + n) (take used old ++ (buf ++ tail))) (sym short)
+    ∙ take-append-add (take used old) (buf ++ tail) n
+    ∙ ap (λ l. take used old ++ l) (take-append-le n buf tail fits)
+
+-- a piece is received behind the first bytes of a buffer
+pub piece_read : {E : Type 0} (r : Result ℕ E) (old new : Option Made) (front before buf tail : List ℕ) (used : ℕ) → used ≤ length front → length buf ≡ length before
+    → IfOk r (λ n. ReadsAtMost n before buf)
+    → IfOk r (λ n. Receives old new buf n)
+    → IfOk r (λ n. (made : Made) → IsRead made old (take used front) → IsRead made new (take (used + n) (take used front ++ (buf ++ tail))))
+piece_read (Err e) old new front before buf tail used within same fits receives = tt
+piece_read (Ok n) old new front before buf tail used within same fits receives = λ made read.
+    subst (IsRead made new) (sym (front_grown front (take used front ++ (buf ++ tail)) buf tail used n refl within (omega (arith, fits.fits, same))))
+    (read_more made old new (take used front) buf n read receives)
+
 -- nothing more came
 pub read_end : (made : Made) (old new : Option Made) (front buf : List ℕ) (n : ℕ)
     → IsRead made old front → Receives old new buf n → n ≡ 0 → made.left ≡ front
@@ -70,7 +93,7 @@ read_end made old new front buf n so_far receives none =
     so_far.given ∙ ap (λ l. front ++ l) (sym (ap (λ (l : Made). l.left) last) ∙ receives.given.end none) ∙ append-nil front
 
 -- all came
-pub front_at_end : (made : Made) (now : Option Made) (front : List ℕ) → IsRead made now front → made.left ≡ front → IsNear piece_limit front
+pub front_at_end : (made : Made) (now : Option Made) (front : List ℕ) → IsRead made now front → made.left ≡ front → IsNear ANSWER_PIECE front
     → IsReadFront made now front
 front_at_end made now front so_far all near =
     record {
@@ -81,41 +104,20 @@ front_at_end made now front so_far all near =
       near = near;
     }
 
-pub front_at_mark : (made : Made) (now : Option Made) (front : List ℕ) → IsRead made now front → length front ≤ head_limit
-    → IsSome (head_end front) → IsNear piece_limit front → IsReadFront made now front
+pub front_at_mark : (made : Made) (now : Option Made) (front : List ℕ) → IsRead made now front → length front ≤ HEAD_LIMIT
+    → IsSome (head_end front) → IsNear ANSWER_PIECE front → IsReadFront made now front
 front_at_mark made now front so_far fits ended near =
     record { left = so_far.left; after = so_far.after; given = so_far.given; enough = inr (inr (fits, ended)); near = near }
 
-pub front_at_limit : (made : Made) (now : Option Made) (front : List ℕ) → IsRead made now front → length front ≤ head_limit
-    → head_limit ≤ length front → head_end front ≡ None → IsReadFront made now front
+pub front_at_limit : (made : Made) (now : Option Made) (front : List ℕ) → IsRead made now front → length front ≤ HEAD_LIMIT
+    → HEAD_LIMIT ≤ length front → head_end front ≡ None → IsReadFront made now front
 front_at_limit made now front so_far fits full none =
     record {
       left = so_far.left;
       after = so_far.after;
       given = so_far.given;
       enough = inr (inl (omega arith));
-      near = near_none piece_limit front none;
-    }
-
--- a piece came that there was no memory for
-pub read_lost : (made : Made) (old new : Option Made) (front buf : List ℕ) (n piece : ℕ) → n ≤ piece → length front + n ≤ head_limit
-    → IsRead made old front → Receives old new buf n → IsReadLost made new front piece
-read_lost made old new front buf n piece fits few so_far receives =
-    record {
-      more = take n buf;
-      fits = omega (arith, length-take n buf);
-      few = omega (arith, length-append front (take n buf), length-take n buf);
-      read = read_more made old new front buf n so_far receives;
-    }
-
-pub read_some : (made : Made) (now : Option Made) (front : List ℕ) (piece : ℕ) → piece ≡ piece_limit → head_end front ≡ None → IsReadLost made now front piece
-    → IsReadSome made now
-read_some made now front piece is none lost =
-    record {
-      front = front ++ lost.more;
-      read = lost.read;
-      few = lost.few;
-      near = near_piece piece_limit front lost.more none (omega (arith, is, lost.fits));
+      near = near_none ANSWER_PIECE front none;
     }
 
 pub exchanged : (target : Target) (one two three : Option Made) (request front : List ℕ) (result : Result Begun ExchangeFault)
@@ -123,7 +125,7 @@ pub exchanged : (target : Target) (one two three : Option Made) (request front :
     → ((made : Made) → one ≡ Some made → IsSent made two request)
     → ((made : Made) → two ≡ Some made → IsReadFront made three front)
     → request ≡ request_text target
-    → length front ≤ head_limit
+    → length front ≤ HEAD_LIMIT
     → ((left : List ℕ) → IsEnough front left → Answers (front ++ left) left result)
     → Exchanges target three result
 exchanged target one two three request front result connects sends reads text fits answers =
@@ -137,16 +139,16 @@ exchanged target one two three request front result connects sends reads text fi
       answers = subst (λ answer. Answers answer read.left result) (sym read.given) (answers read.left read.enough);
       received = omega (arith, length-append front read.left, ap length read.given);
       near =
-          subst (λ answer. IfSome (head_end answer) (λ end. length answer < length read.left + end + piece_limit)) (sym read.given)
-          (near_whole piece_limit front read.left read.near);
+          subst (λ answer. IfSome (head_end answer) (λ end. length answer < length read.left + end + ANSWER_PIECE)) (sym read.given)
+          (near_whole ANSWER_PIECE front read.left read.near);
     }
 
 -- what the answer alone decides
 pub exchanges : (target : Target) (present : Option Made) (result : Result Begun ExchangeFault)
-    → IfErr result IsOwn → Exchanges target present result → ExchangesBy target present result
+    → IfErr result (λ fault. fault ≢ Memory → IsOwn fault) → Exchanges target present result → ExchangesBy target present result
 exchanges target present (Ok begun) own x = x
-exchanges target present (Err ReadFault) own x = absurd own
-exchanges target present (Err WriteFault) own x = absurd own
+exchanges target present (Err ReadFault) own x = absurd (own (λ e. cc))
+exchanges target present (Err WriteFault) own x = absurd (own (λ e. cc))
 exchanges target present (Err Memory) own x = tt
 exchanges target present (Err Cut) own x = x
 exchanges target present (Err HeadTooLong) own x = x
@@ -192,45 +194,32 @@ half_heard target one two three request connects sends reads text =
       },
     )
 
--- memory ran out while the answer was received
-pub runs_out : (target : Target) (over_old over_new : List (List ℕ)) (zero one two three : Option Made) (request : List ℕ)
+-- memory ran out behind the head of the answer
+pub runs_out : (target : Target) (over_old over_new : List (List ℕ)) (zero one two three : Option Made) (request front : List ℕ)
     → over_new ≡ all_sent over_old zero
     → Connects target.host target.port one
     → ((made : Made) → one ≡ Some made → IsSent made two request)
-    → ((made : Made) → two ≡ Some made → IsReadSome made three)
+    → ((made : Made) → two ≡ Some made → IsReadFront made three front)
     → request ≡ request_text target
+    → length front ≤ HEAD_LIMIT
+    → ((left : List ℕ) → IsEnough front left → GivesLength (front ++ left))
     → RunsOut target over_old over_new zero three
-runs_out target over_old over_new zero one two three request over connects sends reads text =
+runs_out target over_old over_new zero one two three request front over connects sends reads text fits gives =
     let first : Made = begun target.host target.port connects.answer in
     let second : Made = record first { sent = first.sent ++ request } in
-    let some = reads second (sends first connects.made) in
+    let read = reads second (sends first connects.made) in
     record {
       over = over;
       heard = (
-        record second { left = some.read.left },
-        some.read.after,
+        record second { left = read.left },
+        read.after,
         record {
           asked = record { host = refl; port = refl; sent = text };
-          front = some.front;
-          given = some.read.given;
-          few = some.few;
-          near = some.near;
+          answer = subst GivesLength (sym read.given) (gives read.left read.enough);
+          front = front;
+          given = read.given;
+          few = fits;
+          near = read.near;
         },
       );
     }
-
--- a whole front is some of the answer
-pub some_of_front : (made : Made) (now : Option Made) (front : List ℕ) → length front ≤ head_limit → IsReadFront made now front → IsReadSome made now
-some_of_front made now front few read =
-    record {
-      front = front;
-      read = record { left = read.left; after = read.after; given = read.given };
-      few = few;
-      near = read.near;
-    }
-
--- an error that is handed on
-pub the_fault : {A B : Type 0} (r : Result A PieceFault) (e f : PieceFault) → IsErr r × IsErrAnd r (λ x. x ≡ e) → r ≡ Err f
-    → (let given : Result B PieceFault = Err e in given) ≡ Err f
-the_fault (Ok x) e f is same = absurd is.1
-the_fault (Err y) e f is same = let known : y ≡ f = cc in ap Err (sym is.1 ∙ known)

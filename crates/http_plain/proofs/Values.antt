@@ -8,7 +8,8 @@ use Rattle.httparse.specs.declared.spans.HeaderSpan.{HeaderSpan}
 use Rattle.httparse.specs.Spans.{header_bytes}
 use Rattle.http_plain.specs.declared.lengths.Named.{Named}
 use Rattle.http_plain.specs.declared.lengths.Named.TheVariants.{Nothing}
-use Rattle.http_plain.specs.Exchange.{joined, length_of, named_by}
+use Rattle.http_plain.specs.Exchange.{joined, named_by}
+use Rattle.small_types.specs.Decimal.{decimal_of}
 use Rattle.http_plain.specs.Fields.{values_of, values_at}
 
 -- whether a field has the name
@@ -123,7 +124,7 @@ all_done bytes headers name value i all done so_far =
 -- ---- the length that they name
 
 abbrev pub step_named : Bool → List ℕ → Named → Named
-step_named is value later = cond is (joined (length_of value) later) later
+step_named is value later = cond is (joined (decimal_of value) later) later
 
 named_with : (is : Bool) (value : List ℕ) (values : List (List ℕ)) → named_by (with_field is value values) ≡ step_named is value (named_by values)
 named_with true value values = refl

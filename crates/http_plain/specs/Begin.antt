@@ -7,19 +7,18 @@ use Rattle.http_plain.specs.declared.begun.Begun.{Begun}
 use Rattle.http_plain.specs.declared.fault.ExchangeFault.{ExchangeFault}
 use Rattle.http_plain.specs.declared.fault.ExchangeFault.TheVariants.{ReadFault, WriteFault, Memory}
 use Rattle.http_plain.specs.Exchange.{Gives, request_text}
-use Rattle.http_plain.specs.Head.{behind_head, head_end, head_limit, IsEnough, IsNear}
+use Rattle.http_plain.specs.Head.{behind_head, head_end, IsEnough, IsNear}
+use Rattle.http_plain.specs.declared.exchange.TheConstants.{ANSWER_PIECE}
+use Rattle.http_plain.specs.declared.head.TheConstants.{HEAD_LIMIT}
 
--- the most bytes that are received at once
-abbrev pub piece_limit : ℕ
-piece_limit = 4096
-
--- the connection leads to the target's host and port, and the request for the target was sent there, and nothing else
+-- the connection leads to the target's host and port, and exactly the request for the target was sent there
 pub record IsAsked (target : Target) (made : Made) : Type 0 where
   pub host : made.host ≡ target.host
   pub port : made.port ≡ target.port
   pub sent : made.sent ≡ request_text target
 
--- sending failed: a first part of the request for the target was sent, and not all, and nothing of the answer was received
+-- sending failed: a first part of the request for the target was sent, and not all, and nothing of
+-- the answer was received
 pub record IsHalfAsked (target : Target) (made : Made) : Type 0 where
   pub host : made.host ≡ target.host
   pub port : made.port ≡ target.port
@@ -28,23 +27,29 @@ pub record IsHalfAsked (target : Target) (made : Made) : Type 0 where
   pub sent : request_text target ≡ made.sent ++ rest
   pub none : made.left ≡ made.answer
 
--- receiving failed: the whole request was sent, and what was received of the answer is shorter than a head may be, and has
--- no end of one
+-- receiving failed: the whole request was sent, and what was received of the answer is shorter than a
+-- head may be, and has no end of one
 pub record IsHalfHeard (target : Target) (made : Made) : Type 0 where
   pub asked : IsAsked target made
   pub front : List ℕ
   pub given : made.answer ≡ front ++ made.left
-  pub few : length front < head_limit
+  pub few : length front < HEAD_LIMIT
   pub none : head_end front ≡ None
 
--- the whole request was sent, and no more of the answer was received than a head may have, and no piece once the end of
--- the head had come
+-- the answer gives the length of a body
+pub record GivesLength (answer : List ℕ) : Type 0 where
+  pub length : ℕ
+  pub gives : Gives answer (Ok length)
+
+-- the whole request was sent, and the answer gives a length; no more of it was received than a head may
+-- have, and no piece once the end of the head had come
 pub record IsHeard (target : Target) (made : Made) : Type 0 where
   pub asked : IsAsked target made
+  pub answer : GivesLength made.answer
   pub front : List ℕ
   pub given : made.answer ≡ front ++ made.left
-  pub few : length front ≤ head_limit
-  pub near : IsNear piece_limit front
+  pub few : length front ≤ HEAD_LIMIT
+  pub near : IsNear ANSWER_PIECE front
 
 -- the present connection was made, and it is so
 abbrev pub IsMade : (Made → Type 0) → Option Made → Type 0
@@ -68,20 +73,23 @@ abbrev pub Answers : List ℕ → List ℕ → Result Begun ExchangeFault → Ty
 Answers answer left (Ok begun) = Comes answer left begun
 Answers answer left (Err fault) = IsRefusedBy answer fault
 
--- what came of the exchange for a target over a present connection, of whose answer at most 65,536 bytes were received,
--- and no piece once the end of the head had come
-pub record Exchanges (target : Target) (present : Option Made) (result : Result Begun ExchangeFault) : Type 0 where
+-- what came of the exchange for a target over a present connection, of whose answer at most 65,536
+-- bytes were received, and no piece once the end of the head had come
+pub record Exchanges (target : Target) (present : Option Made) (result : Result Begun ExchangeFault)
+    : Type 0 where
   pub made : Made
   pub is : present ≡ Some made
   pub asked : IsAsked target made
   pub answers : Answers made.answer made.left result
-  pub received : length made.answer ≤ length made.left + head_limit
-  pub near : IfSome (head_end made.answer) (λ end. length made.answer < length made.left + end + piece_limit)
+  pub received : length made.answer ≤ length made.left + HEAD_LIMIT
+  pub near : IfSome (head_end made.answer)
+      (λ end. length made.answer < length made.left + end + ANSWER_PIECE)
 
--- there is a present connection of this exchange, of which less is said where the wire failed, and nothing where memory ran
--- out; there is none where connecting failed
+-- there is a present connection of this exchange, of which less is said where the wire failed, and
+-- nothing where memory ran out; there is none where connecting failed
 abbrev pub ExchangesBy : Target → Option Made → Result Begun ExchangeFault → Type 0
-ExchangesBy target present (Err ReadFault) = (present ≡ None) ⊎ IsMade (IsHalfHeard target) present
+ExchangesBy target present (Err ReadFault) =
+    (present ≡ None) ⊎ IsMade (IsHalfHeard target) present
 ExchangesBy target present (Err WriteFault) = IsMade (IsHalfAsked target) present
 ExchangesBy target present (Err Memory) = Unit {0}
 ExchangesBy target present result = Exchanges target present result
@@ -93,15 +101,18 @@ pub record FailsCounted {T : Type 0} (old new : ℕ) (result : Result T Exchange
   pub write : IfErr result (λ e. e ≡ WriteFault → Rose old new)
   pub quiet : result ≢ Err ReadFault → result ≢ Err WriteFault → new ≡ old
 
--- memory ran out behind the request: it was sent on a new connection, and the one before it is over
-pub record RunsOut (target : Target) (over_old over_new : List (List ℕ)) (old new : Option Made) : Type 0 where
+-- memory ran out for the first bytes of the body: the request was sent on a new connection, whose
+-- answer gives a length, and the connection before it is over
+pub record RunsOut (target : Target) (over_old over_new : List (List ℕ)) (old new : Option Made)
+    : Type 0 where
   pub over : over_new ≡ all_sent over_old old
   pub heard : IsMade (IsHeard target) new
 
--- an error that the answer alone decides, or want of memory
+-- an error that the answer alone decides
 abbrev pub IsOwn : ExchangeFault → Type 0
 IsOwn ReadFault = ⊥
 IsOwn WriteFault = ⊥
+IsOwn Memory = ⊥
 IsOwn _ = Unit {0}
 
 -- ---- on the way
@@ -128,7 +139,7 @@ pub record IsReadFront (made : Made) (now : Option Made) (bytes : List ℕ) : Ty
   pub after : now ≡ Some (record made { left = left })
   pub given : made.left ≡ bytes ++ left
   pub enough : IsEnough bytes left
-  pub near : IsNear piece_limit bytes
+  pub near : IsNear ANSWER_PIECE bytes
 
 -- a first part of the bytes was sent besides, and not all
 pub record IsSentPart (made : Made) (now : Option Made) (bytes : List ℕ) : Type 0 where
@@ -140,19 +151,5 @@ pub record IsSentPart (made : Made) (now : Option Made) (bytes : List ℕ) : Typ
 pub record IsReadPart (made : Made) (now : Option Made) : Type 0 where
   pub front : List ℕ
   pub read : IsRead made now front
-  pub few : length front < head_limit
+  pub few : length front < HEAD_LIMIT
   pub none : head_end front ≡ None
-
--- behind what was received, more came, of at most so many bytes, that there was no memory for
-pub record IsReadLost (made : Made) (now : Option Made) (bytes : List ℕ) (piece : ℕ) : Type 0 where
-  pub more : List ℕ
-  pub fits : length more ≤ piece
-  pub few : length (bytes ++ more) ≤ head_limit
-  pub read : IsRead made now (bytes ++ more)
-
--- what was received is no more than a head may have, and no piece of it came once the end of the head had come
-pub record IsReadSome (made : Made) (now : Option Made) : Type 0 where
-  pub front : List ℕ
-  pub read : IsRead made now front
-  pub few : length front ≤ head_limit
-  pub near : IsNear piece_limit front

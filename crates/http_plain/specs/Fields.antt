@@ -11,7 +11,8 @@ pairs_of fields = map name_and_value fields
 
 -- the values of the fields of a name, without regard to case, in their order
 unfoldable pub values_of : List ℕ → List (List ℕ × List ℕ) → List (List ℕ)
-values_of name pairs = map (λ pair. pair.1) (filter (λ pair. str_eq_ignore_ascii_case pair.0 name) pairs)
+values_of name pairs =
+    map (λ pair. pair.1) (filter (λ pair. str_eq_ignore_ascii_case pair.0 name) pairs)
 
 -- the same of the fields whose names and values the spans cover
 abbrev pub values_at : List ℕ → List HeaderSpan → List ℕ → List (List ℕ)

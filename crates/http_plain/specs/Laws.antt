@@ -8,7 +8,8 @@ use Rattle.http_plain.specs.Served.{Asks, Answer, Serves}
 
 -- a request asks for one thing
 abbrev pub OneDemand : Type 0
-OneDemand = (request : List ℕ) (one other : Demand) → Asks request one → Asks request other → one ≡ other
+OneDemand = (request : List ℕ) (one other : Demand)
+    → Asks request one → Asks request other → one ≡ other
 
 -- files and a request determine the answer
 abbrev pub OneAnswer : Type 0
@@ -17,4 +18,5 @@ OneAnswer = (files : List Held) (request : List ℕ) (one other : Answer)
 
 -- an answer gives one outcome
 abbrev pub OneOutcome : Type 0
-OneOutcome = (answer : List ℕ) (one other : Result ℕ ExchangeFault) → Gives answer one → Gives answer other → one ≡ other
+OneOutcome = (answer : List ℕ) (one other : Result ℕ ExchangeFault)
+    → Gives answer one → Gives answer other → one ≡ other

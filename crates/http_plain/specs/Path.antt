@@ -12,4 +12,5 @@ without_query target = before_first (λ b. b == 63) target
 -- the target begins with `/`; what follows it, up to a `?`, percent-decoded, is a file name
 unfoldable pub name_in_path : List ℕ → Option (List ℕ)
 name_in_path [] = None
-name_in_path (b ∷ rest) = if b == 47 then result_ok (name_of (percent_decode (without_query rest))) else None
+name_in_path (b ∷ rest) =
+    if b == 47 then result_ok (name_of (percent_decode (without_query rest))) else None

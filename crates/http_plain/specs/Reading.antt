@@ -16,7 +16,8 @@ pub record ReadsAs (answer bytes : List ℕ) : Type 0 where
 
 -- a file that is answered is read as it stands
 abbrev pub FilesAreRead : Type 0
-FilesAreRead = (name bytes : List ℕ) → length bytes < 10 ^ 19 → ReadsAs (file_answer name true bytes) bytes
+FilesAreRead = (name bytes : List ℕ) → length bytes < 10 ^ 19
+    → ReadsAs (file_answer name true bytes) bytes
 
 -- a byte of visible ASCII
 abbrev pub is_visible : ℕ → Bool
@@ -40,4 +41,5 @@ pub record Fetches (files : List Held) (target : Target) (answer : List ℕ) : T
 -- an answer of status 200 of a host of these files to a client's request is read as the file that the path names
 abbrev pub HostsAreFolders : Type 0
 HostsAreFolders = (files : List Held) (target : Target) (answer : List ℕ) → IsPlain target
-    → Serves files (request_text target) (record { code = Some 200; bytes = answer }) → Fetches files target answer
+    → Serves files (request_text target) (record { code = Some 200; bytes = answer })
+    → Fetches files target answer

@@ -9,7 +9,8 @@ use Rattle.http_plain.specs.Asked.{IsRequest}
 use Rattle.http_plain.specs.Exchange.{IsResponse}
 
 -- the bytes are one request head, whose parts the spans cover
-pub record CoversRequest (bytes : List ℕ) (headers : List HeaderSpan) (spans : RequestSpans) (h : RequestHead) : Type 0 where
+pub record CoversRequest (bytes : List ℕ) (headers : List HeaderSpan) (spans : RequestSpans)
+    (h : RequestHead) : Type 0 where
   pub is : IsRequest bytes h
   pub parts : IsRequestAt bytes headers spans h
   pub within : IsRequestWithin bytes headers spans
@@ -19,7 +20,8 @@ abbrev pub FindsRequest : List ℕ → List HeaderSpan → RequestSpans → Type
 FindsRequest bytes headers spans = (h : RequestHead) × CoversRequest bytes headers spans h
 
 -- the bytes are one response head, whose parts the spans cover
-pub record CoversResponse (bytes : List ℕ) (headers : List HeaderSpan) (spans : ResponseSpans) (h : ResponseHead) : Type 0 where
+pub record CoversResponse (bytes : List ℕ) (headers : List HeaderSpan) (spans : ResponseSpans)
+    (h : ResponseHead) : Type 0 where
   pub is : IsResponse bytes h
   pub parts : IsResponseAt bytes headers spans h
   pub within : IsResponseWithin bytes headers spans

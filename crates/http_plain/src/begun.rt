@@ -1,8 +1,9 @@
 // The answer to a client.
-ghost use Rattle.std.specs.Prelude.{◌≡◌, ◌++◌, ◌≤◌, ℕ, List, length, take, drop, nat_lt, IfErr, IfOk, if◌then◌else◌};
-ghost use Rattle.http_plain.specs.declared.fault.ExchangeFault.TheVariants.{Cut, HeadTooLong};
-ghost use Rattle.http_plain.specs.Begin.{Answers, IsOwn};
-ghost use Rattle.http_plain.specs.Head.{IsEnough, head_limit};
+ghost use Rattle.std.specs.Prelude.{◌≡◌, ◌≢◌, ◌++◌, ◌≤◌, ℕ, List, length, take, drop, nat_lt, Err, IfErr, IfOk, if◌then◌else◌};
+ghost use Rattle.http_plain.specs.declared.fault.ExchangeFault.TheVariants.{Cut, HeadTooLong, Memory as no_memory};
+ghost use Rattle.http_plain.specs.Begin.{Answers, GivesLength, IsOwn};
+ghost use Rattle.http_plain.specs.Head.{IsEnough};
+ghost use Rattle.http_plain.specs.declared.head.TheConstants.{HEAD_LIMIT};
 
 use crate::fault::ExchangeFault;
 use crate::head::{HEAD_LIMIT, end_within};
@@ -33,7 +34,7 @@ fn first_bytes(alloc: Global, bytes: &[u8], limit: u64) -> Result<Bytes, AllocEr
 
 // Why an answer of so many bytes without the end of a head gives no body.
 fn unended(length: usize) -> ExchangeFault
-    ensures value { result ≡ (if nat_lt length head_limit then Cut else HeadTooLong) }
+    ensures value { result ≡ (if nat_lt length HEAD_LIMIT then Cut else HeadTooLong) }
     ensures own { IsOwn result }
 {
     if length < HEAD_LIMIT {
@@ -45,7 +46,8 @@ fn unended(length: usize) -> ExchangeFault
 // The exchange over an answer whose first bytes these are, with a head that ends there and gives that length.
 fn begin_at(alloc: Global, front: &[u8], end: usize, size: u64) -> Result<Begun, AllocError>
     requires { end ≤ length front.now }
-    ensures { IfOk result (λ begun. (begun.length ≡ size) × (begun.early ≡ take size (drop end front.now))) }
+    ensures { IfOk result (λ begun. (begun.length ≡ size)
+        × (begun.early ≡ take size (drop end front.now))) }
 {
     Ok(Begun {
         length: size,
@@ -53,11 +55,14 @@ fn begin_at(alloc: Global, front: &[u8], end: usize, size: u64) -> Result<Begun,
     })
 }
 
-// What an answer comes to whose first bytes these are.
+// What an answer comes to whose first bytes these are. There may be no memory only for the first bytes of a body.
 pub(crate) fn begin(alloc: Global, front: &[u8]) -> Result<Begun, ExchangeFault>
-    requires { length front.now ≤ head_limit }
-    ensures answers { (left : List ℕ) → IsEnough front.now left → Answers (front.now ++ left) left result }
-    ensures own { IfErr result IsOwn }
+    requires { length front.now ≤ HEAD_LIMIT }
+    ensures answers { (left : List ℕ) → IsEnough front.now left
+        → Answers (front.now ++ left) left result }
+    ensures own { IfErr result (λ fault. fault ≢ no_memory → IsOwn fault) }
+    ensures memory { result ≡ Err no_memory → (left : List ℕ) → IsEnough front.now left
+        → GivesLength (front.now ++ left) }
 {
     let Some(end) = end_within(front) else {
         return Err(unended(front.len()));

@@ -1,11 +1,13 @@
 // What a request asks for.
-ghost use Rattle.std.specs.Prelude.{◌≡◌, ◌++◌, ℕ, List, length, nat_lt, IfOk, if◌then◌else◌};
-ghost use Rattle.http_plain.specs.Head.{Whole, IsEnough, front_of, head_limit};
-ghost use Rattle.http_plain.specs.Served.{Asks, Demands, is_get as get_named, is_served, lacks_host as host_lacks, demand_of as demand_at};
+ghost use Rattle.std.specs.Prelude.{◌≡◌, ◌++◌, ℕ, List, length, nat_lt, IfOk, OnErr, if◌then◌else◌};
+ghost use Rattle.http_plain.specs.declared.head.TheConstants.{HEAD_LIMIT};
+ghost use Rattle.http_plain.specs.declared.refusals.Refusal.TheVariants.{BadRequest, FieldsTooLarge};
+ghost use Rattle.http_plain.specs.Head.{Whole, IsEnough, front_of};
+ghost use Rattle.http_plain.specs.Served.{Asks, AsksForFile, Demands, DemandsFile, IsFile, is_get as get_named, is_served, lacks_host as host_lacks, demand_of as demand_at};
 
-use crate::fault::RequestFault;
 use crate::head::{HEAD_LIMIT, end_within};
 use crate::path::name_in_path;
+use crate::refusals::Refusal;
 use crate::request::{Asked, read_request};
 use small_types::Name;
 use std::alloc::{AllocError, Global};
@@ -15,8 +17,8 @@ use std::alloc::{AllocError, Global};
 pub enum Demand {
     /// The request is empty: there is no answer.
     Silent,
-    /// An answer with this code and without a body.
-    Refused { code: u16 },
+    /// The answer to this refusal.
+    Refused { why: Refusal },
     /// The file of this name: `whole` with its bytes, else without them.
     File { name: Name, whole: bool },
 }
@@ -42,60 +44,76 @@ fn is_answered(method: &[u8]) -> bool
     is_get(method) || method == b"HEAD".as_slice()
 }
 
-/// What a whole head asks for.
+/// What a whole head asks for. There may be no memory only for the name of a file that is asked for.
 #[tactic(auto, unfolding(crate::specs::Served::demand_of))]
 pub fn demand_of(alloc: Global, asked: &Asked) -> Result<Demand, AllocError>
-    ensures { IfOk result (λ demand. demand ≡ demand_at asked.now) }
+    ensures demand { IfOk result (λ demand. demand ≡ demand_at asked.now) }
+    ensures memory { OnErr result (IsFile (demand_at asked.now)) }
 {
     if lacks_host(asked) {
-        return Ok(Demand::Refused { code: 400 });
+        return Ok(Demand::Refused {
+            why: Refusal::BadRequest,
+        });
     }
-    if !is_answered(asked.method.as_bytes()) {
-        return Ok(Demand::Refused { code: 405 });
+    if !is_answered(asked.method) {
+        return Ok(Demand::Refused {
+            why: Refusal::MethodNotAllowed,
+        });
     }
-    match name_in_path(alloc, asked.target.as_bytes())? {
+    match name_in_path(alloc, asked.target)? {
         Some(name) => Ok(Demand::File {
             name,
-            whole: is_get(asked.method.as_bytes()),
+            whole: is_get(asked.method),
         }),
-        None => Ok(Demand::Refused { code: 400 }),
+        None => Ok(Demand::Refused {
+            why: Refusal::BadRequest,
+        }),
     }
 }
 
 // What bytes that end with the end of a head ask for.
 fn demand_of_head(alloc: Global, head: &[u8]) -> Result<Demand, AllocError>
-    ensures { IfOk result (Demands (Whole head.now)) }
+    ensures demand { IfOk result (Demands (Whole head.now)) }
+    ensures memory { OnErr result (DemandsFile (Whole head.now)) }
 {
-    match read_request(alloc, head) {
-        Ok(asked) => demand_of(alloc, &asked),
-        Err(RequestFault::Malformed) => Ok(Demand::Refused { code: 400 }),
-        Err(RequestFault::Memory) => Err(AllocError),
+    match read_request(head) {
+        Some(asked) => demand_of(alloc, &asked),
+        None => Ok(Demand::Refused {
+            why: Refusal::BadRequest,
+        }),
     }
 }
 
-// The code of the answer to a request of so many bytes without the end of a head.
-fn unended(length: usize) -> u16
-    ensures { result ≡ (if nat_lt length head_limit then 400 else 431) }
+// Why a request of so many bytes without the end of a head is refused.
+fn unended(length: usize) -> Refusal
+    ensures { result ≡ (if nat_lt length HEAD_LIMIT then BadRequest else FieldsTooLarge) }
 {
-    if length < HEAD_LIMIT { 400 } else { 431 }
+    if length < HEAD_LIMIT {
+        return Refusal::BadRequest;
+    }
+    Refusal::FieldsTooLarge
 }
 
 // What a request of one byte or more asks for.
 fn demand_of_front(alloc: Global, front: &[u8]) -> Result<Demand, AllocError>
-    ensures { IfOk result (Demands (front_of front.now)) }
+    ensures demand { IfOk result (Demands (front_of front.now)) }
+    ensures memory { OnErr result (DemandsFile (front_of front.now)) }
 {
     match end_within(front) {
         Some(end) => demand_of_head(alloc, &front[..end]),
         None => Ok(Demand::Refused {
-            code: unended(front.len()),
+            why: unended(front.len()),
         }),
     }
 }
 
 /// What a request asks for that begins with these bytes, which are enough: the whole request, or its first 65,536
-/// bytes, or fewer with the end of its head among them.
+/// bytes, or fewer with the end of its head among them. There may be no memory only where it asks for a file.
 pub fn demand_in(alloc: Global, front: &[u8]) -> Result<Demand, AllocError>
-    ensures { IfOk result (λ demand. (left : List ℕ) → IsEnough front.now left → Asks (front.now ++ left) demand) }
+    ensures demand { IfOk result (λ demand. (left : List ℕ) → IsEnough front.now left
+        → Asks (front.now ++ left) demand) }
+    ensures memory { OnErr result ((left : List ℕ) → IsEnough front.now left
+        → AsksForFile (front.now ++ left)) }
 {
     if front.is_empty() {
         return Ok(Demand::Silent);

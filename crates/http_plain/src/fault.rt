@@ -1,25 +1,7 @@
-// Why heads are refused.
+// Why an exchange gives no body.
 use std::alloc::AllocError;
-
-/// Why bytes are no request.
-#[derive(Clone, Copy, Debug, PartialEq, Eq)]
-pub enum RequestFault {
-    /// They are not one request head of at most 64 fields.
-    Malformed,
-    /// There was no memory for what the head says.
-    Memory,
-}
-
-impl From<AllocError> for RequestFault {
-    ghost use Rattle.std.specs.Prelude.{◌≡◌};
-    ghost use Rattle.http_plain.specs.declared.fault.RequestFault.TheVariants.{Memory};
-
-    ghost from_gives = { λ _ e. e ≡ Memory };
-
-    fn from(_: AllocError) -> RequestFault {
-        RequestFault::Memory
-    }
-}
+use std::error::Error;
+use std::fmt;
 
 /// Why an exchange gives no body.
 #[derive(Clone, Copy, Debug, PartialEq, Eq)]
@@ -46,6 +28,25 @@ pub enum ExchangeFault {
     /// There was no memory for the request or the answer's head.
     Memory,
 }
+
+impl fmt::Display for ExchangeFault {
+    fn fmt<W: fmt::Write>(&self, f: &mut fmt::Formatter<W>) -> fmt::Result {
+        match self {
+            ExchangeFault::ReadFault => write!(f, "connecting or receiving failed"),
+            ExchangeFault::WriteFault => write!(f, "sending failed"),
+            ExchangeFault::Cut => write!(f, "the answer ends before its head does"),
+            ExchangeFault::HeadTooLong => write!(f, "the head of the answer is too long"),
+            ExchangeFault::Malformed => write!(f, "the head of the answer is malformed"),
+            ExchangeFault::Missing => write!(f, "nothing is found there"),
+            ExchangeFault::Status { code } => write!(f, "the answer has the status {code}"),
+            ExchangeFault::Encoded => write!(f, "the answer is encoded"),
+            ExchangeFault::NoLength => write!(f, "the answer names no length"),
+            ExchangeFault::Memory => write!(f, "out of memory"),
+        }
+    }
+}
+
+impl Error for ExchangeFault {}
 
 impl From<AllocError> for ExchangeFault {
     ghost use Rattle.std.specs.Prelude.{◌≡◌};

@@ -26,7 +26,8 @@ pub(crate) fn value_of<'b>(bytes: &'b [u8], header: HeaderSpan) -> &'b [u8]
 // One where the field has this name, else zero.
 fn count_one(bytes: &[u8], header: HeaderSpan, name: &[u8]) -> usize
     requires { IsHeaderWithin (length bytes.now) header }
-    ensures { result ≡ (if str_eq_ignore_ascii_case (header_bytes bytes.now header).0 name.now then 1 else 0) }
+    ensures { result ≡ (if str_eq_ignore_ascii_case (header_bytes bytes.now header).0 name.now
+        then 1 else 0) }
 {
     if is_named(bytes, header, name) { 1 } else { 0 }
 }
@@ -56,7 +57,8 @@ pub(crate) fn count_named(bytes: &[u8], headers: &[HeaderSpan], name: &[u8]) -> 
 // Whether each field of this name has this value.
 pub(crate) fn all_are(bytes: &[u8], headers: &[HeaderSpan], name: &[u8], value: &[u8]) -> bool
     requires { All (IsHeaderWithin (length bytes.now)) headers.now }
-    ensures { result ≡ list_all (λ given. bytes_eq given value.now) (values_at bytes.now headers.now name.now) }
+    ensures { result ≡ list_all (λ given. bytes_eq given value.now)
+        (values_at bytes.now headers.now name.now) }
 {
     for header in headers {
         if differs(bytes, *header, name, value) {

@@ -1,7 +1,8 @@
 // Where the head of a message ends.
 ghost use Rattle.std.specs.Prelude.{◌≡◌, ◌+◌, ◌≤◌, length, take, drop, nat_eq, None, IsTrue, IfSome};
 ghost use Rattle.std.specs.List.{starts_with};
-ghost use Rattle.http_plain.specs.Head.{head_end, head_limit, head_mark};
+ghost use Rattle.http_plain.specs.Head.{head_end, head_mark};
+ghost use Rattle.http_plain.specs.declared.head.TheConstants.{HEAD_LIMIT};
 
 /// The most bytes that a head has, up to and including its end.
 pub const HEAD_LIMIT: usize = 65536;
@@ -44,7 +45,7 @@ pub fn find_head_end(text: &[u8], looked: usize) -> Option<usize>
 
 /// The place behind the first CR LF CR LF of the first 65,536 bytes.
 pub(crate) fn end_within(bytes: &[u8]) -> Option<usize>
-    ensures end { result ≡ head_end (take head_limit bytes.now) }
+    ensures end { result ≡ head_end (take HEAD_LIMIT bytes.now) }
     ensures within { IfSome result (λ end. end ≤ length bytes.now) }
 {
     find_head_end(&bytes[..bytes.len().min(HEAD_LIMIT)], 0)

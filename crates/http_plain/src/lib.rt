@@ -10,6 +10,7 @@ mod head;
 mod laws;
 mod lengths;
 mod path;
+mod refusals;
 mod request;
 mod response;
 #[cfg(test)]
@@ -18,8 +19,9 @@ mod tests;
 pub use begun::Begun;
 pub use demand::{Demand, demand_in, demand_of};
 pub use exchange::ask_wire;
-pub use fault::{ExchangeFault, RequestFault};
+pub use fault::ExchangeFault;
 pub use head::{FIELD_LIMIT, HEAD_LIMIT, find_head_end};
 pub use laws::{files_are_read, hosts_are_folders, one_answer, one_demand, one_outcome};
 pub use path::name_in_path;
+pub use refusals::Refusal;
 pub use request::{Asked, read_request};

@@ -3,7 +3,8 @@ ghost use Rattle.std.specs.Prelude.{◌≡◌, ◌≤◌, codes, length, take, A
 ghost use Rattle.httparse.specs.Spans.{IsHeaderWithin, header_bytes};
 ghost use Rattle.http_plain.specs.Begin.{IsOwn};
 ghost use Rattle.http_plain.specs.Exchange.{GivesBy, IsNoResponse, given, is_encoded as encoded_by};
-ghost use Rattle.http_plain.specs.Head.{Whole, field_limit};
+ghost use Rattle.http_plain.specs.Head.{Whole};
+ghost use Rattle.http_plain.specs.declared.head.TheConstants.{FIELD_LIMIT};
 ghost use Rattle.http_plain.specs.Spans.{FindsResponse};
 
 use crate::fault::ExchangeFault;
@@ -15,7 +16,7 @@ use httparse::spans::{EMPTY_HEADER_SPAN, HeaderSpan, ResponseSpans, parse_respon
 
 // Where the parts of a response head are, if the bytes are one and nothing else.
 fn response_spans(bytes: &[u8], headers: &mut [HeaderSpan]) -> Option<ResponseSpans>
-    requires { length headers.old ≡ field_limit }
+    requires { length headers.old ≡ FIELD_LIMIT }
     ensures { MatchOption result (IsNoResponse bytes.now) (FindsResponse bytes.now headers.new) }
 {
     let Ok(Status::Complete(spans)) = parse_response(bytes, headers) else {

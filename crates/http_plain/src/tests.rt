@@ -1,5 +1,5 @@
 // What no clause says: that calls succeed, and worked values.
-use crate::{Demand, ExchangeFault, RequestFault, ask_wire, demand_in, read_request};
+use crate::{Demand, ExchangeFault, ask_wire, demand_in, read_request};
 use connections::{MemWire, Wire};
 use outside::Failed;
 use small_types::{Bytes, List, Target, Text};
@@ -10,7 +10,10 @@ use std::test::Fail;
 fn shown_demand(alloc: Global, request: &[u8]) -> Result<String, AllocError> {
     match demand_in(alloc, request)? {
         Demand::Silent => String::from_str(alloc, "silent"),
-        Demand::Refused { code } => format!(in alloc; "{code}"),
+        Demand::Refused { why } => {
+            let code = why.code();
+            format!(in alloc; "{code}")
+        }
         Demand::File { name, whole } => {
             let name = name.as_str();
             format!(in alloc; "{name} {whole}")
@@ -98,17 +101,16 @@ fn long_requests_ask(rt: HostRuntime) -> Result<(), Fail> {
 
 // What the head of a request says, in words.
 fn shown_request(alloc: Global, bytes: &[u8]) -> Result<String, AllocError> {
-    match read_request(alloc, bytes) {
-        Ok(asked) => {
-            let method = asked.method.as_str();
-            let target = asked.target.as_str();
-            let version = asked.version;
-            let hosts = asked.hosts;
-            format!(in alloc; "{method} {target} {version} {hosts}")
-        }
-        Err(RequestFault::Malformed) => String::from_str(alloc, "malformed"),
-        Err(RequestFault::Memory) => Err(AllocError),
-    }
+    let Some(asked) = read_request(bytes) else {
+        return String::from_str(alloc, "malformed");
+    };
+    let (Ok(method), Ok(target)) = (str::from_utf8(asked.method), str::from_utf8(asked.target))
+    else {
+        return String::from_str(alloc, "no text");
+    };
+    let version = asked.version;
+    let hosts = asked.hosts;
+    format!(in alloc; "{method} {target} {version} {hosts}")
 }
 
 #[test]

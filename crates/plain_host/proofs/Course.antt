@@ -4,8 +4,10 @@ use Rattle.std.specs.Prelude.{IsSome}
 use Rattle.std.proofs.lemmas.List.{append-nil}
 use Rattle.connections.specs.Door.{Accepted, ReceivesOnLast, SendsOnLast}
 use Rattle.connections.proofs.Ends.{Ends, ends, SameEnd, same_end, ReceivedOn, received_on, sent_on}
-use Rattle.http_plain.specs.Head.{head_end, head_limit, IsNear}
-use Rattle.plain_host.specs.Serving.{Serving, SendsFront, SendsNothing, SendsPart, TakesFront, piece_limit}
+use Rattle.http_plain.specs.Head.{head_end, IsNear}
+use Rattle.http_plain.specs.declared.head.TheConstants.{HEAD_LIMIT}
+use Rattle.plain_host.specs.Serving.{Serving, SendsFront, SendsNothing, SendsPart, TakesFront}
+use Rattle.plain_host.specs.declared.receiving.TheConstants.{REQUEST_PIECE}
 
 some_there : (xs : List Accepted) → xs ≢ [] → 0 < length xs
 some_there [] some = absurd (some refl)
@@ -95,7 +97,7 @@ sends_more old mid new bytes rest now later split f s = record {
 
 -- the request ends here
 pub ends_here : (old mid new : List Accepted) (front buf : List ℕ) (n : ℕ) → Serving old mid front [] → ReceivesOnLast mid new buf n → n ≡ 0
-    → IsNear piece_limit front → TakesFront old new front
+    → IsNear REQUEST_PIECE front → TakesFront old new front
 ends_here old mid new front buf n s r none near =
     let on : ReceivedOn s.earlier (record s.last { left = s.left; sent = s.last.sent ++ [] }) new buf n =
     received_on s.earlier (record s.last { left = s.left; sent = s.last.sent ++ [] }) mid new buf n s.after r in
@@ -116,20 +118,20 @@ ends_here old mid new front buf n s r none near =
     }
 
 -- the limit is reached
-pub fills : (old new : List Accepted) (front : List ℕ) → Serving old new front [] → length front ≡ head_limit → IsNear piece_limit front → TakesFront old new front
+pub fills : (old new : List Accepted) (front : List ℕ) → Serving old new front [] → length front ≡ HEAD_LIMIT → IsNear REQUEST_PIECE front → TakesFront old new front
 fills old new front s full near = record { taken = s; enough = inr (inl full); near = near }
 
 -- the head's end is there
-pub ends_head : (old new : List Accepted) (front : List ℕ) → Serving old new front [] → length front ≤ head_limit → IsSome (head_end front) → IsNear piece_limit front
+pub ends_head : (old new : List Accepted) (front : List ℕ) → Serving old new front [] → length front ≤ HEAD_LIMIT → IsSome (head_end front) → IsNear REQUEST_PIECE front
     → TakesFront old new front
 ends_head old new front s within there near = record { taken = s; enough = inr (inr (within, there)); near = near }
 
 -- nothing was sent yet
-pub sends_nothing : (old new : List Accepted) (front : List ℕ) → length front ≤ head_limit → TakesFront old new front → SendsNothing old new
+pub sends_nothing : (old new : List Accepted) (front : List ℕ) → length front ≤ HEAD_LIMIT → TakesFront old new front → SendsNothing old new
 sends_nothing old new front few t = record { front = front; few = few; near = t.near; taken = t.taken }
 
 -- more of it is no more than a head may have
-pub grown_few : (front buf : List ℕ) (n : ℕ) → length front + n ≤ head_limit → length (front ++ take n buf) ≤ head_limit
+pub grown_few : (front buf : List ℕ) (n : ℕ) → length front + n ≤ HEAD_LIMIT → length (front ++ take n buf) ≤ HEAD_LIMIT
 grown_few front buf n fits = omega (arith, length-append front (take n buf), length-take n buf)
 
 -- no head ends in no bytes

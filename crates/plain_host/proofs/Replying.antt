@@ -11,7 +11,8 @@ use Rattle.folders.specs.Files.{file_in, is_named}
 use Rattle.http_plain.specs.declared.request.Asked.{Asked}
 use Rattle.http_plain.specs.declared.demand.Demand.{Demand}
 use Rattle.http_plain.specs.declared.demand.Demand.TheVariants.{Refused}
-use Rattle.http_plain.specs.Head.{IsEnough, head_limit, Front, Whole, TooLong, Short, front_of}
+use Rattle.http_plain.specs.Head.{IsEnough, Front, Whole, TooLong, Short, front_of}
+use Rattle.http_plain.specs.declared.head.TheConstants.{HEAD_LIMIT}
 use Rattle.http_plain.specs.Path.{name_in_path}
 use Rattle.http_plain.specs.Served.{Asks, Demands, Answer, answer_of, found_answer, demand_by, demand_of, file_demand, lacks_host, is_get, Serves}
 use Rattle.plain_host.specs.declared.answer.Prepared.{Prepared}
@@ -80,7 +81,7 @@ silent_exact files request p s =
 
 -- ---- what was sent
 
-module _ (files : List Held) (old mid new : List Accepted) (front text : List ℕ) (p : Prepared) (same : text ≡ front) (few : length front ≤ head_limit) (t : TakesFront old mid front) (a : AnswersFront files text p) where
+module _ (files : List Held) (old mid new : List Accepted) (front text : List ℕ) (p : Prepared) (same : text ≡ front) (few : length front ≤ HEAD_LIMIT) (t : TakesFront old mid front) (a : AnswersFront files text p) where
   serves : Serves files t.taken.last.left (answer_in p)
   serves =
       let whole : text ++ t.taken.left ≡ t.taken.last.left = ap (λ (f : List ℕ). f ++ t.taken.left) same ∙ sym t.taken.split in
@@ -125,7 +126,7 @@ pub serves_some : (files : List Held) (text : List ℕ) (p : Prepared) → Answe
 serves_some files text p a = record { request = text ++ []; bytes = p.head ++ p.body; serves = a [] (inl refl) }
 
 -- a request whose front asks for a file asks for it
-pub asks_file : (old new : List Accepted) (front text : List ℕ) → text ≡ front → length front ≤ head_limit → TakesFront old new front → FrontAsksFile text
+pub asks_file : (old new : List Accepted) (front text : List ℕ) → text ≡ front → length front ≤ HEAD_LIMIT → TakesFront old new front → FrontAsksFile text
     → AsksFile old new
 asks_file old new front text same few t asks =
     let enough : IsEnough text t.taken.left = subst (λ (f : List ℕ). IsEnough f t.taken.left) (sym same) t.enough in

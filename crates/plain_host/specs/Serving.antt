@@ -3,7 +3,8 @@ use Rattle.std.specs.Prelude.{◌≡◌, ◌<◌, ◌≤◌, ◌↔◌, ℕ, Boo
 use Rattle.connections.specs.Door.{Accepted}
 use Rattle.folders.specs.declared.folder.Held.{Held}
 use Rattle.http_plain.specs.declared.demand.Demand.TheVariants.{File}
-use Rattle.http_plain.specs.Head.{IsEnough, IsNear, head_end, head_limit}
+use Rattle.http_plain.specs.Head.{IsEnough, IsNear, head_end}
+use Rattle.http_plain.specs.declared.head.TheConstants.{HEAD_LIMIT}
 use Rattle.http_plain.specs.Served.{Answer, Asks, Serves}
 use Rattle.plain_host.specs.declared.fault.Served.{Served}
 use Rattle.plain_host.specs.declared.fault.Served.TheVariants.{Answered, Silent}
@@ -44,14 +45,14 @@ pub record TakesFront (old new : List Accepted) (front : List ℕ) : Type 0 wher
 -- come; nothing was sent
 pub record SendsNothing (old new : List Accepted) : Type 0 where
   pub front : List ℕ
-  pub few : length front ≤ head_limit
+  pub few : length front ≤ HEAD_LIMIT
   pub near : IsNear piece_limit front
   pub taken : Serving old new front []
 
 -- what was taken of the last connection's request is shorter than a head may be and has no end of one, and nothing was sent
 pub record BreaksOff (old new : List Accepted) : Type 0 where
   pub front : List ℕ
-  pub few : length front < head_limit
+  pub few : length front < HEAD_LIMIT
   pub none : head_end front ≡ None
   pub taken : Serving old new front []
 
@@ -59,7 +60,7 @@ pub record BreaksOff (old new : List Accepted) : Type 0 where
 -- head may have, and no piece once the end of the head had come
 pub record AsksFile (old new : List Accepted) : Type 0 where
   pub front : List ℕ
-  pub few : length front ≤ head_limit
+  pub few : length front ≤ HEAD_LIMIT
   pub near : IsNear piece_limit front
   pub taken : Serving old new front []
   pub name : List ℕ
@@ -76,7 +77,7 @@ code_of Silent = None
 -- end of the head had come
 pub record ServesLast (files : List Held) (old new : List Accepted) (code : Option ℕ) : Type 0 where
   pub front : List ℕ
-  pub few : length front ≤ head_limit
+  pub few : length front ≤ HEAD_LIMIT
   pub near : IsNear piece_limit front
   pub bytes : List ℕ
   pub sent : Serving old new front bytes
@@ -86,7 +87,7 @@ pub record ServesLast (files : List Held) (old new : List Accepted) (code : Opti
 -- the same, but that a first part of the answer was sent, and not all
 pub record ServesPart (files : List Held) (old new : List Accepted) : Type 0 where
   pub front : List ℕ
-  pub few : length front ≤ head_limit
+  pub few : length front ≤ HEAD_LIMIT
   pub near : IsNear piece_limit front
   pub answer : Answer
   pub done : List ℕ

@@ -1,6 +1,6 @@
 // Reading as much of a request as decides what it asks for.
 ghost use Rattle.std.specs.Prelude.{◌≡◌, ◌≢◌, ◌≤◌, [], Err, length, IfOk, OnErr};
-ghost use Rattle.http_plain.specs.Head.{head_limit};
+ghost use Rattle.http_plain.specs.declared.head.TheConstants.{HEAD_LIMIT};
 ghost use Rattle.outside.specs.Streams.{Rose};
 ghost use Rattle.plain_host.specs.declared.fault.ServeFault.TheVariants.{ReadFault, WriteFault, FolderFault, Memory};
 ghost use Rattle.plain_host.specs.Serving.{BreaksOff, TakesFront, SendsNothing};
@@ -18,7 +18,7 @@ const PIECE: usize = 8_192;
 pub(crate) fn receive_front<G: Door>(alloc: Global, door: &mut G) -> Result<Vec<u8>, ServeFault>
     requires { G.tells → G.accepted door.old ≢ [] }
     ensures front { G.tells → IfOk result (λ front. TakesFront (G.accepted door.old) (G.accepted door.new) front.items) }
-    ensures few { IfOk result (λ front. length front.items ≤ head_limit) }
+    ensures few { IfOk result (λ front. length front.items ≤ HEAD_LIMIT) }
     ensures nothing { G.tells → OnErr result (SendsNothing (G.accepted door.old) (G.accepted door.new)) }
     ensures broken { G.tells → result ≡ Err ReadFault → BreaksOff (G.accepted door.old) (G.accepted door.new) }
     ensures read_fault { result ≡ Err ReadFault → Rose (G.count door.old) (G.count door.new) }

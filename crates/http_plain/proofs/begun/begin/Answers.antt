@@ -17,3 +17,11 @@ returns-in-Err-clause-answers c =
     λ left enough.
     refused_by (c.args.front.now ++ left) c.in-Err.fault
     (gives_longer c.args.front.now left c.in-Some.end _ (sym c.in-Some.is ∙ c.end_within.ensures.end) enough c.in-Err.ensures.value)
+
+pub returns-in_err-begin_at-in-Ok-clause-memory : goal.returns-in_err-begin_at-in-Ok-clause-memory
+returns-in_err-begin_at-in-Ok-clause-memory c =
+    λ is left enough.
+    record {
+      length = c.in-Ok.size;
+      gives = gives_longer c.args.front.now left c.in-Some.end _ (sym c.in-Some.is ∙ c.end_within.ensures.end) enough c.in-Ok.ensures.value;
+    }

@@ -10,7 +10,7 @@ loop-rest-preserved g c = record {
       (send_more made _ _ _ _ _ (c.loop-rest.invariant.sending t made is) (c.in_ok-n.ensures.bytes t));
   over = λ t. c.in_ok-n.ensures.over_kept t ∙ c.loop-rest.invariant.over t;
   count = omega arith;
-  quiet = c.in_ok-n.ensures.quiet ∙ c.loop-rest.invariant.quiet;
+  quiet = c.in_ok-n.ensures.cause.quiet ∙ c.loop-rest.invariant.quiet;
 }
 
 pub returns-clause-sent : goal.returns-clause-sent
