@@ -1,5 +1,5 @@
 // Where files stand.
-ghost use Rattle.std.specs.Prelude.{◌≡◌, ℕ, List, true, IfOk, OnOk, OnErr};
+ghost use Rattle.std.specs.Prelude.{◌≡◌, ℕ, List, true, Some, None, IfOk, OnOk, OnErr, if◌then◌else◌};
 ghost use Rattle.folders.specs.declared.folder.Held.{Held};
 ghost use Rattle.folders.specs.declared.folder.FolderFault.TheVariants.{Memory};
 ghost use Rattle.folders.specs.Files.{file_in, distinct, IsNames, Puts};
@@ -83,6 +83,30 @@ pub trait Folder {
         ensures found { tells → IfOk result (λ bytes. bytes ≡ file_in name.now (held self.old)) }
         ensures kept { tells → held self.new ≡ held self.old }
         ensures cause { FailsCounted (count self.old) (count self.new) result };
+
+    /// Puts the bytes of the file of this name in place of those of the buffer, whose memory may serve
+    /// for them. `false` comes exactly where there is no such file. After anything but `true` the buffer
+    /// may have any bytes.
+    fn get_into(
+        &mut self,
+        alloc: Global,
+        name: &Name,
+        into: &mut Bytes,
+    ) -> Result<bool, FolderFault>
+        ensures found { tells → IfOk result (λ found.
+            file_in name.now (held self.old) ≡ (if found then Some into.new else None)) }
+        ensures kept { tells → held self.new ≡ held self.old }
+        ensures cause { FailsCounted (count self.old) (count self.new) result }
+    {
+        match self.get(alloc, name) {
+            Ok(Some(bytes)) => {
+                *into = bytes;
+                Ok(true)
+            }
+            Ok(None) => Ok(false),
+            Err(fault) => Err(fault),
+        }
+    }
 
     /// Makes these bytes the file of this name, in place of one that stands there. A call that fails
     /// changes nothing.

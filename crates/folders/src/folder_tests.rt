@@ -42,6 +42,17 @@ fn get<F: Folder>(alloc: Global, folder: &mut F, name: &[u8]) -> Result<Vec<u8>,
     }
 }
 
+// What reading the file into the buffer answers.
+fn get_into<F: Folder>(
+    alloc: Global,
+    folder: &mut F,
+    name: &[u8],
+    into: &mut Bytes,
+) -> Result<bool, FolderFault> {
+    let name = named(alloc, name)?;
+    folder.get_into(alloc, &name, into)
+}
+
 fn put<F: Folder>(
     alloc: Global,
     folder: &mut F,
@@ -74,6 +85,26 @@ fn folder_works(rt: HostRuntime) -> Result<(), Fail> {
         b"2".as_slice()
     );
     assert_eq!(rt; folder.faults(), 0);
+    Ok(())
+}
+
+#[test]
+fn folder_reads_into_a_buffer(rt: HostRuntime) -> Result<(), Fail> {
+    let alloc = rt.alloc();
+    let files = two_files(alloc)?;
+    assert!(rt; are_distinct(files.as_slice()));
+    let failing = List::from_vec([3].to_vec(alloc)?);
+    let mut folder = MemFolder::new(alloc, files, failing);
+    let mut into = Bytes::from_vec(b"before".to_vec(alloc)?);
+    assert_eq!(rt; get_into(alloc, &mut folder, b"b", &mut into), Ok(true));
+    assert_eq!(rt; into.as_slice(), b"1".as_slice());
+    assert_eq!(rt; get_into(alloc, &mut folder, b"c", &mut into), Ok(false));
+    assert_eq!(rt;
+        get_into(alloc, &mut folder, b"b", &mut into),
+        Err(FolderFault::Failed)
+    );
+    assert_eq!(rt; get_into(alloc, &mut folder, b"a/x", &mut into), Ok(true));
+    assert_eq!(rt; into.as_slice(), b"2".as_slice());
     Ok(())
 }
 

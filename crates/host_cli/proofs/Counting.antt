@@ -5,7 +5,7 @@ use Rattle.connections.specs.Door.{Accepted}
 use Rattle.folders.specs.declared.folder.Held.{Held}
 use Rattle.host_cli.specs.declared.hosting.RunFault.{RunFault}
 use Rattle.host_cli.specs.declared.hosting.RunFault.TheVariants.{Missed, Memory}
-use Rattle.host_cli.specs.Hosting.{AllBut, IsHeard, IsServed, IsBegun, AcceptsOne, AcceptsSilent, HostsOne, HostsBut, HostsButLast, rises}
+use Rattle.host_cli.specs.Hosting.{AllBut, IsHeard, IsServed, IsBegun, AcceptsOne, AcceptsAsking, HostsOne, HostsBut, HostsButLast, rises}
 
 module _ {A : Type 0} (P : A → Type 0) where
   -- more may lack it
@@ -61,7 +61,7 @@ module _ (files : List Held) (old mid new : List Accepted) (g0 g1 g2 f0 f1 f2 : 
   }
 
   -- one connection more, which is left out
-  pub hosts_last : AcceptsSilent mid new → HostsButLast files old new (rises g0 g2 f0 f2)
+  pub hosts_last : AcceptsAsking mid new → HostsButLast files old new (rises g0 g2 f0 f2)
   hosts_last one =
       let le : rises g0 g1 f0 f1 ≤ rises g0 g2 f0 f2 = omega arith in
       record {
@@ -69,6 +69,7 @@ module _ (files : List Held) (old mid new : List Accepted) (g0 g1 g2 f0 f1 f2 : 
         last = one.connection;
         after = one.after ∙ ap (λ (m : List Accepted). m ++ one.connection ∷ []) b.after;
         unsent = one.unsent;
+        asks = one.asks;
         begun = b.begun;
         heard = b.heard;
         last_heard = one.heard;

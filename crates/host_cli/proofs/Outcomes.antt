@@ -5,10 +5,11 @@ use Rattle.outside.specs.Streams.{Rose}
 use Rattle.connections.specs.Door.{Accepted, Accepts, fresh}
 use Rattle.connections.proofs.Ends.{SameEnd, same_end}
 use Rattle.folders.specs.declared.folder.Held.{Held}
+use Rattle.http_plain.specs.declared.demand.Demand.TheVariants.{File}
 use Rattle.plain_host.specs.declared.fault.ServeFault.{ServeFault}
-use Rattle.plain_host.specs.declared.fault.ServeFault.TheVariants.{ReadFault, WriteFault, FolderFault, Memory}
-use Rattle.plain_host.specs.Serving.{Serving, SendsNothing, ServesLast, ServesPart}
-use Rattle.host_cli.specs.Hosting.{AcceptsSilent, HostsOne, IsPart, IsServed}
+use Rattle.plain_host.specs.declared.fault.ServeFault.TheVariants.{ReadFault, WriteFault, FolderFault}
+use Rattle.plain_host.specs.Serving.{AsksFile, Serving, SendsNothing, ServesLast, ServesPart}
+use Rattle.host_cli.specs.Hosting.{AcceptsAsking, HostsOne, IsPart, IsServed}
 
 -- a connection of which so much is left, and on which this was sent
 abbrev connection_of : List ℕ → List ℕ → List ℕ → Accepted
@@ -32,14 +33,15 @@ goes_on old mid new taken sent a s =
       split = s.split;
     }
 
--- nothing was sent on it
-pub accepts_silent : (old mid new : List Accepted) → Accepts old mid → SendsNothing mid new → AcceptsSilent old new
-accepts_silent old mid new a s =
+-- it asks for a file, and nothing was sent on it
+pub accepts_asking : (old mid new : List Accepted) → Accepts old mid → AsksFile mid new → AcceptsAsking old new
+accepts_asking old mid new a s =
     let goes = goes_on old mid new s.front [] a s.taken in
     record {
       connection = connection_of s.taken.last.left s.taken.left [];
       after = goes.after;
       unsent = refl;
+      asks = record { demand = File s.name s.whole; asks = s.asks; file = record { name = s.name; whole = s.whole; is = refl } };
       heard = record { front = s.front; heard = goes.split; few = s.few; near = s.near };
     }
 
@@ -108,6 +110,3 @@ read_other fault is same = let clash : ReadFault ≡ WriteFault = sym is ∙ sam
 
 pub folder_other : (fault : ServeFault) → fault ≡ FolderFault → fault ≢ WriteFault
 folder_other fault is same = let clash : FolderFault ≡ WriteFault = sym is ∙ same in cc
-
-pub memory_other : (fault : ServeFault) → fault ≡ Memory → fault ≢ WriteFault
-memory_other fault is same = let clash : Memory ≡ WriteFault = sym is ∙ same in cc

@@ -1,11 +1,11 @@
 -- What becomes of the connections of a run.
-use Rattle.std.specs.Prelude.{◌≡◌, ◌≤◌, ◌⊎◌, ℕ, ◌+◌, ◌-◌, List, [], ◌∷◌, ◌++◌, length, Option}
+use Rattle.std.specs.Prelude.{◌≡◌, ◌<◌, ◌≤◌, ◌⊎◌, ℕ, ◌+◌, ◌-◌, List, [], ◌∷◌, ◌++◌, length, Option}
 use Rattle.outside.specs.Streams.{Rose}
 use Rattle.connections.specs.Door.{Accepted}
 use Rattle.folders.specs.declared.folder.Held.{Held}
 use Rattle.http_plain.specs.Head.{IsEnough, IsNear}
 use Rattle.http_plain.specs.declared.head.TheConstants.{HEAD_LIMIT}
-use Rattle.http_plain.specs.Served.{Answer, Serves}
+use Rattle.http_plain.specs.Served.{Answer, AsksForFile, Serves}
 use Rattle.plain_host.specs.declared.receiving.TheConstants.{REQUEST_PIECE}
 
 -- at most n of the items are none that P holds for
@@ -49,16 +49,19 @@ pub record AcceptsOne (old new : List Accepted) : Type 0 where
   pub connection : Accepted
   pub after : new ≡ old ++ connection ∷ []
 
--- one more connection was accepted, and nothing was sent on it; its request was received as far as a host may
-pub record AcceptsSilent (old new : List Accepted) : Type 0 where
+-- one more connection was accepted, whose request asks for a file, and nothing was sent on it; its request was received
+-- as far as a host may
+pub record AcceptsAsking (old new : List Accepted) : Type 0 where
   pub connection : Accepted
   pub after : new ≡ old ++ connection ∷ []
   pub unsent : connection.sent ≡ []
+  pub asks : AsksForFile connection.request
   pub heard : IsHeard connection
 
 -- one more connection was accepted, and it was served where neither count of faults rose; nothing but a first part of its
 -- answer was sent, and its request was received as far as a host may
-pub record HostsOne (files : List Held) (old new : List Accepted) (door_old door_new folder_old folder_new : ℕ) : Type 0 where
+pub record HostsOne (files : List Held) (old new : List Accepted)
+    (door_old door_new folder_old folder_new : ℕ) : Type 0 where
   pub connection : Accepted
   pub after : new ≡ old ++ connection ∷ []
   pub fate : IsServed files connection ⊎ (Rose door_old door_new ⊎ Rose folder_old folder_new)
@@ -75,12 +78,14 @@ pub record HostsBut (files : List Held) (old new : List Accepted) (n : ℕ) : Ty
   pub heard : AllBut IsHeard made 0
 
 -- connections were accepted, of which, without the last, at most n were not served, and on each of those nothing but a first
--- part of its answer was sent; on the last nothing was; the request of each was received as far as a host may
+-- part of its answer was sent; the last asks for a file, and nothing was sent on it; the request of each was received as far
+-- as a host may
 pub record HostsButLast (files : List Held) (old new : List Accepted) (n : ℕ) : Type 0 where
   pub made : List Accepted
   pub last : Accepted
   pub after : new ≡ old ++ made ++ last ∷ []
   pub unsent : last.sent ≡ []
+  pub asks : AsksForFile last.request
   pub served : AllBut (IsServed files) made n
   pub begun : AllBut (IsBegun files) made 0
   pub heard : AllBut IsHeard made 0
@@ -89,3 +94,16 @@ pub record HostsButLast (files : List Held) (old new : List Accepted) (n : ℕ) 
 -- how far two counts rose
 abbrev pub rises : ℕ → ℕ → ℕ → ℕ → ℕ
 rises door_old door_new folder_old folder_new = (door_new - door_old) + (folder_new - folder_old)
+
+-- a count that has not ended at its greatest number
+abbrev pub IsBelowEnd : ℕ → Type 0
+IsBelowEnd count = count < 0xffff_ffff_ffff_ffff
+
+-- No count falls. That of misses rises where an accept was missed, and else stays.
+pub record CountsRun (missed : Type 0)
+    (misses_old misses_new door_old door_new folder_old folder_new : ℕ) : Type 0 where
+  pub misses_later : misses_old ≤ misses_new
+  pub door_later : door_old ≤ door_new
+  pub folder_later : folder_old ≤ folder_new
+  pub rose : missed → Rose misses_old misses_new
+  pub quiet : ¬ missed → misses_new ≡ misses_old

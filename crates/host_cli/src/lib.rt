@@ -8,4 +8,4 @@ mod top;
 mod words;
 
 pub use top::host_run;
-pub use words::read_port;
+pub use words::{CONNECTION_LIMIT, read_port};

@@ -1,7 +1,6 @@
 // The run of a host.
 ghost use Rattle.std.specs.Prelude.{◌≡◌, ◌≢◌, ◌≤◌, ◌<◌, ◌+◌, ◌⊎◌, ◌↔◌, ℕ, length, Some, None, IfSome};
-ghost use Rattle.outside.specs.Streams.{Rose};
-ghost use Rattle.host_cli.specs.Hosting.{HostsBut, HostsButLast, rises};
+ghost use Rattle.host_cli.specs.Hosting.{CountsRun, HostsBut, HostsButLast, IsBelowEnd, rises};
 ghost use Rattle.host_cli.specs.Words.{count_of};
 
 use crate::hosting::{RunFault, host_many};
@@ -15,7 +14,7 @@ use std::alloc::Global;
 /// folder. The words are `PORT COUNT`: 1 to 65,535, and 0 to 1,000,000, in 1 to 19 decimal digits each.
 ///
 /// The status is 0 where so many connections were accepted, 1 exactly at other words, where nothing is done, 2 where
-/// the door failed to accept, and 6 where there was no memory to serve the last connection. Any status but 2 leaves the
+/// the door failed to accept, and 6 where there was no memory for the file that the last connection asks for. Any status but 2 leaves the
 /// count of misses, so no failed accept is passed over. A fault of the door or the folder while a connection is served
 /// ends that connection alone.
 ///
@@ -23,7 +22,7 @@ use std::alloc::Global;
 /// many connections are not served as the counts rose by, and on those nothing or a first part of the answer was sent.
 /// A host speaks only when enough of the request has come to know the answer, and of no request it receives more than
 /// 65,536 bytes, or a piece, of at most 8,192 bytes, once the end of the head has come. At status 6 the last connection
-/// is not counted: nothing was sent on it, and no more of its request was received than that.
+/// is not counted: it asks for a file, nothing was sent on it, and no more of its request was received than that.
 pub fn host_run<F: Folder, G: Door>(
     alloc: Global,
     words: &[Word],
@@ -34,27 +33,32 @@ pub fn host_run<F: Folder, G: Door>(
     ensures statuses { (result ≡ 0) ⊎ ((result ≡ 1) ⊎ ((result ≡ 2) ⊎ (result ≡ 6))) }
 
     // How many connections were accepted.
-    ensures done { G.tells → result ≡ 0 → IfSome (count_of words.now) (λ n. length (G.accepted door.new) ≡ length (G.accepted door.old) + n) }
-    ensures fewer { G.tells → result ≡ 2 → IfSome (count_of words.now) (λ n. length (G.accepted door.new) < length (G.accepted door.old) + n) }
-    ensures most { G.tells → IfSome (count_of words.now) (λ n. length (G.accepted door.new) ≤ length (G.accepted door.old) + n) }
-    ensures missed { result ≡ 2 → Rose (G.misses door.old) (G.misses door.new) }
-    ensures quiet_misses { result ≢ 2 → G.misses door.new ≡ G.misses door.old }
+    ensures done { G.tells → result ≡ 0 → IfSome (count_of words.now) (λ n.
+        length (G.accepted door.new) ≡ length (G.accepted door.old) + n) }
+    ensures fewer { G.tells → result ≡ 2 → IfSome (count_of words.now) (λ n.
+        length (G.accepted door.new) < length (G.accepted door.old) + n) }
+    ensures most { G.tells → IfSome (count_of words.now) (λ n.
+        length (G.accepted door.new) ≤ length (G.accepted door.old) + n) }
 
     // How many of them were not served.
-    ensures served { G.tells → F.tells → G.count door.new < 0xffff_ffff_ffff_ffff → F.count folder.new < 0xffff_ffff_ffff_ffff → result ≢ 6
-        → HostsBut (F.held folder.old) (G.accepted door.old) (G.accepted door.new) (rises (G.count door.old) (G.count door.new) (F.count folder.old) (F.count folder.new)) }
-    ensures memory { G.tells → F.tells → G.count door.new < 0xffff_ffff_ffff_ffff → F.count folder.new < 0xffff_ffff_ffff_ffff → result ≡ 6
-        → HostsButLast (F.held folder.old) (G.accepted door.old) (G.accepted door.new) (rises (G.count door.old) (G.count door.new) (F.count folder.old) (F.count folder.new)) }
+    ensures served { G.tells → F.tells
+        → IsBelowEnd (G.count door.new) → IsBelowEnd (F.count folder.new) → result ≢ 6
+        → HostsBut (F.held folder.old) (G.accepted door.old) (G.accepted door.new)
+        (rises (G.count door.old) (G.count door.new) (F.count folder.old) (F.count folder.new)) }
+    ensures memory { G.tells → F.tells
+        → IsBelowEnd (G.count door.new) → IsBelowEnd (F.count folder.new) → result ≡ 6
+        → HostsButLast (F.held folder.old) (G.accepted door.old) (G.accepted door.new)
+        (rises (G.count door.old) (G.count door.new) (F.count folder.old) (F.count folder.new)) }
 
     // Where nothing is done.
     ensures other_words { result ≡ 1 → (door.new ≡ door.old) × (folder.new ≡ folder.old) }
-    ensures no_connections { count_of words.now ≡ Some 0 → (result ≡ 0) × (door.new ≡ door.old) × (folder.new ≡ folder.old) }
+    ensures no_connections { count_of words.now ≡ Some 0
+        → (result ≡ 0) × (door.new ≡ door.old) × (folder.new ≡ folder.old) }
 
-    // The folder is only read, and no count falls.
+    // The counts, and that the folder is only read.
+    ensures counts { CountsRun (result ≡ 2) (G.misses door.old) (G.misses door.new)
+        (G.count door.old) (G.count door.new) (F.count folder.old) (F.count folder.new) }
     ensures held { F.tells → F.held folder.new ≡ F.held folder.old }
-    ensures door_later { G.count door.old ≤ G.count door.new }
-    ensures folder_later { F.count folder.old ≤ F.count folder.new }
-    ensures misses_later { G.misses door.old ≤ G.misses door.new }
 {
     let Some(count) = read_words(words) else {
         return 1;

@@ -18,7 +18,7 @@ use small_types::Target;
 use std::alloc::{AllocError, Global};
 
 /// The most bytes of an answer that are received at once.
-pub(crate) const ANSWER_PIECE: usize = 4_096;
+pub const ANSWER_PIECE: usize = 4_096;
 
 // The host, with the port where it is not 80.
 fn host_value(alloc: Global, target: &Target) -> Result<String, AllocError>

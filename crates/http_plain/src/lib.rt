@@ -18,7 +18,7 @@ mod tests;
 
 pub use begun::Begun;
 pub use demand::{Demand, demand_in, demand_of};
-pub use exchange::ask_wire;
+pub use exchange::{ANSWER_PIECE, ask_wire};
 pub use fault::ExchangeFault;
 pub use head::{FIELD_LIMIT, HEAD_LIMIT, find_head_end};
 pub use laws::{files_are_read, hosts_are_folders, one_answer, one_demand, one_outcome};

@@ -1,7 +1,6 @@
 // Reading a file below a folder.
 use crate::folder_path::{Standing, fault_of, folder_part, path_below, standing_at, standing_of};
 use folders::FolderFault;
-use small_types::Bytes;
 use std::alloc::Global;
 use std::fs::File;
 use std::io::Read;
@@ -27,23 +26,28 @@ fn are_folders<R: Files<File = File>>(
     Ok(true)
 }
 
-// The bytes of an open file of about this size.
-fn bytes_of(alloc: Global, mut file: File, size: u64) -> Result<Bytes, FolderFault> {
-    let mut bytes = Vec::new(alloc);
-    bytes.reserve((size as usize).saturating_add(1))?;
-    match file.read_to_end(&mut bytes) {
-        Ok(_) => Ok(Bytes::from_vec(bytes)),
+// Puts the bytes of an open file of about this size in place of those that the vector has. Those are read over, so that
+// memory which was used before is neither cleared nor had anew; what is not there yet is appended.
+fn read_over(mut file: File, size: u64, into: &mut Vec<u8>) -> Result<(), FolderFault> {
+    let size = size as usize;
+    into.truncate(size);
+    into.reserve(size.saturating_add(1).saturating_sub(into.len()))?;
+    if let Err(error) = file.read_exact(into.as_mut_slice()) {
+        return Err(fault_of(&error));
+    }
+    match file.read_to_end(into) {
+        Ok(_) => Ok(()),
         Err(error) => Err(fault_of(&error)),
     }
 }
 
-// The bytes of the file at the path, which is the one that was seen there.
+// Puts the bytes of the file at the path, which is the one that was seen there, in place of those that the vector has.
 fn read_seen<R: Files<File = File>>(
     rt: &R,
-    alloc: Global,
     path: &str,
     seen: Standing,
-) -> Result<Bytes, FolderFault> {
+    into: &mut Vec<u8>,
+) -> Result<(), FolderFault> {
     let file = match File::open(rt, path) {
         Ok(file) => file,
         Err(error) => return Err(fault_of(&error)),
@@ -55,26 +59,30 @@ fn read_seen<R: Files<File = File>>(
     if standing_of(&facts) != seen {
         return Err(FolderFault::Failed);
     }
-    bytes_of(alloc, file, facts.len())
+    read_over(file, facts.len(), into)
 }
 
-// The bytes of the file of this name below the root, or `None` where nothing or a folder stands there. Anything else
-// fails.
+// Puts the bytes of the file of this name below the root in place of those that the vector has, or answers `false`
+// where nothing or a folder stands there. Anything else fails.
 pub(crate) fn get_file<R: Files<File = File>>(
     rt: &R,
     alloc: Global,
     root: &str,
     name: &str,
-) -> Result<Option<Bytes>, FolderFault> {
+    into: &mut Vec<u8>,
+) -> Result<bool, FolderFault> {
     let path = path_below(alloc, root, name)?;
     if let Some(folders) = folder_part(name) {
         if !are_folders(rt, alloc, root, folders)? {
-            return Ok(None);
+            return Ok(false);
         }
     }
     match standing_at(rt, path.as_str())? {
-        Standing::Nothing | Standing::Folder => Ok(None),
+        Standing::Nothing | Standing::Folder => Ok(false),
         Standing::Other => Err(FolderFault::Failed),
-        seen => Ok(Some(read_seen(rt, alloc, path.as_str(), seen)?)),
+        seen => {
+            read_seen(rt, path.as_str(), seen, into)?;
+            Ok(true)
+        }
     }
 }

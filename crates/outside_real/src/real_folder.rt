@@ -13,6 +13,7 @@ use folders::{Folder, FolderFault};
 use small_types::{Bytes, List, Name};
 use std::alloc::Global;
 use std::fs::File;
+use std::mem::replace;
 use std::rt::Files;
 
 // Counts a call that failed, and none for which there was no memory.
@@ -78,7 +79,26 @@ impl<R: Files<File = File> + AllocGlobal + Clone + Drop> Folder for RealFolder<R
 
     /// The bytes of the file of this name, or `None` where none stands there, as where a folder does.
     fn get(&mut self, alloc: Global, name: &Name) -> Result<Option<Bytes>, FolderFault> {
-        let done = get_file(&self.rt, alloc, self.path.as_str(), name.as_str());
+        let mut bytes = Bytes::from_vec(Vec::new(alloc));
+        match self.get_into(alloc, name, &mut bytes) {
+            Ok(true) => Ok(Some(bytes)),
+            Ok(false) => Ok(None),
+            Err(fault) => Err(fault),
+        }
+    }
+
+    /// Puts the bytes of the file of this name in place of those of the buffer, in its memory where that is enough.
+    /// A file that becomes shorter while it is read fails.
+    fn get_into(
+        &mut self,
+        alloc: Global,
+        name: &Name,
+        into: &mut Bytes,
+    ) -> Result<bool, FolderFault> {
+        let mut bytes = replace(into, Bytes::from_vec(Vec::new(alloc))).into_vec();
+        let path = self.path.as_str();
+        let done = get_file(&self.rt, alloc, path, name.as_str(), &mut bytes);
+        *into = Bytes::from_vec(bytes);
         counted(&mut self.faults, done)
     }
 

@@ -1,12 +1,16 @@
 -- How a connection goes on while it is served.
 use Rattle.std.proofs.Common.{◌≡◌, ◌≢◌, ℕ, ◌+◌, ◌<◌, ◌≤◌, List, [], ◌∷◌, ◌++◌, None, length, take, ap, sym, ◌∙◌, refl, inl, inr, arith, append_assoc, length-append, length-take}
-use Rattle.std.specs.Prelude.{IsSome}
+use Rattle.std.specs.Prelude.{IsSome, Result, Ok, Err, IfOk, OnErr}
+use Rattle.std.proofs.Common.{subst}
 use Rattle.std.proofs.lemmas.List.{append-nil}
 use Rattle.connections.specs.Door.{Accepted, ReceivesOnLast, SendsOnLast}
 use Rattle.connections.proofs.Ends.{Ends, ends, SameEnd, same_end, ReceivedOn, received_on, sent_on}
+use Rattle.outside.specs.Streams.{ReadsAtMost}
 use Rattle.http_plain.specs.Head.{head_end, IsNear}
+use Rattle.http_plain.proofs.Ends.{near_none}
+use Rattle.http_plain.proofs.Sending.{front_grown}
 use Rattle.http_plain.specs.declared.head.TheConstants.{HEAD_LIMIT}
-use Rattle.plain_host.specs.Serving.{Serving, SendsFront, SendsNothing, SendsPart, TakesFront}
+use Rattle.plain_host.specs.Serving.{BreaksOff, Serving, SendsFront, SendsNothing, SendsPart, TakesAll, TakesFront}
 use Rattle.plain_host.specs.declared.receiving.TheConstants.{REQUEST_PIECE}
 
 some_there : (xs : List Accepted) → xs ≢ [] → 0 < length xs
@@ -95,10 +99,19 @@ sends_more old mid new bytes rest now later split f s = record {
   sent = sends_on old mid new [] f.done now f.sent s;
 }
 
--- the request ends here
-pub ends_here : (old mid new : List Accepted) (front buf : List ℕ) (n : ℕ) → Serving old mid front [] → ReceivesOnLast mid new buf n → n ≡ 0
-    → IsNear REQUEST_PIECE front → TakesFront old new front
-ends_here old mid new front buf n s r none near =
+-- a piece is received behind the first bytes of a buffer
+pub piece_taken : {E : Type 0} (r : Result ℕ E) (old new : List Accepted) (front before buf tail : List ℕ) (used : ℕ) → used ≤ length front → length buf ≡ length before
+    → IfOk r (λ n. ReadsAtMost n before buf)
+    → IfOk r (λ n. ReceivesOnLast old new buf n)
+    → IfOk r (λ n. (start : List Accepted) → Serving start old (take used front) [] → Serving start new (take (used + n) (take used front ++ (buf ++ tail))) [])
+piece_taken (Err e) old new front before buf tail used within same fits received = tt
+piece_taken (Ok n) old new front before buf tail used within same fits received = λ start s.
+    subst (λ (f : List ℕ). Serving start new f []) (sym (front_grown front (take used front ++ (buf ++ tail)) buf tail used n refl within (omega (arith, fits.fits, same))))
+    (takes_on start old new (take used front) [] buf n s received)
+
+-- nothing more came
+nothing_more : (old mid new : List Accepted) (front buf : List ℕ) (n : ℕ) → Serving old mid front [] → ReceivesOnLast mid new buf n → n ≡ 0 → TakesAll old new front
+nothing_more old mid new front buf n s r none =
     let on : ReceivedOn s.earlier (record s.last { left = s.left; sent = s.last.sent ++ [] }) new buf n =
     received_on s.earlier (record s.last { left = s.left; sent = s.last.sent ++ [] }) mid new buf n s.after r in
     let empty : s.left ≡ [] = on.given.end none in
@@ -113,9 +126,23 @@ ends_here old mid new front buf n s r none near =
         after = on.after;
         split = s.split ∙ ap (λ (l : List ℕ). front ++ l) (empty ∙ sym last);
       };
-      enough = inl last;
-      near = near;
+      all = last;
     }
+
+pub piece_ends : {E : Type 0} (r : Result ℕ E) (old new : List Accepted) (front buf tail : List ℕ) (used : ℕ) → used ≤ length front
+    → IfOk r (λ n. ReceivesOnLast old new buf n)
+    → IfOk r (λ n. n ≡ 0 → (start : List Accepted) → Serving start old (take used front) [] → TakesAll start new (take (used + n) (take used front ++ (buf ++ tail))))
+piece_ends (Err e) old new front buf tail used within received = tt
+piece_ends (Ok n) old new front buf tail used within received = λ none start s.
+    let whole : take (used + n) (take used front ++ (buf ++ tail)) ≡ take used front ++ take n buf =
+    front_grown front (take used front ++ (buf ++ tail)) buf tail used n refl within (omega (arith, none)) in
+    let same : take (used + n) (take used front ++ (buf ++ tail)) ≡ take used front =
+    whole ∙ ap (λ (k : ℕ). take used front ++ take k buf) none ∙ append-nil (take used front) in
+    subst (TakesAll start new) (sym same) (nothing_more start old new (take used front) buf n s received none)
+
+-- the request ends here
+pub ends_here : (old new : List Accepted) (front : List ℕ) → TakesAll old new front → IsNear REQUEST_PIECE front → TakesFront old new front
+ends_here old new front t near = record { taken = t.taken; enough = inl t.all; near = near }
 
 -- the limit is reached
 pub fills : (old new : List Accepted) (front : List ℕ) → Serving old new front [] → length front ≡ HEAD_LIMIT → IsNear REQUEST_PIECE front → TakesFront old new front
@@ -130,27 +157,22 @@ ends_head old new front s within there near = record { taken = s; enough = inr (
 pub sends_nothing : (old new : List Accepted) (front : List ℕ) → length front ≤ HEAD_LIMIT → TakesFront old new front → SendsNothing old new
 sends_nothing old new front few t = record { front = front; few = few; near = t.near; taken = t.taken }
 
--- more of it is no more than a head may have
-pub grown_few : (front buf : List ℕ) (n : ℕ) → length front + n ≤ HEAD_LIMIT → length (front ++ take n buf) ≤ HEAD_LIMIT
-grown_few front buf n fits = omega (arith, length-append front (take n buf), length-take n buf)
-
--- no head ends in no bytes
-pub no_end : (front : List ℕ) → front ≡ [] → head_end front ≡ None
-unfolding head_end
-no_end front none = ap head_end none
+pub breaks_silent : (old new : List Accepted) → BreaksOff old new → SendsNothing old new
+breaks_silent old new b = record { front = b.front; few = omega (arith, b.few); near = near_none REQUEST_PIECE b.front b.none; taken = b.taken }
 
 -- a part of what comes behind other bytes
-pub part_behind : (old mid new : List Accepted) (head body first second : List ℕ) → first ≡ head → second ≡ body → Serving old mid [] first → SendsPart mid new second
-    → SendsPart old new (head ++ body)
-part_behind old mid new head body first second is_first is_second s p = record {
+part_behind : (old mid new : List Accepted) (first second : List ℕ) → Serving old mid [] first → SendsPart mid new second → SendsPart old new (first ++ second)
+part_behind old mid new first second s p = record {
   rest = p.rest;
   some = p.some;
   front = record {
     done = first ++ p.front.done;
-    given =
-        ap (λ (a : List ℕ). a ++ body) (sym is_first)
-        ∙ ap (λ (b : List ℕ). first ++ b) (sym is_second ∙ p.front.given)
-        ∙ sym (append_assoc first p.front.done p.rest);
+    given = ap (λ (b : List ℕ). first ++ b) p.front.given ∙ sym (append_assoc first p.front.done p.rest);
     sent = joined old mid new [] first p.front.done s p.front.sent;
   };
 }
+
+pub parts_behind : {T E : Type 0} (r : Result T E) (old mid new : List Accepted) (first second : List ℕ) → Serving old mid [] first
+    → OnErr r (SendsPart mid new second) → OnErr r (SendsPart old new (first ++ second))
+parts_behind (Ok x) old mid new first second s part = tt
+parts_behind (Err e) old mid new first second s part = part_behind old mid new first second s part

@@ -8,18 +8,20 @@ use Rattle.std.proofs.lemmas.Slice.Eq.{bytes_eq-Decides}
 use Rattle.connections.specs.Door.{Accepted}
 use Rattle.folders.specs.declared.folder.Held.{Held}
 use Rattle.folders.specs.Files.{file_in, is_named}
-use Rattle.http_plain.specs.declared.request.Asked.{Asked}
 use Rattle.http_plain.specs.declared.demand.Demand.{Demand}
-use Rattle.http_plain.specs.declared.demand.Demand.TheVariants.{Refused}
+use Rattle.http_plain.specs.declared.demand.Demand.TheVariants.{File, Refused}
+use Rattle.http_plain.specs.declared.refusals.Refusal.TheVariants.{BadRequest, MethodNotAllowed}
+use Rattle.http_plain.specs.Asked.{Asked}
 use Rattle.http_plain.specs.Head.{IsEnough, Front, Whole, TooLong, Short, front_of}
 use Rattle.http_plain.specs.declared.head.TheConstants.{HEAD_LIMIT}
 use Rattle.http_plain.specs.Path.{name_in_path}
-use Rattle.http_plain.specs.Served.{Asks, Demands, Answer, answer_of, found_answer, demand_by, demand_of, file_demand, lacks_host, is_get, Serves}
+use Rattle.http_plain.specs.Served.{Asks, AsksForFile, Demands, Answer, answer_of, found_answer, demand_by, demand_of, file_demand, lacks_host, is_get, Serves}
 use Rattle.plain_host.specs.declared.answer.Prepared.{Prepared}
-use Rattle.plain_host.specs.declared.fault.ServeFault.{ServeFault}
+use Rattle.plain_host.specs.declared.answer.Prepared.TheVariants.{Nothing, Found}
+use Rattle.plain_host.specs.declared.answer.Prepared.TheVariants.{Refused as refused}
 use Rattle.plain_host.specs.declared.fault.Served.{Served}
 use Rattle.plain_host.specs.declared.fault.Served.TheVariants.{Answered, Silent}
-use Rattle.plain_host.specs.Answering.{answer_in, AnswersFront, FrontAsksFile}
+use Rattle.plain_host.specs.Answering.{answer_in, Answers, AnswersFront, FrontAsksFile, served_by}
 use Rattle.plain_host.specs.Serving.{AsksFile, Serving, SendsPart, TakesFront, ServesLast, ServesPart, ServesSome, SilentAtEnd, code_of}
 use Rattle.plain_host.proofs.Course.{joined}
 
@@ -29,6 +31,14 @@ one_file name bytes =
     let file : Held = record { name = name; bytes = bytes } in
     let same : is_named name file ≡ true = (bytes_eq-Decides name name).1 refl in
     grind (arith, common_steps)
+
+-- a file that was read makes the answer with it
+pub found_known : (files : List Held) (name into sent : List ℕ) (whole found : Bool) (p : Prepared) → sent ≡ into → found ≡ true
+    → file_in name files ≡ (if found then Some into else None) → answer_in p sent ≡ found_answer name whole (Some sent)
+    → Answers files (File name whole) p into
+found_known files name into sent whole found p same holds is made =
+    subst (λ (f : List ℕ). answer_in p f ≡ found_answer name whole (Some f)) same made
+    ∙ ap (found_answer name whole) (sym (is ∙ ap (λ (b : Bool). if b then Some into else None) holds))
 
 -- ---- when there is no answer
 
@@ -45,7 +55,7 @@ file_code files whole None none = cc
 file_code files whole (Some name) none = found_code name whole (file_in name files) none
 
 choice_code : (files : List Held) (a b : Bool) (whole : Bool) (name : Option (List ℕ))
-    → has_code (answer_of files (if a then Refused 400 else if b then Refused 405 else file_demand whole name)).code
+    → has_code (answer_of files (if a then Refused BadRequest else if b then Refused MethodNotAllowed else file_demand whole name)).code
 choice_code files true b whole name none = cc
 choice_code files false true whole name none = cc
 choice_code files false false whole name none = file_code files whole name none
@@ -74,36 +84,40 @@ silent_code : (served : Served) → code_of served ≡ None → served ≡ Silen
 silent_code (Answered code) none = cc
 silent_code Silent none = refl
 
-silent_exact : (files : List Held) (request : List ℕ) (p : Prepared) → Serves files request (answer_in p) → (p.served ≡ Silent) ↔ (request ≡ [])
-silent_exact files request p s =
-    let code : code_of p.served ≡ (answer_of files s.demand).code = ap (λ (a : Answer). a.code) s.answers in
-    (λ is. no_code files request s.demand s.asks (sym code ∙ ap code_of is), λ none. silent_code p.served (code ∙ empty_code files request s.demand s.asks none))
+-- the code of an answer is that with which a connection is served
+pub code_known : (p : Prepared) (file : List ℕ) → code_of (served_by p) ≡ (answer_in p file).code
+code_known Nothing file = refl
+code_known (refused why) file = refl
+code_known (Found first follows) file = refl
+
+silent_exact : (files : List Held) (request file : List ℕ) (p : Prepared) → Serves files request (answer_in p file) → (served_by p ≡ Silent) ↔ (request ≡ [])
+silent_exact files request file p s =
+    let code : code_of (served_by p) ≡ (answer_of files s.demand).code = code_known p file ∙ ap (λ (a : Answer). a.code) s.answers in
+    (λ is. no_code files request s.demand s.asks (sym code ∙ ap code_of is), λ none. silent_code (served_by p) (code ∙ empty_code files request s.demand s.asks none))
 
 -- ---- what was sent
 
-module _ (files : List Held) (old mid new : List Accepted) (front text : List ℕ) (p : Prepared) (same : text ≡ front) (few : length front ≤ HEAD_LIMIT) (t : TakesFront old mid front) (a : AnswersFront files text p) where
-  serves : Serves files t.taken.last.left (answer_in p)
-  serves =
-      let whole : text ++ t.taken.left ≡ t.taken.last.left = ap (λ (f : List ℕ). f ++ t.taken.left) same ∙ sym t.taken.split in
-      subst (λ (r : List ℕ). Serves files r (answer_in p)) whole (a t.taken.left (subst (λ (f : List ℕ). IsEnough f t.taken.left) (sym same) t.enough))
+module _ (files : List Held) (old mid new : List Accepted) (front file : List ℕ) (p : Prepared) (served : Served) (is : served ≡ served_by p) (few : length front ≤ HEAD_LIMIT) (t : TakesFront old mid front) (a : AnswersFront files front p file) where
+  serves : Serves files t.taken.last.left (answer_in p file)
+  serves = subst (λ (r : List ℕ). Serves files r (answer_in p file)) (sym t.taken.split) (a t.taken.left t.enough)
 
-  pub serves_last : Serving mid new [] (p.head ++ p.body) → ServesLast files old new (code_of p.served)
+  pub serves_last : Serving mid new [] (answer_in p file).bytes → ServesLast files old new (code_of served)
   serves_last s = record {
     front = front;
     few = few;
     near = t.near;
-    bytes = p.head ++ p.body;
-    sent = joined old mid new front [] (p.head ++ p.body) t.taken s;
+    bytes = (answer_in p file).bytes;
+    sent = joined old mid new front [] (answer_in p file).bytes t.taken s;
     enough = t.enough;
-    serves = serves;
+    serves = subst (λ (code : Option ℕ). Serves files t.taken.last.left (record { code = code; bytes = (answer_in p file).bytes })) (sym (ap code_of is ∙ code_known p file)) serves;
   }
 
-  pub serves_part : SendsPart mid new (p.head ++ p.body) → ServesPart files old new
+  pub serves_part : SendsPart mid new (answer_in p file).bytes → ServesPart files old new
   serves_part s = record {
     front = front;
     few = few;
     near = t.near;
-    answer = answer_in p;
+    answer = answer_in p file;
     done = s.front.done;
     rest = s.rest;
     given = s.front.given;
@@ -113,49 +127,33 @@ module _ (files : List Held) (old mid new : List Accepted) (front text : List �
     serves = serves;
   }
 
-  pub silent_at_end : SilentAtEnd old p.served
+  pub silent_at_end : SilentAtEnd old served
   silent_at_end = record {
     earlier = t.taken.earlier;
     last = t.taken.last;
     before = t.taken.before;
-    exact = silent_exact files t.taken.last.left p serves;
+    exact = subst (λ (s : Served). (s ≡ Silent) ↔ (t.taken.last.left ≡ [])) (sym is) (silent_exact files t.taken.last.left file p serves);
   }
 
 -- a request that ends with what was read
-pub serves_some : (files : List Held) (text : List ℕ) (p : Prepared) → AnswersFront files text p → ServesSome files (code_of p.served)
-serves_some files text p a = record { request = text ++ []; bytes = p.head ++ p.body; serves = a [] (inl refl) }
+pub serves_some : (files : List Held) (front file : List ℕ) (p : Prepared) (served : Served) → served ≡ served_by p → AnswersFront files front p file
+    → ServesSome files (code_of served)
+serves_some files front file p served is a = record {
+  request = front ++ [];
+  bytes = (answer_in p file).bytes;
+  serves = subst (λ (code : Option ℕ). Serves files (front ++ []) (record { code = code; bytes = (answer_in p file).bytes })) (sym (ap code_of is ∙ code_known p file)) (a [] (inl refl));
+}
 
 -- a request whose front asks for a file asks for it
-pub asks_file : (old new : List Accepted) (front text : List ℕ) → text ≡ front → length front ≤ HEAD_LIMIT → TakesFront old new front → FrontAsksFile text
-    → AsksFile old new
-asks_file old new front text same few t asks =
-    let enough : IsEnough text t.taken.left = subst (λ (f : List ℕ). IsEnough f t.taken.left) (sym same) t.enough in
-    let asked = asks t.taken.left enough in
-    let whole : text ++ t.taken.left ≡ t.taken.last.left = ap (λ (f : List ℕ). f ++ t.taken.left) same ∙ sym t.taken.split in
+pub asks_file : (old new : List Accepted) (front : List ℕ) → length front ≤ HEAD_LIMIT → TakesFront old new front → FrontAsksFile front → AsksFile old new
+asks_file old new front few t asks =
+    let asked : AsksForFile t.taken.last.left = subst AsksForFile (sym t.taken.split) (asks t.taken.left t.enough) in
     record {
       front = front;
       few = few;
       near = t.near;
       taken = t.taken;
-      name = asked.2.name;
-      whole = asked.2.whole;
-      asks = subst (λ (d : Demand). Asks t.taken.last.left d) asked.2.is (subst (λ (r : List ℕ). Asks r asked.0) whole asked.1);
+      name = asked.file.name;
+      whole = asked.file.whole;
+      asks = subst (λ (d : Demand). Asks t.taken.last.left d) asked.file.is asked.asks;
     }
-
--- an error that is handed on
-pub the_fault : {A B : Type 0} (r : Result A ServeFault) (e f : ServeFault) → IsErr r × IsErrAnd r (λ x. x ≡ e) → r ≡ Err f
-    → (let given : Result B ServeFault = Err e in given) ≡ Err f
-the_fault (Ok x) e f is same = absurd is.1
-the_fault (Err y) e f is same = let known : y ≡ f = cc in ap Err (sym is.1 ∙ known)
-
--- where what is handed on is not this fault, the error was not
-pub other_fault : {A B : Type 0} (r : Result A ServeFault) (e f : ServeFault) → IsErr r × IsErrAnd r (λ x. x ≡ e) → r ≢ Err f
-    → (let given : Result B ServeFault = Err e in given) ≢ Err f
-other_fault (Ok x) e f is other = absurd is.1
-other_fault (Err y) e f is other = λ same. let known : y ≡ f = cc in other (ap Err known)
-
--- the fault is handed on
-pub handed_on : {A B : Type 0} (r : Result A ServeFault) (e f : ServeFault) → IsErr r × IsErrAnd r (λ x. x ≡ e)
-    → (let given : Result B ServeFault = Err e in given) ≡ Err f → r ≡ Err f
-handed_on (Ok x) e f is same = absurd is.1
-handed_on (Err y) e f is same = let known : e ≡ f = cc in ap Err (is.1 ∙ known)

@@ -6,30 +6,31 @@ use Rattle.std.proofs.lemmas.Grind.{flat_map-append}
 use Rattle.std.proofs.lemmas.List.{append-nil}
 use Rattle.httparse.specs.Ascii.{crlf_bytes}
 use Rattle.http_plain.specs.Served.{answer_head, status_line, length_line, type_line, type_of}
+use Rattle.http_plain.proofs.Answered.{decimal_200}
 use Rattle.plain_host.specs.Answering.{ended, closing}
 
+-- the first line of an answer with a file
+pub ok_line : codes "HTTP/1.1 200 OK\r\n" ≡ ended (status_line 200 (codes "OK"))
+ok_line = sym (ap (λ (d : List ℕ). ended (codes "HTTP/1.1 " ++ d ++ codes " " ++ codes "OK")) decimal_200)
+
 -- the lines of a head, one after the other
-pub assembled : (code count : ℕ) (own : List (List ℕ)) → (ended (status_line code) ++ flat_map ended own) ++ closing count ≡ answer_head code own count
+pub assembled : (code count : ℕ) (reason : List ℕ) (own : List (List ℕ)) → (ended (status_line code reason) ++ flat_map ended own) ++ closing count ≡ answer_head code reason own count
 unfolding answer_head
-assembled code count own =
-    let a = status_line code in
+assembled code count reason own =
+    let a = status_line code reason in
     let l = length_line count in
     let c = codes "Connection: close" in
     let split : flat_map ended ((a ∷ [] ++ own) ++ l ∷ c ∷ []) ≡ (ended a ++ flat_map ended own) ++ (ended l ++ ended c) =
     flat_map-append ended (a ∷ own) (l ∷ c ∷ []) ∙ ap (λ (t : List ℕ). (ended a ++ flat_map ended own) ++ (ended l ++ t)) (append-nil (ended c)) in
     sym (append_assoc (ended a ++ flat_map ended own) (ended l ++ ended c) crlf_bytes) ∙ ap (λ (t : List ℕ). t ++ crlf_bytes) (sym split)
 
--- the same by steps
-pub assembled_by : (code count : ℕ) (own : List (List ℕ)) (a b c : List ℕ) → a ≡ ended (status_line code) → b ≡ a ++ flat_map ended own → c ≡ b ++ closing count
-    → c ≡ answer_head code own count
-assembled_by code count own a b c is_a is_b is_c =
-    is_c ∙ ap (λ (t : List ℕ). t ++ closing count) (is_b ∙ ap (λ (t : List ℕ). t ++ flat_map ended own) is_a) ∙ assembled code count own
-
--- with one line of its own
-pub assembled_one : (code count : ℕ) (line a b c : List ℕ) → a ≡ ended (status_line code) → b ≡ a ++ ended line → c ≡ b ++ closing count
-    → c ≡ answer_head code (line ∷ []) count
-assembled_one code count line a b c is_a is_b is_c =
-    assembled_by code count (line ∷ []) a b c is_a (is_b ∙ ap (λ (t : List ℕ). a ++ t) (sym (append-nil (ended line)))) is_c
+-- the same by steps, with one line of its own
+pub assembled_one : (code count : ℕ) (reason line a b c : List ℕ) → a ≡ ended (status_line code reason) → b ≡ a ++ ended line → c ≡ b ++ closing count
+    → c ≡ answer_head code reason (line ∷ []) count
+assembled_one code count reason line a b c is_a is_b is_c =
+    is_c
+    ∙ ap (λ (t : List ℕ). t ++ closing count) (is_b ∙ ap (λ (t : List ℕ). t ++ ended line) is_a ∙ ap (λ (t : List ℕ). ended (status_line code reason) ++ t) (sym (append-nil (ended line))))
+    ∙ assembled code count reason (line ∷ [])
 
 -- the line of a file's type
 pub typed_by : (a b name text : List ℕ) → b ≡ a ++ ended (codes "Content-Type: " ++ text) → text ≡ type_of name → b ≡ a ++ ended (type_line name)

@@ -1,8 +1,10 @@
 // What came of a connection.
 ghost use Rattle.std.specs.Prelude.{◌≡◌};
-ghost use Rattle.plain_host.specs.declared.fault.ServeFault.TheVariants.{Memory};
+ghost use Rattle.plain_host.specs.Serving.{fault_by};
 
-use std::alloc::{AllocError, AllocFailed};
+use folders::FolderFault;
+use std::error::Error;
+use std::fmt;
 
 /// How a connection was served.
 #[derive(Clone, Copy, Debug, PartialEq, Eq)]
@@ -22,14 +24,29 @@ pub enum ServeFault {
     WriteFault,
     /// The folder failed: its count of faults rose.
     FolderFault,
-    /// There was no memory for the request or the answer.
+    /// There was no memory for the file that was asked for.
     Memory,
 }
 
-impl From<AllocError> for ServeFault {
-    ghost from_gives = { λ _ e. e ≡ Memory };
+impl fmt::Display for ServeFault {
+    fn fmt<W: fmt::Write>(&self, f: &mut fmt::Formatter<W>) -> fmt::Result {
+        match self {
+            ServeFault::ReadFault => write!(f, "receiving failed"),
+            ServeFault::WriteFault => write!(f, "sending failed"),
+            ServeFault::FolderFault => write!(f, "the folder failed"),
+            ServeFault::Memory => write!(f, "out of memory"),
+        }
+    }
+}
 
-    fn from(_: AllocError) -> ServeFault {
-        ServeFault::Memory
+impl Error for ServeFault {}
+
+/// What a fault of the folder is to a connection.
+pub(crate) fn fault_of(fault: FolderFault) -> ServeFault
+    ensures { result ≡ fault_by fault }
+{
+    match fault {
+        FolderFault::Failed => ServeFault::FolderFault,
+        FolderFault::Memory => ServeFault::Memory,
     }
 }

@@ -4,10 +4,13 @@
 mod answer;
 mod fault;
 mod receiving;
+mod room;
 mod sending;
 mod serving;
 #[cfg(test)]
 mod tests;
 
 pub use fault::{ServeFault, Served};
+pub use receiving::REQUEST_PIECE;
+pub use room::Room;
 pub use serving::serve_connection;

@@ -8,16 +8,16 @@ pub returns-in-Err-clause-served : goal.returns-in-Err-clause-served
 returns-in-Err-clause-served g c = λ t u gs fs other.
     hosts_still (g.F.Folder.held c.args.folder.now) (g.G.Door.accepted c.args.door.now) (g.G.Door.accepted c.loop-made.door) (g.G.Door.accepted c.host_one.new.door)
     (g.G.Door.count c.args.door.now) (g.G.Door.count c.loop-made.door) (g.G.Door.count c.host_one.new.door) (g.F.Folder.count c.args.folder.now) (g.F.Folder.count c.loop-made.folder) (g.F.Folder.count c.host_one.new.folder)
-    c.loop-made.invariant.door_later c.in-Err.ensures.door_later c.loop-made.invariant.folder_later c.in-Err.ensures.folder_later gs fs
-    (c.loop-made.invariant.served t u (omega (arith, c.in-Err.ensures.door_later)) (omega (arith, c.in-Err.ensures.folder_later)))
+    c.loop-made.invariant.door_later c.in-Err.ensures.counts.door_later c.loop-made.invariant.folder_later c.in-Err.ensures.counts.folder_later gs fs
+    (c.loop-made.invariant.served t u (omega (arith, c.in-Err.ensures.counts.door_later)) (omega (arith, c.in-Err.ensures.counts.folder_later)))
     (c.in-Err.ensures.none t (missed_then c.in-Err.fault other))
 
 pub returns-in-Err-clause-memory : goal.returns-in-Err-clause-memory
 returns-in-Err-clause-memory g c = λ t u gs fs memory.
     hosts_last (g.F.Folder.held c.args.folder.now) (g.G.Door.accepted c.args.door.now) (g.G.Door.accepted c.loop-made.door) (g.G.Door.accepted c.host_one.new.door)
     (g.G.Door.count c.args.door.now) (g.G.Door.count c.loop-made.door) (g.G.Door.count c.host_one.new.door) (g.F.Folder.count c.args.folder.now) (g.F.Folder.count c.loop-made.folder) (g.F.Folder.count c.host_one.new.folder)
-    c.loop-made.invariant.door_later c.in-Err.ensures.door_later c.loop-made.invariant.folder_later c.in-Err.ensures.folder_later gs fs
-    (c.loop-made.invariant.served t u (omega (arith, c.in-Err.ensures.door_later)) (omega (arith, c.in-Err.ensures.folder_later)))
+    c.loop-made.invariant.door_later c.in-Err.ensures.counts.door_later c.loop-made.invariant.folder_later c.in-Err.ensures.counts.folder_later gs fs
+    (c.loop-made.invariant.served t u (omega (arith, c.in-Err.ensures.counts.door_later)) (omega (arith, c.in-Err.ensures.counts.folder_later)))
     (c.in-Err.ensures.memory t memory)
 
 pub loop-made-preserved : goal.loop-made-preserved
@@ -29,14 +29,14 @@ loop-made-preserved g c = record {
   served = λ t u gs fs.
       hosts_on (g.F.Folder.held c.args.folder.now) (g.G.Door.accepted c.args.door.now) (g.G.Door.accepted c.loop-made.door) (g.G.Door.accepted c.host_one.new.door)
       (g.G.Door.count c.args.door.now) (g.G.Door.count c.loop-made.door) (g.G.Door.count c.host_one.new.door) (g.F.Folder.count c.args.folder.now) (g.F.Folder.count c.loop-made.folder) (g.F.Folder.count c.host_one.new.folder)
-      c.loop-made.invariant.door_later c.in_default.ensures.door_later c.loop-made.invariant.folder_later c.in_default.ensures.folder_later gs fs
-      (c.loop-made.invariant.served t u (omega (arith, c.in_default.ensures.door_later)) (omega (arith, c.in_default.ensures.folder_later)))
+      c.loop-made.invariant.door_later c.in_default.ensures.counts.door_later c.loop-made.invariant.folder_later c.in_default.ensures.counts.folder_later gs fs
+      (c.loop-made.invariant.served t u (omega (arith, c.in_default.ensures.counts.door_later)) (omega (arith, c.in_default.ensures.counts.folder_later)))
       (subst (λ (fs : List Held). HostsOne fs (g.G.Door.accepted c.loop-made.door) (g.G.Door.accepted c.host_one.new.door) (g.G.Door.count c.loop-made.door) (g.G.Door.count c.host_one.new.door) (g.F.Folder.count c.loop-made.folder) (g.F.Folder.count c.host_one.new.folder)) (c.loop-made.invariant.held u) (c.in_default.ensures.fate t u));
   door_still = λ none. absurd (omega arith);
   folder_still = λ none. absurd (omega arith);
-  door_later = omega (arith, c.loop-made.invariant.door_later, c.in_default.ensures.door_later);
-  folder_later = omega (arith, c.loop-made.invariant.folder_later, c.in_default.ensures.folder_later);
-  misses_later = omega (arith, c.loop-made.invariant.misses_later, c.in_default.ensures.misses_later);
-  quiet_misses = c.in_default.ensures.quiet_misses (λ same. cc) ∙ c.loop-made.invariant.quiet_misses;
+  door_later = omega (arith, c.loop-made.invariant.door_later, c.in_default.ensures.counts.door_later);
+  folder_later = omega (arith, c.loop-made.invariant.folder_later, c.in_default.ensures.counts.folder_later);
+  misses_later = omega (arith, c.loop-made.invariant.misses_later, c.in_default.ensures.counts.misses_later);
+  quiet_misses = c.in_default.ensures.counts.quiet (λ same. cc) ∙ c.loop-made.invariant.quiet_misses;
   held = λ u. c.in_default.ensures.held u ∙ c.loop-made.invariant.held u;
 }
