@@ -1,18 +1,20 @@
 -- What is known of the entries while the files are read one after another.
-use Rattle.std.proofs.Common.{◌≡◌, ℕ, Bool, true, false, suc, ◌+◌, ◌<◌, ◌≤◌, List, [], ◌∷◌, ◌++◌, length, get_or, drop, map, drop-cons, add-one, append_assoc, All, Ok, Err, refl, sym, ap, subst, ◌∙◌, arith}
+use Rattle.std.proofs.Common.{◌≡◌, ℕ, Bool, true, false, zero, suc, ◌+◌, ◌<◌, ◌≤◌, List, [], ◌∷◌, ◌++◌, length, get_or, drop, map, drop-cons, add-one, append_assoc, Ok, Err, refl, sym, ap, subst, ◌∙◌, arith}
 use Rattle.std.specs.Prelude.{nat_lt, if◌then◌else◌}
 use Rattle.std.proofs.lemmas.Grind.{common_steps}
 use Rattle.std.proofs.lemmas.List.{append-nil, get_or-map}
-use Rattle.std.proofs.lemmas.List.Elements.{All-nil, All-cons}
 use Rattle.std.proofs.lemmas.Bool.Decides.{nat_tests}
+use Rattle.small_types.specs.declared.limits.TheConstants.{FILE_SIZE_LIMIT}
+use Rattle.small_types.specs.Reading.{◌>>=◌}
 use Rattle.folders.specs.declared.folder.Held.{Held}
 use Rattle.manifests.specs.declared.facts.FileEntry.{FileEntry}
+use Rattle.manifests.specs.Applications.{size_limit}
 use Rattle.publish_plan.specs.declared.options.PlannedFile.{PlannedFile}
 use Rattle.publisher.specs.declared.fault.PublishFault.{PublishFault}
 use Rattle.publisher.specs.declared.fault.PublishFault.TheVariants.{FileTooLong}
 use Rattle.publisher.specs.Entries.{AreEntries, IsEntry}
 use Rattle.publisher.specs.Outcome.{Fails}
-use Rattle.publisher.specs.Publication.{Outcome, ◌>>=◌, read_entry, read_entries, entry_in, entry_of, bytes_in, file_limit}
+use Rattle.publisher.specs.Publication.{Outcome, read_entry, read_entries, entry_in, entry_of, bytes_in}
 use Rattle.publisher.proofs.Giving.{fails_same, fails_then}
 
 abbrev pick : Bool → PublishFault → FileEntry → Outcome FileEntry
@@ -76,7 +78,7 @@ picked false e x y is = cc
 entry_read : (held : List Held) (file : PlannedFile) (entry : FileEntry) → read_entry held file ≡ Ok entry → entry ≡ entry_in held file
 unfolding read_entry
 entry_read held file entry read =
-    picked (nat_lt file_limit (length (bytes_in held file))) (FileTooLong file.file (length (bytes_in held file))) (entry_in held file) entry read
+    picked (nat_lt (size_limit file.local) (length (bytes_in held file))) (FileTooLong file.file (length (bytes_in held file))) (entry_in held file) entry read
 
 -- what two outcomes are, where both together are an entry before others
 pair_read : (one : Outcome FileEntry) (rest : Outcome (List FileEntry)) (entries : List FileEntry) (is : FileEntry) (are : List FileEntry) → (one >>= λ entry. rest >>= λ others. Ok (entry ∷ others)) ≡ Ok entries
@@ -100,21 +102,26 @@ entries_long [] (e ∷ es) are = absurd are
 entries_long (f ∷ fs) [] are = absurd are
 entries_long (f ∷ fs) (e ∷ es) are = let rest = entries_long fs es are.1 in grind (arith, common_steps)
 
-entries_small : (files : List PlannedFile) (entries : List FileEntry) → AreEntries files entries → All (λ (e : FileEntry). e.size ≤ file_limit) entries
-entries_small [] [] are = All-nil (λ (e : FileEntry). e.size ≤ file_limit)
-entries_small [] (e ∷ es) are = absurd are
-entries_small (f ∷ fs) [] are = absurd are
-entries_small (f ∷ fs) (e ∷ es) are =
-    let size : e.size ≡ length are.0.bytes = ap (λ (x : FileEntry). x.size) are.0.is in
-    let within : length are.0.bytes ≤ file_limit = are.0.within in
-    All-cons (λ (x : FileEntry). x.size ≤ file_limit) e es (omega arith) (entries_small fs es are.1)
+-- each is of the file at its place
+pub entry_is : (files : List PlannedFile) (entries : List FileEntry) (i : ℕ) (file : PlannedFile) (entry : FileEntry) → AreEntries files entries → i < length files → file ≡ get_or files i file → entry ≡ get_or entries i entry
+    → IsEntry file entry
+entry_is [] entries i file entry are within file_is is = absurd (omega arith)
+entry_is (f ∷ fs) [] i file entry are within file_is is = absurd are
+entry_is (f ∷ fs) (e ∷ es) zero file entry are within file_is is =
+    subst (λ (g : PlannedFile). IsEntry g entry) (sym file_is) (subst (IsEntry f) (sym is) are.0)
+entry_is (f ∷ fs) (e ∷ es) (suc i) file entry are within file_is is =
+    entry_is fs es i file entry are.1 (omega arith) file_is is
 
--- each is within the limit
-pub entry_small : (files : List PlannedFile) (entries : List FileEntry) (i : ℕ) (entry : FileEntry) → AreEntries files entries → i < length files → entry ≡ get_or entries i entry → entry.size ≤ file_limit
-entry_small files entries i entry are within is =
-    let long = entries_long files entries are in
-    let below : i < length entries = omega arith in
-    subst (λ (e : FileEntry). e.size ≤ file_limit) (sym is) (entries_small files entries are i entry below)
+-- no file may be longer than one that is no data
+at_most : (b : Bool) → size_limit b ≤ FILE_SIZE_LIMIT
+at_most true = omega arith
+at_most false = omega arith
+
+pub entry_small : (file : PlannedFile) (entry : FileEntry) → IsEntry file entry → entry.size ≤ FILE_SIZE_LIMIT
+entry_small file entry is =
+    let size : entry.size ≡ length is.bytes = ap (λ (x : FileEntry). x.size) is.is in
+    let within : length is.bytes ≤ size_limit file.local = is.within in
+    omega (arith, at_most file.local)
 
 -- each is of its file
 pub entry_at : (held : List Held) (files : List PlannedFile) (entries : List FileEntry) (i : ℕ) (file : PlannedFile) (entry : FileEntry) → i < length files → file ≡ get_or files i file → entry ≡ get_or entries i entry
@@ -122,7 +129,7 @@ pub entry_at : (held : List Held) (files : List PlannedFile) (entries : List Fil
 entry_at held files entries i file entry within file_is entry_is are =
     entry_is ∙ ap (λ (es : List FileEntry). get_or es i entry) are ∙ get_or-map (entry_in held) files i file entry within ∙ ap (entry_in held) (sym file_is)
 
-read_pick : (held : List Held) (file : PlannedFile) → read_entry held file ≡ pick (nat_lt file_limit (length (bytes_in held file))) (FileTooLong file.file (length (bytes_in held file))) (entry_in held file)
+read_pick : (held : List Held) (file : PlannedFile) → read_entry held file ≡ pick (nat_lt (size_limit file.local) (length (bytes_in held file))) (FileTooLong file.file (length (bytes_in held file))) (entry_in held file)
 unfolding read_entry
 read_pick held file = refl
 
@@ -132,12 +139,12 @@ over a b h = grind (arith, nat_tests)
 not_over : (a b : ℕ) → b ≤ a → nat_lt a b ≡ false
 not_over a b h = grind (arith, nat_tests)
 
-pub read_long : (held : List Held) (file : PlannedFile) (bytes : List ℕ) → bytes ≡ bytes_in held file → file_limit < length bytes → read_entry held file ≡ Err (FileTooLong file.file (length bytes))
+pub read_long : (held : List Held) (file : PlannedFile) (bytes : List ℕ) → bytes ≡ bytes_in held file → size_limit file.local < length bytes → read_entry held file ≡ Err (FileTooLong file.file (length bytes))
 read_long held file bytes is long =
-    read_pick held file ∙ ap (λ (bs : List ℕ). pick (nat_lt file_limit (length bs)) (FileTooLong file.file (length bs)) (entry_of file bs)) (sym is)
-    ∙ ap (λ (b : Bool). pick b (FileTooLong file.file (length bytes)) (entry_of file bytes)) (over file_limit (length bytes) long)
+    read_pick held file ∙ ap (λ (bs : List ℕ). pick (nat_lt (size_limit file.local) (length bs)) (FileTooLong file.file (length bs)) (entry_of file bs)) (sym is)
+    ∙ ap (λ (b : Bool). pick b (FileTooLong file.file (length bytes)) (entry_of file bytes)) (over (size_limit file.local) (length bytes) long)
 
-pub read_short : (held : List Held) (file : PlannedFile) (bytes : List ℕ) → bytes ≡ bytes_in held file → length bytes ≤ file_limit → read_entry held file ≡ Ok (entry_of file bytes)
+pub read_short : (held : List Held) (file : PlannedFile) (bytes : List ℕ) → bytes ≡ bytes_in held file → length bytes ≤ size_limit file.local → read_entry held file ≡ Ok (entry_of file bytes)
 read_short held file bytes is short =
-    read_pick held file ∙ ap (λ (bs : List ℕ). pick (nat_lt file_limit (length bs)) (FileTooLong file.file (length bs)) (entry_of file bs)) (sym is)
-    ∙ ap (λ (b : Bool). pick b (FileTooLong file.file (length bytes)) (entry_of file bytes)) (not_over file_limit (length bytes) short)
+    read_pick held file ∙ ap (λ (bs : List ℕ). pick (nat_lt (size_limit file.local) (length bs)) (FileTooLong file.file (length bs)) (entry_of file bs)) (sym is)
+    ∙ ap (λ (b : Bool). pick b (FileTooLong file.file (length bytes)) (entry_of file bytes)) (not_over (size_limit file.local) (length bytes) short)

@@ -1,11 +1,12 @@
 -- What a call gives, against what the definitions say.
 use Rattle.std.proofs.Common.{◌≡◌, Ok, Err, IfOk, IfErr, IsErr, OnOk, OnErr, sym, ap, subst, ◌∙◌}
 use Rattle.std.specs.Prelude.{IsErrAnd}
+use Rattle.small_types.specs.Reading.{◌>>=◌}
 use Rattle.publisher.specs.declared.fault.PublishFault.{PublishFault}
 use Rattle.publisher.specs.declared.fault.PublishFault.TheVariants.{ReadFault, WriteFault, Changed, Memory}
 use Rattle.publisher.specs.Faults.{IsReading, IsWriting}
 use Rattle.publisher.specs.Outcome.{Fails, Gives}
-use Rattle.publisher.specs.Publication.{Outcome, ◌>>=◌}
+use Rattle.publisher.specs.Publication.{Outcome}
 
 abbrev err_of : {A : Type 0} → PublishFault → Outcome A
 err_of e = Err e

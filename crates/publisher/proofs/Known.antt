@@ -17,9 +17,10 @@ use Rattle.publisher.specs.declared.release.Release.{Release}
 use Rattle.publisher.specs.Options.{IsPublishable}
 use Rattle.publisher.specs.Outcome.{KeepsStanding, Leaves, LeavesInput, Publishes}
 use Rattle.publisher.specs.Publication.{copy_in, entry_in, manifests_of, publish_of, published_files, read_entries}
-use Rattle.publisher.specs.Puts.{PutsEach, PutsSome}
+use Rattle.publisher.specs.Puts.{IsNewPlan, PutsEach, PutsSome}
 use Rattle.publisher.proofs.Entering.{entries_are}
-use Rattle.publisher.proofs.PlanFacts.{IsGoodPlan, plan_good}
+use Rattle.publisher.proofs.NewNames.{plan_new}
+use Rattle.publisher.proofs.PlanFacts.{IsGoodPlan, plan_good, strict_distinct}
 use Rattle.publisher.proofs.PublishSteps.{all_written, input_left, part_left, all_published}
 use Rattle.publisher.proofs.SecondReads.{input_alone}
 use Rattle.publisher.proofs.Standing.{deployment_kept, standing_each, standing_some}
@@ -28,6 +29,12 @@ use Rattle.publisher.proofs.Standing.{deployment_kept, standing_each, standing_s
 pub good : (o : Options) (names : List (List ℕ)) (plan : Plan) → IsPublishable o → early_of o ≡ None → IsStrictlySortedBy (slice_cmp nat_cmp) names → plan_of o names ≡ Ok plan
     → IsGoodPlan o names plan
 good o names plan options fit ascending is = plan_good o names plan options ascending (plan_facts o names fit plan is)
+
+-- nothing stands under the names that it writes
+pub new : (o : Options) (names : List (List ℕ)) (plan : Plan) (old held : List Held) → early_of o ≡ None → IsStrictlySortedBy (slice_cmp nat_cmp) names → plan_of o names ≡ Ok plan → IsNames old names → held ≡ old
+    → IsNewPlan plan held
+new o names plan old held fit ascending is are kept =
+    subst (IsNewPlan plan) (sym kept) (plan_new o names plan old (plan_facts o names fit plan is) (strict_distinct names ascending) are)
 
 -- a plan, what was read of its files, and the release that was made of that
 pub record IsKnown (o : Options) (names : List (List ℕ)) (old : List Held) (plan : Plan) (entries : List FileEntry) (release : Release) : Type 0 where

@@ -8,30 +8,31 @@ use Rattle.std.proofs.lemmas.Bool.{and_parts, and_from, ltb-true, leb-true}
 use Rattle.std.proofs.lemmas.Bool.Decides.{nat_tests}
 use Rattle.std.proofs.lemmas.Fmt.{digits_decimal}
 use Rattle.std.proofs.lemmas.List.Folds.{list_all-append}
+use Rattle.small_types.specs.declared.limits.TheConstants.{MANIFEST_LIMIT}
 use Rattle.identity.specs.declared.version.Version.{Version}
 use Rattle.identity.specs.Version.{IsVersion, version_cmp}
-use Rattle.identity.proofs.VersionLemmas.{own}
+use Rattle.small_types.proofs.DecimalLemmas.{own}
 use Rattle.digest_list.specs.Digest.{IsSized}
 use Rattle.manifest_tree.specs.Lexis.{allowed}
 use Rattle.manifest_tree.specs.Writing.{is_content}
 use Rattle.manifests.specs.declared.facts.Deployment.{Deployment}
 use Rattle.manifests.specs.declared.facts.FileEntry.{FileEntry}
 use Rattle.manifests.specs.FileLists.{AreFiles}
-use Rattle.manifest_writer.specs.Facts.{AreApplicationFacts, AreDeploymentFacts, IsFile, IsIdentity, IsMinimum, IsValue}
+use Rattle.manifests.specs.Facts.{AreApplicationFacts, AreDeploymentFacts, IsFile, IsIdentity, IsMinimum, IsValue}
 use Rattle.publish_plan.specs.declared.fault.PlanFault.TheVariants.{MinimumAbove}
 use Rattle.publish_plan.specs.declared.options.Options.{Options}
 use Rattle.publish_plan.specs.Early.{above, early_of}
-use Rattle.publish_plan.specs.Places.{is_word, is_word_byte, manifest_name, codebase, release_word, version_folder, version_word}
+use Rattle.publish_plan.specs.Places.{is_plain_name, is_plain_byte, manifest_name, codebase, release_word, version_folder, version_word}
 use Rattle.publish_plan.proofs.EarlyLemmas.{AreFit, options_fit}
 use Rattle.publisher.specs.Options.{IsPublishable}
-use Rattle.publisher.specs.Publication.{application_identity, application_of, deployment_identity, deployment_of, manifest_limit}
+use Rattle.publisher.specs.Publication.{application_identity, application_of, deployment_identity, deployment_of}
 
 each_also : (p q : ℕ → Bool) → ((b : ℕ) → p b ≡ true → q b ≡ true) → (xs : List ℕ) → list_all p xs ≡ true → list_all q xs ≡ true
 each_also p q also [] all = refl
 each_also p q also (x ∷ xs) all = let both = and_parts (p x) (list_all p xs) all in and_from _ _ (also x both.0) (each_also p q also xs both.1)
 
 -- no byte of a word, and no digit, is one that a manifest may not hold
-word_allowed : (b : ℕ) → is_word_byte b ≡ true → allowed b ≡ true
+word_allowed : (b : ℕ) → is_plain_byte b ≡ true → allowed b ≡ true
 unfolding allowed
 word_allowed b is = grind (arith, nat_tests)
 
@@ -45,15 +46,15 @@ pub record IsFitWord (word : List ℕ) : Type 0 where
   pub few : length word ≤ 100
   pub content : is_content word ≡ true
 
-pub word_fits : (word : List ℕ) → is_word word ≡ true → IsFitWord word
-unfolding is_word
+pub word_fits : (word : List ℕ) → is_plain_name word ≡ true → IsFitWord word
+unfolding is_plain_name
 word_fits word is =
-    let outer = and_parts (nat_lt 0 (length word) && nat_le (length word) 100) (list_all is_word_byte word) is in
+    let outer = and_parts (nat_lt 0 (length word) && nat_le (length word) 100) (list_all is_plain_byte word) is in
     let lengths = and_parts (nat_lt 0 (length word)) (nat_le (length word) 100) outer.0 in
     record {
       some = ltb-true 0 (length word) lengths.0;
       few = leb-true (length word) 100 lengths.1;
-      content = each_also is_word_byte allowed word_allowed word outer.1;
+      content = each_also is_plain_byte allowed word_allowed word outer.1;
     }
 
 joined : (a b : List ℕ) → is_content a ≡ true → is_content b ≡ true → is_content (a ++ b) ≡ true
@@ -151,7 +152,7 @@ pub name_content : (o : Options) → early_of o ≡ None → is_content o.name �
 name_content o fit = let name = word_fits o.name (options_fit o fit).name in name.content
 
 -- what the deployment manifest says
-pub deployment_fits : (o : Options) (text : List ℕ) (d : Deployment) → IsPublishable o → early_of o ≡ None → IsVersion o.version → length text ≤ manifest_limit → d ≡ deployment_of o text → All IsSized d.app_list → AreDeploymentFacts d
+pub deployment_fits : (o : Options) (text : List ℕ) (d : Deployment) → IsPublishable o → early_of o ≡ None → IsVersion o.version → length text ≤ MANIFEST_LIMIT → d ≡ deployment_of o text → All IsSized d.app_list → AreDeploymentFacts d
 deployment_fits o text d publishable early version short is sized =
     let fit = options_fit o early in
     let facts : All IsSized (deployment_of o text).app_list → AreDeploymentFacts (deployment_of o text) = λ list. record {

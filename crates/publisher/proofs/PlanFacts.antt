@@ -13,7 +13,8 @@ use Rattle.std.proofs.lemmas.Map.Keys.{IsDistinct-cons, IsDistinct-head, IsDisti
 use Rattle.std.proofs.lemmas.Slice.Eq.{bytes_eq-Decides}
 use Rattle.folders.specs.declared.folder.Held.{Held}
 use Rattle.folders.specs.Files.{distinct, is_named, names_of}
-use Rattle.manifest_writer.specs.Facts.{IsValue}
+use Rattle.folders.proofs.Filing.{clash, other_named}
+use Rattle.manifests.specs.Facts.{IsValue}
 use Rattle.publish_plan.specs.declared.options.Mark.{Mark}
 use Rattle.publish_plan.specs.declared.options.MarkKind.{MarkKind}
 use Rattle.publish_plan.specs.declared.options.MarkKind.TheVariants.{Local, Group}
@@ -28,9 +29,8 @@ use Rattle.publisher.specs.declared.release.Release.{Release}
 use Rattle.publisher.specs.Options.{IsKind, IsPublishable}
 use Rattle.publisher.specs.Publication.{copy_in, published_files}
 use Rattle.publisher.specs.Puts.{AreApart, is_apart}
-use Rattle.publisher.proofs.Putting.{clash, named_is}
 use Rattle.publisher.proofs.ReleaseFacts.{IsFitFile}
-use Rattle.publisher.proofs.SecondReads.{neither, none_named, not_true}
+use Rattle.publisher.proofs.SecondReads.{neither, none_named}
 
 -- what a plan over these names has
 pub record IsGoodPlan (o : Options) (names : List (List ℕ)) (plan : Plan) : Type 0 where
@@ -93,7 +93,7 @@ files_distinct (f ∷ fs) differ =
     (files_distinct fs (IsDistinct-tail bytes_eq f.name (names_of fs) differ))
 
 -- a name that stands is not in the folder
-free_at : (folder name : List ℕ) (names : List (List ℕ)) → All (λ n. lies_below folder n ≡ false) names → list_any (bytes_eq name) names ≡ true → lies_below folder name ≡ false
+pub free_at : (folder name : List ℕ) (names : List (List ℕ)) → All (λ n. lies_below folder n ≡ false) names → list_any (bytes_eq name) names ≡ true → lies_below folder name ≡ false
 free_at folder name [] free there = absurd (clash false there refl)
 free_at folder name (n ∷ ns) free there = by (bytes_eq name n) refl (free_at folder name ns (All-tail (λ m. lies_below folder m ≡ false) n ns free))
   where
@@ -109,9 +109,6 @@ any_then p (x ∷ xs) ys first rest = by (p x) refl (λ more. any_then p xs ys m
     by true is more = absurd (clash (p x || list_any p xs) (ap (λ (b : Bool). b || list_any p xs) is) first)
     by false is more = ap (λ (b : Bool). b || list_any p (xs ++ ys)) is ∙ more (sym (ap (λ (b : Bool). b || list_any p xs) is) ∙ first)
 
-other_name : (name : List ℕ) (file : Held) → file.name ≢ name → is_named name file ≡ false
-other_name name file differs = not_true (is_named name file) (λ same. differs (named_is name file same))
-
 none_new : (o : Options) (names : List (List ℕ)) (plan : Plan) (held : List Held) (release : Release) (name : List ℕ) → AreFacts o names plan → list_any (bytes_eq name) names ≡ true → name ≢ deployment_name o → list_any (is_named name) (published_files held plan release) ≡ false
 none_new o names plan held release name facts there differs =
     let folder = version_folder o in
@@ -119,8 +116,8 @@ none_new o names plan held release name facts there differs =
     let manifest : plan.manifest ≢ name = λ same. clash (lies_below folder name) (ap (lies_below folder) (sym same) ∙ facts.manifest_inside) outside in
     let deployment : plan.deployment ≢ name = λ same. differs (sym same ∙ facts.deployment) in
     any_then (is_named name) (map (copy_in held) plan.files) _ (none_named held folder name plan.files (all_apart folder plan.files facts.apart) outside)
-    (neither _ _ (other_name name (record { name = plan.manifest; bytes = release.application }) manifest)
-    (neither _ _ (other_name name (record { name = plan.deployment; bytes = release.deployment }) deployment) refl))
+    (neither _ _ (other_named name (record { name = plan.manifest; bytes = release.application }) manifest)
+    (neither _ _ (other_named name (record { name = plan.deployment; bytes = release.deployment }) deployment) refl))
 
 -- ---- the whole
 
@@ -128,7 +125,7 @@ apart_same : (x : List ℕ) (names : List (List ℕ)) → AllByRecursion (λ y. 
 apart_same x [] all = tt
 apart_same x (y ∷ ys) all = (texts_ties x y ∙ all.0, apart_same x ys all.1)
 
-distinct_none : IsDistinct bytes_eq []
+pub distinct_none : IsDistinct bytes_eq []
 unfolding IsDistinct
 distinct_none = tt
 
@@ -137,7 +134,7 @@ distinct_same [] differ = distinct_none
 distinct_same (x ∷ xs) differ =
     IsDistinct-cons bytes_eq x xs (apart_same x xs (IsDistinct-head (eq_by_cmp (slice_cmp nat_cmp)) x xs differ)) (distinct_same xs (IsDistinct-tail (eq_by_cmp (slice_cmp nat_cmp)) x xs differ))
 
-strict_distinct : (names : List (List ℕ)) → IsStrictlySortedBy (slice_cmp nat_cmp) names → IsDistinct bytes_eq names
+pub strict_distinct : (names : List (List ℕ)) → IsStrictlySortedBy (slice_cmp nat_cmp) names → IsDistinct bytes_eq names
 strict_distinct names ascending = distinct_same names (IsDistinct-from_sorted (slice_cmp nat_cmp) names ascending)
 
 pub plan_good : (o : Options) (names : List (List ℕ)) (plan : Plan) → IsPublishable o → IsStrictlySortedBy (slice_cmp nat_cmp) names → AreFacts o names plan → IsGoodPlan o names plan

@@ -13,7 +13,8 @@ use Rattle.publish_plan.specs.Marks.{bad_mark, is_among, is_marked}
 use Rattle.publish_plan.specs.Outcome.{Read}
 use Rattle.publish_plan.specs.Places.{deployment_name, input_names, lies_below, manifest_name, version_folder}
 use Rattle.publish_plan.specs.Plans.{few, fit_inputs, good_marks, is_bad_input, is_local_file, plan_for, plan_of, planned_files, some_input, standing, with_entry}
-use Rattle.publisher.specs.Faults.{IsLate, fault_of}
+use Rattle.publisher.specs.Changes.{IsLate}
+use Rattle.publisher.specs.Faults.{fault_of}
 
 -- no refusal of words or of the minimum
 abbrev IsPlanFault : PlanFault → Type 0

@@ -3,6 +3,7 @@ use Rattle.std.proofs.Common.{◌≡◌, ℕ, ◌<◌, List, [], ◌∷◌, leng
 use Rattle.std.specs.Prelude.{is_ok, true}
 use Rattle.std.proofs.lemmas.Bool.{false≢true}
 use Rattle.std.proofs.lemmas.List.{length-map}
+use Rattle.small_types.specs.Reading.{◌>>=◌}
 use Rattle.folders.specs.declared.folder.Held.{Held}
 use Rattle.folders.specs.Files.{distinct, file_in}
 use Rattle.manifests.specs.declared.facts.FileEntry.{FileEntry}
@@ -22,7 +23,7 @@ use Rattle.publisher.specs.declared.fault.PublishFault.TheVariants.{ReadFault, W
 use Rattle.publisher.specs.declared.release.Release.{Release}
 use Rattle.publisher.specs.Faults.{IsDevice, fault_of}
 use Rattle.publisher.specs.Outcome.{Fails, Leaves, LeavesInput, Publishes, Refuses}
-use Rattle.publisher.specs.Publication.{Outcome, ◌>>=◌, copy_in, judged, manifests_of, publish_of, published_files, read_entries, release_of}
+use Rattle.publisher.specs.Publication.{Outcome, copy_in, judged, manifests_of, publish_of, published_files, read_entries, release_of}
 use Rattle.publisher.specs.Puts.{PutsEach, PutsInput, PutsSome}
 use Rattle.publisher.proofs.Giving.{fails_same, fails_then, fails_after}
 use Rattle.publisher.proofs.Putting.{all_put, distinct_front}

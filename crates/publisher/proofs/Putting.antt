@@ -6,6 +6,7 @@ use Rattle.std.proofs.lemmas.Grind.{common_steps}
 use Rattle.std.proofs.lemmas.Slice.Eq.{bytes_eq-Decides}
 use Rattle.folders.specs.declared.folder.Held.{Held}
 use Rattle.folders.specs.Files.{is_named, file_in, distinct, Puts}
+use Rattle.folders.proofs.Filing.{clash, distinct_first, distinct_rest}
 use Rattle.publisher.specs.Puts.{PutsAll, PutsEach}
 
 -- one more file is put
@@ -18,21 +19,8 @@ put_more [] old mid new file puts put =
     (new, first, λ name. refl)
 put_more (f ∷ files) old mid new file puts put = (puts.0, puts.1, put_more files puts.0 mid new file puts.2 put)
 
-pub clash : (r : Bool) → r ≡ true → r ≡ false → ⊥
-clash r is isnt = cc
-
 pub named_is : (name : List ℕ) (file : Held) → is_named name file ≡ true → file.name ≡ name
 named_is name file is = (bytes_eq-Decides file.name name).0 is
-
-self_named : (file : Held) → is_named file.name file ≡ true
-self_named file = (bytes_eq-Decides file.name file.name).1 refl
-
-not_true : (r : Bool) → (r ≡ true → ⊥) → r ≡ false
-not_true true never = absurd (never refl)
-not_true false _ = refl
-
-other_named : (name : List ℕ) (file : Held) → file.name ≢ name → is_named name file ≡ false
-other_named name file differs = not_true (is_named name file) (λ same. differs (named_is name file same))
 
 -- a file under the name of none of those that are put stays
 pub kept_each : (files : List Held) (old new : List Held) (name : List ℕ) → list_any (is_named name) files ≡ false → PutsEach files old new → file_in name new ≡ file_in name old
@@ -42,13 +30,6 @@ kept_each (f ∷ files) old new name none puts =
     let rest : list_any (is_named name) files ≡ false = grind (arith, common_steps) in
     let differs : name ≢ f.name = λ same. clash (is_named name f) ((bytes_eq-Decides f.name name).1 (sym same)) apart in
     kept_each files puts.0 new name rest puts.2 ∙ puts.1.others name differs
-
--- the names of the others are other ones
-pub distinct_first : (f : Held) (files : List Held) → distinct (f ∷ files) ≡ true → list_any (is_named f.name) files ≡ false
-distinct_first f files differ = grind (arith, common_steps)
-
-pub distinct_rest : (f : Held) (files : List Held) → distinct (f ∷ files) ≡ true → distinct files ≡ true
-distinct_rest f files differ = grind (arith, common_steps)
 
 -- what stands under a name, once it is known whether the first file has it
 put_first : (f : Held) (files old mid new : List Held) (name : List ℕ) (b : Bool) → is_named name f ≡ b → distinct (f ∷ files) ≡ true → Puts old mid f.name f.bytes → PutsEach files mid new

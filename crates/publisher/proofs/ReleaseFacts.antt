@@ -1,5 +1,5 @@
 -- What is planned can be said by a manifest.
-use Rattle.std.proofs.Common.{◌≡◌, ℕ, ◌<◌, ◌≤◌, true, List, [], ◌∷◌, length, get_or, map, All, IfSome, Option, None, refl, sym, ap, subst, ◌∙◌, arith}
+use Rattle.std.proofs.Common.{◌≡◌, ℕ, Bool, ◌<◌, ◌≤◌, true, List, [], ◌∷◌, length, get_or, map, All, IfSome, Option, None, refl, sym, ap, subst, ◌∙◌, arith}
 use Rattle.std.specs.Prelude.{count_by}
 use Rattle.std.specs.List.{AllPairs, IsDistinct}
 use Rattle.std.specs.Str.{bytes_eq}
@@ -9,15 +9,15 @@ use Rattle.std.proofs.lemmas.List.Elements.{All-nil, All-cons, All-head, All-tai
 use Rattle.std.proofs.lemmas.Map.Keys.{apart_from_distinct}
 use Rattle.std.proofs.lemmas.Slice.Eq.{bytes_eq-Decides}
 use Rattle.small_types.specs.Name.{IsBelowPre}
+use Rattle.folders.proofs.Filing.{clash}
 use Rattle.manifests.specs.declared.facts.FileEntry.{FileEntry}
-use Rattle.manifests.specs.Applications.{locals}
+use Rattle.manifests.specs.Applications.{locals, size_limit}
 use Rattle.manifests.specs.FileLists.{AreFiles}
-use Rattle.manifest_writer.specs.Facts.{IsFile, IsValue}
+use Rattle.manifests.specs.Facts.{IsFile, IsValue}
 use Rattle.publish_plan.specs.declared.options.PlannedFile.{PlannedFile}
 use Rattle.publish_plan.specs.Facts.{file_of}
 use Rattle.publish_plan.specs.Plans.{is_local_file}
 use Rattle.publisher.specs.Entries.{AreEntries, IsEntry}
-use Rattle.publisher.proofs.Putting.{clash}
 use Rattle.publisher.proofs.Entering.{entries_long}
 
 -- a planned file that a manifest can list
@@ -36,7 +36,7 @@ entry_fits file entry fits is =
     record {
       above = λ below. fits.above (subst IsBelowPre name below);
       short = λ kept. subst (λ (n : List ℕ). length n ≤ 235) (sym name) (fits.short (sym local ∙ kept));
-      size = let w = is.within in omega arith;
+      size = subst (λ (n : ℕ). n ≤ size_limit entry.local) (sym size) (subst (λ (b : Bool). length is.bytes ≤ size_limit b) (sym local) is.within);
       list = is.sized;
       group = subst (λ (g : Option (List ℕ)). IfSome g (IsValue 1 240)) (sym group) fits.group;
       alone = λ kept. group ∙ fits.alone (sym local ∙ kept);

@@ -6,13 +6,14 @@ use Rattle.std.proofs.lemmas.List.{take_more, get_or-map, length-map, length-app
 use Rattle.std.proofs.lemmas.List.Folds.{list_all_at}
 use Rattle.folders.specs.declared.folder.Held.{Held}
 use Rattle.folders.specs.Files.{distinct, is_named, Puts}
+use Rattle.folders.proofs.Filing.{clash, not_true}
 use Rattle.publish_plan.specs.declared.options.Plan.{Plan}
 use Rattle.publish_plan.specs.declared.options.PlannedFile.{PlannedFile}
 use Rattle.publish_plan.specs.Places.{lies_below}
 use Rattle.publisher.specs.declared.release.Release.{Release}
 use Rattle.publisher.specs.Publication.{bytes_in, copy_in, published_files}
 use Rattle.publisher.specs.Puts.{PutsEach, PutsInput, PutsSome, is_apart}
-use Rattle.publisher.proofs.Putting.{all_put, clash, distinct_front, kept_each, named_is, none_before, put_more}
+use Rattle.publisher.proofs.Putting.{all_put, distinct_front, kept_each, named_is, none_before, put_more}
 
 left_so : (a b : Bool) → (a && b) ≡ true → a ≡ true
 left_so true b is = refl
@@ -28,10 +29,6 @@ not_so false is = refl
 
 pub neither : (a b : Bool) → a ≡ false → b ≡ false → (a || b) ≡ false
 neither a b first second = grind arith
-
-pub not_true : (r : Bool) → (r ≡ true → ⊥) → r ≡ false
-not_true true never = absurd (never refl)
-not_true false never = refl
 
 -- what passes at each place
 all_at : (p : PlannedFile → Bool) (files : List PlannedFile) (i : ℕ) (file : PlannedFile) → i < length files → file ≡ get_or files i file → list_all p files ≡ true → p file ≡ true

@@ -9,6 +9,7 @@ use Rattle.std.proofs.lemmas.List.{take-append-le}
 use Rattle.std.proofs.lemmas.List.Sorted.{list_any-IsPermutation}
 use Rattle.folders.specs.declared.folder.Held.{Held}
 use Rattle.folders.specs.Files.{IsNames, distinct, file_in, is_named, names_of}
+use Rattle.folders.proofs.Filing.{distinct_first, distinct_rest}
 use Rattle.publish_plan.specs.declared.options.Options.{Options}
 use Rattle.publish_plan.specs.declared.options.Plan.{Plan}
 use Rattle.publish_plan.specs.Places.{deployment_name}
@@ -17,7 +18,7 @@ use Rattle.publisher.specs.Outcome.{KeepsStanding}
 use Rattle.publisher.specs.Publication.{copy_in, published_files}
 use Rattle.publisher.specs.Puts.{PutsEach, PutsSome}
 use Rattle.publisher.proofs.PlanFacts.{IsGoodPlan}
-use Rattle.publisher.proofs.Putting.{distinct_first, distinct_rest, kept_each, none_before}
+use Rattle.publisher.proofs.Putting.{kept_each, none_before}
 use Rattle.publisher.proofs.SecondReads.{neither}
 
 -- ---- files that stood
@@ -33,7 +34,7 @@ there name [] some = some
 there name (f ∷ fs) some = there_first name f fs (is_named name f) refl some (there name fs)
 
 -- a file that stands has a name of the folder
-named_there : (name : List ℕ) (held : List Held) (names : List (List ℕ)) → IsNames held names → IsSome (file_in name held) → list_any (bytes_eq name) names ≡ true
+pub named_there : (name : List ℕ) (held : List Held) (names : List (List ℕ)) → IsNames held names → IsSome (file_in name held) → list_any (bytes_eq name) names ≡ true
 named_there name held names are some = sym (list_any-IsPermutation (bytes_eq name) (names_of held) names are.exact) ∙ there name held some
 
 -- it keeps its bytes

@@ -2,13 +2,14 @@
 use Rattle.std.specs.Prelude.{◌≡◌, ℕ, ◌≤◌, List, [], ◌∷◌, All, length}
 use Rattle.digest_list.specs.Digest.{IsSized}
 use Rattle.manifests.specs.declared.facts.FileEntry.{FileEntry}
+use Rattle.manifests.specs.Applications.{size_limit}
 use Rattle.publish_plan.specs.declared.options.PlannedFile.{PlannedFile}
-use Rattle.publisher.specs.Publication.{entry_of, file_limit}
+use Rattle.publisher.specs.Publication.{entry_of}
 
--- the file had some bytes, at most so many, and its digests have the lengths of their algorithms
+-- the file had some bytes, within its limit, and its digests have the lengths of their algorithms
 pub record IsEntry (file : PlannedFile) (entry : FileEntry) : Type 0 where
   pub bytes : List ℕ
-  pub within : length bytes ≤ file_limit
+  pub within : length bytes ≤ size_limit file.local
   pub is : entry ≡ entry_of file bytes
   pub sized : All IsSized entry.list
 

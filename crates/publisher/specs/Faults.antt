@@ -1,13 +1,14 @@
 -- Why a publish is refused, and which refusals a device or want of memory causes.
 use Rattle.std.specs.Prelude.{◌≡◌, ℕ, ◌≤◌, ◌≢◌, Option, Some, Result, IfErr, OnOk, MatchResult}
-use Rattle.digest_list.specs.Difference.{AreDistinct}
 use Rattle.outside.specs.Streams.{Rose}
+use Rattle.folders.specs.declared.folder.FolderFault.{FolderFault}
+use Rattle.folders.specs.declared.folder.FolderFault.TheVariants as folder
 use Rattle.manifest_tree.specs.declared.write.WriteFault.{WriteFault as TreeWriteFault}
 use Rattle.manifest_tree.specs.declared.write.WriteFault.TheVariants as tree
 use Rattle.publish_plan.specs.declared.fault.PlanFault.{PlanFault}
 use Rattle.publish_plan.specs.declared.fault.PlanFault.TheVariants as plan
 use Rattle.publisher.specs.declared.fault.PublishFault.{PublishFault}
-use Rattle.publisher.specs.declared.fault.PublishFault.TheVariants.{BadName, MinimumAbove, ReadFault, VersionExists, EmptyInput, BadInput, TooMany, NoEntryPoint, BadMark, ManifestTooLong, WriteFault, Changed, Memory}
+use Rattle.publisher.specs.declared.fault.PublishFault.TheVariants.{BadName, MinimumAbove, ReadFault, VersionExists, EmptyInput, BadInput, TooMany, NoEntryPoint, BadMark, ManifestTooLong, WriteFault, Memory}
 
 -- a refusal of what is planned
 abbrev pub fault_of : PlanFault → PublishFault
@@ -26,11 +27,24 @@ abbrev pub fault_of_writing : TreeWriteFault → PublishFault
 fault_of_writing (tree.TooLong length) = ManifestTooLong length
 fault_of_writing tree.Memory = Memory
 
--- a count of faults never falls, the two faults of the folder come only where it rose, and an answer leaves it
-pub record FaultsCounted {T : Type 0} (old new : ℕ) (result : Result T PublishFault) : Type 0 where
+-- why a listing or a reading of the folder is not done
+abbrev pub fault_of_reading : FolderFault → PublishFault
+fault_of_reading folder.Failed = ReadFault
+fault_of_reading folder.Memory = Memory
+
+-- why a file is not put into the folder
+abbrev pub fault_of_putting : FolderFault → PublishFault
+fault_of_putting folder.Failed = WriteFault
+fault_of_putting folder.Memory = Memory
+
+-- A count of faults never falls. The two faults of the folder come only where it rose, and all else
+-- leaves it: no fault of the folder is passed over, or told as another error.
+pub record FaultsCounted {T : Type 0} (old new : ℕ) (result : Result T PublishFault)
+    : Type 0 where
   pub later : old ≤ new
   pub read : IfErr result (λ e. e ≡ ReadFault → Rose old new)
   pub write : IfErr result (λ e. e ≡ WriteFault → Rose old new)
+  pub others : IfErr result (λ e. e ≢ ReadFault → e ≢ WriteFault → new ≡ old)
   pub quiet : OnOk result (new ≡ old)
 
 -- no value comes, and no other error than this one, unless memory ran out
@@ -49,24 +63,11 @@ IsWriting WriteFault = Unit {0}
 IsWriting Memory = Unit {0}
 IsWriting e = ⊥
 
--- a fault that comes once the folder is called; a change shows what differs
-abbrev pub IsLate : PublishFault → Type 0
-IsLate (BadName word) = ⊥
-IsLate (MinimumAbove minimum) = ⊥
-IsLate (Changed file difference) = AreDistinct difference
-IsLate e = Unit {0}
-
 -- a manifest is too long, or memory ran out
 abbrev pub IsManifestFault : PublishFault → Type 0
 IsManifestFault (ManifestTooLong length) = Unit {0}
 IsManifestFault Memory = Unit {0}
 IsManifestFault e = ⊥
-
--- bytes changed, which is shown, or memory ran out
-abbrev pub IsChange : PublishFault → Type 0
-IsChange (Changed file difference) = AreDistinct difference
-IsChange Memory = Unit {0}
-IsChange e = ⊥
 
 -- the folder failed, or memory ran out
 abbrev pub IsDevice : PublishFault → Type 0

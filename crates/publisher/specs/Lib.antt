@@ -1,6 +1,8 @@
-pub mod Options
-pub mod Faults
-pub mod Puts
-pub mod Publication
-pub mod Outcome
+pub mod Changes
 pub mod Entries
+pub mod Faults
+pub mod Options
+pub mod Outcome
+pub mod Publication
+pub mod Published
+pub mod Puts

@@ -1,12 +1,16 @@
 // Why a publish is refused.
 ghost use Rattle.std.specs.Prelude.{◌≡◌};
+ghost use Rattle.publisher.specs.Faults.{fault_of_putting, fault_of_reading};
 
 use digest_list::Difference;
+use folders::FolderFault;
 use identity::Version;
 use manifest_tree::WriteFault;
-use small_types::{CopyFault, Limit, Name, Text};
 use publish_plan::PlanFault;
+use small_types::{CopyFault, Limit, Name, Text};
 use std::alloc::{AllocError, AllocFailed};
+use std::error::Error;
+use std::fmt;
 
 /// Why a publish is refused, in the order in which the refusals are judged. Names of input files are those below `from`.
 #[derive(Drop, Debug, PartialEq, Eq)]
@@ -33,17 +37,88 @@ pub enum PublishFault {
     NoEntryPoint,
     /// The first mark that names no file, or one that an earlier mark names, has this file.
     BadMark { file: Name },
-    /// The first file that is longer than 67,108,864 bytes, and its length.
+    /// The first file that is longer than 67,108,864 bytes, or a data file that is longer than
+    /// 1,048,576, and its length.
     FileTooLong { file: Name, length: u64 },
     /// A manifest is longer than 4,194,304 bytes: its length.
     ManifestTooLong { length: u64 },
     /// The folder failed at a writing: its count rose. Over a folder that tells, nothing else is refused, and some first
     /// part of the files and the manifests may be written, but not all.
     WriteFault,
-    /// The bytes of a file changed while it was published: what differs. Over a folder that tells it does not come.
+    /// The bytes of a file changed while it was published: how those that were read again differ
+    /// from those that were read first. Over a folder that tells it does not come.
     Changed { file: Name, difference: Difference },
     /// There was no memory.
     Memory,
+}
+
+impl fmt::Display for PublishFault {
+    fn fmt<W: fmt::Write>(&self, f: &mut fmt::Formatter<W>) -> fmt::Result {
+        match self {
+            PublishFault::BadName { word } => {
+                write!(f, "the option {} can't be published", word.as_str())
+            }
+            PublishFault::MinimumAbove { minimum } => write!(
+                f,
+                "the minimum {}.{}.{}.{} is above the version",
+                minimum.a, minimum.b, minimum.c, minimum.d
+            ),
+            PublishFault::ReadFault => write!(f, "the folder failed at a reading"),
+            PublishFault::VersionExists { file } => {
+                write!(f, "the version has a file, {}", file.as_str())
+            }
+            PublishFault::EmptyInput => write!(f, "there is no file to publish"),
+            PublishFault::BadInput { file } => write!(f, "{} can't be written", file.as_str()),
+            PublishFault::TooMany {
+                what: Limit::Locals,
+            } => write!(f, "too many data files"),
+            PublishFault::TooMany { .. } => write!(f, "too many files"),
+            PublishFault::NoEntryPoint => {
+                write!(
+                    f,
+                    "the file that is started is not published, or has a mark"
+                )
+            }
+            PublishFault::BadMark { file } => {
+                write!(
+                    f,
+                    "a mark names {}, which is no file, or is marked",
+                    file.as_str()
+                )
+            }
+            PublishFault::FileTooLong { file, length } => {
+                write!(f, "{} is too long, {length} bytes", file.as_str())
+            }
+            PublishFault::ManifestTooLong { length } => {
+                write!(f, "a manifest is too long, {length} bytes")
+            }
+            PublishFault::WriteFault => write!(f, "the folder failed at a writing"),
+            PublishFault::Changed { file, .. } => write!(f, "{} changed", file.as_str()),
+            PublishFault::Memory => write!(f, "out of memory"),
+        }
+    }
+}
+
+impl Error for PublishFault {}
+
+/// What a fault of the folder is at a listing or a reading.
+pub(crate) fn fault_of_reading(fault: FolderFault) -> PublishFault
+    ensures { result ≡ fault_of_reading fault }
+{
+    match fault {
+        FolderFault::Failed => PublishFault::ReadFault,
+        FolderFault::Memory => PublishFault::Memory,
+    }
+}
+
+/// What a fault of the folder is where a file is put.
+pub(crate) fn fault_of_putting(fault: FolderFault) -> PublishFault
+    ensures { result ≡ fault_of_putting fault }
+{
+    match fault {
+        FolderFault::Failed => PublishFault::WriteFault,
+        FolderFault::Memory => PublishFault::Memory,
+    }
 }
 
 impl From<AllocError> for PublishFault {

@@ -9,7 +9,8 @@ ghost use Rattle.folders.specs.Files.{IsNames};
 ghost use Rattle.publisher.specs.Faults.{FaultsCounted, IsReading};
 
 use crate::PublishFault;
-use folders::{Folder, FolderFault};
+use crate::fault::fault_of_reading;
+use folders::Folder;
 use small_types::{List, Name};
 use std::alloc::Global;
 
@@ -37,7 +38,6 @@ pub(crate) fn list_names<F: Folder>(
 {
     match folder.list(alloc) {
         Ok(names) => Ok(in_order(names)),
-        Err(FolderFault::Failed) => Err(PublishFault::ReadFault),
-        Err(FolderFault::Memory) => Err(PublishFault::Memory),
+        Err(fault) => Err(fault_of_reading(fault)),
     }
 }

@@ -3,9 +3,10 @@ ghost use Rattle.std.specs.Prelude.{◌↔◌, All, IsTrue, IfOk};
 ghost use Rattle.publish_plan.specs.declared.options.Mark.{Mark};
 ghost use Rattle.publisher.specs.Options.{IsKind, IsPublishable};
 
-use manifest_writer::{can_write_provider, can_write_rule, can_write_value};
-use small_types::CopyFault;
+use manifests::{is_provider, is_rule, is_value};
 use publish_plan::{Mark, MarkKind, Options};
+use small_types::CopyFault;
+use small_types::limits::NAME_LIMIT;
 use std::alloc::Global;
 
 // Whether the mark's group, if it has one, can be written.
@@ -14,7 +15,7 @@ fn is_kind(kind: &MarkKind) -> bool
 {
     match kind {
         MarkKind::Local => true,
-        MarkKind::Group(group) => can_write_value(group, 1, 240),
+        MarkKind::Group(group) => is_value(group, 1, NAME_LIMIT),
     }
 }
 
@@ -31,11 +32,11 @@ fn are_kinds(marks: &[Mark]) -> bool
 pub fn is_publishable(alloc: Global, options: &Options) -> Result<bool, CopyFault>
     ensures { IfOk result (λ answer. IsTrue answer ↔ IsPublishable options.now) }
 {
-    if !can_write_value(&options.publisher, 0, 240) || !can_write_rule(options.rule) {
+    if !is_value(&options.publisher, 0, NAME_LIMIT) || !is_rule(options.rule) {
         return Ok(false);
     }
     if !are_kinds(options.marks.as_slice()) {
         return Ok(false);
     }
-    can_write_provider(alloc, &options.provider)
+    is_provider(alloc, &options.provider)
 }

@@ -2,23 +2,24 @@
 ghost use Rattle.std.specs.Prelude.{◌≡◌, [], All, IfOk, IfErr, OnErr, unwrap_or, Err};
 ghost use Rattle.folders.specs.Files.{file_in};
 ghost use Rattle.digest_list.specs.Digest.{IsSized};
+ghost use Rattle.manifests.specs.Applications.{size_limit};
 ghost use Rattle.publisher.specs.declared.fault.PublishFault.TheVariants.{Memory};
 ghost use Rattle.publisher.specs.Entries.{AreEntries, IsEntry};
-ghost use Rattle.publisher.specs.Faults.{FaultsCounted, IsLate, IsReading};
+ghost use Rattle.publisher.specs.Changes.{IsLate};
+ghost use Rattle.publisher.specs.Faults.{FaultsCounted, IsReading};
 ghost use Rattle.publisher.specs.Outcome.{Gives};
 ghost use Rattle.publisher.specs.Publication.{bytes_in, digests_of as digests_in, entry_of as entry_with, read_entries as read_all, read_entry as read_one};
 
 use crate::PublishFault;
+use crate::fault::fault_of_reading;
 use digest_list::{Algorithm, Digest, DigestList};
-use folders::{Folder, FolderFault};
+use folders::Folder;
 use manifests::FileEntry;
-use small_types::{Bytes, Duplicate, List, Name, Text};
 use publish_plan::PlannedFile;
 use sha2::{Digest as Hash, Sha256};
+use small_types::limits::{FILE_SIZE_LIMIT, LOCAL_SIZE_LIMIT};
+use small_types::{Bytes, Duplicate, List, Name};
 use std::alloc::Global;
-
-/// The most bytes of a file.
-const FILE_LIMIT: u64 = 67_108_864;
 
 /// The bytes of the file of this name. A file that is gone reads as empty.
 pub(crate) fn read_file<F: Folder>(
@@ -26,7 +27,8 @@ pub(crate) fn read_file<F: Folder>(
     name: &Name,
     folder: &mut F,
 ) -> Result<Bytes, PublishFault>
-    ensures bytes { F.tells → IfOk result (λ bytes. bytes ≡ unwrap_or (file_in name.now (F.held folder.old)) []) }
+    ensures bytes { F.tells
+        → IfOk result (λ bytes. bytes ≡ unwrap_or (file_in name.now (F.held folder.old)) []) }
     ensures kept { F.tells → F.held folder.new ≡ F.held folder.old }
     ensures reading { IfErr result IsReading }
     ensures counted { FaultsCounted (F.count folder.old) (F.count folder.new) result }
@@ -34,8 +36,7 @@ pub(crate) fn read_file<F: Folder>(
     match folder.get(alloc, name) {
         Ok(Some(bytes)) => Ok(bytes),
         Ok(None) => Ok(Bytes::from_vec(Vec::new(alloc))),
-        Err(FolderFault::Failed) => Err(PublishFault::ReadFault),
-        Err(FolderFault::Memory) => Err(PublishFault::Memory),
+        Err(fault) => Err(fault_of_reading(fault)),
     }
 }
 
@@ -55,17 +56,6 @@ pub(crate) fn digests_of(alloc: Global, bytes: &[u8]) -> Result<DigestList, Publ
     Ok(DigestList::from_list(List::from_vec(digests)).unwrap())
 }
 
-// An equal text, where there is one.
-fn maybe_copy(alloc: Global, text: &Option<Text>) -> Result<Option<Text>, PublishFault>
-    ensures copy { IfOk result (λ made. made ≡ text.now) }
-    ensures memory { OnErr result (result ≡ Err Memory) }
-{
-    match text {
-        Some(text) => Ok(Some(text.copy(alloc)?)),
-        None => Ok(None),
-    }
-}
-
 // What the application manifest says of a file of these bytes.
 fn entry_of(alloc: Global, file: &PlannedFile, bytes: &[u8]) -> Result<FileEntry, PublishFault>
     ensures entry { IfOk result (λ entry. entry ≡ entry_with file.now bytes.now) }
@@ -76,9 +66,20 @@ fn entry_of(alloc: Global, file: &PlannedFile, bytes: &[u8]) -> Result<FileEntry
         name: file.file.copy(alloc)?,
         size: bytes.len() as u64,
         list: digests_of(alloc, bytes)?,
-        group: maybe_copy(alloc, &file.group)?,
+        group: file.group.copy(alloc)?,
         local: file.local,
     })
+}
+
+// The most bytes of the file, of which a data file has its own.
+fn limit_of(file: &PlannedFile) -> u64
+    ensures { result ≡ size_limit file.now.local }
+{
+    if file.local {
+        LOCAL_SIZE_LIMIT
+    } else {
+        FILE_SIZE_LIMIT
+    }
 }
 
 // What the application manifest says of the file, once it is read.
@@ -95,7 +96,8 @@ fn read_entry<F: Folder>(
 {
     let bytes = read_file(alloc, &file.source, folder)?;
     let length = bytes.as_slice().len() as u64;
-    if length > FILE_LIMIT {
+    let limit = limit_of(file);
+    if length > limit {
         return Err(PublishFault::FileTooLong {
             file: file.file.copy(alloc)?,
             length,

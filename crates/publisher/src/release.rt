@@ -4,21 +4,22 @@ ghost use Rattle.digest_list.specs.Digest.{IsSized};
 ghost use Rattle.identity.specs.Version.{IsVersion};
 ghost use Rattle.manifests.specs.FileLists.{AreFiles};
 ghost use Rattle.manifest_writer.specs.Applications.{application_text as application_text_of};
-ghost use Rattle.manifest_writer.specs.Facts.{AreApplicationFacts, IsFile};
+ghost use Rattle.manifests.specs.Facts.{AreApplicationFacts, IsFile};
 ghost use Rattle.publish_plan.specs.Early.{early_of};
 ghost use Rattle.publisher.specs.declared.fault.PublishFault.TheVariants.{Memory};
 ghost use Rattle.publisher.specs.Faults.{IsManifestFault};
 ghost use Rattle.publisher.specs.Options.{IsPublishable};
 ghost use Rattle.publisher.specs.Outcome.{Gives};
-ghost use Rattle.publisher.specs.Publication.{application_identity as application_identity_of, application_of as application_with, deployment_identity as deployment_identity_of, deployment_of as deployment_with, deployment_key as deployment_key_of, deployment_text_of, key_named as key_with, limited, manifest_limit, manifests_of as manifests_with};
+ghost use Rattle.publisher.specs.Publication.{application_identity as application_identity_of, application_of as application_with, deployment_identity as deployment_identity_of, deployment_of as deployment_with, deployment_key as deployment_key_of, deployment_manifest_of, key_named as key_with, limited, manifests_of as manifests_with};
 
 use crate::PublishFault;
 use crate::reading::digests_of;
 use identity::{Identity, Key, Version};
 use manifest_writer::{write_application, write_deployment};
 use manifests::{Application, Deployment, FileEntry};
-use small_types::{Bytes, Duplicate, List, Text};
 use publish_plan::{Options, codebase_of};
+use small_types::limits::MANIFEST_LIMIT;
+use small_types::{Bytes, Duplicate, List, Text};
 use std::alloc::Global;
 
 /// What the manifests of a release say, and their texts.
@@ -28,9 +29,6 @@ pub(crate) struct Release {
     pub(crate) application: Bytes,
     pub(crate) deployment: Bytes,
 }
-
-// The most bytes of a manifest.
-const MANIFEST_LIMIT: u64 = 4_194_304;
 
 // A text of its own.
 fn text(alloc: Global, words: &str) -> Result<Text, PublishFault>
@@ -115,28 +113,19 @@ fn application_of(
 }
 
 // The text of the application manifest.
-fn application_text(alloc: Global, application: &Application) -> Result<Bytes, PublishFault>
+fn application_manifest(alloc: Global, application: &Application) -> Result<Bytes, PublishFault>
     requires { AreApplicationFacts application.now }
     ensures exact { Gives (λ text. text) result (limited (application_text_of application.now)) }
     ensures fault { IfErr result IsManifestFault }
 {
     let text = write_application(alloc, application)?;
-    let length = text.as_slice().len() as u64;
+    let length = text.as_slice().len();
     if length > MANIFEST_LIMIT {
-        return Err(PublishFault::ManifestTooLong { length });
+        return Err(PublishFault::ManifestTooLong {
+            length: length as u64,
+        });
     }
     Ok(text)
-}
-
-// An equal text, where there is one.
-fn maybe_copy(alloc: Global, text: &Option<Text>) -> Result<Option<Text>, PublishFault>
-    ensures copy { IfOk result (λ made. made ≡ text.now) }
-    ensures memory { OnErr result (result ≡ Err Memory) }
-{
-    match text {
-        Some(text) => Ok(Some(text.copy(alloc)?)),
-        None => Ok(None),
-    }
 }
 
 // The deployment of the application manifest with this text.
@@ -152,7 +141,7 @@ fn deployment_of(alloc: Global, options: &Options, text: &[u8]) -> Result<Deploy
         minimum: options.minimum,
         mapped: options.mapped,
         rule: options.rule,
-        provider: maybe_copy(alloc, &options.provider)?,
+        provider: options.provider.copy(alloc)?,
         codebase: codebase_of(alloc, options)?,
         app: application_identity(alloc, options)?,
         app_size: text.len() as u64,
@@ -161,18 +150,20 @@ fn deployment_of(alloc: Global, options: &Options, text: &[u8]) -> Result<Deploy
 }
 
 // The text of the deployment manifest.
-fn deployment_text(alloc: Global, options: &Options, text: &[u8]) -> Result<Bytes, PublishFault>
+fn deployment_manifest(alloc: Global, options: &Options, text: &[u8]) -> Result<Bytes, PublishFault>
     requires options { IsPublishable options.now }
     requires fit { early_of options.now ≡ None }
-    requires short { length text.now ≤ manifest_limit }
-    ensures exact { Gives (λ text. text) result (limited (deployment_text_of options.now text.now)) }
+    requires short { length text.now ≤ MANIFEST_LIMIT }
+    ensures exact { Gives (λ text. text) result (limited (deployment_manifest_of options.now text.now)) }
     ensures fault { IfErr result IsManifestFault }
 {
     let deployment = deployment_of(alloc, options, text)?;
     let text = write_deployment(alloc, &deployment, &options.publisher, &options.name)?;
-    let length = text.as_slice().len() as u64;
+    let length = text.as_slice().len();
     if length > MANIFEST_LIMIT {
-        return Err(PublishFault::ManifestTooLong { length });
+        return Err(PublishFault::ManifestTooLong {
+            length: length as u64,
+        });
     }
     Ok(text)
 }
@@ -192,8 +183,8 @@ pub(crate) fn manifests_of(
     ensures fault { IfErr result IsManifestFault }
 {
     let application = application_of(alloc, options, entries)?;
-    let text = application_text(alloc, &application)?;
-    let deployment = deployment_text(alloc, options, text.as_slice())?;
+    let text = application_manifest(alloc, &application)?;
+    let deployment = deployment_manifest(alloc, options, text.as_slice())?;
     Ok(Release {
         entries: application.files,
         application: text,

@@ -3,4 +3,4 @@ use Rattle.publisher.proofs.copying.copy_file.Goals as goal
 
 pub returns-clause-counted : goal.returns-clause-counted
 returns-clause-counted g c =
-    counted_after (g.F.Folder.count c.args.folder.now) (g.F.Folder.count c.read_again.new.folder) (g.F.Folder.count c.put_file.new.folder) c.put_file.result c.in_ok-bytes.ensures.counted.quiet c.put_file.ensures.counted
+    counted_after (g.F.Folder.count c.args.folder.now) (g.F.Folder.count c.read_again.new.folder) (g.F.Folder.count c.put_copy.new.folder) c.put_copy.result c.in_ok-bytes.ensures.counted.quiet c.put_copy.ensures.counted

@@ -1,17 +1,22 @@
 use Rattle.std.proofs.Common.{◌≡◌, ◌<◌, ◌≤◌, length, arith, ap, sym, ◌∙◌}
 use Rattle.publisher.specs.Faults.{IsDevice}
 use Rattle.publisher.specs.Publication.{bytes_in, entry_in, entry_of}
-use Rattle.publisher.proofs.Entering.{entries_long, entry_at, entry_small}
+use Rattle.publisher.proofs.Entering.{entries_long, entry_at, entry_is}
 use Rattle.publisher.proofs.Giving.{err_handed_on}
+use Rattle.publisher.proofs.NewNames.{still_new}
 use Rattle.publisher.proofs.SecondReads.{bytes_kept, copy_more}
 use Rattle.publisher.proofs.copying.copy_files.Goals as goal
 
 pub bounds-entries-i : goal.bounds-entries-i
 bounds-entries-i g c = let long = entries_long c.args.files.now c.args.entries.now c.requires.entries in omega arith
 
-pub copy_file-requires : goal.copy_file-requires
-copy_file-requires g c =
-    entry_small c.args.files.now c.args.entries.now c.loop-i.i c.index-entries-i.result c.requires.entries (omega arith) c.index-entries-i.is
+pub copy_file-requires-clause-entry : goal.copy_file-requires-clause-entry
+copy_file-requires-clause-entry g c =
+    entry_is c.args.files.now c.args.entries.now c.loop-i.i c.index-files-i.result c.index-entries-i.result c.requires.entries (omega arith) c.index-files-i.is c.index-entries-i.is
+
+pub copy_file-requires-clause-new : goal.copy_file-requires-clause-new
+copy_file-requires-clause-new g c = λ told.
+    still_new (g.F.Folder.held c.args.folder.now) (g.F.Folder.held c.loop-i.folder) c.args.files.now c.loop-i.i c.index-files-i.result (omega arith) c.index-files-i.is (c.requires.new told) (c.loop-i.invariant.puts told)
 
 pub returns-in_err-copy_file-clause-device : goal.returns-in_err-copy_file-clause-device
 returns-in_err-copy_file-clause-device g c = λ told are.

@@ -1,5 +1,6 @@
 use Rattle.std.proofs.Common.{◌≡◌, ◌≤◌, drop}
-use Rattle.publisher.specs.Publication.{◌>>=◌, read_entries}
+use Rattle.small_types.specs.Reading.{◌>>=◌}
+use Rattle.publisher.specs.Publication.{read_entries}
 use Rattle.publisher.proofs.Entering.{behind, AreBehind}
 use Rattle.publisher.proofs.reading.read_entries.Given as goal
 

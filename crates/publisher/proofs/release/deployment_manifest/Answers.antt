@@ -2,7 +2,7 @@ use Rattle.std.proofs.Common.{ap, subst}
 use Rattle.identity.specs.Version.{IsVersion}
 use Rattle.manifests.specs.declared.facts.Deployment.{Deployment}
 use Rattle.publisher.proofs.OptionFacts.{deployment_fits, name_content}
-use Rattle.publisher.proofs.release.deployment_text.Goals as goal
+use Rattle.publisher.proofs.release.deployment_manifest.Goals as goal
 
 pub write_deployment-requires-clause-facts : goal.write_deployment-requires-clause-facts
 write_deployment-requires-clause-facts c =
