@@ -1,4 +1,3 @@
 pub mod Ending
-pub mod Forms_kept
+pub mod FormLemmas
 pub mod Joining
-pub mod Spelling

@@ -1,8 +1,9 @@
 -- The line that says how a publish ended.
-use Rattle.std.specs.Prelude.{◌≡◌, ℕ, List, [], codes, decimal, Result, Ok, Err}
+use Rattle.std.specs.Prelude.{ℕ, Bool, true, false, List, [], codes, decimal, Result, Ok, Err}
+use Rattle.small_types.specs.Limit.{limit_text}
 use Rattle.identity.specs.Key.{key_text, word_text}
 use Rattle.identity.specs.Version.{version_text}
-use Rattle.manifest_text.specs.Lines.{line, two, limit_text}
+use Rattle.manifest_text.specs.Lines.{line, two}
 use Rattle.publication.specs.declared.publication.End.{End}
 use Rattle.publication.specs.declared.publication.End.TheVariants as ends
 use Rattle.publisher.specs.declared.publishing.Published.{Published}
@@ -11,7 +12,9 @@ use Rattle.publisher.specs.declared.fault.PublishFault.TheVariants.{BadName, Min
 
 -- the key, the version and the number of input files
 unfoldable pub published_line : Published → List ℕ
-published_line p = line (codes "published") (two (key_text p.key) (two (version_text p.version) (decimal p.files)))
+published_line p =
+    line (codes "published")
+    (two (key_text p.key) (two (version_text p.version) (decimal p.files)))
 
 -- why a publish is refused; a failing folder and want of memory are no refusals
 unfoldable pub cause_text : PublishFault → List ℕ
@@ -23,7 +26,8 @@ cause_text (BadInput file) = two (codes "bad-input") (word_text file)
 cause_text (TooMany what) = two (codes "too-many") (limit_text what)
 cause_text NoEntryPoint = codes "no-entry-point"
 cause_text (BadMark file) = two (codes "bad-mark") (word_text file)
-cause_text (FileTooLong file length) = two (codes "file-too-long") (two (word_text file) (decimal length))
+cause_text (FileTooLong file length) =
+    two (codes "file-too-long") (two (word_text file) (decimal length))
 cause_text (ManifestTooLong length) = two (codes "manifest-too-long") (decimal length)
 cause_text (Changed file difference) = two (codes "changed") (word_text file)
 cause_text ReadFault = []
@@ -33,30 +37,25 @@ cause_text Memory = []
 abbrev pub refusal_line : PublishFault → List ℕ
 refusal_line fault = line (codes "no publish") (cause_text fault)
 
--- neither the folder failed nor memory ran out
-abbrev pub IsRefusal : PublishFault → Type 0
-IsRefusal ReadFault = ⊥
-IsRefusal WriteFault = ⊥
-IsRefusal Memory = ⊥
-IsRefusal e = Unit {0}
+-- the line of what came of a publish, where it was done or is refused
+abbrev pub line_of : Result Published PublishFault → List ℕ
+line_of (Ok p) = published_line p
+line_of (Err e) = refusal_line e
 
--- the line of what came of a publish
-abbrev pub Says : Result Published PublishFault → List ℕ → Type 0
-Says (Ok p) text = text ≡ published_line p
-Says (Err e) text = IsRefusal e × (text ≡ refusal_line e)
+-- how the call ends after a fault: the folder failed, or memory ran out, and all else is a refusal
+abbrev pub end_of_fault : PublishFault → End
+end_of_fault ReadFault = ends.ReadFault
+end_of_fault WriteFault = ends.WriteFault
+end_of_fault Memory = ends.Memory
+end_of_fault e = ends.Refused
 
--- how the call ends without a line after a fault
-abbrev pub EndsWithout : PublishFault → End → Type 0
-EndsWithout ReadFault end = end ≡ ends.ReadFault
-EndsWithout WriteFault end = end ≡ ends.WriteFault
-EndsWithout e end = end ≡ ends.Memory
+-- how it ends after a publish with this result, once its line is written, if it has one
+abbrev pub end_of : Result Published PublishFault → End
+end_of (Ok p) = ends.Done
+end_of (Err e) = end_of_fault e
 
--- how it ends without one after any result
-abbrev pub EndsSilent : Result Published PublishFault → End → Type 0
-EndsSilent (Ok p) end = end ≡ ends.Memory
-EndsSilent (Err e) end = EndsWithout e end
-
--- the line of a result, and how the call ends with it
-abbrev pub SaysWith : Result Published PublishFault → List ℕ → End → Type 0
-SaysWith (Ok p) text end = (text ≡ published_line p) × (end ≡ ends.Done)
-SaysWith (Err e) text end = IsRefusal e × (text ≡ refusal_line e) × (end ≡ ends.Refused)
+-- whether an end has a line
+abbrev pub has_line : End → Bool
+has_line ends.Done = true
+has_line ends.Refused = true
+has_line end = false

@@ -2,6 +2,7 @@
 use Rattle.std.specs.Prelude.{ℕ, ◌+◌, ◌==◌, ◌&&◌, Bool, true, nat_eq, nat_le, slice_index_or, List, [], ◌∷◌, length, take, drop, codes, Option, Some, None, Result, Ok, Err, if◌then◌else◌}
 use Rattle.std.specs.List.{starts_with}
 use Rattle.std.specs.Str.{bytes_eq, is_utf8}
+use Rattle.small_types.specs.declared.limits.TheConstants.{NAME_LIMIT}
 use Rattle.small_types.specs.declared.name.NameFault.{NameFault}
 use Rattle.small_types.specs.Name.{name_of}
 use Rattle.identity.specs.declared.version.Version.{Version}
@@ -23,11 +24,15 @@ None >>= f = None
 
 -- the name, which is the publisher too: text of at most 240 bytes that a manifest may have
 unfoldable pub title_of : List ℕ → Option (List ℕ)
-title_of word = if is_utf8 word && (is_content word && nat_le (length word) 240) then Some word else None
+title_of word =
+    if is_utf8 word && (is_content word && nat_le (length word) NAME_LIMIT) then Some word else None
 
 -- a group: 1 to 240 bytes of such text
 unfoldable pub group_of : List ℕ → Option (List ℕ)
-group_of text = if is_utf8 text && (is_content text && (nat_le 1 (length text) && nat_le (length text) 240)) then Some text else None
+group_of text =
+    if is_utf8 text
+    && (is_content text && (nat_le 1 (length text) && nat_le (length text) NAME_LIMIT))
+    then Some text else None
 
 abbrev pub as_file : Result (List ℕ) NameFault → Option (List ℕ)
 as_file (Ok name) = Some name
@@ -50,7 +55,8 @@ release_of word = as_release (version_of word)
 -- where the last `:` stands, if the last one before this place stands there
 abbrev pub last_colon_from : ℕ → Option ℕ → List ℕ → Option ℕ
 last_colon_from place found [] = found
-last_colon_from place found (c ∷ cs) = last_colon_from (place + 1) (if c == 58 then Some place else found) cs
+last_colon_from place found (c ∷ cs) =
+    last_colon_from (place + 1) (if c == 58 then Some place else found) cs
 
 abbrev pub last_colon : List ℕ → Option ℕ
 last_colon = last_colon_from 0 None
@@ -61,7 +67,10 @@ data_mark text = file_of text >>= λ file. Some (record { kind = Local; file = f
 
 -- `GROUP:FILE`, cut at the last `:`
 abbrev pub cut_mark : List ℕ → ℕ → Option Mark
-cut_mark text place = group_of (take place text) >>= λ group. file_of (drop (place + 1) text) >>= λ file. Some (record { kind = Group group; file = file })
+cut_mark text place = do
+  group ← group_of (take place text)
+  file ← file_of (drop (place + 1) text)
+  Some (record { kind = Group group; file = file })
 
 unfoldable pub group_mark : List ℕ → Option Mark
 group_mark text = last_colon text >>= cut_mark text
@@ -79,23 +88,28 @@ marks_of (word ∷ words) = mark_of word >>= λ mark. marks_of words >>= λ mark
 -- ---- the whole
 
 -- with these values
-unfoldable pub options_with : List ℕ → List ℕ → List ℕ → List ℕ → List ℕ → List (List ℕ) → Option Options
-options_with name release entry from to marks =
-    title_of name >>= λ title. release_of release >>= λ version. file_of entry >>= λ start. file_of from >>= λ source. file_of to >>= λ target.
-    marks_of marks >>= λ marked.
-    Some (record {
-      name = title;
-      version = version;
-      entry = start;
-      from = source;
-      to = target;
-      publisher = title;
-      minimum = None;
-      rule = Never;
-      provider = None;
-      mapped = true;
-      marks = marked;
-    })
+unfoldable pub options_with : List ℕ → List ℕ → List ℕ → List ℕ → List ℕ → List (List ℕ)
+    → Option Options
+options_with name release entry from to marks = do
+  title ← title_of name
+  version ← release_of release
+  start ← file_of entry
+  source ← file_of from
+  target ← file_of to
+  marked ← marks_of marks
+  Some (record {
+    name = title;
+    version = version;
+    entry = start;
+    from = source;
+    to = target;
+    publisher = title;
+    minimum = None;
+    rule = Never;
+    provider = None;
+    mapped = true;
+    marks = marked;
+  })
 
 -- the word at a place
 abbrev pub word_at : List (List ℕ) → ℕ → List ℕ
@@ -104,11 +118,16 @@ word_at words place = slice_index_or words place []
 -- the five options stand in their places
 unfoldable pub are_named : List (List ℕ) → Bool
 are_named words =
-    bytes_eq (word_at words 0) (codes "--name") && (bytes_eq (word_at words 2) (codes "--release") && (bytes_eq (word_at words 4) (codes "--entry")
-    && (bytes_eq (word_at words 6) (codes "--from") && bytes_eq (word_at words 8) (codes "--to"))))
+    bytes_eq (word_at words 0) (codes "--name")
+    && (bytes_eq (word_at words 2) (codes "--release")
+    && (bytes_eq (word_at words 4) (codes "--entry")
+    && (bytes_eq (word_at words 6) (codes "--from")
+    && bytes_eq (word_at words 8) (codes "--to"))))
 
 -- `--name N --release V --entry E --from F --to T` in this order, and then marks
 unfoldable pub options_of : List (List ℕ) → Option Options
 options_of words =
     if nat_le 10 (length words) && are_named words
-    then options_with (word_at words 1) (word_at words 3) (word_at words 5) (word_at words 7) (word_at words 9) (drop 10 words) else None
+    then options_with (word_at words 1) (word_at words 3) (word_at words 5) (word_at words 7)
+    (word_at words 9) (drop 10 words)
+    else None

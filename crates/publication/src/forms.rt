@@ -1,86 +1,21 @@
 // Whether words have their forms. It takes no memory.
-ghost use Rattle.std.specs.Prelude.{◌≡◌, ◌==◌, ◌≤◌, ◌&&◌, ◌+◌, length, drop, is_some, nat_lt, nat_le, if◌then◌else◌};
+ghost use Rattle.std.specs.Prelude.{◌≡◌, ◌≤◌, ◌+◌, length, drop, is_some};
 ghost use Rattle.std.specs.List.{list_all};
-ghost use Rattle.arrayvec.specs.ArrayVec.{array_vec_len};
-ghost use Rattle.small_types.specs.Name.{is_name, is_name_byte, is_name_part, name_limit, name_parts, name_text};
 ghost use Rattle.publication.specs.Words.{data_mark, cut_mark, group_mark, mark_of, marks_of, file_of, group_of, title_of, release_of, options_with, options_of};
 
 use crate::marks::last_colon;
 use crate::values::{is_allowed_text, is_text};
-use crate::words::are_named;
-use arrayvec::ArrayVec;
+use crate::words::{WORD_COUNT, are_named};
 use identity::Version;
-use small_types::Word;
-
-// The byte, or a slash for a backslash.
-fn with_slash(byte: u8) -> u8
-    ensures { result ≡ (if byte == 92 then 47 else byte) }
-{
-    if byte == b'\\' { b'/' } else { byte }
-}
-
-// The bytes with slashes for backslashes.
-fn with_slashes(word: &[u8]) -> ArrayVec<u8, 240>
-    requires { length word.now ≤ 240 }
-    ensures { result.items ≡ name_text word.now }
-{
-    let mut text = ArrayVec::new();
-    for byte in word {
-        text.push(with_slash(*byte));
-    }
-    text
-}
-
-// Whether a name may have the byte.
-fn is_fit_byte(byte: u8) -> bool
-    ensures { result ≡ is_name_byte byte }
-{
-    byte >= 32 && byte != 127 && byte != b':' && byte != b'\\'
-}
-
-// Whether a name may have each of the bytes.
-fn are_fit_bytes(text: &[u8]) -> bool
-    ensures { result ≡ list_all is_name_byte text.now }
-{
-    text.iter().all(|b| is_fit_byte(*b))
-}
-
-// Whether a name may have the part.
-fn is_fit_part(part: &[u8]) -> bool
-    ensures { result ≡ is_name_part part.now }
-{
-    !part.is_empty() && part != b".".as_slice() && part != b"..".as_slice()
-}
-
-// Whether a name may have each of the parts.
-fn are_fit_parts(text: &[u8]) -> bool
-    ensures { result ≡ list_all is_name_part (name_parts text.now) }
-{
-    text.split(|b| *b == b'/').all(|part| is_fit_part(part))
-}
-
-// Whether the text is a name.
-#[tactic(auto, unfolding(small_types::specs::Name::is_name))]
-fn is_name_text(text: &[u8]) -> bool
-    ensures { result ≡ is_name text.now }
-{
-    !text.is_empty()
-        && text.len() <= 240
-        && are_fit_bytes(text)
-        && are_fit_parts(text)
-        && is_text(text)
-}
+use small_types::limits::NAME_LIMIT;
+use small_types::{Word, is_name};
 
 // Whether the word is a file name.
-#[tactic(auto, using(crate::proofs::Forms_kept::no_long_file), unfolding(small_types::specs::Name::name_of))]
+#[tactic(auto, using(crate::proofs::FormLemmas::some_file))]
 fn is_file(word: &[u8]) -> bool
     ensures { result ≡ is_some (file_of word.now) }
 {
-    if word.len() > 240 {
-        return false;
-    }
-    let text = with_slashes(word);
-    is_name_text(&text)
+    is_name(word)
 }
 
 // Whether the text is a group.
@@ -88,7 +23,7 @@ fn is_file(word: &[u8]) -> bool
 fn is_group(text: &[u8]) -> bool
     ensures { result ≡ is_some (group_of text.now) }
 {
-    !text.is_empty() && text.len() <= 240 && is_allowed_text(text) && is_text(text)
+    !text.is_empty() && text.len() <= NAME_LIMIT && is_allowed_text(text) && is_text(text)
 }
 
 // Whether the word is a name to publish by.
@@ -96,7 +31,7 @@ fn is_group(text: &[u8]) -> bool
 fn is_title(word: &[u8]) -> bool
     ensures { result ≡ is_some (title_of word.now) }
 {
-    word.len() <= 240 && is_allowed_text(word) && is_text(word)
+    word.len() <= NAME_LIMIT && is_allowed_text(word) && is_text(word)
 }
 
 // Whether the word is a version.
@@ -107,7 +42,7 @@ fn is_release(word: &[u8]) -> bool
 }
 
 // Whether the text is `FILE`.
-#[tactic(auto, using(crate::proofs::Forms_kept::file_only), unfolding(crate::specs::Words::data_mark))]
+#[tactic(auto, using(crate::proofs::FormLemmas::file_only), unfolding(crate::specs::Words::data_mark))]
 fn is_data(text: &[u8]) -> bool
     ensures { result ≡ is_some (data_mark text.now) }
 {
@@ -115,7 +50,7 @@ fn is_data(text: &[u8]) -> bool
 }
 
 // Whether the text, cut at this place, is `GROUP:FILE`.
-#[tactic(auto, using(crate::proofs::Forms_kept::group_and_file))]
+#[tactic(auto, using(crate::proofs::FormLemmas::group_and_file))]
 fn is_cut(text: &[u8], place: usize) -> bool
     requires { place + 1 ≤ length text.now }
     ensures { result ≡ is_some (cut_mark text.now place) }
@@ -157,7 +92,7 @@ fn all_marks(words: &[Word]) -> bool
 }
 
 // Whether the words are marks.
-#[tactic(auto, using(crate::proofs::Forms_kept::each_mark))]
+#[tactic(auto, using(crate::proofs::FormLemmas::each_mark))]
 fn are_marks(words: &[Word]) -> bool
     ensures { result ≡ is_some (marks_of words.now) }
 {
@@ -165,7 +100,7 @@ fn are_marks(words: &[Word]) -> bool
 }
 
 // Whether the values have their forms.
-#[tactic(auto, using(crate::proofs::Forms_kept::each_value))]
+#[tactic(auto, using(crate::proofs::FormLemmas::each_value))]
 fn are_values(
     name: &[u8],
     release: &[u8],
@@ -174,7 +109,8 @@ fn are_values(
     to: &[u8],
     marks: &[Word],
 ) -> bool
-    ensures { result ≡ is_some (options_with name.now release.now entry.now from.now to.now marks.now) }
+    ensures { result
+        ≡ is_some (options_with name.now release.now entry.now from.now to.now marks.now) }
 {
     is_title(name)
         && is_release(release)
@@ -184,13 +120,13 @@ fn are_values(
         && are_marks(marks)
 }
 
-/// Whether the words behind `publish` have their forms, so that `read_options` gives their options where there is memory.
-/// It takes none itself.
+/// Whether the words behind `publish` have their forms, so that `read_options` gives their options
+/// where there is memory. It takes none itself.
 #[tactic(auto, unfolding(crate::specs::Words::options_of))]
 pub fn are_readable(words: &[Word]) -> bool
     ensures { result ≡ is_some (options_of words.now) }
 {
-    if words.len() < 10 || !are_named(words) {
+    if words.len() < WORD_COUNT || !are_named(words) {
         return false;
     }
     are_values(

@@ -1,19 +1,18 @@
 // The line that says how a publish ended.
-ghost use Rattle.std.specs.Prelude.{◌≡◌, IfOk, IfErr, codes, decimal};
+ghost use Rattle.std.specs.Prelude.{◌≡◌, IfOk, codes, decimal};
 ghost use Rattle.identity.specs.Key.{word_text};
 ghost use Rattle.manifest_text.specs.Lines as text;
-ghost use Rattle.publication.specs.declared.publication.End.TheVariants as ends;
-ghost use Rattle.publication.specs.Lines.{published_line, cause_text, refusal_line, IsRefusal, EndsWithout, SaysWith, EndsSilent};
+ghost use Rattle.publication.specs.Lines.{published_line, cause_text, refusal_line, line_of, end_of, end_of_fault};
 
 use crate::publication::End;
 use identity::PrintFault;
 use itoa::Buffer;
-use manifest_text::{about, limit_text, line, two};
-use small_types::Bytes;
+use manifest_text::{about, line, two};
 use publisher::{PublishFault, Published};
+use small_types::Bytes;
 use std::alloc::Global;
 
-// What was published.
+// The line of what was published.
 #[tactic(auto, unfolding(crate::specs::Lines::published_line))]
 fn write_published(alloc: Global, published: &Published) -> Result<Bytes, PrintFault>
     ensures { IfOk result (λ b. b ≡ published_line published.now) }
@@ -42,12 +41,14 @@ fn number(alloc: Global, word: &[u8], number: u64) -> Result<Bytes, PrintFault>
 
 // A file that is too long.
 fn too_long(alloc: Global, file: &[u8], length: u64) -> Result<Bytes, PrintFault>
-    ensures { IfOk result (λ b. b ≡ text.two (codes "file-too-long") (text.two (word_text file.now) (decimal length))) }
+    ensures { IfOk result (λ b. b
+        ≡ text.two (codes "file-too-long") (text.two (word_text file.now) (decimal length))) }
 {
     let named = about(alloc, b"file-too-long", file)?;
     number(alloc, named.as_slice(), length)
 }
 
+// Why it is refused. A failing folder and want of memory are no refusals, and have no text.
 #[tactic(auto, unfolding(crate::specs::Lines::cause_text))]
 fn cause(alloc: Global, fault: &PublishFault) -> Result<Bytes, PrintFault>
     ensures { IfOk result (λ b. b ≡ cause_text fault.now) }
@@ -61,7 +62,7 @@ fn cause(alloc: Global, fault: &PublishFault) -> Result<Bytes, PrintFault>
         PublishFault::VersionExists { file } => about(alloc, b"version-exists", file.as_bytes()),
         PublishFault::EmptyInput => Ok(Bytes::from_slice(alloc, b"empty-input")?),
         PublishFault::BadInput { file } => about(alloc, b"bad-input", file.as_bytes()),
-        PublishFault::TooMany { what } => two(alloc, b"too-many", limit_text(*what)),
+        PublishFault::TooMany { what } => two(alloc, b"too-many", what.word()),
         PublishFault::NoEntryPoint => Ok(Bytes::from_slice(alloc, b"no-entry-point")?),
         PublishFault::BadMark { file } => about(alloc, b"bad-mark", file.as_bytes()),
         PublishFault::FileTooLong { file, length } => too_long(alloc, file.as_bytes(), *length),
@@ -73,7 +74,7 @@ fn cause(alloc: Global, fault: &PublishFault) -> Result<Bytes, PrintFault>
     }
 }
 
-// Why it is refused.
+// The line of a refusal.
 fn write_refusal(alloc: Global, fault: &PublishFault) -> Result<Bytes, PrintFault>
     ensures { IfOk result (λ b. b ≡ refusal_line fault.now) }
 {
@@ -83,44 +84,48 @@ fn write_refusal(alloc: Global, fault: &PublishFault) -> Result<Bytes, PrintFaul
     Ok(out)
 }
 
-// Of a release: the line, and how the call ends once it is written.
-fn line_of_release(alloc: Global, published: &Published) -> Result<(Bytes, End), End>
-    ensures line { IfOk result (λ x. (x.0 ≡ published_line published.now) × (x.1 ≡ ends.Done)) }
-    ensures memory { IfErr result (λ end. end ≡ ends.Memory) }
-{
-    match write_published(alloc, published) {
-        Ok(line) => Ok((line, End::Done)),
-        Err(_) => Err(End::Memory),
-    }
-}
-
-// Of a fault: the line, where it is a refusal, and how the call ends.
-fn line_of_fault(alloc: Global, fault: &PublishFault) -> Result<(Bytes, End), End>
-    ensures line { IfOk result (λ x. IsRefusal fault.now × (x.0 ≡ refusal_line fault.now) × (x.1 ≡ ends.Refused)) }
-    ensures without { IfErr result (λ end. EndsWithout fault.now end) }
-{
-    match fault {
-        PublishFault::ReadFault => return Err(End::ReadFault),
-        PublishFault::WriteFault => return Err(End::WriteFault),
-        PublishFault::Memory => return Err(End::Memory),
-        _ => {}
-    }
-    match write_refusal(alloc, fault) {
-        Ok(line) => Ok((line, End::Refused)),
-        Err(_) => Err(End::Memory),
-    }
-}
-
-/// The line of what came of a publish, and how the call ends once it is written; or how it ends without one.
+/// The line of what came of a publish, where it was done or is refused. It fails only for want of
+/// memory.
 pub(crate) fn line_of(
     alloc: Global,
     done: &Result<Published, PublishFault>,
-) -> Result<(Bytes, End), End>
-    ensures line { IfOk result (λ x. SaysWith done.now x.0 x.1) }
-    ensures without { IfErr result (λ end. EndsSilent done.now end) }
+) -> Result<Bytes, PrintFault>
+    ensures { IfOk result (λ line. line ≡ line_of done.now) }
 {
     match done {
-        Ok(published) => line_of_release(alloc, published),
-        Err(fault) => line_of_fault(alloc, fault),
+        Ok(published) => write_published(alloc, published),
+        Err(fault) => write_refusal(alloc, fault),
+    }
+}
+
+// How the call ends after a fault.
+fn end_of_fault(fault: &PublishFault) -> End
+    ensures { result ≡ end_of_fault fault.now }
+{
+    match fault {
+        PublishFault::ReadFault => End::ReadFault,
+        PublishFault::WriteFault => End::WriteFault,
+        PublishFault::Memory => End::Memory,
+        PublishFault::BadName { .. }
+        | PublishFault::MinimumAbove { .. }
+        | PublishFault::VersionExists { .. }
+        | PublishFault::EmptyInput
+        | PublishFault::BadInput { .. }
+        | PublishFault::TooMany { .. }
+        | PublishFault::NoEntryPoint
+        | PublishFault::BadMark { .. }
+        | PublishFault::FileTooLong { .. }
+        | PublishFault::ManifestTooLong { .. }
+        | PublishFault::Changed { .. } => End::Refused,
+    }
+}
+
+/// How the call ends after a publish with this result, once its line is written, if it has one.
+pub(crate) fn end_of(done: &Result<Published, PublishFault>) -> End
+    ensures { result ≡ end_of done.now }
+{
+    match done {
+        Ok(_) => End::Done,
+        Err(fault) => end_of_fault(fault),
     }
 }

@@ -6,8 +6,8 @@ ghost use Rattle.publication.specs.Words.{last_colon, last_colon_from, data_mark
 ghost use Rattle.publication.specs.declared.values.WordFault.TheVariants.{Unreadable};
 
 use crate::values::{WordFault, read_file, read_group};
-use small_types::{List, Word};
 use publish_plan::{Mark, MarkKind};
+use small_types::{List, Word};
 use std::alloc::Global;
 
 // Where the last `:` stands.

@@ -1,19 +1,19 @@
 // Publishing by words.
-ghost use Rattle.std.specs.Prelude.{◌≡◌, ◌≢◌, ◌⊎◌, ◌≤◌, ◌↔◌, None, Some, Err, IfOk, IfErr};
+ghost use Rattle.std.specs.Prelude.{◌≡◌, ◌≢◌, ◌⊎◌, ◌≤◌, ◌↔◌, None};
 ghost use Rattle.outside.specs.Streams.{Rose};
-ghost use Rattle.publisher.specs.declared.fault.PublishFault.TheVariants.{ReadFault, WriteFault};
 ghost use Rattle.publisher.specs.Options.{IsPublishable};
 ghost use Rattle.publication.specs.declared.publication.End.TheVariants as ends;
+ghost use Rattle.publication.specs.Lines.{has_line};
+ghost use Rattle.publication.specs.Publication.{code_of as status_of, EndsWith, ForPublish, Publication};
 ghost use Rattle.publication.specs.Words.{options_of};
-ghost use Rattle.publication.specs.Publication.{code_of as status_of, EndsWith, Publication, ForPublish};
 
-use crate::forms::are_readable;
-use crate::lines::line_of;
+use crate::lines::{end_of, line_of};
+use crate::values::WordFault;
 use crate::words::read_options;
 use folders::Folder;
 use outside::{Sink, write_all};
-use small_types::Word;
 use publisher::{Options, PublishFault, Published, publish};
+use small_types::Word;
 use std::alloc::Global;
 
 /// How publishing by words ends.
@@ -36,8 +36,8 @@ pub enum End {
 }
 
 impl End {
-    /// The exit status: 0 done, 1 other words, 2 the folder failed at a reading, 3 at a writing or the sink failed, 6 no
-    /// memory, 7 refused.
+    /// The exit status: 0 done, 1 other words, 2 the folder failed at a reading, 3 at a writing or
+    /// the sink failed, 6 no memory, 7 refused.
     pub fn code(self) -> u8
         ensures { result ≡ status_of self }
     {
@@ -50,19 +50,28 @@ impl End {
             End::Refused => 7,
         }
     }
+
+    // Whether a line says it.
+    fn has_line(self) -> bool
+        ensures { result ≡ has_line self }
+    {
+        matches!(self, End::Done | End::Refused)
+    }
 }
 
 // Writes the line of what came of a publish, where there is one, and says how the call ends.
 fn say_done<K: Sink>(alloc: Global, done: &Result<Published, PublishFault>, sink: &mut K) -> End
     ensures ended { EndsWith K.tells K.taken sink.old sink.new done.now result }
-    ensures read { result ≡ ends.ReadFault → done.now ≡ Err ReadFault }
-    ensures write { result ≡ ends.WriteFault → done.now ≡ Err WriteFault }
     ensures sink_count { K.count sink.old ≤ K.count sink.new }
     ensures sink_cause { result ≡ ends.SinkFault → Rose (K.count sink.old) (K.count sink.new) }
+    ensures sink_quiet { result ≢ ends.SinkFault → K.count sink.new ≡ K.count sink.old }
 {
-    let (line, end) = match line_of(alloc, done) {
-        Ok(said) => said,
-        Err(end) => return end,
+    let end = end_of(done);
+    if !end.has_line() {
+        return end;
+    }
+    let Ok(line) = line_of(alloc, done) else {
+        return End::Memory;
     };
     let Ok(()) = write_all(sink, line.as_slice()) else {
         return End::SinkFault;
@@ -78,20 +87,27 @@ fn publish_options<F: Folder, K: Sink>(
     sink: &mut K,
 ) -> End
     requires { IsPublishable options.now }
-    ensures done { Publication F.tells F.held F.count K.tells K.taken options.now folder.old folder.new sink.old sink.new result }
+    ensures done { Publication F.tells F.held F.count K.tells K.taken
+        options.now folder.old folder.new sink.old sink.new result }
     ensures folder_count { F.count folder.old ≤ F.count folder.new }
     ensures sink_count { K.count sink.old ≤ K.count sink.new }
-    ensures read_cause { result ≡ ends.ReadFault → Rose (F.count folder.old) (F.count folder.new) }
-    ensures write_cause { result ≡ ends.WriteFault → Rose (F.count folder.old) (F.count folder.new) }
+    ensures read_cause { result ≡ ends.ReadFault
+        → Rose (F.count folder.old) (F.count folder.new) }
+    ensures write_cause { result ≡ ends.WriteFault
+        → Rose (F.count folder.old) (F.count folder.new) }
     ensures sink_cause { result ≡ ends.SinkFault → Rose (K.count sink.old) (K.count sink.new) }
+    ensures folder_quiet { result ≢ ends.ReadFault → result ≢ ends.WriteFault
+        → F.count folder.new ≡ F.count folder.old }
+    ensures sink_quiet { result ≢ ends.SinkFault → K.count sink.new ≡ K.count sink.old }
 {
     let done = publish(alloc, options, folder);
     say_done(alloc, &done, sink)
 }
 
-/// Publishes as the words behind `publish` ask for, and writes one line that says what was published, or why it was
-/// refused. Where the words are others, nothing is done. Where the folder fails, or memory runs out, no line is written.
-/// Memory may also run out for the line, once the release is written.
+/// Publishes as the words behind `publish` ask for, and writes one line that says what was
+/// published, or why it was refused. Where the words are others, nothing is done. Where the folder
+/// fails, or memory runs out, no line is written. Memory may also run out for the line, once the
+/// release is written.
 pub fn publish_words<F: Folder, K: Sink>(
     alloc: Global,
     words: &[Word],
@@ -100,19 +116,27 @@ pub fn publish_words<F: Folder, K: Sink>(
 ) -> End
     ensures words { (result ≡ ends.Words) ↔ (options_of words.now ≡ None) }
     ensures nothing { result ≡ ends.Words → (folder.new ≡ folder.old) × (sink.new ≡ sink.old) }
-    ensures done { ForPublish (options_of words.now) (λ o. Publication F.tells F.held F.count K.tells K.taken o folder.old folder.new sink.old sink.new result
+    ensures done { ForPublish (options_of words.now) (λ o.
+        Publication F.tells F.held F.count K.tells K.taken
+        o folder.old folder.new sink.old sink.new result
         ⊎ ((result ≡ ends.Memory) × (folder.new ≡ folder.old) × (sink.new ≡ sink.old))) }
+
+    // The counts of faults never fall. An end says which device failed, and any other end leaves
+    // that device's count.
     ensures folder_count { F.count folder.old ≤ F.count folder.new }
     ensures sink_count { K.count sink.old ≤ K.count sink.new }
-    ensures read_cause { result ≡ ends.ReadFault → Rose (F.count folder.old) (F.count folder.new) }
-    ensures write_cause { result ≡ ends.WriteFault → Rose (F.count folder.old) (F.count folder.new) }
+    ensures read_cause { result ≡ ends.ReadFault
+        → Rose (F.count folder.old) (F.count folder.new) }
+    ensures write_cause { result ≡ ends.WriteFault
+        → Rose (F.count folder.old) (F.count folder.new) }
     ensures sink_cause { result ≡ ends.SinkFault → Rose (K.count sink.old) (K.count sink.new) }
+    ensures folder_quiet { result ≢ ends.ReadFault → result ≢ ends.WriteFault
+        → F.count folder.new ≡ F.count folder.old }
+    ensures sink_quiet { result ≢ ends.SinkFault → K.count sink.new ≡ K.count sink.old }
 {
-    if !are_readable(words) {
-        return End::Words;
-    }
     match read_options(alloc, words) {
         Ok(options) => publish_options(alloc, &options, folder, sink),
-        Err(_) => End::Memory,
+        Err(WordFault::Unreadable) => End::Words,
+        Err(WordFault::Memory) => End::Memory,
     }
 }

@@ -3,14 +3,17 @@ ghost use Rattle.std.specs.Prelude.{◌≡◌, ◌≢◌, ℕ, List, None, Some,
 ghost use Rattle.std.specs.List.{list_all};
 ghost use Rattle.std.specs.Str.{is_utf8};
 ghost use Rattle.manifest_tree.specs.Lexis.{allowed};
-ghost use Rattle.manifest_writer.specs.Facts.{IsValue};
+ghost use Rattle.manifests.specs.Facts.{IsValue};
 ghost use Rattle.manifest_tree.specs.Writing.{is_content};
 ghost use Rattle.publication.specs.Words.{title_of, group_of, file_of, release_of};
 ghost use Rattle.publication.specs.declared.values.WordFault.TheVariants.{Unreadable, Memory};
 
 use identity::Version;
+use small_types::limits::NAME_LIMIT;
 use small_types::{CopyFault, Name, NameFault, Text};
 use std::alloc::{AllocError, AllocFailed, Global};
+use std::error::Error;
+use std::fmt;
 
 /// Why words were not read.
 #[derive(Clone, Copy, Debug, PartialEq, Eq)]
@@ -20,6 +23,17 @@ pub enum WordFault {
     /// There was no memory.
     Memory,
 }
+
+impl fmt::Display for WordFault {
+    fn fmt<W: fmt::Write>(&self, f: &mut fmt::Formatter<W>) -> fmt::Result {
+        match self {
+            WordFault::Unreadable => write!(f, "a word is not of its form"),
+            WordFault::Memory => write!(f, "out of memory"),
+        }
+    }
+}
+
+impl Error for WordFault {}
 
 impl From<AllocError> for WordFault {
     ghost from_gives = { λ _ e. e ≡ Memory };
@@ -53,6 +67,7 @@ fn is_allowed(byte: u8) -> bool
     byte >= 32 || byte == 9 || byte == 10 || byte == 13
 }
 
+// Whether a manifest may have each of the bytes.
 pub(crate) fn is_allowed_text(bytes: &[u8]) -> bool
     ensures { result ≡ is_content bytes.now }
 {
@@ -60,7 +75,7 @@ pub(crate) fn is_allowed_text(bytes: &[u8]) -> bool
 }
 
 // Whether the bytes are UTF-8.
-#[tactic(auto, using(crate::proofs::Spelling::spelled, crate::proofs::Spelling::unspelled))]
+#[tactic(auto, using(small_types::proofs::Spelling::spelled, small_types::proofs::Spelling::unspelled))]
 pub(crate) fn is_text(bytes: &[u8]) -> bool
     ensures { result ≡ is_utf8 bytes.now }
 {
@@ -83,10 +98,10 @@ fn text_of(alloc: Global, bytes: &[u8]) -> Result<Text, WordFault>
 #[tactic(auto, unfolding(crate::specs::Words::title_of))]
 pub(crate) fn read_title(alloc: Global, word: &[u8]) -> Result<Text, WordFault>
     ensures value { IfOk result (λ t. title_of word.now ≡ Some t) }
-    ensures fit { IfOk result (IsValue 0 240) }
+    ensures fit { IfOk result (IsValue 0 NAME_LIMIT) }
     ensures none { IfErr result (λ e. e ≡ Unreadable → title_of word.now ≡ None) }
 {
-    if word.len() > 240 || !is_allowed_text(word) || !is_text(word) {
+    if word.len() > NAME_LIMIT || !is_allowed_text(word) || !is_text(word) {
         return Err(WordFault::Unreadable);
     }
     text_of(alloc, word)
@@ -96,10 +111,10 @@ pub(crate) fn read_title(alloc: Global, word: &[u8]) -> Result<Text, WordFault>
 #[tactic(auto, unfolding(crate::specs::Words::group_of))]
 pub(crate) fn read_group(alloc: Global, text: &[u8]) -> Result<Text, WordFault>
     ensures value { IfOk result (λ t. group_of text.now ≡ Some t) }
-    ensures fit { IfOk result (IsValue 1 240) }
+    ensures fit { IfOk result (IsValue 1 NAME_LIMIT) }
     ensures none { IfErr result (λ e. e ≡ Unreadable → group_of text.now ≡ None) }
 {
-    if text.is_empty() || text.len() > 240 || !is_allowed_text(text) || !is_text(text) {
+    if text.is_empty() || text.len() > NAME_LIMIT || !is_allowed_text(text) || !is_text(text) {
         return Err(WordFault::Unreadable);
     }
     text_of(alloc, text)

@@ -1,20 +1,24 @@
 // The words behind `publish`.
 ghost use Rattle.std.specs.Str.{bytes_eq};
-ghost use Rattle.std.specs.Prelude.{◌≡◌, ◌≤◌, ℕ, List, None, Some, length, IfOk, IfErr};
+ghost use Rattle.std.specs.Prelude.{◌≡◌, ◌≤◌, ℕ, List, true, None, Some, Err, length, is_some, IfOk, IfErr};
 ghost use Rattle.publisher.specs.Options.{IsPublishable};
 ghost use Rattle.publication.specs.Words as spec;
 ghost use Rattle.publication.specs.Words.{options_of, options_with};
-ghost use Rattle.publication.specs.declared.values.WordFault.TheVariants.{Unreadable};
+ghost use Rattle.publication.specs.declared.values.WordFault.TheVariants.{Memory, Unreadable};
 
+use crate::forms::are_readable;
 use crate::marks::read_marks;
 use crate::values::{WordFault, read_file, read_release, read_title};
 use manifests::Rule;
-use small_types::{Duplicate, Word};
 use publish_plan::Options;
+use small_types::{Duplicate, Word};
 use std::alloc::Global;
 
+/// How many words stand before the marks.
+pub(crate) const WORD_COUNT: usize = 10;
+
 // Whether the word has this text.
-fn is_word(word: &Word, text: &[u8]) -> bool
+fn spells(word: &Word, text: &[u8]) -> bool
     ensures { result ≡ bytes_eq word.now text.now }
 {
     word.as_slice() == text
@@ -23,14 +27,14 @@ fn is_word(word: &Word, text: &[u8]) -> bool
 // Whether the five options stand in their places.
 #[tactic(auto, unfolding(crate::specs::Words::are_named))]
 pub(crate) fn are_named(words: &[Word]) -> bool
-    requires { 10 ≤ length words.now }
+    requires { WORD_COUNT ≤ length words.now }
     ensures { result ≡ spec.are_named words.now }
 {
-    is_word(&words[0], b"--name")
-        && is_word(&words[2], b"--release")
-        && is_word(&words[4], b"--entry")
-        && is_word(&words[6], b"--from")
-        && is_word(&words[8], b"--to")
+    spells(&words[0], b"--name")
+        && spells(&words[2], b"--release")
+        && spells(&words[4], b"--entry")
+        && spells(&words[6], b"--from")
+        && spells(&words[8], b"--to")
 }
 
 // The options with these values.
@@ -44,9 +48,11 @@ fn read_values(
     to: &[u8],
     marks: &[Word],
 ) -> Result<Options, WordFault>
-    ensures value { IfOk result (λ o. options_with name.now release.now entry.now from.now to.now marks.now ≡ Some o) }
+    ensures value { IfOk result (λ o.
+        options_with name.now release.now entry.now from.now to.now marks.now ≡ Some o) }
     ensures publishable { IfOk result IsPublishable }
-    ensures none { IfErr result (λ e. e ≡ Unreadable → options_with name.now release.now entry.now from.now to.now marks.now ≡ None) }
+    ensures none { IfErr result (λ e. e ≡ Unreadable
+        → options_with name.now release.now entry.now from.now to.now marks.now ≡ None) }
 {
     let name = read_title(alloc, name)?;
     let version = read_release(release)?;
@@ -70,17 +76,19 @@ fn read_values(
     })
 }
 
-/// What the words behind `publish` ask for: `--name N --release V --entry E --from F --to T` in this order, and then
-/// marks, `data:FILE` or `group:GROUP:FILE`. N is text of at most 240 bytes without control characters but tab, line
-/// feed and carriage return, V a version, E, F, T and FILE are file names, and GROUP is 1 to 240 bytes of such text.
-/// `Unreadable` comes exactly where they are others, and `Memory` may come at any words.
+/// What the words behind `publish` ask for: `--name N --release V --entry E --from F --to T` in
+/// this order, and then marks, `data:FILE` or `group:GROUP:FILE`. N is text of at most 240 bytes
+/// without control characters but tab, line feed and carriage return, V a version, E, F, T and FILE
+/// are file names, and GROUP is 1 to 240 bytes of such text. `Unreadable` comes exactly where they
+/// are others, and `Memory` only where they are such words.
 #[tactic(auto, unfolding(crate::specs::Words::options_of))]
 pub fn read_options(alloc: Global, words: &[Word]) -> Result<Options, WordFault>
     ensures value { IfOk result (λ o. options_of words.now ≡ Some o) }
     ensures none { IfErr result (λ e. e ≡ Unreadable → options_of words.now ≡ None) }
+    ensures memory { result ≡ Err Memory → is_some (options_of words.now) ≡ true }
     ensures publishable { IfOk result IsPublishable }
 {
-    if words.len() < 10 || !are_named(words) {
+    if words.len() < WORD_COUNT || !are_readable(words) {
         return Err(WordFault::Unreadable);
     }
     read_values(

@@ -176,6 +176,27 @@ fn long_file(rt: &HostRuntime) -> io::Result<()> {
     run_words(rt, &mut folder, &FIRST)
 }
 
+// A data file at its limit and above it, beside a longer file that is no data.
+fn data_files(rt: &HostRuntime) -> io::Result<()> {
+    let other = vec![in rt.alloc(); 0u8; 1_048_577]?;
+    let mut words = Vec::from_array(rt.alloc(), FIRST)?;
+    words.push("data:a.db")?;
+    for length in [1_048_576, 1_048_577] {
+        let bytes = vec![in rt.alloc(); 0u8; length]?;
+        let files: [(&str, &[u8]); 3] = [
+            ("in/app.exe", b"abc"),
+            ("in/a.db", &bytes),
+            ("in/b.bin", &other),
+        ];
+        let mut folder = folder_of(rt.alloc(), &files, 0)?;
+        println!(rt; "a data file of {length} bytes:")?;
+        run_words(rt, &mut folder, &words)?;
+        let count = folder.files().as_slice().len();
+        println!(rt; "files {count}")?;
+    }
+    Ok(())
+}
+
 // A folder of empty files with these names.
 fn empty_files(alloc: Global, names: &[String]) -> io::Result<MemFolder> {
     let nothing: [u8; 0] = [];
@@ -223,5 +244,6 @@ fn main(rt: HostRuntime) -> io::Result<()> {
     refusals(&rt)?;
     changes(&rt)?;
     long_file(&rt)?;
+    data_files(&rt)?;
     long_manifest(&rt)
 }
