@@ -1,7 +1,7 @@
 // What a folder of the file system does with real files.
 use crate::RealFolder;
 use folders::{Folder, FolderFault};
-use small_types::Name;
+use small_types::{Bytes, Name};
 use std::alloc::{AllocError, Global};
 use std::fs;
 use std::fs::{File, Permissions};
@@ -87,6 +87,50 @@ fn files_are_put_and_found(rt: HostRuntime) -> Result<(), Fail> {
     assert_eq!(rt; site.faults(), 2);
     assert_eq!(rt; list(alloc, &mut site)?.as_str(), "a|b.x|b/c d/%|b/c d/e|");
     fs::remove_dir_all(&rt, "site")?;
+    Ok(())
+}
+
+// So many bytes that count up from one.
+fn counted_from(alloc: Global, first: u8, length: usize) -> Result<Vec<u8>, AllocError> {
+    let mut made = Vec::new(alloc);
+    let mut next = first;
+    for _ in 0..length {
+        made.push(next)?;
+        next = next.wrapping_add(1);
+    }
+    Ok(made)
+}
+
+// Files of other lengths one after the other, into the memory of the file before, and from a file that changed.
+#[test]
+fn files_are_read_into_one_buffer(rt: HostRuntime) -> Result<(), Fail> {
+    let alloc = rt.alloc();
+    begin(&rt, "buffer")?;
+    let mut site = folder_at(&rt, "buffer")?;
+    let name = named(alloc, "file")?;
+    let mut into = Bytes::from_vec(Vec::new(alloc));
+    assert_eq!(rt; site.get_into(alloc, &name, &mut into), Ok(false));
+    for (first, length) in [
+        (1, 200_000),
+        (2, 3),
+        (3, 0),
+        (4, 200_001),
+        (5, 199_999),
+        (6, 8_192),
+    ] {
+        let bytes = counted_from(alloc, first, length)?;
+        fs::write(&rt, "buffer/file", &bytes)?;
+        assert_eq!(rt; site.get_into(alloc, &name, &mut into), Ok(true));
+        assert!(rt; into.as_slice() == bytes.as_slice(), "{length}");
+        assert!(rt;
+            get(alloc, &mut site, "file")?.as_slice() == bytes.as_slice(),
+            "{length}"
+        );
+    }
+    fs::remove_file(&rt, "buffer/file")?;
+    assert_eq!(rt; site.get_into(alloc, &name, &mut into), Ok(false));
+    assert_eq!(rt; site.faults(), 0);
+    fs::remove_dir_all(&rt, "buffer")?;
     Ok(())
 }
 
