@@ -1,7 +1,6 @@
 ghost use Rattle.std.specs.Prelude.{◌≡◌};
 
-use identity::PrintFault;
-use small_types::Text;
+use small_types::{PrintFault, Text};
 use std::alloc::AllocError;
 use std::error::Error;
 use std::fmt;

@@ -8,8 +8,8 @@ ghost use Rattle.addresses.specs.Join.{IsUnreachable, app_target_of, base_of, fi
 
 use crate::UrlFault;
 use crate::address::{address_of, is_too_long, parse, target_of_parsed};
-use identity::{PrintFault, word_escape};
-use small_types::{Name, Target, Text};
+use identity::word_escape;
+use small_types::{Name, PrintFault, Target, Text};
 use std::alloc::{AllocError, Global};
 use url::Url;
 

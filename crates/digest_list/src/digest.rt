@@ -6,10 +6,10 @@ ghost use Rattle.digest_list.specs.declared.digest.DigestFault.TheVariants.{Memo
 ghost use Rattle.digest_list.specs.Algorithm.{size_of};
 ghost use Rattle.digest_list.specs.Digest.{IsSized, Gives, digest_of, is_space, without_space};
 
-use crate::{Algorithm, PrintFault};
+use crate::Algorithm;
 use arrayvec::ArrayVec;
 use base64::engine::general_purpose::STANDARD;
-use small_types::{Bytes, CopyFault, Duplicate, Text};
+use small_types::{Bytes, CopyFault, Duplicate, PrintFault, Text};
 use std::alloc::{AllocError, Global};
 use std::error::Error;
 use std::fmt;

@@ -7,14 +7,13 @@ ghost use Rattle.identity.specs.declared.key.KeyFault.TheVariants.{Memory};
 ghost use Rattle.identity.specs.Key.{IsKey, IsPart, is_part, Gives, key_of, key_text, key_of_parts, part_of, part_text, word_text};
 ghost use Rattle.identity.specs.Printed.{Follows, text_cmp};
 
-use crate::PrintFault;
 use crate::escapes::{PART_ESCAPES, WORD_ESCAPES};
 use crate::parts::{FourParts, four_parts};
 use crate::printed::{past_next, past_part};
 use arrayvec::ArrayVec;
 use percent_encoding::{percent_decode, percent_encode};
 use small_types::limits::{IDENTITY_PART_LIMIT, NAME_LIMIT};
-use small_types::{CopyFault, Duplicate, Text};
+use small_types::{CopyFault, Duplicate, PrintFault, Text};
 use std::alloc::{AllocError, Global};
 use std::cmp::Ordering;
 use std::error::Error;

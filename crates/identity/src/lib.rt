@@ -2,7 +2,6 @@
 #![tactic(auto)]
 
 mod escapes;
-mod fault;
 mod identity;
 mod key;
 mod parts;
@@ -11,7 +10,6 @@ mod printed;
 mod tests;
 mod version;
 
-pub use fault::PrintFault;
 pub use identity::Identity;
 pub use key::{Key, KeyFault, one_text_one_key, word_escape};
 pub use version::{Version, VersionFault};

@@ -5,10 +5,9 @@ ghost use Rattle.std.specs.List.{list_all};
 ghost use Rattle.std.specs.Str.Parse.{digits_value};
 ghost use Rattle.identity.specs.Version.{IsVersion, IsBelow, version_of, version_text, version_cmp, greater_of, number_of, version_of_parts};
 
-use crate::PrintFault;
 use crate::parts::{FourParts, four_parts};
 use itoa::Buffer;
-use small_types::{Text, are_digits, parse_digits};
+use small_types::{PrintFault, Text, are_digits, parse_digits};
 use std::alloc::Global;
 use std::error::Error;
 use std::fmt;

@@ -11,9 +11,9 @@ use crate::lines::{
     begin, digest_lines, end, identity_line, line, number_line, push_escaped, push_number,
     push_version, text_line,
 };
-use identity::{PrintFault, Version};
+use identity::Version;
 use manifests::{Application, Deployment, FileEntry, Rule};
-use small_types::{Bytes, Text};
+use small_types::{Bytes, PrintFault, Text};
 use std::alloc::Global;
 
 fn truth(value: bool) -> &'static [u8]

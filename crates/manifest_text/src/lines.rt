@@ -7,9 +7,9 @@ ghost use Rattle.identity.specs.Version.{version_text};
 ghost use Rattle.manifest_text.specs.Lines as spec;
 
 use digest_list::Digest;
-use identity::{Identity, PrintFault, Version, word_escape};
+use identity::{Identity, Version, word_escape};
 use itoa::Buffer;
-use small_types::Bytes;
+use small_types::{Bytes, PrintFault};
 use std::alloc::Global;
 
 /// Adds a line: a word, a space, what is said, and a line feed. It fails only for want of memory.

@@ -6,11 +6,11 @@ ghost use Rattle.identity.specs.Version.{version_text};
 ghost use Rattle.manifest_text.specs.Lines as spec;
 
 use crate::lines::{line, two};
-use identity::{PrintFault, Version, word_escape};
+use identity::{Version, word_escape};
 use itoa::Buffer;
 use manifest_parts::ManifestFault;
 use manifest_tree::{TreeFault, TreeKind};
-use small_types::Bytes;
+use small_types::{Bytes, PrintFault};
 use std::alloc::Global;
 
 fn kind_text(kind: TreeKind) -> &'static [u8]

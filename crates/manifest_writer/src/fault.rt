@@ -2,7 +2,7 @@
 ghost use Rattle.std.specs.Prelude.{◌≡◌};
 
 use manifest_tree::WriteFault;
-use small_types::CopyFault;
+use small_types::{CopyFault, PrintFault};
 use std::alloc::{AllocError, AllocFailed};
 
 /// Memory ran out while a tree was made.
@@ -21,14 +21,8 @@ impl<T: Drop> From<AllocFailed<T>> for NoMemory {
     }
 }
 
-impl From<identity::PrintFault> for NoMemory {
-    fn from(_: identity::PrintFault) -> Self {
-        NoMemory
-    }
-}
-
-impl From<digest_list::PrintFault> for NoMemory {
-    fn from(_: digest_list::PrintFault) -> Self {
+impl From<PrintFault> for NoMemory {
+    fn from(_: PrintFault) -> Self {
         NoMemory
     }
 }

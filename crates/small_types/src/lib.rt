@@ -9,6 +9,7 @@ mod limit;
 pub mod limits;
 mod list;
 mod name;
+mod print_fault;
 mod slices;
 mod target;
 #[cfg(test)]
@@ -23,6 +24,7 @@ pub use duplicate::{CopyFault, Duplicate};
 pub use limit::Limit;
 pub use list::List;
 pub use name::{Name, NameFault, is_name};
+pub use print_fault::PrintFault;
 pub use slices::{copy_front, rest_from};
 pub use target::Target;
 pub use text::Text;

@@ -1,3 +1,4 @@
+// Why no text was printed.
 ghost use Rattle.std.specs.Prelude.{◌≡◌};
 
 use std::alloc::AllocError;
@@ -20,7 +21,7 @@ impl fmt::Display for PrintFault {
 impl Error for PrintFault {}
 
 impl From<AllocError> for PrintFault {
-    ghost use Rattle.identity.specs.declared.fault.PrintFault.TheVariants.{Memory};
+    ghost use Rattle.small_types.specs.declared.print_fault.PrintFault.TheVariants.{Memory};
 
     ghost from_gives = { λ _ e. e ≡ Memory };
 
