@@ -1,3 +1,4 @@
 pub mod MomentLemmas
 pub mod PieceLemmas
 pub mod Recording
+pub mod Replaying

@@ -33,14 +33,14 @@ until_before : (t : ℕ) (calls : List Call) (x : Call) → t < x.number → unt
 until_before t [] x late = grind (arith, nat_tests)
 until_before t (y ∷ calls) x late = ap (λ (l : List Move). if nat_le y.number t then y.act ∷ l else l) (until_before t calls x late)
 
-all_later : (t u : ℕ) (calls : List Call) → t ≤ u → all_by t calls ≡ true → all_by u calls ≡ true
+pub all_later : (t u : ℕ) (calls : List Call) → t ≤ u → all_by t calls ≡ true → all_by u calls ≡ true
 all_later t u [] le all = refl
 all_later t u (x ∷ calls) le all =
     let rest : all_by t calls ≡ true = grind (arith, nat_tests) in
     let later = all_later t u calls le rest in
     grind (arith, nat_tests, later)
 
-all_push : (t : ℕ) (calls : List Call) (x : Call) → x.number ≤ t → all_by t calls ≡ true → all_by t (calls ++ x ∷ []) ≡ true
+pub all_push : (t : ℕ) (calls : List Call) (x : Call) → x.number ≤ t → all_by t calls ≡ true → all_by t (calls ++ x ∷ []) ≡ true
 all_push t [] x le all = grind (arith, nat_tests)
 all_push t (y ∷ calls) x le all =
     let rest : all_by t calls ≡ true = grind (arith, nat_tests) in
@@ -75,38 +75,49 @@ cut_done n fails bytes is = ap (λ (b : Bool). moved (Cut n (not b)) bytes) (sym
 pub write_fits : (place : ℕ) (bytes piece : List ℕ) (done : Bool) → bytes ≡ piece → place + length piece ≤ 0xffff_ffff_ffff_ffff → fits (Write place bytes done) ≡ true
 write_fits place bytes piece done is within = grind (arith, nat_tests)
 
+module _ (old new : List Call) (x : Call) (now later : ℕ) (tick : later ≡ now + 1) (next : x.number ≡ later) (all : all_by now old ≡ true) where
+  pub all_recorded : MayRecord x old new → all_by later new ≡ true
+  all_recorded (inl same) = ap (all_by later) same ∙ all_later now later old (omega (arith, tick)) all
+  all_recorded (inr grown) = ap (all_by later) grown ∙ all_push later old x (omega (arith, next, tick)) (all_later now later old (omega (arith, tick)) all)
+
+  pub until_recorded : MayRecord x old new → (t : ℕ) → t ≤ now → until t new ≡ until t old
+  until_recorded (inl same) t le = ap (until t) same
+  until_recorded (inr grown) t le = ap (until t) grown ∙ until_before t old x (omega (arith, next, tick))
+
+  until_unchanged : new ≡ old → until later new ≡ until now old
+  until_unchanged same = ap (until later) same ∙ until_all later old (all_later now later old (omega (arith, tick)) all) ∙ sym (until_all now old all)
+
+  -- what a call made of an image of a disk that read so at first
+  pub image_done : (first image : List ℕ) → new ≡ old ++ x ∷ [] → (c : List ℕ) → IsImage first image (until later new) c → (d : List ℕ) × IsImage first image (until now old) d × Leaves x.act (reads_after first (acts old)) d c
+  image_done first image grown c left =
+      let whole = until_all later new (all_recorded (inr grown)) ∙ ap acts grown ∙ acts-push old x in
+      let from = image_push first image (acts old) x.act c (subst (λ (ms : List Move). IsImage first image ms c) whole left) in
+      (from.0, subst (λ (ms : List Move). IsImage first image ms from.0) (sym (until_all now old all)) from.1, from.2)
+
 -- what a stop now may leave
 abbrev pub Now : List ℕ → List Call → ℕ → List ℕ → Type 0
 Now first calls t c = IsImage first first (until t calls) c
 
 module _ (first began : List ℕ) (same_first : began ≡ first) (old new : List Call) (x : Call) (now later : ℕ) (tick : later ≡ now + 1) (next : x.number ≡ later) (all : all_by now old ≡ true) where
   pub all_new : MayRecord x old new → all_by later new ≡ true
-  all_new (inl same) = ap (all_by later) same ∙ all_later now later old (omega (arith, tick)) all
-  all_new (inr grown) = ap (all_by later) grown ∙ all_push later old x (omega (arith, next, tick)) (all_later now later old (omega (arith, tick)) all)
+  all_new recorded = all_recorded old new x now later tick next all recorded
 
   pub stop_done : new ≡ old ++ x ∷ [] → (c : List ℕ) → Now began new later c → (d : List ℕ) × Now first old now d × Leaves x.act (reads_after first (acts old)) d c
-  stop_done grown c left =
-      let whole = until_all later new (all_new (inr grown)) ∙ ap acts grown ∙ acts-push old x in
-      let here : IsImage first first (until later new) c = subst (λ (b : List ℕ). IsImage b b (until later new) c) same_first left in
-      let from = image_push first first (acts old) x.act c (subst (λ (ms : List Move). IsImage first first ms c) whole here) in
-      (from.0, subst (λ (ms : List Move). IsImage first first ms from.0) (sym (until_all now old all)) from.1, from.2)
+  stop_done grown c left = image_done old new x now later tick next all first first grown c (subst (λ (b : List ℕ). IsImage b b (until later new) c) same_first left)
 
   pub stop_failed : MayRecord x old new → (c : List ℕ) → Leaves x.act (reads_after first (acts old)) c c → Now began new later c → (d : List ℕ) × Now first old now d × Leaves x.act (reads_after first (acts old)) d c
   stop_failed (inl same) c stays left =
-      let unchanged = ap (until later) same ∙ until_all later old (all_later now later old (omega (arith, tick)) all) ∙ sym (until_all now old all) in
       let here : IsImage first first (until later new) c = subst (λ (b : List ℕ). IsImage b b (until later new) c) same_first left in
-      (c, subst (λ (ms : List Move). IsImage first first ms c) unchanged here, stays)
+      (c, subst (λ (ms : List Move). IsImage first first ms c) (until_unchanged old new x now later tick next all same) here, stays)
   stop_failed (inr grown) c stays left = stop_done grown c left
 
-  until_same : MayRecord x old new → (t : ℕ) → t ≤ now → until t new ≡ until t old
-  until_same (inl same) t le = ap (until t) same
-  until_same (inr grown) t le = ap (until t) grown ∙ until_before t old x (omega (arith, next, tick))
-
   pub elapses : MayRecord x old new → Elapses now (λ t c. IsImage first first (until t old) c) (λ t c. IsImage began began (until t new) c)
-  elapses recorded = record {
-    same = λ t c le left. subst (λ (b : List ℕ). IsImage b b (until t old) c) same_first (subst (λ (ms : List Move). IsImage began began ms c) (until_same recorded t le) left);
-    keeps = λ t c le left. subst (λ (b : List ℕ). IsImage b b (until t new) c) (sym same_first) (subst (λ (ms : List Move). IsImage first first ms c) (sym (until_same recorded t le)) left);
-  }
+  elapses recorded =
+      let same : (t : ℕ) → t ≤ now → until t new ≡ until t old = until_recorded old new x now later tick next all recorded in
+      record {
+        same = λ t c le left. subst (λ (b : List ℕ). IsImage b b (until t old) c) same_first (subst (λ (ms : List Move). IsImage began began ms c) (same t le) left);
+        keeps = λ t c le left. subst (λ (b : List ℕ). IsImage b b (until t new) c) (sym same_first) (subst (λ (ms : List Move). IsImage first first ms c) (sym (same t le)) left);
+      }
 
 until_at : (t : ℕ) (calls : List Call) (x : Call) → x.number ≤ t → until t (calls ++ x ∷ []) ≡ until t calls ++ x.act ∷ []
 until_at t [] x early = grind (arith, nat_tests)

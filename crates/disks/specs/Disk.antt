@@ -1,5 +1,5 @@
 -- What the calls of a disk do, and what a stop may leave.
-use Rattle.std.specs.Prelude.{◌≡◌, ◌⊎◌, ℕ, ◌+◌, ◌-◌, ◌<◌, ◌≤◌, min, max, List, ◌++◌, length, take, drop, replicate, Result, OnOk}
+use Rattle.std.specs.Prelude.{◌≡◌, ◌⊎◌, ℕ, ◌+◌, ◌-◌, ◌<◌, ◌≤◌, min, max, List, ◌++◌, length, take, drop, Result, OnOk}
 
 -- after a write of n bytes that a stop cuts short: any bytes in the range and past the old end, the same elsewhere
 pub record Torn (place n : ℕ) (old new : List ℕ) : Type 0 where

@@ -1,5 +1,7 @@
+pub mod Answers
 pub mod Disk
 pub mod History
+pub mod Honesty
 pub mod MemDisk
 pub mod Moments
 pub mod Moves

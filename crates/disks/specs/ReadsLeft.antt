@@ -1,16 +1,14 @@
 -- What reads give is one of the things that a stop may leave.
-use Rattle.std.specs.Prelude.{◌≡◌, ◌⊎◌, ℕ, ◌+◌, ◌-◌, min, List, [], ◌∷◌, ◌++◌, length, take, drop, replicate, Bool, true, false, nat_le, ◌&&◌, if◌then◌else◌, refl}
+use Rattle.std.specs.Prelude.{◌≡◌, ℕ, ◌+◌, ◌-◌, min, List, [], ◌∷◌, ◌++◌, length, take, drop, replicate, true, false, nat_le, refl}
 use Rattle.std.proofs.Common.{sym, ◌∙◌, ap, subst, arith, inl, inr, length-take, length-drop, length-append}
 use Rattle.std.proofs.lemmas.List.{take_min, take_all, take_at, drop_at, length-replicate, append_assoc}
 use Rattle.std.proofs.lemmas.Bool.Decides.{nat_tests}
 use Rattle.disks.specs.declared.call.Call.{Call}
 use Rattle.disks.specs.declared.call.Move.{Move}
 use Rattle.disks.specs.declared.call.Move.TheVariants.{Write, Cut, Sync}
-use Rattle.disks.specs.declared.call.Pick.{Pick}
-use Rattle.disks.specs.declared.call.Pick.TheVariants.{Kept, Lost, Filled}
-use Rattle.small_types.specs.Bytes.{put, fill}
+use Rattle.small_types.specs.Bytes.{put}
 use Rattle.disks.specs.Disk.{Torn, CutOff}
-use Rattle.disks.specs.Moves.{moved, reads_after, Leaves, IsImage, acts, until, all_by}
+use Rattle.disks.specs.Moves.{reads_after, IsImage, acts, until, all_by}
 
 pub until_all : (t : ℕ) (calls : List Call) → all_by t calls ≡ true → until t calls ≡ acts calls
 until_all t [] all = refl
@@ -52,7 +50,7 @@ cut_take n d = record {
 }
 
 -- what reads give is what a stop may leave
-reads_left : (reads : List ℕ) (moves : List Move) → IsImage reads reads moves (reads_after reads moves)
+pub reads_left : (reads : List ℕ) (moves : List Move) → IsImage reads reads moves (reads_after reads moves)
 reads_left reads [] = refl
 reads_left reads (Write place bytes true ∷ moves) = (put place bytes reads, torn_put place bytes reads, reads_left (put place bytes reads) moves)
 reads_left reads (Write place bytes false ∷ moves) = (reads, torn_same place (length bytes) reads, reads_left reads moves)

@@ -9,8 +9,8 @@ use outside::Failed;
 /// A disk of bytes. Between two syncs each range that is written or cut off may hold any bytes after a stop, and
 /// the length may be the old or the new one; bytes outside stay.
 pub trait Disk {
-    /// Whether it tells its contents.
-    ghost tells: { Type 0 };
+    /// Whether all that its reads and lengths gave so far is what the calls before them made of its bytes.
+    ghost tells: { Self → Type 0 };
 
     /// What reads give.
     ghost seen: { Self → List ℕ };
@@ -29,51 +29,56 @@ pub trait Disk {
 
     /// The length that reads give.
     fn length(&mut self) -> Result<u64, Failed>
-        ensures bytes { tells → IfOk result (λ n. n ≡ length (seen self.old)) }
+        ensures bytes { tells self.new → IfOk result (λ n. n ≡ length (seen self.old)) }
         ensures still { IsStill (moment self.old) (moment self.new) (total self.old) (total self.new) }
-        ensures seen { tells → seen self.new ≡ seen self.old }
-        ensures time { tells → Elapses (moment self.old) (left_at self.old) (left_at self.new) }
+        ensures seen { seen self.new ≡ seen self.old }
+        ensures time { Elapses (moment self.old) (left_at self.old) (left_at self.new) }
+        ensures told { tells self.new → tells self.old }
         ensures cause { Causes (count self.old) (count self.new) result };
 
     /// As many bytes as stand there, at most the buffer's length.
     fn read(&mut self, place: u64, buf: &mut [u8]) -> Result<usize, Failed>
         ensures within { IfOk result (λ n. n ≤ length buf.old) }
-        ensures bytes { tells → IfOk result (λ n. Gives (seen self.old) place buf.old buf.new n) }
+        ensures bytes { tells self.new → IfOk result (λ n. Gives (seen self.old) place buf.old buf.new n) }
         ensures still { IsStill (moment self.old) (moment self.new) (total self.old) (total self.new) }
-        ensures seen { tells → seen self.new ≡ seen self.old }
-        ensures time { tells → Elapses (moment self.old) (left_at self.old) (left_at self.new) }
+        ensures seen { seen self.new ≡ seen self.old }
+        ensures time { Elapses (moment self.old) (left_at self.old) (left_at self.new) }
+        ensures told { tells self.new → tells self.old }
         ensures cause { Causes (count self.old) (count self.new) result };
 
     /// Reads then give these bytes. A gap before them reads as zeros.
     fn write_at(&mut self, place: u64, bytes: &[u8]) -> Result<(), Failed>
         ensures fits { OnOk result (place + length bytes.now < 2 ^ 64) }
-        ensures seen { tells → Torn place (length bytes.now) (seen self.old) (seen self.new) }
-        ensures written { tells → OnOk result (seen self.new ≡ put place bytes.now (seen self.old)) }
-        ensures stop { tells → Follows (Torn place (length bytes.now)) (left_at self.old (moment self.old)) (left_at self.new (moment self.new)) }
-        ensures none { tells → moment self.new ≡ moment self.old → seen self.new ≡ seen self.old }
+        ensures seen { Torn place (length bytes.now) (seen self.old) (seen self.new) }
+        ensures written { OnOk result (seen self.new ≡ put place bytes.now (seen self.old)) }
+        ensures stop { Follows (Torn place (length bytes.now)) (left_at self.old (moment self.old)) (left_at self.new (moment self.new)) }
+        ensures none { moment self.new ≡ moment self.old → seen self.new ≡ seen self.old }
         ensures tick { Ticks (moment self.old) (moment self.new) (total self.old) (total self.new) (length bytes.now) result }
-        ensures time { tells → Elapses (moment self.old) (left_at self.old) (left_at self.new) }
+        ensures time { Elapses (moment self.old) (left_at self.old) (left_at self.new) }
+        ensures told { tells self.new → tells self.old }
         ensures cause { Causes (count self.old) (count self.new) result };
 
     /// Shortens to a length, which is not above the present one.
     fn cut(&mut self, size: u64) -> Result<(), Failed>
-        requires { tells → size ≤ length (seen self.old) }
-        ensures seen { tells → CutOff size (seen self.old) (seen self.new) }
-        ensures written { tells → OnOk result (seen self.new ≡ take size (seen self.old)) }
-        ensures stop { tells → Follows (CutOff size) (left_at self.old (moment self.old)) (left_at self.new (moment self.new)) }
-        ensures none { tells → moment self.new ≡ moment self.old → seen self.new ≡ seen self.old }
+        requires { tells self.old → size ≤ length (seen self.old) }
+        ensures seen { CutOff size (seen self.old) (seen self.new) }
+        ensures written { OnOk result (seen self.new ≡ take size (seen self.old)) }
+        ensures stop { Follows (CutOff size) (left_at self.old (moment self.old)) (left_at self.new (moment self.new)) }
+        ensures none { moment self.new ≡ moment self.old → seen self.new ≡ seen self.old }
         ensures tick { Ticks (moment self.old) (moment self.new) (total self.old) (total self.new) 0 result }
-        ensures time { tells → Elapses (moment self.old) (left_at self.old) (left_at self.new) }
+        ensures time { Elapses (moment self.old) (left_at self.old) (left_at self.new) }
+        ensures told { tells self.new → tells self.old }
         ensures cause { Causes (count self.old) (count self.new) result };
 
     /// After Ok a stop leaves what reads give.
     fn sync(&mut self) -> Result<(), Failed>
-        ensures durable { tells → OnOk result (Only (seen self.old) (left_at self.new (moment self.new))) }
-        ensures seen { tells → seen self.new ≡ seen self.old }
-        ensures stop { tells → (c : List ℕ) → left_at self.new (moment self.new) c → left_at self.old (moment self.old) c }
-        ensures none { tells → moment self.new ≡ moment self.old → seen self.new ≡ seen self.old }
+        ensures durable { OnOk result (Only (seen self.old) (left_at self.new (moment self.new))) }
+        ensures seen { seen self.new ≡ seen self.old }
+        ensures stop { (c : List ℕ) → left_at self.new (moment self.new) c → left_at self.old (moment self.old) c }
+        ensures none { moment self.new ≡ moment self.old → seen self.new ≡ seen self.old }
         ensures tick { Ticks (moment self.old) (moment self.new) (total self.old) (total self.new) 0 result }
-        ensures time { tells → Elapses (moment self.old) (left_at self.old) (left_at self.new) }
+        ensures time { Elapses (moment self.old) (left_at self.old) (left_at self.new) }
+        ensures told { tells self.new → tells self.old }
         ensures cause { Causes (count self.old) (count self.new) result };
 
     /// The moment: how many calls of `write_at`, `cut` and `sync` there were, failed ones included.

@@ -99,7 +99,7 @@ impl Disk for MemDisk {
     ghost use Rattle.disks.specs.Moves.{IsImage, until};
     ghost use Rattle.disks.specs.ReadsLeft.{reads_are_left};
 
-    ghost tells = { Unit {0} };
+    ghost tells = { λ m. Unit {0} };
 
     ghost seen = { λ m. m.history.bytes };
 

@@ -6,6 +6,7 @@ use Rattle.disks.specs.Disk.{Torn, Follows, Only, Elapses}
 use Rattle.disks.proofs.PieceLemmas.{torn_front, torn_around, put_behind, put_over}
 use Rattle.disks.specs.Moments.{LeavesOnly, Each}
 use Rattle.disks.proofs.MomentLemmas.{started, goes_on}
+use Rattle.disks.specs.declared.disk.Disk.{Ghosts}
 use Rattle.store_log.specs.Log.{ClosedAfter}
 use Rattle.store_log.specs.Steps.{OpenAfter, IsBeforeOrAfter}
 
@@ -56,42 +57,42 @@ module _ (base tail : List ℕ) (end : ℕ) (is_end : end ≡ length base) where
     split = is ∙ ap (put end (1 ∷ [])) s.split ∙ put_over base end is_end (1 ∷ []) (s.gate ∷ []) (tail ++ s.rest) (omega arith);
   }
 
-  module _ {D : Type 0} (moment : D → ℕ) (left_at : D → ℕ → List ℕ → Type 0) (seen : D → List ℕ) (seen_left : (d : D) → left_at d (moment d) (seen d)) (d0 : D) (each0 : Each moment left_at d0 (ClosedAfter base)) where
+  module _ {D : Type 0} (on : Ghosts D) (seen_left : (d : D) → on.left_at d (on.moment d) (on.seen d)) (d0 : D) (each0 : Each on d0 (ClosedAfter base)) where
     abbrev Now : D → List ℕ → Type 0
-    Now d c = left_at d (moment d) c
+    Now d c = on.left_at d (on.moment d) c
 
     abbrev Run : D → Type 0
-    Run d = LeavesOnly moment left_at d0 d (IsBeforeOrAfter base tail)
+    Run d = LeavesOnly on d0 d (IsBeforeOrAfter base tail)
 
     -- a call of the disk, as time sees it
     abbrev Call : D → D → Type 0
-    Call old new = (moment old ≤ moment new) × (moment new ≤ moment old + 1) × Elapses (moment old) (left_at old) (left_at new)
+    Call old new = (on.moment old ≤ on.moment new) × (on.moment new ≤ on.moment old + 1) × Elapses (on.moment old) (on.left_at old) (on.left_at new)
 
-    step : (old new : D) → Run old → Call old new → Each moment left_at new (IsBeforeOrAfter base tail) → Run new
-    step old new run call here = goes_on moment left_at d0 old new (IsBeforeOrAfter base tail) run call.0 call.1 call.2 here
+    step : (old new : D) → Run old → Call old new → Each on new (IsBeforeOrAfter base tail) → Run new
+    step old new run call here = goes_on on d0 old new (IsBeforeOrAfter base tail) run call.0 call.1 call.2 here
 
-    each1 : (d1 : D) → Follows (Torn (end + 1) (length tail)) (Now d0) (Now d1) → Each moment left_at d1 (ClosedAfter base)
+    each1 : (d1 : D) → Follows (Torn (end + 1) (length tail)) (Now d0) (Now d1) → Each on d1 (ClosedAfter base)
     each1 d1 follows c left = let from = follows c left in torn_behind from.0 c (each0 from.0 from.1) from.2
 
     pub run1 : (d1 : D) → Follows (Torn (end + 1) (length tail)) (Now d0) (Now d1) → Call d0 d1 → Run d1
     run1 d1 follows call =
-        step d0 d1 (started moment left_at d0 (IsBeforeOrAfter base tail) (λ c left. inl (each0 c left))) call (λ c left. inl (each1 d1 follows c left))
+        step d0 d1 (started on d0 (IsBeforeOrAfter base tail) (λ c left. inl (each0 c left))) call (λ c left. inl (each1 d1 follows c left))
 
     pub run2 : (d1 d2 : D) → Follows (Torn (end + 1) (length tail)) (Now d0) (Now d1) → Run d1 → ((c : List ℕ) → Now d2 c → Now d1 c) → Call d1 d2 → Run d2
     run2 d1 d2 follows run fewer call = step d1 d2 run call (λ c left. inl (each1 d1 follows c (fewer c left)))
 
     -- after the first sync the tail stands behind the gate in each image
-    pub staged2 : (d1 d2 : D) → seen d1 ≡ put (end + 1) tail (seen d0) → Only (seen d1) (Now d2) → Each moment left_at d2 (StagedAfter base tail)
-    staged2 d1 d2 written only c left = staged (seen d0) c (each0 (seen d0) (seen_left d0)) (only c left ∙ written)
+    pub staged2 : (d1 d2 : D) → on.seen d1 ≡ put (end + 1) tail (on.seen d0) → Only (on.seen d1) (Now d2) → Each on d2 (StagedAfter base tail)
+    staged2 d1 d2 written only c left = staged (on.seen d0) c (each0 (on.seen d0) (seen_left d0)) (only c left ∙ written)
 
-    each3 : (d2 d3 : D) → Each moment left_at d2 (StagedAfter base tail) → Follows (Torn end 1) (Now d2) (Now d3) → Each moment left_at d3 (IsBeforeOrAfter base tail)
+    each3 : (d2 d3 : D) → Each on d2 (StagedAfter base tail) → Follows (Torn end 1) (Now d2) (Now d3) → Each on d3 (IsBeforeOrAfter base tail)
     each3 d2 d3 each2 follows c left = let from = follows c left in torn_gate from.0 c (each2 from.0 from.1) from.2
 
-    pub run3 : (d2 d3 : D) → Each moment left_at d2 (StagedAfter base tail) → Run d2 → Follows (Torn end 1) (Now d2) (Now d3) → Call d2 d3 → Run d3
+    pub run3 : (d2 d3 : D) → Each on d2 (StagedAfter base tail) → Run d2 → Follows (Torn end 1) (Now d2) (Now d3) → Call d2 d3 → Run d3
     run3 d2 d3 each2 run follows call = step d2 d3 run call (each3 d2 d3 each2 follows)
 
-    pub run4 : (d2 d3 d4 : D) → Each moment left_at d2 (StagedAfter base tail) → Follows (Torn end 1) (Now d2) (Now d3) → Run d3 → ((c : List ℕ) → Now d4 c → Now d3 c) → Call d3 d4 → Run d4
+    pub run4 : (d2 d3 d4 : D) → Each on d2 (StagedAfter base tail) → Follows (Torn end 1) (Now d2) (Now d3) → Run d3 → ((c : List ℕ) → Now d4 c → Now d3 c) → Call d3 d4 → Run d4
     run4 d2 d3 d4 each2 follows run fewer call = step d3 d4 run call (λ c left. each3 d2 d3 each2 follows c (fewer c left))
 
-    pub open4 : (d2 d3 d4 : D) → Each moment left_at d2 (StagedAfter base tail) → seen d3 ≡ put end (1 ∷ []) (seen d2) → Only (seen d3) (Now d4) → Each moment left_at d4 (OpenAfter base tail)
-    open4 d2 d3 d4 each2 written only c left = opened (seen d2) c (each2 (seen d2) (seen_left d2)) (only c left ∙ written)
+    pub open4 : (d2 d3 d4 : D) → Each on d2 (StagedAfter base tail) → on.seen d3 ≡ put end (1 ∷ []) (on.seen d2) → Only (on.seen d3) (Now d4) → Each on d4 (OpenAfter base tail)
+    open4 d2 d3 d4 each2 written only c left = opened (on.seen d2) c (each2 (on.seen d2) (seen_left d2)) (only c left ∙ written)

@@ -1,8 +1,10 @@
+mod Counting
 mod Entries
 mod Gates
 mod HeadBlock
 mod Making
 mod NewStore
 mod Parse
+mod Ranges
 mod Reading
 pub mod Store

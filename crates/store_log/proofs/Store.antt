@@ -4,6 +4,7 @@ use Rattle.std.proofs.lemmas.List.{drop_at, append-nil}
 use Rattle.std.specs.List.{flat_map}
 use Rattle.disks.specs.Moments.{Untouched}
 use Rattle.disks.proofs.MomentLemmas.{each_still}
+use Rattle.disks.specs.declared.disk.Disk.{Ghosts}
 use Rattle.store_log.specs.declared.log.Log.{Log}
 use Rattle.store_log.specs.Log.{head_of, log_of, entry_of, ClosedAfter, IsLog, IsStore, IsOpen, AreSmall}
 use Rattle.store_log.proofs.Entries as entries
@@ -18,9 +19,9 @@ pub is_store : (blocks : ℕ) (changes : List (List ℕ)) (bytes : List ℕ) →
 is_store blocks changes bytes some limit log = record { some = some; limit = limit; log = log }
 
 -- an open log stays open while the disk is only read
-pub still_open : {D : Type 0} (moment : D → ℕ) (left_at : D → ℕ → List ℕ → Type 0) (seen : D → List ℕ) (log : Log) (head : List ℕ) (changes : List (List ℕ)) (old new : D)
-    → IsOpen moment left_at log head changes old → Untouched moment left_at seen old new → IsOpen moment left_at log head changes new
-still_open moment left_at seen log head changes old new is still = record { at = is.at; each = each_still moment left_at seen old new (IsLog head changes) is.each still }
+pub still_open : {D : Type 0} (on : Ghosts D) (log : Log) (head : List ℕ) (changes : List (List ℕ)) (old new : D)
+    → IsOpen on log head changes old → Untouched on old new → IsOpen on log head changes new
+still_open on log head changes old new is still = record { at = is.at; each = each_still on old new (IsLog head changes) is.each still }
 
 -- bytes are one journal at most
 pub unique : (bytes : List ℕ) (blocks blocks' : ℕ) (changes changes' : List (List ℕ)) → IsStore blocks changes bytes → IsStore blocks' changes' bytes → (blocks ≡ blocks') × (changes ≡ changes')

@@ -1,10 +1,12 @@
 -- What the bytes of a journal stand for, and what a stop may leave of one.
-use Rattle.std.specs.Prelude.{◌≡◌, ◌≢◌, ◌⊎◌, ℕ, ◌+◌, ◌-◌, ◌<◌, ◌≤◌, ◌^◌, replicate, codes, List, [], ◌∷◌, ◌++◌, length, take, drop}
+use Rattle.std.specs.Prelude.{◌≡◌, ◌≢◌, ◌⊎◌, ℕ, ◌+◌, ◌-◌, ◌<◌, ◌≤◌, ◌^◌, min, replicate, codes, List, [], ◌∷◌, ◌++◌, length, take, drop}
 use Rattle.std.specs.List.{flat_map}
 use Rattle.std.specs.Int.{to_be_bytes, w32, w64}
 use Rattle.disks.specs.Disk.{Torn, CutOff}
 use Rattle.disks.specs.Moments.{Each}
+use Rattle.disks.specs.declared.disk.Disk.{Ghosts}
 use Rattle.store_log.specs.declared.log.Log.{Log}
+use Rattle.store_log.specs.declared.piece.TheConstants.{BEFORE, AROUND, CHANGE_LIMIT}
 
 -- the four bytes of a length, the greatest first
 unfoldable pub size_bytes : ℕ → List ℕ
@@ -81,20 +83,41 @@ pub record IsClosedNew (blocks : ℕ) (bytes : List ℕ) : Type 0 where
 -- of the head gate and a sync. A stop leaves an old image or a cut one, until the first sync is done; then nothing
 -- stands there, and at the write what it makes of nothing; once the second sync is done the new journal with its head
 -- gate closed; and from then on the new journal or none.
-pub record Formats {D : Type 0} (moment : D → ℕ) (left_at : D → ℕ → List ℕ → Type 0) (old new : D) (blocks : ℕ) : Type 0 where
-  pub later : moment old ≤ moment new
-  pub past : (t : ℕ) (bytes : List ℕ) → t ≤ moment old → left_at new t bytes → left_at old t bytes
-  pub first : (t : ℕ) (bytes : List ℕ) → moment old ≤ t → t ≤ moment new → t ≤ moment old + 2 → left_at new t bytes → IsCutOrOld (left_at old (moment old)) bytes
-  pub empty : (bytes : List ℕ) → moment old + 2 < moment new → left_at new (moment old + 2) bytes → bytes ≡ []
-  pub second : (t : ℕ) (bytes : List ℕ) → moment old + 2 < t → t ≤ moment new → t ≤ moment old + 4 → left_at new t bytes → Torn 0 4097 [] bytes
-  pub closed : (bytes : List ℕ) → moment old + 4 < moment new → left_at new (moment old + 4) bytes → IsClosedNew blocks bytes
-  pub third : (t : ℕ) (bytes : List ℕ) → moment old + 4 < t → t ≤ moment new → left_at new t bytes → IsNewOrNone blocks bytes
+pub record Formats {D : Type 0} (on : Ghosts D) (old new : D) (blocks : ℕ) : Type 0 where
+  pub later : on.moment old ≤ on.moment new
+  pub past : (t : ℕ) (bytes : List ℕ) → t ≤ on.moment old → on.left_at new t bytes → on.left_at old t bytes
+  pub first : (t : ℕ) (bytes : List ℕ) → on.moment old ≤ t → t ≤ on.moment new → t ≤ on.moment old + 2 → on.left_at new t bytes → IsCutOrOld (on.left_at old (on.moment old)) bytes
+  pub empty : (bytes : List ℕ) → on.moment old + 2 < on.moment new → on.left_at new (on.moment old + 2) bytes → bytes ≡ []
+  pub second : (t : ℕ) (bytes : List ℕ) → on.moment old + 2 < t → t ≤ on.moment new → t ≤ on.moment old + 4 → on.left_at new t bytes → Torn 0 4097 [] bytes
+  pub closed : (bytes : List ℕ) → on.moment old + 4 < on.moment new → on.left_at new (on.moment old + 4) bytes → IsClosedNew blocks bytes
+  pub third : (t : ℕ) (bytes : List ℕ) → on.moment old + 4 < t → t ≤ on.moment new → on.left_at new t bytes → IsNewOrNone blocks bytes
+
+-- where the next entry of a log goes
+abbrev pub end_of : Log → ℕ
+end_of log = log.end
 
 -- The log ends behind these changes, which each stop now leaves behind this head.
-pub record IsOpen {D : Type 0} (moment : D → ℕ) (left_at : D → ℕ → List ℕ → Type 0) (log : Log) (head : List ℕ) (changes : List (List ℕ)) (disk : D) : Type 0 where
-  pub at : log.end ≡ length (log_of head changes)
-  pub each : Each moment left_at disk (IsLog head changes)
+pub record IsOpen {D : Type 0} (on : Ghosts D) (log : Log) (head : List ℕ) (changes : List (List ℕ)) (disk : D) : Type 0 where
+  pub at : end_of log ≡ length (log_of head changes)
+  pub each : Each on disk (IsLog head changes)
 
--- a piece without the room for gates and a length: its first five bytes and its last one
+-- a piece has room for the log's own bytes, and between them a change of 1 to 4,294,967,295 bytes
+abbrev pub IsPiece : List ℕ → Type 0
+IsPiece piece = (AROUND < length piece) × (length piece ≤ AROUND + CHANGE_LIMIT)
+
+-- the change in a piece: all but the room for gates and a length
 abbrev pub entry_in : List ℕ → List ℕ
-entry_in piece = take (length piece - 6) (drop 5 piece)
+entry_in piece = take (length piece - AROUND) (drop BEFORE piece)
+
+-- outside the n bytes from a place on the new bytes are the old ones
+pub record AgreesOutside (place n : ℕ) (old new : List ℕ) : Type 0 where
+  pub before : take (min place (length old)) new ≡ take place old
+  pub after : drop (place + n) new ≡ drop (place + n) old
+
+-- outside that range the image is an old one
+abbrev pub IsOldOutside : ℕ → ℕ → (List ℕ → Type 0) → List ℕ → Type 0
+IsOldOutside place n old image = (before : List ℕ) × old before × AgreesOutside place n before image
+
+-- the disk has no number left for a call that writes so many bytes
+abbrev pub IsFull : ℕ → ℕ → ℕ → Type 0
+IsFull moment total n = (0xffff_ffff_ffff_ffff ≤ moment) ⊎ (0xffff_ffff_ffff_ffff < total + n)

@@ -22,12 +22,14 @@ pub(crate) fn closed_bytes(alloc: Global, blocks: u64) -> Result<Vec<u8>, AllocE
 
 // Takes all bytes from the disk, and keeps it so.
 pub(crate) fn clear<D: Disk>(disk: &mut D) -> Result<(), Failed>
-    ensures ok { D.tells → OnOk result (Only [] (D.left_at disk.new (D.moment disk.new))) }
-    ensures any_moment { D.tells → LeavesOnly D.moment D.left_at disk.old disk.new (IsCutOrOld (D.left_at disk.old (D.moment disk.old))) }
+    ensures ok { OnOk result (Only [] (D.left_at disk.new (D.moment disk.new))) }
+    ensures any_moment { LeavesOnly D.Disk disk.old disk.new (IsCutOrOld (D.left_at disk.old
+        (D.moment disk.old))) }
     ensures tick { OnOk result (D.moment disk.new ≡ D.moment disk.old + 2) }
     ensures later { D.moment disk.old ≤ D.moment disk.new }
     ensures within { D.moment disk.new ≤ D.moment disk.old + 2 }
     ensures written { OnOk result (D.total disk.new ≡ D.total disk.old) }
+    ensures told { D.tells disk.new → D.tells disk.old }
     ensures cause { Causes (D.count disk.old) (D.count disk.new) result }
 {
     disk.cut(0)?;
@@ -37,12 +39,15 @@ pub(crate) fn clear<D: Disk>(disk: &mut D) -> Result<(), Failed>
 
 // Makes these the bytes of an empty disk, and keeps them there.
 pub(crate) fn fill<D: Disk>(disk: &mut D, bytes: &[u8]) -> Result<(), Failed>
-    ensures ok { D.tells → Only [] (D.left_at disk.old (D.moment disk.old)) → OnOk result (Only bytes.now (D.left_at disk.new (D.moment disk.new))) }
-    ensures any_moment { D.tells → Only [] (D.left_at disk.old (D.moment disk.old)) → LeavesOnly D.moment D.left_at disk.old disk.new (Torn 0 (length bytes.now) []) }
+    ensures ok { Only [] (D.left_at disk.old (D.moment disk.old))
+        → OnOk result (Only bytes.now (D.left_at disk.new (D.moment disk.new))) }
+    ensures any_moment { Only [] (D.left_at disk.old (D.moment disk.old))
+        → LeavesOnly D.Disk disk.old disk.new (Torn 0 (length bytes.now) []) }
     ensures tick { OnOk result (D.moment disk.new ≡ D.moment disk.old + 2) }
     ensures later { D.moment disk.old ≤ D.moment disk.new }
     ensures within { D.moment disk.new ≤ D.moment disk.old + 2 }
     ensures written { OnOk result (D.total disk.new ≡ D.total disk.old + length bytes.now) }
+    ensures told { D.tells disk.new → D.tells disk.old }
     ensures cause { Causes (D.count disk.old) (D.count disk.new) result }
 {
     disk.write_at(0, bytes)?;
@@ -52,15 +57,19 @@ pub(crate) fn fill<D: Disk>(disk: &mut D, bytes: &[u8]) -> Result<(), Failed>
 
 // Opens the head gate, and keeps it open.
 pub(crate) fn open_head<D: Disk>(disk: &mut D) -> Result<(), Failed>
-    ensures ok { D.tells → (blocks : ℕ) → 1 ≤ blocks → blocks ≤ 65536 → Only (new_with blocks 0) (D.left_at disk.old (D.moment disk.old))
-        → OnOk result (Each D.moment D.left_at disk.new (IsStore blocks [])) }
-    ensures any_moment { D.tells → (blocks : ℕ) → 1 ≤ blocks → blocks ≤ 65536 → Only (new_with blocks 0) (D.left_at disk.old (D.moment disk.old))
-        → LeavesOnly D.moment D.left_at disk.old disk.new (IsNewOrNone blocks) }
-    ensures durable { D.tells → OnOk result (Only (D.seen disk.new) (D.left_at disk.new (D.moment disk.new))) }
+    ensures ok { (blocks : ℕ) → 1 ≤ blocks → blocks ≤ 65536
+        → Only (new_with blocks 0) (D.left_at disk.old (D.moment disk.old))
+        → OnOk result (Each D.Disk disk.new (IsStore blocks [])) }
+    ensures any_moment { (blocks : ℕ) → 1 ≤ blocks → blocks ≤ 65536
+        → Only (new_with blocks 0) (D.left_at disk.old (D.moment disk.old))
+        → LeavesOnly D.Disk disk.old disk.new (IsNewOrNone blocks) }
+    ensures durable { OnOk result (Only (D.seen disk.new) (D.left_at disk.new
+        (D.moment disk.new))) }
     ensures tick { OnOk result (D.moment disk.new ≡ D.moment disk.old + 2) }
     ensures later { D.moment disk.old ≤ D.moment disk.new }
     ensures within { D.moment disk.new ≤ D.moment disk.old + 2 }
     ensures written { OnOk result (D.total disk.new ≡ D.total disk.old + 1) }
+    ensures told { D.tells disk.new → D.tells disk.old }
     ensures cause { Causes (D.count disk.old) (D.count disk.new) result }
 {
     disk.write_at(64, &[1])?;

@@ -40,8 +40,10 @@ fn is_same(a: &[u8], b: &[u8]) -> bool
 // The number of blocks, where the bytes begin with the head block of a journal.
 pub(crate) fn read_head(alloc: Global, bytes: &[u8]) -> Result<Option<u64>, AllocError>
     ensures limits { IfOk result (λ o. IfSome o (λ blocks. (1 ≤ blocks) × (blocks ≤ 65536))) }
-    ensures found { IfOk result (λ o. IfSome o (λ blocks. (4096 ≤ length bytes.now) × (bytes.now ≡ head_of blocks ++ drop 4096 bytes.now))) }
-    ensures none { IfOk result (λ o. IfNone o ((blocks : ℕ) (rest : List ℕ) → 1 ≤ blocks → blocks ≤ 65536 → bytes.now ≡ head_of blocks ++ rest → ⊥)) }
+    ensures found { IfOk result (λ o. IfSome o (λ blocks. (4096 ≤ length bytes.now)
+        × (bytes.now ≡ head_of blocks ++ drop 4096 bytes.now))) }
+    ensures none { IfOk result (λ o. IfNone o ((blocks : ℕ) (rest : List ℕ) → 1 ≤ blocks
+        → blocks ≤ 65536 → bytes.now ≡ head_of blocks ++ rest → ⊥)) }
 {
     if bytes.len() < HEAD {
         return Ok(None);

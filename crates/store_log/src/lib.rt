@@ -6,9 +6,11 @@ mod format;
 mod gate;
 mod head;
 mod log;
+mod piece;
 mod read;
 #[cfg(test)]
 mod tests;
 
 pub use fault::LogFault;
 pub use log::{Log, Recovered};
+pub use piece::{AROUND, BEFORE, CHANGE_LIMIT};

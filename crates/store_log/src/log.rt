@@ -34,7 +34,7 @@ pub struct Recovered {
 }
 
 impl Log {
-    ghost use Rattle.store_log.specs.Log.{head_of, IsLog, IsStore, NoStore, Formats, IsOpen, entry_in};
+    ghost use Rattle.store_log.specs.Log.{head_of, IsLog, IsStore, NoStore, Formats, IsOpen, IsPiece, entry_in, end_of, AgreesOutside, IsOldOutside, IsFull};
 
     /// Makes a new journal of this number of blocks, 1 to 65,536, and of no change. This form has no halves and no
     /// tables: `half` is 0 and `tables` is empty. What stood on the disk is lost. A stop inside leaves what stood
@@ -51,18 +51,21 @@ impl Log {
         requires form { (half ≡ 0) × (tables.now ≡ []) }
 
         // From then on each stop leaves the new journal, and reads give it.
-        ensures ok { D.tells → OnOk result (Each D.moment D.left_at disk.new (IsStore blocks [])) }
-        ensures seen { D.tells → OnOk result (IsStore blocks [] (D.seen disk.new)) }
-        ensures durable { D.tells → OnOk result (Only (D.seen disk.new) (D.left_at disk.new (D.moment disk.new))) }
+        ensures ok { OnOk result (Each D.Disk disk.new (IsStore blocks [])) }
+        ensures seen { OnOk result (IsStore blocks [] (D.seen disk.new)) }
+        ensures durable { OnOk result (Only (D.seen disk.new) (D.left_at disk.new
+            (D.moment disk.new))) }
 
         // What a stop at each moment of the call leaves.
-        ensures any_moment { D.tells → Formats D.moment D.left_at disk.old disk.new blocks }
+        ensures any_moment { Formats D.Disk disk.old disk.new blocks }
+        ensures told { D.tells disk.new → D.tells disk.old }
         ensures tick { OnOk result (D.moment disk.new ≡ D.moment disk.old + 6) }
         ensures later { D.moment disk.old ≤ D.moment disk.new }
         ensures within { D.moment disk.new ≤ D.moment disk.old + 6 }
         ensures written { OnOk result (D.total disk.new ≡ D.total disk.old + 4098) }
         ensures count { D.count disk.old ≤ D.count disk.new }
         ensures cause { result ≡ Err DiskFault → Rose (D.count disk.old) (D.count disk.new) }
+        ensures quiet { result ≢ Err DiskFault → D.count disk.new ≡ D.count disk.old }
         ensures memory { result ≡ Err Memory → disk.new ≡ disk.old }
         ensures faults { IfErr result (λ e. (e ≡ DiskFault) ⊎ (e ≡ Memory)) }
     {
@@ -78,27 +81,37 @@ impl Log {
     /// the bytes are no journal. `Memory`: there was none. The time is linear in the disk's length.
     pub fn recover<D: Disk>(alloc: Global, disk: &mut D) -> Result<(Log, Recovered), LogFault>
         // What reads give is the journal that is answered, and where it is one that one is answered.
-        ensures found { D.tells → IfOk result (λ r. IsStore r.1.blocks r.1.changes (D.seen disk.old)) }
-        ensures same { D.tells → (blocks : ℕ) (changes : List (List ℕ)) → IsStore blocks changes (D.seen disk.old) → IfOk result (λ r. (r.1.blocks ≡ blocks) × (r.1.changes ≡ changes)) }
-        ensures not_a_log { D.tells → result ≡ Err NotALog → NoStore (D.seen disk.old) }
+        ensures found { D.tells disk.new
+            → IfOk result (λ r. IsStore r.1.blocks r.1.changes (D.seen disk.old)) }
+        ensures same { D.tells disk.new → (blocks : ℕ) (changes : List (List ℕ))
+            → IsStore blocks changes (D.seen disk.old)
+            → IfOk result (λ r. (r.1.blocks ≡ blocks) × (r.1.changes ≡ changes)) }
+        ensures not_a_log { D.tells disk.new → result ≡ Err NotALog → NoStore (D.seen disk.old) }
         ensures limits { IfOk result (λ r. (1 ≤ r.1.blocks) × (r.1.blocks ≤ 65536)) }
         ensures form { IfOk result (λ r. (r.1.half ≡ 0) × (r.1.tables ≡ [])) }
-        ensures opened { D.tells → IfOk result (λ r. IsOpen D.moment D.left_at r.0 (head_of r.1.blocks) r.1.changes disk.new) }
+        ensures opened { D.tells disk.new
+            → IfOk result (λ r. IsOpen D.Disk r.0 (head_of r.1.blocks) r.1.changes disk.new) }
 
         // Once the sync is done, each stop leaves what was read.
-        ensures durable { D.tells → OnOk result (Only (D.seen disk.old) (D.left_at disk.new (D.moment disk.new))) }
-        ensures durable_err { D.tells → IfErr result (λ e. e ≢ DiskFault → Only (D.seen disk.old) (D.left_at disk.new (D.moment disk.new))) }
-        ensures seen { D.tells → D.seen disk.new ≡ D.seen disk.old }
+        ensures durable { OnOk result (Only (D.seen disk.old) (D.left_at disk.new
+            (D.moment disk.new))) }
+        ensures durable_err { IfErr result (λ e. e ≢ DiskFault
+            → Only (D.seen disk.old) (D.left_at disk.new (D.moment disk.new))) }
+        ensures seen { D.seen disk.new ≡ D.seen disk.old }
 
         // A stop leaves what it could leave before the call.
-        ensures any_moment { D.tells → LeavesOnly D.moment D.left_at disk.old disk.new (D.left_at disk.old (D.moment disk.old)) }
+        ensures any_moment { LeavesOnly D.Disk disk.old disk.new (D.left_at disk.old
+            (D.moment disk.old)) }
+        ensures told { D.tells disk.new → D.tells disk.old }
         ensures tick { OnOk result (D.moment disk.new ≡ D.moment disk.old + 1) }
-        ensures tick_err { IfErr result (λ e. e ≢ DiskFault → D.moment disk.new ≡ D.moment disk.old + 1) }
+        ensures tick_err { IfErr result (λ e. e ≢ DiskFault
+            → D.moment disk.new ≡ D.moment disk.old + 1) }
         ensures later { D.moment disk.old ≤ D.moment disk.new }
         ensures within { D.moment disk.new ≤ D.moment disk.old + 1 }
         ensures written { D.total disk.new ≡ D.total disk.old }
         ensures count { D.count disk.old ≤ D.count disk.new }
         ensures cause { result ≡ Err DiskFault → Rose (D.count disk.old) (D.count disk.new) }
+        ensures quiet { result ≢ Err DiskFault → D.count disk.new ≡ D.count disk.old }
         ensures faults { IfErr result (λ e. (e ≡ DiskFault) ⊎ ((e ≡ NotALog) ⊎ (e ≡ Memory))) }
     {
         disk.sync()?;
@@ -124,27 +137,42 @@ impl Log {
         }
     }
 
-    /// Adds a change, which is the piece without its first five bytes and its last one: these are room for the
-    /// log's own gate and length, and are overwritten. The piece has 7 to 4,294,967,301 bytes. After `Ok` no later
-    /// stop takes the change away. A stop inside keeps it or not. It takes no memory and copies nothing.
-    /// `DiskFault`: the disk failed; the journal is then to be recovered anew.
+    /// Adds a change of 1 to `CHANGE_LIMIT` bytes. The piece has it behind its first `BEFORE` bytes, and `AROUND`
+    /// bytes in all around it: these are room for the log's own gates and length, and are overwritten. After `Ok` no
+    /// later stop takes the change away. A stop inside keeps it or not. Nothing is written but behind the log's end,
+    /// as many bytes as the piece has. It takes no memory and copies nothing. `DiskFault`: the disk failed; the
+    /// journal is then to be recovered anew.
     pub fn append<D: Disk>(&mut self, disk: &mut D, piece: &mut [u8]) -> Result<(), LogFault>
-        requires { (7 ≤ length piece.old) × (length piece.old ≤ 4294967301) }
+        requires { IsPiece piece.old }
 
         // The log is open behind the new change, which each stop leaves.
-        ensures ok { D.tells → (head : List ℕ) (changes : List (List ℕ)) → IsOpen D.moment D.left_at self.old head changes disk.old
-            → OnOk result (IsOpen D.moment D.left_at self.new head (changes ++ entry_in piece.old ∷ []) disk.new) }
-        ensures durable { D.tells → OnOk result (Only (D.seen disk.new) (D.left_at disk.new (D.moment disk.new))) }
+        ensures ok { (head : List ℕ) (changes : List (List ℕ))
+            → IsOpen D.Disk self.old head changes disk.old
+            → OnOk result (IsOpen D.Disk self.new head
+            (changes ++ entry_in piece.old ∷ []) disk.new) }
+        ensures durable { OnOk result (Only (D.seen disk.new) (D.left_at disk.new
+            (D.moment disk.new))) }
 
         // A stop at any moment of the call leaves the changes from before it, with the new one or without.
-        ensures any_moment { D.tells → (head : List ℕ) (changes : List (List ℕ)) → IsOpen D.moment D.left_at self.old head changes disk.old
-            → LeavesOnly D.moment D.left_at disk.old disk.new (λ c. IsLog head changes c ⊎ IsLog head (changes ++ entry_in piece.old ∷ []) c) }
+        ensures any_moment { (head : List ℕ) (changes : List (List ℕ))
+            → IsOpen D.Disk self.old head changes disk.old
+            → LeavesOnly D.Disk disk.old disk.new (λ c. IsLog head changes c
+            ⊎ IsLog head (changes ++ entry_in piece.old ∷ []) c) }
+
+        // Outside the piece's range nothing is written, also where the call fails: what stops leave, and what reads give.
+        ensures outside { LeavesOnly D.Disk disk.old disk.new (IsOldOutside (end_of self.old)
+            (length piece.old) (D.left_at disk.old (D.moment disk.old))) }
+        ensures reads_outside { AgreesOutside (end_of self.old) (length piece.old)
+            (D.seen disk.old) (D.seen disk.new) }
         ensures kept { OnErr result (self.new ≡ self.old) }
         ensures change { entry_in piece.new ≡ entry_in piece.old }
+        ensures told { D.tells disk.new → D.tells disk.old }
         ensures tick { OnOk result (D.moment disk.new ≡ D.moment disk.old + 4) }
         ensures later { D.moment disk.old ≤ D.moment disk.new }
         ensures within { D.moment disk.new ≤ D.moment disk.old + 4 }
         ensures written { OnOk result (D.total disk.new ≡ D.total disk.old + length piece.old) }
+        ensures counted { (D.moment disk.old + 1 ≤ D.moment disk.new)
+            ⊎ IsFull (D.moment disk.new) (D.total disk.new) (length piece.old) }
         ensures cause { Causes (D.count disk.old) (D.count disk.new) result }
         ensures faults { IfErr result (λ e. e ≡ DiskFault) }
     {

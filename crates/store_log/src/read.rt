@@ -27,12 +27,15 @@ fn buffer(alloc: Global, count: usize) -> Result<Vec<u8>, AllocError>
 // All that reads give, by way of the buffer.
 fn read_through<D: Disk>(alloc: Global, disk: &mut D, buf: &mut [u8]) -> Result<Vec<u8>, LogFault>
     requires { 0 < length buf.old }
-    ensures bytes { D.tells → IfOk result (λ bytes. bytes.items ≡ D.seen disk.old) }
-    ensures still { D.tells → Untouched D.moment D.left_at D.seen disk.old disk.new }
+    ensures bytes { D.tells disk.new → IfOk result (λ bytes. bytes.items ≡ D.seen disk.old) }
+    ensures still { Untouched D.Disk disk.old disk.new }
+    ensures told { D.tells disk.new → D.tells disk.old }
     ensures moment { D.moment disk.new ≡ D.moment disk.old }
     ensures written { D.total disk.new ≡ D.total disk.old }
     ensures count { D.count disk.old ≤ D.count disk.new }
-    ensures fault { IfErr result (λ e. (e ≡ Memory) ⊎ ((e ≡ DiskFault) × Rose (D.count disk.old) (D.count disk.new))) }
+    ensures fault { IfErr result (λ e. (e ≡ Memory)
+        ⊎ ((e ≡ DiskFault) × Rose (D.count disk.old) (D.count disk.new))) }
+    ensures quiet { result ≢ Err DiskFault → D.count disk.new ≡ D.count disk.old }
 {
     let mut bytes = Vec::new(alloc);
     loop {
@@ -47,12 +50,15 @@ fn read_through<D: Disk>(alloc: Global, disk: &mut D, buf: &mut [u8]) -> Result<
 
 // All that reads give.
 pub(crate) fn read_all<D: Disk>(alloc: Global, disk: &mut D) -> Result<Vec<u8>, LogFault>
-    ensures bytes { D.tells → IfOk result (λ bytes. bytes.items ≡ D.seen disk.old) }
-    ensures still { D.tells → Untouched D.moment D.left_at D.seen disk.old disk.new }
+    ensures bytes { D.tells disk.new → IfOk result (λ bytes. bytes.items ≡ D.seen disk.old) }
+    ensures still { Untouched D.Disk disk.old disk.new }
+    ensures told { D.tells disk.new → D.tells disk.old }
     ensures moment { D.moment disk.new ≡ D.moment disk.old }
     ensures written { D.total disk.new ≡ D.total disk.old }
     ensures count { D.count disk.old ≤ D.count disk.new }
-    ensures fault { IfErr result (λ e. (e ≡ Memory) ⊎ ((e ≡ DiskFault) × Rose (D.count disk.old) (D.count disk.new))) }
+    ensures fault { IfErr result (λ e. (e ≡ Memory)
+        ⊎ ((e ≡ DiskFault) × Rose (D.count disk.old) (D.count disk.new))) }
+    ensures quiet { result ≢ Err DiskFault → D.count disk.new ≡ D.count disk.old }
 {
     let mut buf = buffer(alloc, CHUNK)?;
     read_through(alloc, disk, &mut buf)

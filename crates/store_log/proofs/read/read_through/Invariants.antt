@@ -1,14 +1,15 @@
-use Rattle.std.proofs.Common.{◌≡◌, ◌≤◌, ◌-◌, ◌^◌, length, take, vec_len}
+use Rattle.std.proofs.Common.{◌≡◌, ◌-◌, ◌^◌, length, take, vec_len}
 use Rattle.disks.specs.Moments.{Untouched}
 use Rattle.store_log.proofs.read.read_through.Given as goal
 
 abbrev pub invariant-loop-bytes : goal.invariant-loop-bytes
 invariant-loop-bytes g l = record {
-  bytes : g.D.Disk.tells → l.bytes.items ≡ take (length l.bytes.items) (g.D.Disk.seen l.initial.disk);
-  still : g.D.Disk.tells → Untouched g.D.Disk.moment g.D.Disk.left_at g.D.Disk.seen l.initial.disk l.disk;
+  bytes : g.D.Disk.tells l.disk → l.bytes.items ≡ take (length l.bytes.items) (g.D.Disk.seen l.initial.disk);
+  still : Untouched g.D.Disk l.initial.disk l.disk;
+  told : g.D.Disk.tells l.disk → g.D.Disk.tells l.initial.disk;
   moment : g.D.Disk.moment l.disk ≡ g.D.Disk.moment l.initial.disk;
   total : g.D.Disk.total l.disk ≡ g.D.Disk.total l.initial.disk;
-  count : g.D.Disk.count l.initial.disk ≤ g.D.Disk.count l.disk;
+  count : g.D.Disk.count l.disk ≡ g.D.Disk.count l.initial.disk;
 }
 
 abbrev pub decreases-loop-bytes : goal.decreases-loop-bytes

@@ -4,29 +4,26 @@ use Rattle.store_log.proofs.Making.{written, formats_filled, formats_opened}
 use Rattle.store_log.proofs.log.Log.format.Goals as goal
 
 pub returns-in_err-fill-clause-any_moment : goal.returns-in_err-fill-clause-any_moment
-returns-in_err-fill-clause-any_moment g c = λ told.
-    formats_filled g.D.Disk.moment g.D.Disk.left_at c.args.disk.now c.clear.new.disk c.fill.new.disk c.args.blocks
-    (c.clear.ensures.any_moment told) c.in_ok-clear.ensures.tick (c.in_ok-clear.ensures.ok told)
-    (written g.D.Disk.moment g.D.Disk.left_at c.clear.new.disk c.fill.new.disk c.deref.result.now c.args.blocks (c.deref.ensures.value ∙ c.in_ok-bytes.ensures) (c.fill.ensures.any_moment told (c.in_ok-clear.ensures.ok told)))
+returns-in_err-fill-clause-any_moment g c = formats_filled g.D.Disk c.args.disk.now c.clear.new.disk c.fill.new.disk c.args.blocks
+    c.clear.ensures.any_moment c.in_ok-clear.ensures.tick c.in_ok-clear.ensures.ok
+    (written g.D.Disk c.clear.new.disk c.fill.new.disk c.deref.result.now c.args.blocks (c.deref.ensures.value ∙ c.in_ok-bytes.ensures) (c.fill.ensures.any_moment c.in_ok-clear.ensures.ok))
     c.fill.ensures.within
 
 pub returns-in_err-open_head-clause-any_moment : goal.returns-in_err-open_head-clause-any_moment
-returns-in_err-open_head-clause-any_moment g c = λ told.
-    formats_opened g.D.Disk.moment g.D.Disk.left_at c.args.disk.now c.clear.new.disk c.fill.new.disk c.open_head.new.disk c.args.blocks
-    (c.clear.ensures.any_moment told) c.in_ok-clear.ensures.tick (c.in_ok-clear.ensures.ok told)
-    (written g.D.Disk.moment g.D.Disk.left_at c.clear.new.disk c.fill.new.disk c.deref.result.now c.args.blocks (c.deref.ensures.value ∙ c.in_ok-bytes.ensures) (c.fill.ensures.any_moment told (c.in_ok-clear.ensures.ok told)))
+returns-in_err-open_head-clause-any_moment g c = formats_opened g.D.Disk c.args.disk.now c.clear.new.disk c.fill.new.disk c.open_head.new.disk c.args.blocks
+    c.clear.ensures.any_moment c.in_ok-clear.ensures.tick c.in_ok-clear.ensures.ok
+    (written g.D.Disk c.clear.new.disk c.fill.new.disk c.deref.result.now c.args.blocks (c.deref.ensures.value ∙ c.in_ok-bytes.ensures) (c.fill.ensures.any_moment c.in_ok-clear.ensures.ok))
     c.in_ok-fill.ensures.tick
-    (λ bytes left. c.in_ok-fill.ensures.ok told (c.in_ok-clear.ensures.ok told) bytes left ∙ (c.deref.ensures.value ∙ c.in_ok-bytes.ensures))
-    (c.open_head.ensures.any_moment told c.args.blocks c.requires.limits.0 c.requires.limits.1 (λ bytes left. c.in_ok-fill.ensures.ok told (c.in_ok-clear.ensures.ok told) bytes left ∙ (c.deref.ensures.value ∙ c.in_ok-bytes.ensures)))
+    (λ bytes left. c.in_ok-fill.ensures.ok c.in_ok-clear.ensures.ok bytes left ∙ (c.deref.ensures.value ∙ c.in_ok-bytes.ensures))
+    (c.open_head.ensures.any_moment c.args.blocks c.requires.limits.0 c.requires.limits.1 (λ bytes left. c.in_ok-fill.ensures.ok c.in_ok-clear.ensures.ok bytes left ∙ (c.deref.ensures.value ∙ c.in_ok-bytes.ensures)))
 
 pub returns-clause-any_moment : goal.returns-clause-any_moment
-returns-clause-any_moment g c = λ told.
-    formats_opened g.D.Disk.moment g.D.Disk.left_at c.args.disk.now c.clear.new.disk c.fill.new.disk c.open_head.new.disk c.args.blocks
-    (c.clear.ensures.any_moment told) c.in_ok-clear.ensures.tick (c.in_ok-clear.ensures.ok told)
-    (written g.D.Disk.moment g.D.Disk.left_at c.clear.new.disk c.fill.new.disk c.deref.result.now c.args.blocks (c.deref.ensures.value ∙ c.in_ok-bytes.ensures) (c.fill.ensures.any_moment told (c.in_ok-clear.ensures.ok told)))
+returns-clause-any_moment g c = formats_opened g.D.Disk c.args.disk.now c.clear.new.disk c.fill.new.disk c.open_head.new.disk c.args.blocks
+    c.clear.ensures.any_moment c.in_ok-clear.ensures.tick c.in_ok-clear.ensures.ok
+    (written g.D.Disk c.clear.new.disk c.fill.new.disk c.deref.result.now c.args.blocks (c.deref.ensures.value ∙ c.in_ok-bytes.ensures) (c.fill.ensures.any_moment c.in_ok-clear.ensures.ok))
     c.in_ok-fill.ensures.tick
-    (λ bytes left. c.in_ok-fill.ensures.ok told (c.in_ok-clear.ensures.ok told) bytes left ∙ (c.deref.ensures.value ∙ c.in_ok-bytes.ensures))
-    (c.open_head.ensures.any_moment told c.args.blocks c.requires.limits.0 c.requires.limits.1 (λ bytes left. c.in_ok-fill.ensures.ok told (c.in_ok-clear.ensures.ok told) bytes left ∙ (c.deref.ensures.value ∙ c.in_ok-bytes.ensures)))
+    (λ bytes left. c.in_ok-fill.ensures.ok c.in_ok-clear.ensures.ok bytes left ∙ (c.deref.ensures.value ∙ c.in_ok-bytes.ensures))
+    (c.open_head.ensures.any_moment c.args.blocks c.requires.limits.0 c.requires.limits.1 (λ bytes left. c.in_ok-fill.ensures.ok c.in_ok-clear.ensures.ok bytes left ∙ (c.deref.ensures.value ∙ c.in_ok-bytes.ensures)))
 
 pub returns-clause-written : goal.returns-clause-written
 returns-clause-written g c =
