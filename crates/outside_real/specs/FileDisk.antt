@@ -1,15 +1,44 @@
-use Rattle.std.specs.Prelude.{ℕ, Bool}
+use Rattle.std.specs.Prelude.{◌≡◌, ◌⊎◌, ℕ, ◌+◌, Bool, List, [], ◌∷◌, ◌++◌}
+use Rattle.disks.specs.declared.answer.Answer.{Answer}
+use Rattle.disks.specs.declared.answer.Answer.TheVariants.{Changed}
+use Rattle.disks.specs.declared.call.Move.{Move}
+use Rattle.disks.specs.declared.start.Start.{Ghosts}
+use Rattle.disks.specs.Answers.{seen_after, IsHonest, LeftAfter}
 use Rattle.outside_real.specs.declared.file_disk.FileDisk.{FileDisk}
 
-abbrev pub disk_calls : {R Dir : Type 0} → FileDisk R Dir → ℕ
-disk_calls d = d.calls
+module _ {R S Dir : Type 0} where
+  abbrev pub disk_calls : FileDisk R S Dir → ℕ
+  disk_calls d = d.told.calls
 
-abbrev pub disk_written : {R Dir : Type 0} → FileDisk R Dir → ℕ
-disk_written d = d.written
+  abbrev pub disk_written : FileDisk R S Dir → ℕ
+  disk_written d = d.told.written
 
-abbrev pub disk_faults : {R Dir : Type 0} → FileDisk R Dir → ℕ
-disk_faults d = d.faults
+  abbrev pub disk_faults : FileDisk R S Dir → ℕ
+  disk_faults d = d.faults
 
--- a write, a cut or a sync failed, so that every further call fails
-abbrev pub is_lost : {R Dir : Type 0} → FileDisk R Dir → Bool
-is_lost d = d.file.lost
+  -- a write, a cut or a sync failed, so that every further call fails
+  abbrev pub is_lost : FileDisk R S Dir → Bool
+  is_lost d = d.file.lost
+
+  -- what the file answered to each of its calls, the first first
+  abbrev pub disk_answers : FileDisk R S Dir → List Answer
+  disk_answers d = d.told.answers.noted
+
+  -- a call that may have changed the file stands last among the answers, with its number; or no number was left for it, and
+  -- it was not made
+  abbrev pub Notes : Move → FileDisk R S Dir → FileDisk R S Dir → Type 0
+  Notes act old new =
+      ((disk_calls new ≡ disk_calls old + 1) × (disk_answers new ≡ disk_answers old ++ Changed (record { number = disk_calls new; act = act }) ∷ []))
+      ⊎ ((disk_calls new ≡ disk_calls old) × (disk_answers new ≡ disk_answers old))
+
+  -- the answers are those of a file that held the bytes of the start and keeps to the model
+  abbrev pub DiskIsHonest : Ghosts S → FileDisk R S Dir → Type 0
+  DiskIsHonest start d = IsHonest start.first (disk_answers d)
+
+  -- what reads give
+  abbrev pub disk_seen : Ghosts S → FileDisk R S Dir → List ℕ
+  disk_seen start d = seen_after start.first (disk_answers d)
+
+  -- what a stop at a moment may leave
+  abbrev pub disk_left : Ghosts S → FileDisk R S Dir → ℕ → List ℕ → Type 0
+  disk_left start d = LeftAfter start.first start.left (disk_answers d)

@@ -1,4 +1,5 @@
 pub mod FileDisk
+pub mod Notes
 pub mod RealFolder
 pub mod StdSink
 pub mod StdSource

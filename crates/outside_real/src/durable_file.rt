@@ -2,8 +2,11 @@
 ghost use Rattle.std.specs.Prelude.{◌≡◌, ◌<◌, ◌≤◌, ◌+◌, ◌^◌, ◌↔◌, true, false, length, drop, IfOk, IsErr, OnOk, IsTrue};
 
 use crate::file::{cut_to, opened, read_from, size_of_file, sync_to, write_to};
+use crate::reason::{Reason, keep, kept};
 use outside::Failed;
 use std::fs::File;
+use std::io;
+use std::io::ErrorKind;
 use std::rt::Files;
 
 // After a call of `write_at`, `cut` or `sync` that failed, the system may hold other bytes than the disk, and may say
@@ -14,6 +17,12 @@ pub(crate) struct DurableFile<R: Files<File = File> + Drop> {
     pub(crate) path: String,
     pub(crate) file: Option<File>,
     pub(crate) lost: bool,
+    pub(crate) why: Option<Reason>,
+}
+
+// What is said of a call that the system is not asked for.
+fn not_tried(words: &str) -> io::Error {
+    io::Error::new(ErrorKind::Other, words)
 }
 
 // The file, opened if it is not yet.
@@ -22,13 +31,17 @@ fn usable<'a, R: Files<File = File>>(
     rt: &R,
     path: &str,
     file: &'a mut Option<File>,
+    why: &mut Option<Reason>,
 ) -> Result<&'a File, Failed>
     ensures { lost ≡ true → IsErr result }
 {
     if lost {
-        return Err(Failed);
+        return Err(keep(why, not_tried("an earlier call failed")));
     }
-    opened(rt, path, file)
+    match opened(rt, path, file) {
+        Ok(found) => Ok(found),
+        Err(error) => Err(keep(why, error)),
+    }
 }
 
 // The end of a call that changes the file.
@@ -53,6 +66,7 @@ impl<R: Files<File = File> + Drop> DurableFile<R> {
             path,
             file: None,
             lost: false,
+            why: None,
         }
     }
 
@@ -60,8 +74,9 @@ impl<R: Files<File = File> + Drop> DurableFile<R> {
         ensures lost { self.new.lost ≡ self.old.lost }
         ensures stays { self.old.lost ≡ true → IsErr result }
     {
-        let file = usable(self.lost, &self.rt, self.path.as_str(), &mut self.file)?;
-        size_of_file(file)
+        let path = self.path.as_str();
+        let file = usable(self.lost, &self.rt, path, &mut self.file, &mut self.why)?;
+        kept(&mut self.why, size_of_file(file))
     }
 
     // Reads what stands at the place, as far as there is room.
@@ -71,9 +86,13 @@ impl<R: Files<File = File> + Drop> DurableFile<R> {
         ensures lost { self.new.lost ≡ self.old.lost }
         ensures stays { self.old.lost ≡ true → IsErr result }
     {
-        let file = usable(self.lost, &self.rt, self.path.as_str(), &mut self.file)?;
-        let size = size_of_file(file)?;
-        read_from(file, size, place, buf)
+        let path = self.path.as_str();
+        let file = usable(self.lost, &self.rt, path, &mut self.file, &mut self.why)?;
+        let size = kept(&mut self.why, size_of_file(file))?;
+        match read_from(file, size, place, buf) {
+            Ok(n) => Ok(n),
+            Err(error) => Err(keep(&mut self.why, error)),
+        }
     }
 
     pub(crate) fn write_at(&mut self, place: u64, bytes: &[u8]) -> Result<(), Failed>
@@ -91,7 +110,10 @@ impl<R: Files<File = File> + Drop> DurableFile<R> {
         ensures lost { self.new.lost ≡ true }
     {
         self.lost = true;
-        Err(Failed)
+        Err(keep(
+            &mut self.why,
+            not_tried("more calls or bytes than can be counted"),
+        ))
     }
 
     fn try_write(&mut self, place: u64, bytes: &[u8]) -> Result<(), Failed>
@@ -100,10 +122,12 @@ impl<R: Files<File = File> + Drop> DurableFile<R> {
         ensures stays { self.old.lost ≡ true → IsErr result }
     {
         if bytes.len() as u64 > u64::MAX - place {
-            return Err(Failed);
+            let error = not_tried("no file is so long");
+            return Err(keep(&mut self.why, error));
         }
-        let file = usable(self.lost, &self.rt, self.path.as_str(), &mut self.file)?;
-        write_to(file, place, bytes)
+        let path = self.path.as_str();
+        let file = usable(self.lost, &self.rt, path, &mut self.file, &mut self.why)?;
+        kept(&mut self.why, write_to(file, place, bytes))
     }
 
     // Shortens to a length, which is not above the present one.
@@ -119,8 +143,9 @@ impl<R: Files<File = File> + Drop> DurableFile<R> {
         ensures lost { self.new.lost ≡ self.old.lost }
         ensures stays { self.old.lost ≡ true → IsErr result }
     {
-        let file = usable(self.lost, &self.rt, self.path.as_str(), &mut self.file)?;
-        cut_to(file, size)
+        let path = self.path.as_str();
+        let file = usable(self.lost, &self.rt, path, &mut self.file, &mut self.why)?;
+        kept(&mut self.why, cut_to(file, size))
     }
 
     pub(crate) fn sync(&mut self) -> Result<(), Failed>
@@ -135,7 +160,8 @@ impl<R: Files<File = File> + Drop> DurableFile<R> {
         ensures lost { self.new.lost ≡ self.old.lost }
         ensures stays { self.old.lost ≡ true → IsErr result }
     {
-        let file = usable(self.lost, &self.rt, self.path.as_str(), &mut self.file)?;
-        sync_to(file)
+        let path = self.path.as_str();
+        let file = usable(self.lost, &self.rt, path, &mut self.file, &mut self.why)?;
+        kept(&mut self.why, sync_to(file))
     }
 }

@@ -1,9 +1,9 @@
 // The calls on one file, which is opened at the first of them.
 ghost use Rattle.std.specs.Prelude.{◌≡◌, ◌≤◌, ◌-◌, length, drop, min, IfOk};
 
-use outside::Failed;
-use std::fs::{File, OpenOptions};
+use std::fs::{File, OpenOptions, TryLockError};
 use std::io;
+use std::io::ErrorKind;
 use std::os::fd::AsRawFd;
 use std::os::unix::fs::FileExt;
 use std::path::Path;
@@ -35,19 +35,38 @@ fn settle(file: &File) -> io::Result<()> {
     }
 }
 
+// The file under a number that no standard stream has. Where one of the streams is closed, the system gives its number to
+// the next file that is opened, and what is then written to the stream would go to the file.
+fn beside_streams(file: File) -> io::Result<File> {
+    if file.as_raw_fd() > libc::STDERR_FILENO {
+        Ok(file)
+    } else {
+        file.try_clone()
+    }
+}
+
+// Takes the file's lock.
+fn lock(file: &File) -> io::Result<()> {
+    match file.try_lock() {
+        Ok(()) => Ok(()),
+        Err(TryLockError::WouldBlock) => Err(io::Error::new(
+            ErrorKind::WouldBlock,
+            "held by another program",
+        )),
+        Err(TryLockError::Error(error)) => Err(error),
+    }
+}
+
 // Opens the file, or makes an empty one, takes its lock and settles it. An empty file may be a new one, so its entry is
 // made durable.
-fn open<R: Files<File = File>>(rt: &R, path: &str) -> Result<File, Failed> {
+fn open<R: Files<File = File>>(rt: &R, path: &str) -> io::Result<File> {
     let mut options = OpenOptions::new();
     options.read(true).write(true).create(true);
-    let Ok(file) = options.open(rt, path) else {
-        return Err(Failed);
-    };
-    if file.try_lock().is_err() || settle(&file).is_err() {
-        return Err(Failed);
-    }
-    if size_of_file(&file)? == 0 && sync_entry(rt, path).is_err() {
-        return Err(Failed);
+    let file = beside_streams(options.open(rt, path)?)?;
+    lock(&file)?;
+    settle(&file)?;
+    if size_of_file(&file)? == 0 {
+        sync_entry(rt, path)?;
     }
     Ok(file)
 }
@@ -57,21 +76,18 @@ pub(crate) fn opened<'a, R: Files<File = File>>(
     rt: &R,
     path: &str,
     file: &'a mut Option<File>,
-) -> Result<&'a File, Failed> {
+) -> io::Result<&'a File> {
     if file.is_none() {
         *file = Some(open(rt, path)?);
     }
     match file {
         Some(found) => Ok(found),
-        None => Err(Failed),
+        None => Err(io::Error::from(ErrorKind::NotFound)),
     }
 }
 
-pub(crate) fn size_of_file(file: &File) -> Result<u64, Failed> {
-    match file.metadata() {
-        Ok(facts) => Ok(facts.len()),
-        Err(_) => Err(Failed),
-    }
+pub(crate) fn size_of_file(file: &File) -> io::Result<u64> {
+    Ok(file.metadata()?.len())
 }
 
 // Reads what stands at the place in a file of this size, as far as there is room.
@@ -80,7 +96,7 @@ pub(crate) fn read_from<F: FileExt>(
     size: u64,
     place: u64,
     buf: &mut [u8],
-) -> Result<usize, Failed>
+) -> io::Result<usize>
     ensures count { IfOk result (λ n. n ≡ min (size - place) (length buf.old)) }
     ensures rest { IfOk result (λ n. drop n buf.new ≡ drop n buf.old) }
 {
@@ -90,50 +106,37 @@ pub(crate) fn read_from<F: FileExt>(
     }
     match file.read_exact_at(&mut buf[..n], place) {
         Ok(()) => Ok(n),
-        Err(_) => Err(Failed),
-    }
-}
-
-fn resize(file: &File, size: u64) -> Result<(), Failed> {
-    match file.set_len(size) {
-        Ok(()) => Ok(()),
-        Err(_) => Err(Failed),
+        Err(error) => Err(error),
     }
 }
 
 // Writes all the bytes. It goes on after a call of the system that took only some of them.
-pub(crate) fn write_whole<F: FileExt>(file: &F, place: u64, bytes: &[u8]) -> Result<(), Failed> {
-    match file.write_all_at(bytes, place) {
-        Ok(()) => Ok(()),
-        Err(_) => Err(Failed),
-    }
+pub(crate) fn write_whole<F: FileExt>(file: &F, place: u64, bytes: &[u8]) -> io::Result<()> {
+    file.write_all_at(bytes, place)
 }
 
 // Writes all the bytes. Where there are none, a place past the end still lengthens the file.
-pub(crate) fn write_to(file: &File, place: u64, bytes: &[u8]) -> Result<(), Failed> {
+pub(crate) fn write_to(file: &File, place: u64, bytes: &[u8]) -> io::Result<()> {
     if !bytes.is_empty() {
         return write_whole(file, place, bytes);
     }
     if place > size_of_file(file)? {
-        resize(file, place)
+        file.set_len(place)
     } else {
         Ok(())
     }
 }
 
 // Shortens the file, and never lengthens it.
-pub(crate) fn cut_to(file: &File, size: u64) -> Result<(), Failed> {
+pub(crate) fn cut_to(file: &File, size: u64) -> io::Result<()> {
     if size < size_of_file(file)? {
-        resize(file, size)
+        file.set_len(size)
     } else {
         Ok(())
     }
 }
 
 // Makes the bytes and the length durable.
-pub(crate) fn sync_to(file: &File) -> Result<(), Failed> {
-    match file.sync_data() {
-        Ok(()) => Ok(()),
-        Err(_) => Err(Failed),
-    }
+pub(crate) fn sync_to(file: &File) -> io::Result<()> {
+    file.sync_data()
 }

@@ -1,7 +1,7 @@
 // What a disk in a file does with real files, and with files that give and take little.
-use crate::FileDisk;
 use crate::file::{read_from, write_whole};
-use disks::Disk;
+use crate::{FileDisk, Reason};
+use disks::{Disk, Unknown};
 use outside::Failed;
 use std::alloc::{AllocError, Allocator, Global};
 use std::cell::Cell;
@@ -156,9 +156,17 @@ fn failing<D: Disk>(disk: &mut D) -> u64 {
     failed
 }
 
-fn disk_at(rt: HostRuntime, path: &str) -> Result<FileDisk<HostRuntime>, AllocError> {
+// What is said of a failure, or nothing where there was none.
+pub(crate) fn said(alloc: Global, why: Option<&Reason>) -> Result<String, AllocError> {
+    match why {
+        Some(reason) => format!(in alloc; "{reason}"),
+        None => Ok(String::new(alloc)),
+    }
+}
+
+fn disk_at(rt: HostRuntime, path: &str) -> Result<FileDisk<HostRuntime, Unknown>, AllocError> {
     let alloc = rt.alloc();
-    Ok(FileDisk::new(rt, text(alloc, path)?))
+    Ok(FileDisk::new(rt, text(alloc, path)?, Unknown))
 }
 
 // Nothing at these paths, whatever an earlier run left.
@@ -212,6 +220,11 @@ fn one_disk_at_a_time_has_the_file(rt: HostRuntime) -> Result<(), Fail> {
     assert_eq!(rt; counts(&third), (1, 5, 2));
     assert_eq!(rt; length(&mut second), Ok(4));
     assert_eq!(rt; counts(&second), (0, 0, 1));
+    assert_eq!(rt;
+        said(rt.alloc(), second.why())?.as_str(),
+        "held by another program"
+    );
+    assert_eq!(rt; second.path(), path);
     clear(&rt, &[path]);
     Ok(())
 }
@@ -220,12 +233,18 @@ fn one_disk_at_a_time_has_the_file(rt: HostRuntime) -> Result<(), Fail> {
 fn what_is_no_file_fails(rt: HostRuntime) -> Result<(), Fail> {
     clear(&rt, &["folder"]);
     fs::create_dir(&rt, "folder")?;
-    for path in ["folder", "absent/file", ""] {
+    for (path, reason) in [
+        ("folder", "Is a directory"),
+        ("absent/file", "No such file or directory"),
+        ("", "No such file or directory"),
+    ] {
         let mut disk = disk_at(rt.clone()?, path)?;
+        assert_eq!(rt; said(rt.alloc(), disk.why())?.as_str(), "", "{path}");
         assert_eq!(rt; length(&mut disk), Err(Failed), "{path}");
         assert_eq!(rt; read_at(&mut disk, 0), Err(Failed), "{path}");
         assert_eq!(rt; failing(&mut disk), 5, "{path}");
         assert_eq!(rt; counts(&disk), (3, 0, 7), "{path}");
+        assert_eq!(rt; said(rt.alloc(), disk.why())?.as_str(), reason, "{path}");
     }
     clear(&rt, &["folder"]);
     Ok(())
@@ -252,15 +271,15 @@ fn a_file_that_gives_and_takes_little(rt: HostRuntime) -> Result<(), Fail> {
         turns: Cell::new(0),
     };
     let mut buf = *b"....";
-    assert_eq!(rt; read_from(&file, 6, 1, &mut buf), Ok(4));
+    assert_eq!(rt; read_from(&file, 6, 1, &mut buf).ok(), Some(4));
     assert_eq!(rt; buf, *b"bcde");
     buf = *b"....";
-    assert_eq!(rt; read_from(&file, 6, 3, &mut buf), Ok(3));
+    assert_eq!(rt; read_from(&file, 6, 3, &mut buf).ok(), Some(3));
     assert_eq!(rt; buf, *b"def.");
-    assert_eq!(rt; read_from(&file, 6, 9, &mut buf), Ok(0));
-    assert_eq!(rt; read_from(&file, 8, 3, &mut buf), Err(Failed));
-    assert_eq!(rt; write_whole(&file, 0, b"abc"), Ok(()));
-    assert_eq!(rt; write_whole(&file, 1, b"abc"), Err(Failed));
+    assert_eq!(rt; read_from(&file, 6, 9, &mut buf).ok(), Some(0));
+    assert_eq!(rt; read_from(&file, 8, 3, &mut buf).ok(), None);
+    assert_eq!(rt; write_whole(&file, 0, b"abc").ok(), Some(()));
+    assert_eq!(rt; write_whole(&file, 1, b"abc").ok(), None);
     Ok(())
 }
 
@@ -270,7 +289,7 @@ fn fail_once(
     path: &str,
     turn: u64,
 ) -> Result<(bool, u64, (u64, u64, u64)), AllocError> {
-    let mut disk = FileDisk::new(Sealed(rt.clone()?), text(rt.alloc(), path)?);
+    let mut disk = FileDisk::new(Sealed(rt.clone()?), text(rt.alloc(), path)?, Unknown);
     let stood = stands_still(&mut disk);
     let failed = match turn {
         0 => write(&mut disk, 0, b"ab"),

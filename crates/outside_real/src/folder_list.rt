@@ -1,12 +1,12 @@
 // The names of the files below a folder.
-use crate::folder_path::{fault_of, path_below};
+use crate::folder_path::{other_stands, path_below};
 use crate::folder_put::is_unfinished;
-use folders::FolderFault;
 use small_types::{Name, NameFault};
 use std::alloc::Global;
-use std::fs;
 use std::fs::{DirEntry, File};
+use std::io::ErrorKind;
 use std::rt::Files;
+use std::{fs, io};
 
 // What a walk over the folders found, and the folders where it has not been.
 #[derive(Drop)]
@@ -15,19 +15,24 @@ struct Walk {
     folders: Vec<Name>,
 }
 
+// What is said of a name that no file of a folder has.
+fn no_name() -> io::Error {
+    io::Error::new(ErrorKind::InvalidData, "a name in it is no file name")
+}
+
 // The name of these bytes.
-fn named(alloc: Global, text: &str) -> Result<Name, FolderFault> {
+fn named(alloc: Global, text: &str) -> io::Result<Name> {
     match Name::read(alloc, text.as_bytes()) {
         Ok(name) => Ok(name),
-        Err(NameFault::Bad) => Err(FolderFault::Failed),
-        Err(NameFault::Memory) => Err(FolderFault::Memory),
+        Err(NameFault::Bad) => Err(no_name()),
+        Err(NameFault::Memory) => Err(io::Error::from(ErrorKind::OutOfMemory)),
     }
 }
 
 // The name of what stands in a folder, which is the root where there is none. A backslash is a byte of no name.
-fn name_in(alloc: Global, folder: Option<&Name>, name: &str) -> Result<Name, FolderFault> {
+fn name_in(alloc: Global, folder: Option<&Name>, name: &str) -> io::Result<Name> {
     if name.contains('\\') {
-        return Err(FolderFault::Failed);
+        return Err(no_name());
     }
     match folder {
         None => named(alloc, name),
@@ -46,11 +51,8 @@ impl Walk {
         alloc: Global,
         folder: Option<&Name>,
         entry: &DirEntry<R, Global>,
-    ) -> Result<(), FolderFault> {
-        let kind = match entry.file_type() {
-            Ok(kind) => kind,
-            Err(error) => return Err(fault_of(&error)),
-        };
+    ) -> io::Result<()> {
+        let kind = entry.file_type()?;
         if kind.is_file() && is_unfinished(entry.file_name()) {
             return Ok(());
         }
@@ -60,7 +62,7 @@ impl Walk {
         } else if kind.is_file() {
             self.names.push(name)?;
         } else {
-            return Err(FolderFault::Failed);
+            return Err(other_stands());
         }
         Ok(())
     }
@@ -71,16 +73,9 @@ impl Walk {
         rt: &R,
         folder: Option<&Name>,
         path: &str,
-    ) -> Result<(), FolderFault> {
-        let entries = match fs::read_dir(rt, path) {
-            Ok(entries) => entries,
-            Err(error) => return Err(fault_of(&error)),
-        };
-        for entry in entries {
-            match entry {
-                Ok(entry) => self.add(rt.alloc(), folder, &entry)?,
-                Err(error) => return Err(fault_of(&error)),
-            }
+    ) -> io::Result<()> {
+        for entry in fs::read_dir(rt, path)? {
+            self.add(rt.alloc(), folder, &entry?)?;
         }
         Ok(())
     }
@@ -91,7 +86,7 @@ pub(crate) fn list_files<R: Files<File = File> + AllocGlobal + Clone + Drop>(
     rt: &R,
     alloc: Global,
     root: &str,
-) -> Result<Vec<Name>, FolderFault> {
+) -> io::Result<Vec<Name>> {
     let mut walk = Walk {
         names: Vec::new(alloc),
         folders: Vec::new(alloc),
@@ -105,5 +100,5 @@ pub(crate) fn list_files<R: Files<File = File> + AllocGlobal + Clone + Drop>(
         let path = path_below(alloc, root, folder.as_str())?;
         walk.add_all(rt, Some(&folder), path.as_str())?;
     }
-    Err(FolderFault::Failed)
+    Err(other_stands())
 }

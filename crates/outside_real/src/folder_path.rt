@@ -1,5 +1,4 @@
 // What stands at a path below a folder. No symbolic link is followed.
-use folders::FolderFault;
 use std::alloc::Global;
 use std::fs::Metadata;
 use std::io::ErrorKind;
@@ -16,13 +15,12 @@ pub(crate) enum Standing {
     Other,
 }
 
-// The fault that an error of the system is.
-pub(crate) fn fault_of(error: &io::Error) -> FolderFault {
-    if error.kind() == ErrorKind::OutOfMemory {
-        FolderFault::Memory
-    } else {
-        FolderFault::Failed
-    }
+// What is said of a link, and of anything else that is neither a file nor a folder.
+pub(crate) fn other_stands() -> io::Error {
+    io::Error::new(
+        ErrorKind::Other,
+        "something in it is a link, or neither a file nor a folder",
+    )
 }
 
 // Whether the error says that nothing stands at the path.
@@ -46,23 +44,23 @@ pub(crate) fn standing_of(facts: &Metadata) -> Standing {
 }
 
 // What stands at the path. A symbolic link at its end stands for itself.
-pub(crate) fn standing_at<R: Files>(rt: &R, path: &str) -> Result<Standing, FolderFault> {
+pub(crate) fn standing_at<R: Files>(rt: &R, path: &str) -> io::Result<Standing> {
     match fs::symlink_metadata(rt, path) {
         Ok(facts) => Ok(standing_of(&facts)),
         Err(error) => {
             if says_absent(&error) {
                 Ok(Standing::Nothing)
             } else {
-                Err(fault_of(&error))
+                Err(error)
             }
         }
     }
 }
 
 // The path of a name below a folder. A folder of an empty path would be the root of all files.
-pub(crate) fn path_below(alloc: Global, folder: &str, name: &str) -> Result<String, FolderFault> {
+pub(crate) fn path_below(alloc: Global, folder: &str, name: &str) -> io::Result<String> {
     if folder.is_empty() {
-        return Err(FolderFault::Failed);
+        return Err(io::Error::new(ErrorKind::InvalidInput, "an empty path is no folder's"));
     }
     let mut path = String::from_str(alloc, folder)?;
     path.push('/')?;

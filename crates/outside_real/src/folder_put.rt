@@ -1,8 +1,9 @@
 // Writing a file below a folder, whole or not at all. The bytes are written and made durable beside the file, under a
 // name that no file of a folder can have.
 use crate::file::sync_folder;
-use crate::folder_path::{Standing, fault_of, folder_part, path_below, standing_at, standing_of};
-use folders::FolderFault;
+use crate::folder_path::{
+    Standing, folder_part, other_stands, path_below, standing_at, standing_of,
+};
 use small_types::Name;
 use std::alloc::{AllocError, Global};
 use std::fs::File;
@@ -38,7 +39,7 @@ fn path_with(alloc: Global, file: &str, end: &str) -> Result<String, AllocError>
     Ok(path)
 }
 
-fn place_of(alloc: Global, root: &str, name: &str) -> Result<Place, FolderFault> {
+fn place_of(alloc: Global, root: &str, name: &str) -> io::Result<Place> {
     let file = path_below(alloc, root, name)?;
     let folder = match folder_part(name) {
         Some(folder) => path_below(alloc, root, folder)?,
@@ -53,15 +54,9 @@ fn place_of(alloc: Global, root: &str, name: &str) -> Result<Place, FolderFault>
 }
 
 // Makes a folder in another one, and its entry durable.
-fn make_folder<R: Files<File = File>>(rt: &R, parent: &str, path: &str) -> Result<(), FolderFault> {
-    match fs::create_dir(rt, path) {
-        Ok(()) => {}
-        Err(error) => return Err(fault_of(&error)),
-    }
-    match sync_folder(rt, parent) {
-        Ok(()) => Ok(()),
-        Err(error) => Err(fault_of(&error)),
-    }
+fn make_folder<R: Files<File = File>>(rt: &R, parent: &str, path: &str) -> io::Result<()> {
+    fs::create_dir(rt, path)?;
+    sync_folder(rt, parent)
 }
 
 // Makes those of these folders that do not stand. What stands there and is no folder fails, a symbolic link too.
@@ -70,14 +65,20 @@ fn make_folders<R: Files<File = File>>(
     alloc: Global,
     root: &str,
     folders: &str,
-) -> Result<(), FolderFault> {
+) -> io::Result<()> {
     let mut path = String::from_str(alloc, root)?;
     for part in folders.split('/') {
         let next = path_below(alloc, path.as_str(), part)?;
         match standing_at(rt, next.as_str())? {
             Standing::Folder => {}
             Standing::Nothing => make_folder(rt, path.as_str(), next.as_str())?,
-            Standing::File { .. } | Standing::Other => return Err(FolderFault::Failed),
+            Standing::File { .. } => {
+                return Err(io::Error::new(
+                    ErrorKind::NotADirectory,
+                    "a file in it stands where a folder is wanted",
+                ));
+            }
+            Standing::Other => return Err(other_stands()),
         }
         path = next;
     }
@@ -271,7 +272,7 @@ pub(crate) fn put_file<R: Files<File = File>>(
     last: &mut Option<String>,
     name: &str,
     bytes: &[u8],
-) -> Result<(), FolderFault> {
+) -> io::Result<()> {
     let place = place_of(alloc, root, name)?;
     if let Some(folders) = folder_part(name) {
         make_folders(rt, alloc, root, folders)?;
@@ -279,10 +280,13 @@ pub(crate) fn put_file<R: Files<File = File>>(
     let is_new = match standing_at(rt, place.file.as_str())? {
         Standing::Nothing => true,
         Standing::File { .. } => false,
-        Standing::Folder | Standing::Other => return Err(FolderFault::Failed),
+        Standing::Folder => {
+            return Err(io::Error::new(
+                ErrorKind::IsADirectory,
+                "a folder in it stands where a file is wanted",
+            ));
+        }
+        Standing::Other => return Err(other_stands()),
     };
-    match write_file(rt, last, place, is_new, bytes) {
-        Ok(()) => Ok(()),
-        Err(error) => Err(fault_of(&error)),
-    }
+    write_file(rt, last, place, is_new, bytes)
 }

@@ -1,5 +1,6 @@
 // What a folder of the file system does with real files.
 use crate::RealFolder;
+use crate::file_tests::said;
 use folders::{Folder, FolderFault};
 use small_types::{Bytes, Name};
 use std::alloc::{AllocError, Global};
@@ -161,6 +162,10 @@ fn links_and_bad_names_fail(rt: HostRuntime) -> Result<(), Fail> {
     assert_eq!(rt; get(alloc, &mut site, "f").err(), Some(FolderFault::Failed));
     assert_eq!(rt; put(alloc, &mut site, "f", b"x"), Err(FolderFault::Failed));
     assert_eq!(rt; site.faults(), 7);
+    assert_eq!(rt;
+        said(alloc, site.why())?.as_str(),
+        "something in it is a link, or neither a file nor a folder"
+    );
     assert_eq!(rt; fs::read(&rt, "aside/f")?.as_slice(), b"secret".as_slice());
     assert!(rt; !fs::exists(&rt, "aside/g")?);
     fs::remove_file(&rt, "links/f")?;
@@ -237,7 +242,10 @@ fn what_cannot_be_made_durable_is_undone(rt: HostRuntime) -> Result<(), Fail> {
 #[test]
 fn where_no_folder_stands(rt: HostRuntime) -> Result<(), Fail> {
     let alloc = rt.alloc();
-    for path in ["absent", ""] {
+    for (path, reason) in [
+        ("absent", "No such file or directory"),
+        ("", "No such file or directory"),
+    ] {
         let mut site = folder_at(&rt, path)?;
         assert_eq!(rt; list(alloc, &mut site).err(), Some(FolderFault::Failed));
         assert_eq!(rt; put(alloc, &mut site, "a", b"x"), Err(FolderFault::Failed));
@@ -246,6 +254,8 @@ fn where_no_folder_stands(rt: HostRuntime) -> Result<(), Fail> {
             Err(FolderFault::Failed)
         );
         assert_eq!(rt; site.faults(), 3);
+        assert_eq!(rt; said(alloc, site.why())?.as_str(), reason);
+        assert_eq!(rt; site.path(), path);
     }
     let mut absent = folder_at(&rt, "absent")?;
     assert_eq!(rt; get(alloc, &mut absent, "a")?.as_slice(), b"|".as_slice());

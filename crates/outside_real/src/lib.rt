@@ -1,5 +1,5 @@
 //! The devices of a program: standard input, standard output, a disk in a file, a folder and the
-//! connections of a client and of a host. They tell no content.
+//! connections of a client and of a host. The file and the output tell by a record of their calls; the others tell no content.
 #![tactic(auto)]
 
 mod counted;
@@ -15,6 +15,7 @@ mod folder_put;
 #[cfg(test)]
 mod folder_tests;
 mod real_folder;
+mod reason;
 mod std_sink;
 mod std_source;
 mod stream;
@@ -24,9 +25,11 @@ mod tcp_door;
 #[cfg(test)]
 mod tcp_tests;
 mod tcp_wire;
+mod told;
 
 pub use file_disk::FileDisk;
 pub use real_folder::RealFolder;
+pub use reason::{Failure, Reason};
 pub use std_sink::StdSink;
 pub use std_source::StdSource;
 pub use tcp_door::TcpDoor;

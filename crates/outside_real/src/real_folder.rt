@@ -9,12 +9,32 @@ use crate::counted::raise;
 use crate::folder_get::get_file;
 use crate::folder_list::list_files;
 use crate::folder_put::put_file;
+use crate::reason::{Reason, keep};
 use folders::{Folder, FolderFault};
 use small_types::{Bytes, List, Name};
 use std::alloc::Global;
 use std::fs::File;
+use std::io;
+use std::io::ErrorKind;
 use std::mem::replace;
 use std::rt::Files;
+
+// The fault that an error is. Where it is no want of memory the first reason is kept.
+fn fault_of(why: &mut Option<Reason>, error: io::Error) -> FolderFault {
+    if error.kind() == ErrorKind::OutOfMemory {
+        return FolderFault::Memory;
+    }
+    let _ = keep(why, error);
+    FolderFault::Failed
+}
+
+// What a call gave, or its fault.
+fn kept<T: Drop>(why: &mut Option<Reason>, done: io::Result<T>) -> Result<T, FolderFault> {
+    match done {
+        Ok(value) => Ok(value),
+        Err(error) => Err(fault_of(why, error)),
+    }
+}
 
 // Counts a call that failed, and none for which there was no memory.
 fn counted<T: Drop>(faults: &mut u64, done: Result<T, FolderFault>) -> Result<T, FolderFault>
@@ -38,6 +58,7 @@ pub struct RealFolder<R: Files<File = File> + AllocGlobal + Clone + Drop> {
     path: String,
     last: Option<String>,
     faults: u64,
+    why: Option<Reason>,
 }
 
 impl<R: Files<File = File> + AllocGlobal + Clone + Drop> RealFolder<R> {
@@ -53,7 +74,18 @@ impl<R: Files<File = File> + AllocGlobal + Clone + Drop> RealFolder<R> {
             path,
             last: None,
             faults: 0,
+            why: None,
         }
+    }
+
+    /// The path of the folder.
+    pub fn path(&self) -> &str {
+        self.path.as_str()
+    }
+
+    /// Why the first call that failed did, those aside for which there was no memory.
+    pub fn why(&self) -> Option<&Reason> {
+        self.why.as_ref()
     }
 }
 
@@ -72,7 +104,7 @@ impl<R: Files<File = File> + AllocGlobal + Clone + Drop> Folder for RealFolder<R
     fn list(&mut self, alloc: Global) -> Result<List<Name>, FolderFault> {
         let done = match list_files(&self.rt, alloc, self.path.as_str()) {
             Ok(names) => Ok(List::from_vec(names)),
-            Err(fault) => Err(fault),
+            Err(error) => Err(fault_of(&mut self.why, error)),
         };
         counted(&mut self.faults, done)
     }
@@ -99,6 +131,7 @@ impl<R: Files<File = File> + AllocGlobal + Clone + Drop> Folder for RealFolder<R
         let path = self.path.as_str();
         let done = get_file(&self.rt, alloc, path, name.as_str(), &mut bytes);
         *into = Bytes::from_vec(bytes);
+        let done = kept(&mut self.why, done);
         counted(&mut self.faults, done)
     }
 
@@ -113,6 +146,7 @@ impl<R: Files<File = File> + AllocGlobal + Clone + Drop> Folder for RealFolder<R
         let alloc = self.rt.alloc();
         let path = self.path.as_str();
         let done = put_file(&self.rt, alloc, path, &mut self.last, name.as_str(), bytes);
+        let done = kept(&mut self.why, done);
         counted(&mut self.faults, done)
     }
 

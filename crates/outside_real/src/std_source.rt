@@ -3,8 +3,10 @@ ghost use Rattle.std.specs.Prelude.{◌≡◌, ◌<◌, ◌≤◌, [], length, I
 ghost use Rattle.outside.specs.Streams.{Causes, ReadsAtMost};
 
 use crate::counted::counted;
+use crate::reason::{Reason, keep};
 use outside::{Failed, Source};
 use small_types::copy_front;
+use std::io;
 use std::io::Read;
 
 const CHUNK: usize = 16384;
@@ -15,6 +17,7 @@ const CHUNK: usize = 16384;
 pub struct StdSource<R: Input> {
     reader: R::Reader,
     faults: u64,
+    why: Option<Reason>,
 }
 
 impl<R: Input + Drop> StdSource<R> {
@@ -27,20 +30,40 @@ impl<R: Input + Drop> StdSource<R> {
         StdSource {
             reader: rt.reader(),
             faults: 0,
+            why: None,
         }
+    }
+
+    /// Why the first call that failed did.
+    pub fn why(&self) -> Option<&Reason> {
+        self.why.as_ref()
     }
 }
 
 // What one system call gives, and at most a chunk of it. A read into the buffer itself may leave anything behind
 // what it gave.
-pub(crate) fn read_some<I: Read>(reader: &mut I, buf: &mut [u8]) -> Result<usize, Failed>
+pub(crate) fn read_some<I: Read>(reader: &mut I, buf: &mut [u8]) -> io::Result<usize>
     ensures { IfOk result (λ n. ReadsAtMost n buf.old buf.new) }
 {
     let mut chunk = [0; CHUNK];
     let room = buf.len().min(CHUNK);
     match reader.read(&mut chunk[..room]) {
         Ok(n) => Ok(copy_front(&chunk[..n], buf)),
-        Err(_) => Err(Failed),
+        Err(error) => Err(error),
+    }
+}
+
+// The same, and where it fails the first reason is kept.
+fn read_kept<I: Read>(
+    reader: &mut I,
+    why: &mut Option<Reason>,
+    buf: &mut [u8],
+) -> Result<usize, Failed>
+    ensures { IfOk result (λ n. ReadsAtMost n buf.old buf.new) }
+{
+    match read_some(reader, buf) {
+        Ok(n) => Ok(n),
+        Err(error) => Err(keep(why, error)),
     }
 }
 
@@ -52,7 +75,7 @@ impl<R: Input> Source for StdSource<R> {
     ghost count = { λ s. s.faults };
 
     fn read(&mut self, buf: &mut [u8]) -> Result<usize, Failed> {
-        let done = read_some(&mut self.reader, buf);
+        let done = read_kept(&mut self.reader, &mut self.why, buf);
         counted(&mut self.faults, done)
     }
 

@@ -93,7 +93,10 @@ impl<S: Read + Write + OpenStream + Drop> Guest<S> {
         if left.is_none() || self.stream.set_read_timeout(left).is_err() {
             return Err(Failed);
         }
-        read_some(&mut self.stream, buf)
+        match read_some(&mut self.stream, buf) {
+            Ok(n) => Ok(n),
+            Err(_) => Err(Failed),
+        }
     }
 
     // Whether bytes wait that were not received. It takes some of them.

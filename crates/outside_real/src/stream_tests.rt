@@ -1,6 +1,7 @@
 // What the standard streams' devices make of what a runtime answers.
+use crate::file_tests::said;
 use crate::std_source::read_some;
-use crate::{StdSink, StdSource};
+use crate::{Failure, StdSink, StdSource};
 use outside::{Failed, Sink, Source, write_all};
 use std::alloc::Allocator;
 use std::cell::Cell;
@@ -55,7 +56,7 @@ impl Read for Broken {
 #[test]
 fn a_failed_read_fails(rt: HostRuntime) {
     let mut buf = *b"....";
-    assert_eq!(rt; read_some(&mut Broken, &mut buf), Err(Failed));
+    assert_eq!(rt; read_some(&mut Broken, &mut buf).ok(), None);
     assert_eq!(rt; buf, *b"....");
 }
 
@@ -100,5 +101,9 @@ fn a_sink_fails_where_nothing_is_taken(rt: HostRuntime) -> Result<(), Fail> {
     assert_eq!(rt; sink.write(b"d"), Err(Failed));
     assert_eq!(rt; sink.write(b"d"), Err(Failed));
     assert_eq!(rt; sink.faults(), 2);
+    assert_eq!(rt; said(rt.alloc(), sink.why())?.as_str(), "write zero");
+    let failure = Failure::new("no such", None).or(Failure::new("two\nlines", sink.why()));
+    let line = format!(in rt.alloc(); "{failure}")?;
+    assert_eq!(rt; line.as_str(), "two\\nlines: write zero");
     Ok(())
 }

@@ -4,6 +4,7 @@ ghost use Rattle.outside.specs.Streams.{Causes, ReadsAtMost, TakesSome};
 ghost use Rattle.connections.specs.Door.{Accepts, ReceivesOnLast, SendsOnLast};
 
 use crate::counted::counted;
+use crate::reason::{Reason, keep};
 use crate::stream::{Guest, HOST_PATIENCE, prepare};
 use connections::Door;
 use outside::Failed;
@@ -23,6 +24,7 @@ pub struct TcpDoor<R: Net + Clock + Drop> {
     guest: Option<Guest<R::Stream>>,
     faults: u64,
     missed: u64,
+    why: Option<Reason>,
 }
 
 impl<R: Net + Clock + Drop> TcpDoor<R> {
@@ -41,7 +43,13 @@ impl<R: Net + Clock + Drop> TcpDoor<R> {
             guest: None,
             faults: 0,
             missed: 0,
+            why: None,
         }
+    }
+
+    /// Why the first call of `accept` that failed did.
+    pub fn why(&self) -> Option<&Reason> {
+        self.why.as_ref()
     }
 }
 
@@ -54,6 +62,7 @@ impl<R: Net + Clock + Drop> Drop for TcpDoor<R> {
             guest,
             faults: _,
             missed: _,
+            why: _,
         } = self;
         if let Some(last) = guest {
             last.end(&rt);
@@ -123,6 +132,7 @@ fn replace<R: Net + Clock>(
     port: u16,
     listener: &mut Option<R::Listener>,
     guest: &mut Option<Guest<R::Stream>>,
+    why: &mut Option<Reason>,
 ) -> Result<(), Failed> {
     if let Some(last) = guest.take() {
         last.end(rt);
@@ -132,7 +142,7 @@ fn replace<R: Net + Clock>(
             *guest = Some(next);
             Ok(())
         }
-        Err(_) => Err(Failed),
+        Err(error) => Err(keep(why, error)),
     }
 }
 
@@ -174,7 +184,13 @@ impl<R: Net + Clock + Drop> Door for TcpDoor<R> {
     /// Ends the connection that stands, and waits for the next one without end. Before it ends one on which bytes
     /// wait that were not received, it receives what comes, within the 10 seconds of that connection.
     fn accept(&mut self) -> Result<(), Failed> {
-        let done = replace(&self.rt, self.port, &mut self.listener, &mut self.guest);
+        let done = replace(
+            &self.rt,
+            self.port,
+            &mut self.listener,
+            &mut self.guest,
+            &mut self.why,
+        );
         counted(&mut self.missed, done)
     }
 

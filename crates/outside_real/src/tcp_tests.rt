@@ -1,4 +1,5 @@
 // What the connections over a network do with real ones.
+use crate::file_tests::said;
 use crate::{TcpDoor, TcpWire};
 use connections::{Door, Wire};
 use outside::Failed;
@@ -130,6 +131,10 @@ fn a_door_that_cannot_be_bound_misses(rt: HostRuntime) -> Result<(), Fail> {
     let mut door = TcpDoor::new(rt.clone()?, taken.local_addr()?.port());
     assert_eq!(rt; door.accept(), Err(Failed));
     assert_eq!(rt; (door.missed(), door.faults()), (1, 0));
+    assert_eq!(rt;
+        said(rt.alloc(), door.why())?.as_str(),
+        "Address already in use"
+    );
     Ok(())
 }
 

@@ -67,7 +67,10 @@ fn receive<R: Net>(stream: &mut Option<R::Stream>, buf: &mut [u8]) -> Result<usi
     ensures { IfOk result (λ n. ReadsAtMost n buf.old buf.new) }
 {
     match stream {
-        Some(stream) => read_some(stream, buf),
+        Some(stream) => match read_some(stream, buf) {
+            Ok(n) => Ok(n),
+            Err(_) => Err(Failed),
+        },
         None => Err(Failed),
     }
 }

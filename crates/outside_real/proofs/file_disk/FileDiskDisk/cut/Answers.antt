@@ -1,0 +1,35 @@
+use Rattle.std.proofs.Common.{inl}
+use Rattle.disks.specs.declared.call.Move.TheVariants.{Cut}
+use Rattle.outside_real.proofs.Telling.{where_ok, noted_last, cut_told}
+use Rattle.outside_real.proofs.file_disk.FileDiskDisk.cut.Goals as goal
+
+pub returns-clause-seen : goal.returns-clause-seen
+returns-clause-seen g c =
+    (cut_told g.S.Start.first g.S.Start.left c.args.self.now.told.answers.noted c.count.new.self.answers.noted c.cut.new.self.answers.noted c.args.self.now.told.calls c.count.new.self.calls c.cut.new.self.calls
+    c.args.size c.is_ok.result c.count.ensures.answers (c.count.ensures.counted c.if-not-count.false).0 c.cut.ensures.noted c.cut.ensures.calls c.args.self.now.told.numbered).seen
+
+pub returns-clause-written : goal.returns-clause-written
+returns-clause-written g c =
+    where_ok c.counted-2.ensures.result c.is_ok.ensures.value
+    (cut_told g.S.Start.first g.S.Start.left c.args.self.now.told.answers.noted c.count.new.self.answers.noted c.cut.new.self.answers.noted c.args.self.now.told.calls c.count.new.self.calls c.cut.new.self.calls
+    c.args.size c.is_ok.result c.count.ensures.answers (c.count.ensures.counted c.if-not-count.false).0 c.cut.ensures.noted c.cut.ensures.calls c.args.self.now.told.numbered).written
+
+pub returns-clause-stop : goal.returns-clause-stop
+returns-clause-stop g c =
+    (cut_told g.S.Start.first g.S.Start.left c.args.self.now.told.answers.noted c.count.new.self.answers.noted c.cut.new.self.answers.noted c.args.self.now.told.calls c.count.new.self.calls c.cut.new.self.calls
+    c.args.size c.is_ok.result c.count.ensures.answers (c.count.ensures.counted c.if-not-count.false).0 c.cut.ensures.noted c.cut.ensures.calls c.args.self.now.told.numbered).stop
+
+pub returns-clause-time : goal.returns-clause-time
+returns-clause-time g c =
+    (cut_told g.S.Start.first g.S.Start.left c.args.self.now.told.answers.noted c.count.new.self.answers.noted c.cut.new.self.answers.noted c.args.self.now.told.calls c.count.new.self.calls c.cut.new.self.calls
+    c.args.size c.is_ok.result c.count.ensures.answers (c.count.ensures.counted c.if-not-count.false).0 c.cut.ensures.noted c.cut.ensures.calls c.args.self.now.told.numbered).passes.time
+
+pub returns-clause-told : goal.returns-clause-told
+returns-clause-told g c =
+    (cut_told g.S.Start.first g.S.Start.left c.args.self.now.told.answers.noted c.count.new.self.answers.noted c.cut.new.self.answers.noted c.args.self.now.told.calls c.count.new.self.calls c.cut.new.self.calls
+    c.args.size c.is_ok.result c.count.ensures.answers (c.count.ensures.counted c.if-not-count.false).0 c.cut.ensures.noted c.cut.ensures.calls c.args.self.now.told.numbered).passes.told
+
+pub returns-clause-noted : goal.returns-clause-noted
+returns-clause-noted g c =
+    inl (noted_last (Cut c.args.size) c.is_ok.result c.args.self.now.told.answers.noted c.count.new.self.answers.noted c.cut.new.self.answers.noted c.args.self.now.told.calls c.count.new.self.calls c.cut.new.self.calls
+    c.counted-2.ensures.result c.is_ok.ensures.value c.count.ensures.answers (c.count.ensures.counted c.if-not-count.false).0 c.cut.ensures.noted c.cut.ensures.calls)

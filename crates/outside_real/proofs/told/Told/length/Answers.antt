@@ -1,0 +1,5 @@
+use Rattle.outside_real.proofs.Telling.{length_quiet, quiet_on}
+use Rattle.outside_real.proofs.told.Told.length.Goals as goal
+
+pub invariant_of-self : goal.invariant_of-self
+invariant_of-self c = record { numbered = quiet_on c.args.self.now.calls (length_quiet c.args.self.now.answers.noted c.note.new.self.noted c.args.answer c.note.ensures) c.args.self.now.numbered }
