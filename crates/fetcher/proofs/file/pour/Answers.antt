@@ -1,0 +1,40 @@
+use Rattle.std.proofs.Common.{rules, ◌+◌, ◌≤◌, ◌∙◌, length, arith}
+use Rattle.std.proofs.lemmas.Grind.{common_steps}
+use Rattle.links.specs.Link.{LinkState}
+use Rattle.fetcher.proofs.Moving.{moves_then}
+use Rattle.fetcher.proofs.Pouring.{nothing_left, poured_end, poured_more}
+use Rattle.fetcher.proofs.file.pour.Goals as goal
+
+pub returns-then-n-eq0-clause-poured : goal.returns-then-n-eq0-clause-poured
+returns-then-n-eq0-clause-poured g c =
+    let so = c.loop-done.invariant in
+    let first : LinkState = (g.L.Links.links c.args.links.now).link c.args.place in
+    let now : LinkState = (g.L.Links.links c.loop-done.links).link c.args.place in
+    let next : LinkState = (g.L.Links.links c.pour_piece.new.links).link c.args.place in
+    let T = g.B.Basket.taken in
+    let fits : c.in-Ok.n ≤ length c.pour_piece.new.buf = omega (arith, c.if-n-eq0.true) in
+    let more = poured_more c.loop-done.done c.in-Ok.n first now next c.args.checker.now c.loop-done.checker c.pour_piece.new.checker
+    g.B.Basket.tells (T c.args.basket.now) (T c.loop-done.basket) (T c.pour_piece.new.basket) c.pour_piece.new.buf
+    so.poured c.in-Ok.ensures.poured fits so.moves.site c.in-Ok.ensures.told in
+    poured_end (c.loop-done.done + c.in-Ok.n) c.args.size first next c.args.checker.now c.pour_piece.new.checker
+    g.B.Basket.tells (T c.args.basket.now) (T c.pour_piece.new.basket) more (omega (arith, c.if-n-eq0.true, so.within))
+    (λ t. nothing_left c.in-Ok.n now.rest next.rest c.pour_piece.new.buf c.if-n-eq0.true (c.in-Ok.ensures.told (so.moves.site.tells.0 t)))
+
+pub loop-done-preserved : goal.loop-done-preserved
+loop-done-preserved g c =
+    let so = c.loop-done.invariant in
+    let first : LinkState = (g.L.Links.links c.args.links.now).link c.args.place in
+    let now : LinkState = (g.L.Links.links c.loop-done.links).link c.args.place in
+    let next : LinkState = (g.L.Links.links c.pour_piece.new.links).link c.args.place in
+    let T = g.B.Basket.taken in
+    let fits : c.in-Ok.n ≤ length c.pour_piece.new.buf = first_of (search rules, grind (arith, common_steps)) in
+    record {
+      poured = poured_more c.loop-done.done c.in-Ok.n first now next c.args.checker.now c.loop-done.checker c.pour_piece.new.checker
+          g.B.Basket.tells (T c.args.basket.now) (T c.loop-done.basket) (T c.pour_piece.new.basket) c.pour_piece.new.buf
+          so.poured c.in-Ok.ensures.poured fits so.moves.site c.in-Ok.ensures.told;
+      within = first_of (search rules, grind (arith, common_steps));
+      counted = omega (arith, c.in-Ok.ensures.size, so.counted);
+      moves = moves_then c.args.place (g.L.Links.links c.args.links.now) (g.L.Links.links c.loop-done.links) (g.L.Links.links c.pour_piece.new.links) so.moves c.in-Ok.ensures.moves;
+      link = c.in-Ok.ensures.quiet ∙ so.link;
+      basket = c.in-Ok.ensures.basket.quiet (λ e. cc e) ∙ so.basket;
+    }

@@ -1,0 +1,5 @@
+pub mod Causes
+pub mod Fetched
+pub mod FolderSites
+pub mod Given
+pub mod Stopping

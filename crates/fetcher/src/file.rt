@@ -1,0 +1,165 @@
+// Files that match their size and digests.
+ghost use Rattle.std.specs.Prelude.{◌≡◌, ◌≢◌, ◌<◌, ◌≤◌, ◌+◌, ◌^◌, length, take, IfOk, IfErr, OnOk, Err};
+ghost use Rattle.digest_list.specs.Checker.{count_of};
+ghost use Rattle.links.specs.Links.{IsLast};
+ghost use Rattle.outside.specs.Streams.{Consumes};
+ghost use Rattle.fetcher.specs.Fetched.{IsFile, IsFileFault, Kept};
+ghost use Rattle.fetcher.specs.Stopping.{IsFileOf, IsFileStop, IsPourStop, KeepsBasket, Moves, Pours, PoursPiece};
+ghost use Rattle.fetcher.specs.declared.fault.FetchFault.TheVariants.{BasketFault};
+
+use crate::FetchFault;
+use crate::stopped::{PIECE, Stopped, only_link, stopped_basket, stopped_by};
+use causes::Cause;
+use digest_list::{CheckFault, Checker, Difference, DigestList};
+use links::{Basket, Links};
+use small_types::Target;
+use std::alloc::Global;
+
+// Takes a piece of the link at the place, checks it, and hands it to the basket. Zero is the end.
+fn pour_piece<L: Links, B: Basket>(
+    links: &mut L,
+    place: u32,
+    buf: &mut [u8],
+    checker: &mut Checker,
+    basket: &mut B,
+) -> Result<usize, Stopped>
+    requires place { place < (L.links links.old).sources }
+    requires room { 0 < length buf.old }
+    requires count { count_of checker.old + length buf.old < 2 ^ 61 }
+    ensures within { IfOk result (λ n. n ≤ length buf.old) }
+    ensures size { IfOk result (λ n. count_of checker.new ≡ count_of checker.old + n) }
+    ensures poured { IfOk result (λ n.
+        PoursPiece checker.old checker.new B.tells (B.taken basket.old) (B.taken basket.new) (take n buf.new)) }
+    ensures told { ((L.links links.old).link place).tells → IfOk result (λ n.
+        Consumes ((L.links links.old).link place).rest ((L.links links.new).link place).rest buf.new n) }
+    ensures stop { IfErr result (IsPourStop ((L.links links.old).link place) ((L.links links.new).link place)
+        (B.count basket.old) (B.count basket.new)) }
+    ensures quiet { OnOk result
+        (((L.links links.new).link place).count ≡ ((L.links links.old).link place).count) }
+    ensures moves { Moves place (L.links links.old) (L.links links.new) }
+    ensures basket { KeepsBasket (B.count basket.old) (B.count basket.new) result }
+{
+    let n = match links.piece(place, buf) {
+        Ok(n) => n,
+        Err(fault) => return Err(stopped_by(fault)),
+    };
+    if n == 0 {
+        return Ok(0);
+    }
+    checker.update(&buf[..n]);
+    match basket.take(&buf[..n]) {
+        Ok(()) => Ok(n),
+        Err(fault) => Err(stopped_basket(fault)),
+    }
+}
+
+// Pours so many bytes of the rest of the link at the place, or all of it, into the checker and the basket.
+fn pour<L: Links, B: Basket>(
+    links: &mut L,
+    place: u32,
+    size: u64,
+    checker: &mut Checker,
+    basket: &mut B,
+) -> Result<(), Stopped>
+    requires place { place < (L.links links.old).sources }
+    requires count { count_of checker.old + size < 2 ^ 61 }
+    ensures poured { OnOk result (Pours size ((L.links links.old).link place) checker.old checker.new
+        B.tells (B.taken basket.old) (B.taken basket.new)) }
+    ensures stop { IfErr result (IsPourStop ((L.links links.old).link place) ((L.links links.new).link place)
+        (B.count basket.old) (B.count basket.new)) }
+    ensures moves { Moves place (L.links links.old) (L.links links.new) }
+    ensures basket { KeepsBasket (B.count basket.old) (B.count basket.new) result }
+{
+    let mut done: u64 = 0;
+    let mut piece = [0; PIECE];
+    while done < size {
+        let wanted = (PIECE as u64).min(size - done) as usize;
+        let n = match pour_piece(links, place, &mut piece[..wanted], checker, basket) {
+            Ok(n) => n,
+            Err(stop) => return Err(stop),
+        };
+        if n == 0 {
+            return Ok(());
+        }
+        done += n as u64;
+    }
+    Ok(())
+}
+
+// The file of the link at the place, into the basket.
+fn file_of<L: Links, B: Basket>(
+    alloc: Global,
+    links: &mut L,
+    place: u32,
+    target: &Target,
+    size: u64,
+    list: &DigestList,
+    basket: &mut B,
+) -> Result<(), Stopped>
+    requires place { place < (L.links links.old).sources }
+    requires wanted { IsLast target.now (L.links links.old).asked }
+    requires below { size < 2 ^ 61 }
+    ensures file { OnOk result (IsFileOf list.now size target.now ((L.links links.old).link place)
+        B.tells (B.taken basket.new)) }
+    ensures stop { IfErr result (IsFileStop list.now size target.now
+        ((L.links links.old).link place) ((L.links links.new).link place)
+        (B.count basket.old) (B.count basket.new)) }
+    ensures moves { Moves place (L.links links.old) (L.links links.new) }
+    ensures basket { KeepsBasket (B.count basket.old) (B.count basket.new) result }
+{
+    let length = match links.ask(alloc, place, target) {
+        Ok(length) => length,
+        Err(fault) => return Err(stopped_by(fault)),
+    };
+    if length != size {
+        return Err(Stopped::By(Cause::Differs(Difference::Size {
+            listed: size,
+            found: length,
+        })));
+    }
+    let Ok(mut checker) = Checker::new(alloc, list, size) else {
+        return Err(Stopped::Memory);
+    };
+    basket.restart();
+    if let Err(stop) = pour(links, place, size, &mut checker, basket) {
+        return Err(stop);
+    }
+    match checker.finish() {
+        Ok(()) => Ok(()),
+        Err(CheckFault::Differs { difference }) => { Err(Stopped::By(Cause::Differs(difference))) }
+        Err(CheckFault::Memory) => Err(Stopped::Memory),
+    }
+}
+
+/// Fetches the file at the target into the basket: the bytes of the first link that gives bytes of that size which match
+/// every digest of the list. Each link that does not serve has its cause: the sizes where it answers another length, and
+/// then no piece of it is taken. No more than `size` bytes are taken of a link, and each is hashed once. The target is
+/// asked for once. After a fault the basket may hold any bytes.
+pub fn fetch_file<L: Links, B: Basket>(
+    alloc: Global,
+    links: &mut L,
+    target: &Target,
+    size: u64,
+    list: &DigestList,
+    basket: &mut B,
+) -> Result<(), FetchFault>
+    requires one { (L.links links.old).sources ≡ 1 }
+    requires below { size < 2 ^ 61 }
+    ensures file { OnOk result (IsFile list.now size target.now (L.links links.old) (L.links links.new)
+        B.tells (B.taken basket.new)) }
+    ensures fault { IfErr result (IsFileFault list.now size target.now (L.links links.old) (L.links links.new)
+        (B.count basket.old) (B.count basket.new)) }
+    ensures kept { Kept (L.links links.old) (L.links links.new) }
+    ensures later { B.count basket.old ≤ B.count basket.new }
+    ensures quiet { result ≢ Err BasketFault → B.count basket.new ≡ B.count basket.old }
+{
+    let Ok(()) = links.want(alloc, target) else {
+        return Err(FetchFault::Memory);
+    };
+    match file_of(alloc, links, 0, target, size, list, basket) {
+        Ok(()) => Ok(()),
+        Err(Stopped::By(cause)) => Err(only_link(alloc, target, cause)),
+        Err(Stopped::Basket) => Err(FetchFault::BasketFault),
+        Err(Stopped::Memory) => Err(FetchFault::Memory),
+    }
+}

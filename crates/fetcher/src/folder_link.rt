@@ -1,0 +1,153 @@
+// A folder as a link.
+ghost use Rattle.std.specs.Prelude.{◌≡◌, ◌≢◌, ◌<◌, [], length, drop, IfOk, IsOk, Err};
+ghost use Rattle.links.specs.declared.link.LinkFault.TheVariants.{Missing, Down};
+ghost use Rattle.outside.specs.Streams.{Rose, total};
+ghost use Rattle.folders.specs.Folder.{FailsCounted};
+ghost use Rattle.http_plain.specs.Path.{name_in_path as name_at};
+ghost use Rattle.fetcher.specs.FolderSites.{file_named};
+
+use folders::{Folder, FolderFault};
+use http_plain::name_in_path;
+use links::{Link, LinkFault};
+use outside::copy_from;
+use small_types::{Bytes, Target};
+use std::alloc::Global;
+
+/// The files of a folder as a site, by the names that a host of them goes by: the path without its first `/` and
+/// without a query, with each escape read. The host and the port are not looked at. Its count of faults is the folder's
+/// and the number of targets that were missing.
+#[derive(Drop, Debug)]
+pub struct FolderLink<F: Folder> {
+    pub folder: F,
+    // The body that was asked for last, and how much of it was given.
+    body: Bytes,
+    at: usize,
+    // How many targets were missing.
+    unread: u64,
+}
+
+// The file that the path names, if it names one that is there.
+fn find_file<F: Folder>(
+    alloc: Global,
+    folder: &mut F,
+    path: &[u8],
+) -> Result<Option<Bytes>, FolderFault>
+    ensures found { F.tells
+        → IfOk result (λ bytes. bytes ≡ file_named (F.held folder.old) (name_at path.now)) }
+    ensures kept { F.tells → F.held folder.new ≡ F.held folder.old }
+    ensures cause { FailsCounted (F.count folder.old) (F.count folder.new) result }
+{
+    match name_in_path(alloc, path) {
+        Ok(Some(name)) => folder.get(alloc, &name),
+        Ok(None) => Ok(None),
+        Err(_) => Err(FolderFault::Memory),
+    }
+}
+
+impl<F: Folder> FolderLink<F> {
+    ghost use Rattle.fetcher.specs.FolderSites.{folder_rest, folder_unread};
+
+    /// A link to the folder, of which nothing was asked. It takes no memory.
+    pub fn new(alloc: Global, folder: F) -> FolderLink<F>
+        ensures folder { result.folder ≡ folder }
+        ensures rest { folder_rest result ≡ [] }
+        ensures unread { folder_unread result ≡ 0 }
+    {
+        FolderLink {
+            folder,
+            body: Bytes::from_vec(Vec::new(alloc)),
+            at: 0,
+            unread: 0,
+        }
+    }
+
+    // Makes these bytes the body.
+    fn open(&mut self, bytes: Bytes)
+        ensures rest { folder_rest self.new ≡ bytes }
+        ensures folder { self.new.folder ≡ self.old.folder }
+        ensures unread { folder_unread self.new ≡ folder_unread self.old }
+    {
+        self.body = bytes;
+        self.at = 0;
+    }
+
+    // Leaves nothing of the body, and hands on the fault.
+    fn close(&mut self, alloc: Global, fault: LinkFault) -> LinkFault
+        ensures fault { result ≡ fault }
+        ensures rest { folder_rest self.new ≡ [] }
+        ensures folder { self.new.folder ≡ self.old.folder }
+        ensures unread { folder_unread self.new ≡ folder_unread self.old }
+    {
+        self.open(Bytes::from_vec(Vec::new(alloc)));
+        fault
+    }
+
+    // Counts a target that is missing.
+    fn miss(&mut self)
+        ensures unread { folder_unread self.new ≡ total (folder_unread self.old) 1 }
+        ensures folder { self.new.folder ≡ self.old.folder }
+        ensures rest { folder_rest self.new ≡ folder_rest self.old }
+    {
+        self.unread = self.unread.saturating_add(1);
+    }
+}
+
+impl<F: Folder + Drop> Link for FolderLink<F> {
+    ghost use Rattle.std.specs.Prelude.{ℕ, List};
+    ghost use Rattle.links.specs.Link.{LinkState, Asks, Takes};
+    ghost use Rattle.fetcher.specs.FolderSites.{folder_state, folder_unread, served};
+
+    ghost state = { λ l. record {
+      tells = F.tells;
+      site = served (F.held l.folder);
+      rest = drop l.at l.body;
+      count = total (F.count l.folder) l.unread;
+    } };
+
+    fn ask(&mut self, alloc: Global, target: &Target) -> Result<u64, LinkFault>
+        ensures asks { Asks target.now
+            (folder_state F.tells (F.held self.old.folder) (F.count self.old.folder) self.old)
+            (folder_state F.tells (F.held self.new.folder) (F.count self.new.folder) self.new) result }
+
+        // Each target that is missing is counted once. It fails only where the folder does.
+        ensures missed { result ≡ Err Missing
+            → folder_unread self.new ≡ total (folder_unread self.old) 1 }
+        ensures read { result ≢ Err Missing → folder_unread self.new ≡ folder_unread self.old }
+        ensures down { result ≡ Err Down
+            → Rose (F.count self.old.folder) (F.count self.new.folder) }
+        ensures kept { F.tells → F.held self.new.folder ≡ F.held self.old.folder }
+    {
+        match find_file(alloc, &mut self.folder, target.path.as_bytes()) {
+            Ok(Some(bytes)) => {
+                let length = bytes.as_slice().len() as u64;
+                self.open(bytes);
+                Ok(length)
+            }
+            Ok(None) => {
+                self.miss();
+                Err(self.close(alloc, LinkFault::Missing))
+            }
+            Err(FolderFault::Failed) => Err(self.close(alloc, LinkFault::Down)),
+            Err(FolderFault::Memory) => Err(LinkFault::Memory),
+        }
+    }
+
+    fn piece(&mut self, buf: &mut [u8]) -> Result<usize, LinkFault>
+        requires { 0 < length buf.old }
+        ensures takes { Takes
+            (folder_state F.tells (F.held self.old.folder) (F.count self.old.folder) self.old)
+            (folder_state F.tells (F.held self.new.folder) (F.count self.new.folder) self.new)
+            buf.old buf.new result }
+
+        // It never fails.
+        ensures gives { IsOk result }
+        ensures unread { folder_unread self.new ≡ folder_unread self.old }
+        ensures folder { self.new.folder ≡ self.old.folder }
+    {
+        Ok(copy_from(self.body.as_slice(), &mut self.at, buf))
+    }
+
+    fn faults(&self) -> u64 {
+        self.folder.faults().saturating_add(self.unread)
+    }
+}

@@ -1,0 +1,99 @@
+// Texts of at most so many bytes.
+ghost use Rattle.std.specs.Prelude.{◌≡◌, ◌≢◌, ◌<◌, ◌≤◌, length, take, IfOk, IfErr, Err};
+ghost use Rattle.links.specs.declared.link.LinkFault.TheVariants.{Missing};
+ghost use Rattle.links.specs.Link.{Counts};
+ghost use Rattle.links.specs.Links.{IsLast};
+ghost use Rattle.fetcher.specs.Fetched.{IsText, IsTextFault, Kept};
+ghost use Rattle.fetcher.specs.Stopping.{IsTextOf, IsTextStop, Moves};
+
+use crate::FetchFault;
+use crate::stopped::{PIECE, Stopped, only_link, stopped_by};
+use causes::Cause;
+use links::{LinkFault, Links};
+use small_types::{Bytes, Target};
+use std::alloc::Global;
+
+// The rest of the link at the place, and at most so many bytes.
+fn read_rest<L: Links>(
+    alloc: Global,
+    links: &mut L,
+    place: u32,
+    most: u64,
+) -> Result<Vec<u8>, LinkFault>
+    requires { place < (L.links links.old).sources }
+    ensures bytes { ((L.links links.old).link place).tells
+        → IfOk result (λ v. v.items ≡ take most ((L.links links.old).link place).rest) }
+    ensures within { IfOk result (λ v. length v.items ≤ most) }
+    ensures there { result ≢ Err Missing }
+    ensures counts { Counts ((L.links links.old).link place) ((L.links links.new).link place) result }
+    ensures moves { Moves place (L.links links.old) (L.links links.new) }
+{
+    let mut bytes: Vec<u8> = Vec::new(alloc);
+    let mut piece = [0; PIECE];
+    while (bytes.len() as u64) < most {
+        let wanted = (PIECE as u64).min(most - bytes.len() as u64) as usize;
+        let n = match links.piece(place, &mut piece[..wanted]) {
+            Ok(n) => n,
+            Err(fault) => return Err(fault),
+        };
+        if n == 0 {
+            return Ok(bytes);
+        }
+        let Ok(()) = bytes.extend_from_slice(&piece[..n]) else {
+            return Err(LinkFault::Memory);
+        };
+    }
+    Ok(bytes)
+}
+
+// The text of the link at the place.
+fn text_of<L: Links>(
+    alloc: Global,
+    links: &mut L,
+    place: u32,
+    target: &Target,
+    limit: u64,
+) -> Result<Bytes, Stopped>
+    requires place { place < (L.links links.old).sources }
+    requires wanted { IsLast target.now (L.links links.old).asked }
+    ensures text { IfOk result (IsTextOf limit target.now ((L.links links.old).link place)) }
+    ensures stop { IfErr result (IsTextStop limit target.now ((L.links links.old).link place) ((L.links links.new).link place)) }
+    ensures moves { Moves place (L.links links.old) (L.links links.new) }
+{
+    let length = match links.ask(alloc, place, target) {
+        Ok(length) => length,
+        Err(fault) => return Err(stopped_by(fault)),
+    };
+    if length > limit {
+        return Err(Stopped::By(Cause::TooLong { length, limit }));
+    }
+    match read_rest(alloc, links, place, length) {
+        Ok(bytes) => Ok(Bytes::from_vec(bytes)),
+        Err(fault) => Err(stopped_by(fault)),
+    }
+}
+
+/// The text at the target: the bytes of the first link that gives at most `limit` of them. Each link that does not
+/// serve has its cause: `TooLong` where it answers a greater length, and then no piece of it is taken. The target is
+/// asked for once.
+pub fn fetch_text<L: Links>(
+    alloc: Global,
+    links: &mut L,
+    target: &Target,
+    limit: u64,
+) -> Result<Bytes, FetchFault>
+    requires { (L.links links.old).sources ≡ 1 }
+    ensures text { IfOk result (IsText limit target.now (L.links links.old) (L.links links.new)) }
+    ensures fault { IfErr result (IsTextFault limit target.now (L.links links.old) (L.links links.new)) }
+    ensures kept { Kept (L.links links.old) (L.links links.new) }
+{
+    let Ok(()) = links.want(alloc, target) else {
+        return Err(FetchFault::Memory);
+    };
+    match text_of(alloc, links, 0, target, limit) {
+        Ok(bytes) => Ok(bytes),
+        Err(Stopped::By(cause)) => Err(only_link(alloc, target, cause)),
+        Err(Stopped::Basket) => Err(FetchFault::BasketFault),
+        Err(Stopped::Memory) => Err(FetchFault::Memory),
+    }
+}

@@ -1,0 +1,54 @@
+// Where a fetched file goes.
+ghost use Rattle.std.specs.Prelude.{◌≡◌, ℕ, List, [], OnOk};
+ghost use Rattle.outside.specs.Streams.{Appends};
+ghost use Rattle.links.specs.Basket.{BasketCounts};
+
+use std::alloc::AllocError;
+use std::error::Error;
+use std::fmt;
+
+/// Why a basket did not take bytes.
+#[derive(Clone, Copy, Debug, PartialEq, Eq)]
+pub enum BasketFault {
+    /// The basket failed: its count of faults rose.
+    Failed,
+    /// There was no memory for them. The count of faults stays.
+    Memory,
+}
+
+impl fmt::Display for BasketFault {
+    fn fmt<W: fmt::Write>(&self, f: &mut fmt::Formatter<W>) -> fmt::Result {
+        match self {
+            BasketFault::Failed => write!(f, "the basket failed"),
+            BasketFault::Memory => write!(f, "out of memory"),
+        }
+    }
+}
+
+impl Error for BasketFault {}
+
+/// Where a fetched file goes, piece by piece. One that tells says what it has taken.
+pub trait Basket {
+    /// Whether it tells what it has taken.
+    ghost tells: { Type 0 };
+
+    /// What it has taken since it was last emptied.
+    ghost taken: { Self → List ℕ };
+
+    /// How often it failed.
+    ghost count: { Self → ℕ };
+
+    /// Empties it.
+    fn restart(&mut self)
+        ensures empty { tells → taken self.new ≡ [] }
+        ensures count { count self.new ≡ count self.old };
+
+    /// Takes the bytes behind those that it has. After a fault it may have any bytes.
+    fn take(&mut self, bytes: &[u8]) -> Result<(), BasketFault>
+        ensures bytes { tells → OnOk result (Appends (taken self.old) (taken self.new) bytes.now) }
+        ensures counts { BasketCounts (count self.old) (count self.new) result };
+
+    /// How often it failed. The count never falls.
+    fn faults(&self) -> u64
+        ensures { result ≡ count self.now };
+}

@@ -1,0 +1,119 @@
+// The links of a session.
+ghost use Rattle.std.specs.Prelude.{◌≡◌, ◌<◌, ◌≤◌, length};
+ghost use Rattle.small_types.specs.declared.limits.TheConstants.{LINK_LIMIT};
+ghost use Rattle.links.specs.Link.{Asks, Takes};
+ghost use Rattle.links.specs.Links.{LinksState, IsLast, ChangesOnly, Wants, failures_of};
+ghost use Rattle.links.specs.declared.links.WantFault.TheVariants.{Memory};
+
+use crate::{Link, LinkFault};
+use small_types::{CopyFault, Duplicate, List, Target};
+use std::alloc::{AllocFailed, Global};
+use std::error::Error;
+use std::fmt;
+
+/// A target could not be noted.
+#[derive(Clone, Copy, Debug, PartialEq, Eq)]
+pub enum WantFault {
+    /// There was no memory for it.
+    Memory,
+}
+
+impl fmt::Display for WantFault {
+    fn fmt<W: fmt::Write>(&self, f: &mut fmt::Formatter<W>) -> fmt::Result {
+        write!(f, "out of memory")
+    }
+}
+
+impl Error for WantFault {}
+
+impl From<CopyFault> for WantFault {
+    ghost from_gives = { λ _ e. e ≡ Memory };
+
+    fn from(_: CopyFault) -> WantFault {
+        WantFault::Memory
+    }
+}
+
+impl<T: Drop> From<AllocFailed<T>> for WantFault {
+    ghost from_gives = { λ _ e. e ≡ Memory };
+
+    fn from(_: AllocFailed<T>) -> WantFault {
+        WantFault::Memory
+    }
+}
+
+/// 1 to 8 links, by their places from 0 on, and the list of the targets that were asked for.
+pub trait Links {
+    /// The links, how often those failed that are gone, and the targets.
+    ghost links: { Self → LinksState };
+
+    /// How many links there are.
+    fn sources(&self) -> u32
+        ensures count { result ≡ (links self.now).sources }
+        ensures some { 1 ≤ result }
+        ensures within { result ≤ LINK_LIMIT };
+
+    /// Adds the target to those that were asked for. Without memory nothing changes.
+    fn want(&mut self, alloc: Global, target: &Target) -> Result<(), WantFault>
+        ensures { Wants target.now (links self.old) (links self.new) result };
+
+    /// Asks the link at the place for the target that was added last. See `Link::ask`.
+    fn ask(&mut self, alloc: Global, place: u32, target: &Target) -> Result<u64, LinkFault>
+        requires place { place < (links self.old).sources }
+        requires wanted { IsLast target.now (links self.old).asked }
+        ensures asks { Asks target.now ((links self.old).link place) ((links self.new).link place) result }
+        ensures only { ChangesOnly place (links self.old) (links self.new) };
+
+    /// Takes a piece of the rest of the link at the place. See `Link::piece`.
+    fn piece(&mut self, place: u32, buf: &mut [u8]) -> Result<usize, LinkFault>
+        requires place { place < (links self.old).sources }
+        requires room { 0 < length buf.old }
+        ensures takes { Takes ((links self.old).link place) ((links self.new).link place) buf.old buf.new result }
+        ensures only { ChangesOnly place (links self.old) (links self.new) };
+
+    /// How often the link at the place failed. The count never falls.
+    fn faults(&self, place: u32) -> u64
+        requires { place < (links self.now).sources }
+        ensures { result ≡ ((links self.now).link place).count };
+
+    /// How often links failed, those that are gone included. The count never falls.
+    fn failures(&self) -> u64
+        ensures { result ≡ failures_of (links self.now) };
+}
+
+/// One link.
+#[derive(Drop, Debug)]
+pub struct Single<K: Link> {
+    pub link: K,
+    /// The targets that were asked for.
+    pub asked: List<Target>,
+}
+
+impl<K: Link> Links for Single<K> {
+    ghost links = { λ s. record { sources = 1; link = λ _. K.state s.link; gone = 0; asked = s.asked } };
+
+    fn sources(&self) -> u32 {
+        1
+    }
+
+    fn want(&mut self, alloc: Global, target: &Target) -> Result<(), WantFault> {
+        self.asked.push(target.copy(alloc)?)?;
+        Ok(())
+    }
+
+    fn ask(&mut self, alloc: Global, _place: u32, target: &Target) -> Result<u64, LinkFault> {
+        self.link.ask(alloc, target)
+    }
+
+    fn piece(&mut self, _place: u32, buf: &mut [u8]) -> Result<usize, LinkFault> {
+        self.link.piece(buf)
+    }
+
+    fn faults(&self, _place: u32) -> u64 {
+        self.link.faults()
+    }
+
+    fn failures(&self) -> u64 {
+        self.link.faults()
+    }
+}
