@@ -1,0 +1,5 @@
+use Rattle.machine.proofs.InstallApps.{is_current}
+use Rattle.machine.proofs.install_laws.installs_are_current.Goals as goal
+
+pub returns : goal.returns
+returns g c = λ says locals url heard now old reply new is. is_current is

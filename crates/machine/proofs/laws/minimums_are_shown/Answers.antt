@@ -1,0 +1,5 @@
+use Rattle.machine.proofs.Raising.{minimum_shown}
+use Rattle.machine.proofs.laws.minimums_are_shown.Goals as goal
+
+pub returns : goal.returns
+returns c = minimum_shown

@@ -1,0 +1,18 @@
+use Rattle.machine.specs.Machine.{refusals}
+use Rattle.machine.proofs.Choosing.{none_refuses, one_refuses}
+use Rattle.machine.proofs.InstallExact.{address_exact, deployment_exact, release_exact}
+use Rattle.machine.proofs.Refusals.{require_exact}
+use Rattle.machine.proofs.laws.one_refusal_is_given.Goals as goal
+
+pub returns-clause-rows : goal.returns-clause-rows
+returns-clause-rows c = record {
+  at = λ now heard shape next. tt;
+  require = λ now heard shape key version. require_exact key shape;
+  install = record { address = address_exact; deployment = deployment_exact; release = release_exact };
+}
+
+pub returns-clause-one : goal.returns-clause-one
+returns-clause-one c = λ now heard shape command. one_refuses (refusals now heard shape command)
+
+pub returns-clause-none : goal.returns-clause-none
+returns-clause-none c = λ now heard shape command. none_refuses (refusals now heard shape command)

@@ -1,0 +1,9 @@
+use Rattle.machine.proofs.Example.{store, used}
+use Rattle.machine.proofs.Keeping.{empty_sound}
+use Rattle.machine.proofs.laws.some_stores_are_sound.Goals as goal
+
+pub returns-clause-empty : goal.returns-clause-empty
+returns-clause-empty c = empty_sound
+
+pub returns-clause-used : goal.returns-clause-used
+returns-clause-used c = (store, used)

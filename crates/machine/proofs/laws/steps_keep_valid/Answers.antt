@@ -1,0 +1,5 @@
+use Rattle.machine.proofs.Stepping.{step_valid}
+use Rattle.machine.proofs.laws.steps_keep_valid.Goals as goal
+
+pub returns : goal.returns
+returns c = step_valid

@@ -1,0 +1,83 @@
+-- The machine: what an event may answer, and what it leaves.
+use Rattle.std.specs.Prelude.{◌≡◌, ℕ, List, [], ◌∷◌, Option, Some, None, unwrap_or}
+use Rattle.machine.specs.declared.command.Command.{Command}
+use Rattle.machine.specs.declared.command.Command.TheVariants.{At, Require, Install}
+use Rattle.machine.specs.declared.event.Event.{Event}
+use Rattle.machine.specs.declared.event.Event.TheVariants.{Boot, Line, Unread}
+use Rattle.machine.specs.declared.event.Heard.{Heard}
+use Rattle.machine.specs.declared.reply.Reply.{Reply}
+use Rattle.machine.specs.declared.reply.Reply.TheVariants as says
+use Rattle.machine.specs.AtRow.{at_refusals, at_effect}
+use Rattle.machine.specs.RequireRow.{require_refusals, require_effect}
+use Rattle.machine.specs.InstallRow.{HearsRelease, InstallEffect, install_refusals}
+use Rattle.machine.specs.InstallReplies.{install_replies}
+use Rattle.machine.specs.declared.views.TheConstants.{INSTALLED_LOCALS}
+use Rattle.machine.specs.Rows.{Refusal, maybe, FirstOf}
+use Rattle.machine.specs.Shape.{Shape, shape_of}
+use Rattle.machine.specs.Store.{Session, booted}
+
+-- ---- commands
+
+-- the manifest texts that a command may hear
+abbrev pub Hears : Shape → Command → List (List ℕ) → Type 0
+Hears shape (At next) heard = heard ≡ []
+Hears shape (Require key version) heard = heard ≡ []
+Hears shape (Install url) heard = HearsRelease install_replies url shape heard
+
+-- the refusals of a command at a moment, in their order, by what it heard and by the shape of the store
+abbrev pub refusals : ℕ → List (List ℕ) → Shape → Command → List (Refusal Reply Session)
+refusals now heard shape (At next) = at_refusals
+refusals now heard shape (Require key version) = require_refusals key shape
+refusals now heard shape (Install url) =
+    install_refusals install_replies INSTALLED_LOCALS url heard shape
+
+-- its effect where none of them holds
+abbrev pub effect : ℕ → List (List ℕ) → Command → Session → Reply → Session → Type 0
+effect now heard (At next) = at_effect next
+effect now heard (Require key version) = require_effect key version
+effect now heard (Install url) = InstallEffect install_replies url heard now
+
+-- Any command may find no memory, which changes nothing. Else the first refusal that holds is the reply, and where none
+-- holds the effect is that of the row.
+abbrev pub Answers : ℕ → List (List ℕ) → Session → Command → Reply → Session → Type 0
+Answers now heard old command reply new =
+    FirstOf (maybe says.Memory ∷ refusals now heard (shape_of old.store) command)
+    (effect now heard command) old reply new
+
+-- ---- events
+
+-- a line is run at the session's moment, hears what its command may hear, and is answered
+pub record IsLineStep (now : ℕ) (old : Session) (command : Command) (at : ℕ) (heard : Heard)
+    (reply : Option Reply) (new : Session) : Type 0 where
+  pub moment : at ≡ now
+  pub hears : Hears (shape_of old.store) command heard.texts
+  pub answer : Reply
+  pub replied : reply ≡ Some answer
+  pub answers : Answers now heard.texts old command answer new
+
+-- from old, the event may give this reply at this moment and lead to new
+abbrev pub Step : ℕ → Session → Event → Option Reply → Session → Type 0
+-- a boot has no reply
+Step now old (Boot boot) reply new =
+    (reply ≡ None) × (new ≡ record old { store = booted boot old.store })
+Step now old (Line command at heard) reply new = IsLineStep now old command at heard reply new
+-- a line that is no command is answered with its fault, and changes nothing
+Step now old (Unread fault) reply new = (reply ≡ Some (says.Line fault)) × (new ≡ old)
+
+-- the moment that a reply sets: that of an answered `at`
+abbrev pub moment_set : Option Reply → Option ℕ
+moment_set (Some (says.At next)) = Some next
+moment_set _ = None
+
+-- the moment of the next line
+abbrev pub moment_after : ℕ → Option Reply → ℕ
+moment_after now reply = unwrap_or (moment_set reply) now
+
+-- one step after another, from a moment on
+abbrev pub Run : ℕ → Session → List Event → List (Option Reply) → Session → Type 0
+Run now old [] [] new = new ≡ old
+Run now old [] (reply ∷ replies) new = ⊥
+Run now old (event ∷ events) [] new = ⊥
+Run now old (event ∷ events) (reply ∷ replies) new =
+    (mid : Session) × Step now old event reply mid
+    × Run (moment_after now reply) mid events replies new

@@ -1,0 +1,54 @@
+-- A store without the bytes of its files: what tables have as it stands, and what refusals are about.
+use Rattle.std.specs.Prelude.{ℕ, List, length, map}
+use Rattle.small_types.specs.declared.target.Target.{Target}
+use Rattle.manifests.specs.declared.facts.Application.{Application}
+use Rattle.manifests.specs.declared.facts.Deployment.{Deployment}
+use Rattle.machine.specs.declared.app.AppState.{AppState}
+use Rattle.machine.specs.declared.lease.Lease.{Lease}
+use Rattle.machine.specs.Store.{Store}
+use Rattle.machine.specs.Views.{DataFile, View}
+
+pub record BareData : Type 0 where
+  pub name : List ℕ
+  pub length : ℕ
+
+pub record BareView : Type 0 where
+  pub number : ℕ
+  pub deployment : Deployment
+  pub application : Application
+  pub base : Target
+  pub groups : List (List ℕ)
+  pub data_files : List BareData
+
+pub record Shape : Type 0 where
+  pub blocks : ℕ
+  pub boot : ℕ
+  pub next_view : ℕ
+  pub next_lease : ℕ
+  pub leases : List Lease
+  pub views : List BareView
+  pub apps : List AppState
+
+abbrev pub bare_data : DataFile → BareData
+bare_data file = record { name = file.name; length = length file.bytes }
+
+abbrev pub bare_view : View → BareView
+bare_view view = record {
+  number = view.number;
+  deployment = view.deployment;
+  application = view.application;
+  base = view.base;
+  groups = view.groups;
+  data_files = map bare_data view.data_files;
+}
+
+abbrev pub shape_of : Store → Shape
+shape_of store = record {
+  blocks = store.blocks;
+  boot = store.boot;
+  next_view = store.next_view;
+  next_lease = store.next_lease;
+  leases = store.leases;
+  views = map bare_view store.views;
+  apps = store.apps;
+}

@@ -1,0 +1,27 @@
+-- Events as a session makes them: their words keep their forms.
+use Rattle.std.specs.Prelude.{◌≤◌, ℕ, List, All, length}
+use Rattle.small_types.specs.declared.limits.TheConstants.{NUMBER_LIMIT, URL_LIMIT}
+use Rattle.identity.specs.Key.{IsKey}
+use Rattle.identity.specs.Version.{IsVersion}
+use Rattle.machine.specs.declared.command.Command.{Command}
+use Rattle.machine.specs.declared.command.Command.TheVariants.{At, Require, Install}
+use Rattle.machine.specs.declared.event.Event.{Event}
+use Rattle.machine.specs.declared.event.Event.TheVariants.{Boot, Line, Unread}
+
+-- an address as a line gives it: 1 to 2,048 bytes, each from 33 to 126
+pub record IsUrl (url : List ℕ) : Type 0 where
+  pub some : 1 ≤ length url
+  pub few : length url ≤ URL_LIMIT
+  pub visible : All (λ (b : ℕ). (33 ≤ b) × (b ≤ 126)) url
+
+-- the words of a command have their forms
+abbrev pub IsCommand : Command → Type 0
+IsCommand (At now) = now ≤ NUMBER_LIMIT
+IsCommand (Require key version) = IsKey key × IsVersion version
+IsCommand (Install url) = IsUrl url
+
+-- numbers are at most 2 ^ 62, and the words of a command have their forms
+abbrev pub IsEvent : Event → Type 0
+IsEvent (Boot boot) = boot ≤ NUMBER_LIMIT
+IsEvent (Line command now heard) = IsCommand command × (now ≤ NUMBER_LIMIT)
+IsEvent (Unread fault) = Unit {0}

@@ -1,0 +1,30 @@
+// What a session line asks for.
+use identity::{Key, Version};
+use small_types::Bytes;
+
+/// A command of a session line.
+#[derive(Drop, Debug, PartialEq, Eq)]
+pub enum Command {
+    /// `at N`: the session's moment is this one, in seconds, from the next line on.
+    At { now: u64 },
+    /// `require KEY V`: the application's minimum is the greater of what it was and this version.
+    Require { key: Key, version: Version },
+    /// `install URL`: the release whose deployment manifest is at the address becomes the current view of its
+    /// application.
+    Install { url: Bytes },
+}
+
+/// Why a line is no command, in the order in which the causes are looked for.
+#[derive(Clone, Copy, Debug, PartialEq, Eq)]
+pub enum LineFault {
+    /// It has more than 65,536 bytes.
+    LineTooLong,
+    /// Its first word is no command's name. The empty line has an empty first word.
+    NoSuchCommand,
+    /// It has too few words or too many.
+    WordCount,
+    /// The first word that cannot be read. The one after the command is 1.
+    BadWord { place: u8 },
+    /// Its reading found no memory.
+    Memory,
+}

@@ -1,0 +1,35 @@
+//! What a session's lines ask for and answer, and the machine that they are steps of. It stands on no device and has no
+//! tables: what a store is here has whole bytes.
+#![tactic(auto)]
+
+mod app;
+mod command;
+mod due;
+mod event;
+mod install_laws;
+mod laws;
+mod lease;
+mod reply;
+mod report;
+mod views;
+
+pub use app::AppState;
+pub use command::{Command, LineFault};
+pub use due::Due;
+pub use event::{Event, Heard};
+pub use install_laws::{
+    installs_are_current, installs_keep_minimums, installs_keep_sound, installs_keep_valid,
+    migrations_are_one, one_install_is_given, stores_may_be_updated, wanted_files_suffice,
+};
+pub use laws::{
+    addresses_are_short, blocks_are_counted, commands_are_answered, contents_are_compared,
+    entries_stay_in_order, memory_changes_nothing, minimums_are_shown, minimums_never_fall,
+    moments_are_set, one_entry_is_changed, one_refusal_is_given, read_addresses_may_be_held,
+    read_manifests_may_be_held, refusals_change_nothing, refusals_come_in_order,
+    sessions_stay_sound, some_stores_are_sound, steps_keep_numbers, steps_keep_sound,
+    steps_keep_valid,
+};
+pub use lease::Lease;
+pub use reply::Reply;
+pub use report::{Report, ReportLine};
+pub use views::INSTALLED_LOCALS;

@@ -1,0 +1,71 @@
+// What a line answers.
+use crate::LineFault;
+use causes::Cause;
+use identity::{Key, Version};
+use manifest_parts::ManifestFault;
+use manifests::ReleaseFault;
+use small_types::{Limit, List, Target};
+
+/// The answer of a line.
+#[derive(Drop, Debug, PartialEq, Eq)]
+pub enum Reply {
+    /// The session's moment from the next line on.
+    At {
+        now: u64,
+    },
+    /// The minimum that holds after the line.
+    Minimum {
+        version: Version,
+    },
+    /// This version of the application is installed, as the view of this number.
+    Installed {
+        key: Key,
+        version: Version,
+        view: u64,
+    },
+    /// The version that is current, which the heard one is not above.
+    NotNewer {
+        have: Version,
+    },
+    /// The minimum of the application, below which the version is that would become current.
+    BelowMinimum {
+        minimum: Version,
+    },
+    /// The line would take a count above its limit.
+    TooMany {
+        what: Limit,
+        limit: u64,
+    },
+    /// The number that is next, which is the greatest there may be, so that none is left to give.
+    Spent {
+        next: u64,
+    },
+    /// The blocks that the line needs, and those that are free, which are fewer.
+    Full {
+        need: u64,
+        free: u64,
+    },
+    /// No link gave the target: one cause for each link, in their order.
+    AllLinks {
+        target: Target,
+        causes: List<Cause>,
+    },
+    /// Why a manifest is refused.
+    Manifest {
+        fault: ManifestFault,
+    },
+    /// Why the two manifests are not those of one release.
+    Release {
+        fault: ReleaseFault,
+    },
+    /// An address that is no URL within its limit, or that names no host.
+    BadUrl,
+    /// An address of another scheme than `http`.
+    NotHttp,
+    /// The line is no command.
+    Line {
+        fault: LineFault,
+    },
+    /// The line found no memory. It changed nothing.
+    Memory,
+}
