@@ -1,5 +1,15 @@
-pub mod Places
+pub mod Current
+pub mod Holding
+pub mod Indexed
+pub mod Keyed
+pub mod Numbered
+pub mod Orders
+pub mod Passing
 pub mod Replay
 pub mod Required
-pub mod Runs
+pub mod Searching
+pub mod Showing
+pub mod SignOrder
+pub mod Sums
+pub mod Used
 pub mod Validity

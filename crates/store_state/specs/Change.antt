@@ -1,27 +1,89 @@
--- Changes of a store: which fit, and what they do.
-use Rattle.std.specs.Prelude.{◌≡◌, ◌≤◌, ◌^◌, List, [], ◌∷◌, length}
+-- Changes of tables: which fit, and what they do.
+use Rattle.std.specs.Prelude.{◌≡◌, ◌+◌, ◌<◌, ◌≤◌, ◌==◌, if◌then◌else◌, ℕ, not, List, [], ◌∷◌, ◌++◌, All, AllPairs, count_by, length, None}
+use Rattle.std.specs.declared.cmp.Ordering.TheVariants.{Less}
+use Rattle.small_types.specs.declared.limits.TheConstants.{APPLICATION_LIMIT, FILE_COUNT_LIMIT, LOCAL_COUNT_LIMIT, LOCAL_NAME_LIMIT, NUMBER_LIMIT, VIEW_LIMIT}
+use Rattle.small_types.specs.declared.target.Target.{Target}
+use Rattle.small_types.specs.Name.{IsBelowPre, IsName}
+use Rattle.identity.specs.Printed.{text_cmp}
 use Rattle.identity.specs.Version.{IsVersion}
-use Rattle.identity.specs.Key.{IsKey}
+use Rattle.manifests.specs.Applications.{is_below_pre}
+use Rattle.machine.specs.Entries.{entry_of, with_entry}
+use Rattle.machine.specs.Fields.{IsApplication, IsDeployment, IsShortKey, IsTarget}
+use Rattle.machine.specs.Installed.{installed_app}
+use Rattle.machine.specs.RequireRow.{required}
+use Rattle.machine.specs.Views.{standing_entries}
 use Rattle.store_state.specs.declared.change.Change.{Change}
-use Rattle.store_state.specs.declared.change.Change.TheVariants.{Boot, Require}
-use Rattle.store_state.specs.Store.{Store, require}
+use Rattle.store_state.specs.declared.change.Change.TheVariants.{Boot, Require, Install}
+use Rattle.store_state.specs.declared.view.Content.{Content}
+use Rattle.store_state.specs.declared.view.LocalFile.{LocalFile}
+use Rattle.store_state.specs.declared.view.View.{View}
+use Rattle.store_state.specs.Contents.{Brings}
+use Rattle.store_state.specs.Rows.{listed_files}
+use Rattle.store_state.specs.Tables.{Tables}
 
--- a change may be made in a store
-abbrev pub Fits : Store → Change → Type 0
-Fits old (Boot boot) = boot ≤ 2 ^ 62
-Fits old (Require key version) = IsKey key × IsVersion version × (length (require key version old.apps) ≤ 256)
+-- ---- views
 
--- a change that only stores a number
-abbrev pub IsBoot : Change → Type 0
-IsBoot (Boot boot) = Unit {0}
-IsBoot (Require key version) = ⊥
+-- a data file has a name within its limit, and as many bytes as its length says
+pub record IsLocal (file : LocalFile) : Type 0 where
+  pub name : IsName file.name
+  pub short : ¬ IsBelowPre file.name → length file.name ≤ LOCAL_NAME_LIMIT
+  pub measured : length file.bytes ≡ file.length
 
--- what it leaves
-abbrev pub effect : Change → Store → Store
-effect (Boot boot) old = record old { boot = boot }
-effect (Require key version) old = record old { apps = require key version old.apps }
+-- what manifests can say, an address within its limits, and data files in order of their names, few enough
+pub record IsRow (view : View) : Type 0 where
+  pub deployment : IsDeployment view.deployment
+  pub application : IsApplication view.application
+  pub base : IsTarget view.base
+  pub order : AllPairs (λ (f g : LocalFile). text_cmp f.name g.name ≡ Less) view.locals
+  pub locals : All IsLocal view.locals
+  pub few : count_by (λ file. not (is_below_pre file.name)) view.locals ≤ LOCAL_COUNT_LIMIT
+
+-- ---- changes
+
+-- An install brings the next view, whose manifests could be read and in which no group stands yet, and exactly the contents
+-- that the tables lack. No limit is exceeded.
+pub record FitsInstall (old : Tables) (view : View) (contents : List Content) (provider : Target) (now : ℕ)
+    : Type 0 where
+  pub number : view.number ≡ old.next_view
+  pub next : old.next_view < NUMBER_LIMIT
+  pub moment : now ≤ NUMBER_LIMIT
+  pub row : IsRow view
+  pub groups : view.groups ≡ []
+  pub has_provider : IsTarget provider
+  pub brings : Brings old.contents (standing_entries view.groups view.application) contents
+  pub application : entry_of view.deployment.identity.key old.apps ≡ None
+      → length old.apps < APPLICATION_LIMIT
+  pub views : length old.views < VIEW_LIMIT
+  pub files : listed_files old.views + length view.application.files ≤ FILE_COUNT_LIMIT
+
+-- A change may be made: no limit is exceeded, and a new application finds fewer than may be. That a part of a key is
+-- empty is no hindrance.
+abbrev pub Fits : Tables → Change → Type 0
+Fits old (Boot boot) = boot ≤ NUMBER_LIMIT
+Fits old (Require key version) =
+    IsShortKey key × IsVersion version × (entry_of key old.apps ≡ None → length old.apps < APPLICATION_LIMIT)
+Fits old (Install view contents provider now) = FitsInstall old view contents provider now
+
+-- what takes memory: an entry that is made, and an install
+abbrev pub TakesMemory : Tables → Change → Type 0
+TakesMemory old (Boot boot) = ⊥
+TakesMemory old (Require key version) = entry_of key old.apps ≡ None
+TakesMemory old (Install view contents provider now) = Unit {0}
+
+-- what it leaves; another boot number ends all leases
+abbrev pub effect : Change → Tables → Tables
+effect (Boot boot) old =
+    record old { boot = boot; leases = if old.boot == boot then old.leases else [] }
+effect (Require key version) old = record old { apps = required key version old.apps }
+effect (Install view contents provider now) old = record old {
+  next_view = old.next_view + 1;
+  views = old.views ++ view ∷ [];
+  apps = with_entry view.deployment.identity.key
+      (installed_app view.number view.deployment provider now) old.apps;
+  contents = old.contents ++ contents;
+}
 
 -- one change after another leads from old to new, and each fits
-abbrev pub Replays : Store → List Change → Store → Type 0
+abbrev pub Replays : Tables → List Change → Tables → Type 0
 Replays old [] new = new ≡ old
 Replays old (change ∷ changes) new = Fits old change × Replays (effect change old) changes new

@@ -1,3 +1,8 @@
 pub mod Change
-pub mod Step
-pub mod Store
+pub mod Contents
+pub mod Kept
+pub mod Laws
+pub mod Rows
+pub mod Shows
+pub mod Signs
+pub mod Tables

@@ -1,21 +1,26 @@
-//! The tables of a client's store, what happens to them, and the machine that they are a state of.
+//! The tables of a client's store, the changes of them that a journal keeps, and the store that they show.
 #![tactic(auto)]
 
-mod app;
+mod bringing;
 mod change;
-mod command;
-mod event;
-mod reply;
-mod report;
+mod contents;
+mod entries;
+mod fields;
+mod fitting;
+mod installing;
+mod laws;
+mod reading;
+mod sign;
 mod state;
+mod view;
+mod views;
 
-pub use app::AppState;
 pub use change::Change;
-pub use command::{Command, LineFault};
-pub use event::{Event, Heard};
-pub use reply::Reply;
-pub use report::{Report, ReportLine};
+pub use laws::{
+    changes_show_ordered_stores, installs_show_the_view, one_store_is_shown, shapes_are_shown,
+};
 pub use state::{StateFault, StoreState};
+pub use view::{Content, LocalFile, View};
 
 #[cfg(test)]
 mod tests;

@@ -1,24 +1,21 @@
 // The tables in memory.
-ghost use Rattle.std.specs.Prelude.{◌≡◌, ◌+◌, ◌<◌, ◌≤◌, length, Ok, Some, slice_set, IfOk, OnOk, OnErr, IsTrue, ◌↔◌, ◌^◌};
-ghost use Rattle.std.specs.Cmp.Lexicographic.{slice_cmp};
-ghost use Rattle.std.specs.List.{insert, remove, HoldsAt};
-ghost use Rattle.std.specs.List.Sorted.{IsBinarySearchResult, IsSearchInRange};
-ghost use Rattle.std.specs.Option.{option_copied};
-ghost use Rattle.std.specs.Ordering.{nat_cmp};
-ghost use Rattle.identity.specs.declared.version.Version.{Version};
-ghost use Rattle.identity.specs.Version.{IsVersion};
-ghost use Rattle.identity.specs.Key.{IsKey};
-ghost use Rattle.store_state.specs.Store.{empty, entry_of, require, raised, raised_app};
-ghost use Rattle.store_state.specs.Change.{Fits, IsBoot, effect};
+ghost use Rattle.std.specs.Prelude.{◌≡◌, length, Ok, None, OnOk, OnErr};
+ghost use Rattle.machine.specs.Entries.{entry_of, with_entry};
+ghost use Rattle.machine.specs.Installed.{installed_app};
+ghost use Rattle.machine.specs.RequireRow.{required};
+ghost use Rattle.store_state.specs.declared.change.Change.TheVariants as change;
+ghost use Rattle.store_state.specs.Change.{Fits, TakesMemory, effect};
+ghost use Rattle.store_state.specs.Tables.{empty};
 
-use crate::{AppState, Change};
-use identity::{Key, PrintFault, Version};
-use small_types::limits::{APPLICATION_LIMIT, NUMBER_LIMIT};
-use small_types::{List, Text};
-use std::alloc::Global;
-use std::cmp::Ordering;
+use crate::entries::{insert_both, new_entry, place_of, raise_at};
+use crate::installing::{add_rows, cut, install_app};
+use crate::sign::{Sign, add_signs, signs_of};
+use crate::{Change, Content, View};
+use identity::{Key, Version};
+use machine::{AppState, Lease};
+use small_types::{CopyFault, List, PrintFault, Target, Text};
+use std::alloc::{AllocError, AllocFailed, Global};
 use std::marker::Model;
-use std::mem::replace;
 
 /// Why a call on the tables failed.
 #[derive(Clone, Copy, Debug, PartialEq, Eq)]
@@ -27,226 +24,181 @@ pub enum StateFault {
     Memory,
 }
 
+impl<T: Drop> From<AllocFailed<T>> for StateFault {
+    fn from(_: AllocFailed<T>) -> StateFault {
+        StateFault::Memory
+    }
+}
+
+impl From<AllocError> for StateFault {
+    fn from(_: AllocError) -> StateFault {
+        StateFault::Memory
+    }
+}
+
 impl From<PrintFault> for StateFault {
     fn from(_: PrintFault) -> StateFault {
         StateFault::Memory
     }
 }
 
-/// The tables of a store. Contracts see them as the store.
+impl From<CopyFault> for StateFault {
+    fn from(_: CopyFault) -> StateFault {
+        StateFault::Memory
+    }
+}
+
+/// The tables of a store. Contracts see them without their indexes.
 #[derive(Drop, Debug)]
 pub struct StoreState {
     pub boot: u64,
+    /// The number of the next view.
+    pub next_view: u64,
+    /// The number of the next lease.
+    pub next_lease: u64,
+    /// The leases, in order of their numbers.
+    pub leases: List<Lease>,
+    /// The views, in order of their numbers.
+    pub views: List<View>,
     /// The applications, in order of their printed keys.
     pub apps: List<AppState>,
+    /// The contents of the program files that stand in views.
+    pub contents: List<Content>,
     // The printed keys of the applications, by which one is found.
-    keys: List<Text>,
+    pub(crate) keys: List<Text>,
+    // The signs of the contents in order, by which one is found.
+    pub(crate) index: Vec<Sign>,
 }
 
 impl Model for StoreState {
     ghost use Rattle.std.specs.Prelude.{◌≡◌, map};
     ghost use Rattle.identity.specs.Key.{key_text};
-    ghost use Rattle.store_state.specs.Store.{Store, AreInOrder};
+    ghost use Rattle.store_state.specs.Kept.{AreTables};
+    ghost use Rattle.store_state.specs.Signs.{IsIndex, content_sign};
+    ghost use Rattle.store_state.specs.Tables.{Tables};
 
-    ghost Value = { Store };
+    ghost Value = { Tables };
 
-    ghost view = { λ s. record { boot = s.boot; apps = s.apps } };
+    ghost view = { λ s. record {
+      boot = s.boot;
+      next_view = s.next_view;
+      next_lease = s.next_lease;
+      leases = s.leases;
+      views = s.views;
+      apps = s.apps;
+      contents = s.contents;
+    } };
 
-    ghost invariant = { λ s. (s.keys ≡ map (λ app. key_text app.key) s.apps) × AreInOrder s.apps };
-}
-
-// How a printed key compares with a text.
-fn text_order(key: &Text, text: &[u8]) -> Ordering
-    ensures { result ≡ slice_cmp nat_cmp key.now text.now }
-{
-    key.as_bytes().cmp(&text)
-}
-
-// Where a key with that text stands among printed keys in order, or where it would go.
-fn place_of(keys: &[Text], text: &[u8]) -> Result<usize, usize>
-    ensures range { IsSearchInRange result (length keys.now) }
-    ensures found { IsBinarySearchResult (λ key. slice_cmp nat_cmp key text.now) keys.now result }
-{
-    keys.binary_search_by(|key| text_order(key, text))
-}
-
-// Puts the item at the place. An `Err` changes nothing.
-fn insert_at<T: Drop>(
-    alloc: Global,
-    list: &mut List<T>,
-    place: usize,
-    item: T,
-) -> Result<(), StateFault>
-    requires { place ≤ length list.old }
-    ensures ok { OnOk result (list.new ≡ insert list.old place item) }
-    ensures err { OnErr result (list.new ≡ list.old) }
-{
-    let mut items = replace(list, List::from_vec(Vec::new(alloc))).into_vec();
-    let done = items.insert(place, item);
-    *list = List::from_vec(items);
-    match done {
-        Ok(()) => Ok(()),
-        Err(_) => Err(StateFault::Memory),
-    }
-}
-
-// Takes the item at the place out.
-fn remove_at<T: Drop>(alloc: Global, list: &mut List<T>, place: usize)
-    requires { place < length list.old }
-    ensures { list.new ≡ remove list.old place }
-{
-    let mut items = replace(list, List::from_vec(Vec::new(alloc))).into_vec();
-    let _ = items.remove(place);
-    *list = List::from_vec(items);
-}
-
-// The greater of the minimum that holds, where one does, and the version.
-fn raised_minimum(minimum: Option<Version>, version: Version) -> Version
-    ensures { result ≡ raised minimum version }
-{
-    match minimum {
-        None => version,
-        Some(minimum) => minimum.greater(version),
-    }
-}
-
-// Raises the minimum of the application at the place.
-fn raise_at(alloc: Global, apps: &mut List<AppState>, place: usize, version: Version)
-    requires { place < length apps.old }
-    ensures { HoldsAt (λ app. apps.new ≡ slice_set apps.old place (raised_app app version)) apps.old place }
-{
-    let mut items = replace(apps, List::from_vec(Vec::new(alloc))).into_vec();
-    let app = &mut items[place];
-    app.minimum = Some(raised_minimum(app.minimum, version));
-    *apps = List::from_vec(items);
-}
-
-// Puts the key and the application at the place, both or neither.
-fn insert_both(
-    alloc: Global,
-    keys: &mut List<Text>,
-    apps: &mut List<AppState>,
-    place: usize,
-    text: Text,
-    app: AppState,
-) -> Result<(), StateFault>
-    requires keys { place ≤ length keys.old }
-    requires apps { place ≤ length apps.old }
-    ensures keys { OnOk result (keys.new ≡ insert keys.old place text) }
-    ensures apps { OnOk result (apps.new ≡ insert apps.old place app) }
-    ensures same_keys { OnErr result (keys.new ≡ keys.old) }
-    ensures same_apps { OnErr result (apps.new ≡ apps.old) }
-{
-    insert_at(alloc, keys, place, text)?;
-    let Ok(()) = insert_at(alloc, apps, place, app) else {
-        remove_at(alloc, keys, place);
-        return Err(StateFault::Memory);
-    };
-    Ok(())
+    ghost invariant = { λ s. (s.keys ≡ map (λ app. key_text app.key) s.apps) × AreTables (record {
+      boot = s.boot;
+      next_view = s.next_view;
+      next_lease = s.next_lease;
+      leases = s.leases;
+      views = s.views;
+      apps = s.apps;
+      contents = s.contents;
+    }) × IsIndex (map content_sign s.contents) s.index.items };
 }
 
 impl StoreState {
-    /// The tables of the empty store: boot number 0, and no application. It takes no memory, and does not fail.
+    /// The tables of the empty store: boot number 0, the next numbers 1, and nothing else. It takes no memory, and does not
+    /// fail.
     pub fn empty(alloc: Global) -> Result<StoreState, StateFault>
         ensures { result ≡ Ok empty }
     {
         Ok(StoreState {
             boot: 0,
+            next_view: 1,
+            next_lease: 1,
+            leases: List::from_vec(Vec::new(alloc)),
+            views: List::from_vec(Vec::new(alloc)),
             apps: List::from_vec(Vec::new(alloc)),
+            contents: List::from_vec(Vec::new(alloc)),
             keys: List::from_vec(Vec::new(alloc)),
+            index: Vec::new(alloc),
         })
     }
 
-    /// How many applications there are.
-    pub fn count(&self) -> usize
-        ensures { result ≡ length self.now.apps }
-    {
-        self.apps.as_slice().len()
-    }
-
-    /// What is known of the application with that key, where anything is. It prints the key, and fails only for want
-    /// of memory.
-    pub fn entry(&self, alloc: Global, key: &Key) -> Result<Option<&AppState>, StateFault>
-        ensures { IfOk result (λ found. option_copied found ≡ entry_of key.now self.now.apps) }
-    {
-        let text = key.print(alloc)?;
-        match place_of(self.keys.as_slice(), text.as_bytes()) {
-            Ok(place) => Ok(Some(&self.apps.as_slice()[place])),
-            Err(_) => Ok(None),
-        }
-    }
-
-    /// Whether the change may be made: a boot number is at most 2 ^ 62, a key's parts are within their limits, and there
-    /// are at most 256 applications then. It prints a key only where 256 are there, and fails only for want of memory.
-    pub fn fits(&self, alloc: Global, change: &Change) -> Result<bool, StateFault>
-        ensures { IfOk result (λ b. IsTrue b ↔ Fits self.now change.now) }
-    {
-        match change {
-            Change::Boot { boot } => Ok(*boot <= NUMBER_LIMIT),
-            Change::Require { key, version } => self.fits_require(alloc, key, *version),
-        }
-    }
-
-    // Whether that version may be required of the key.
-    fn fits_require(&self, alloc: Global, key: &Key, version: Version) -> Result<bool, StateFault>
-        ensures { IfOk result (λ b. IsTrue b ↔ (IsKey key.now × IsVersion version × (length (require key.now version self.now.apps) ≤ 256))) }
-    {
-        Ok(key.is_key() && self.has_room(alloc, key)?)
-    }
-
-    // Whether a version may be required of the key.
-    fn has_room(&self, alloc: Global, key: &Key) -> Result<bool, StateFault>
-        ensures { IfOk result (λ b. (version : Version) → (IsTrue b ↔ (length (require key.now version self.now.apps) ≤ 256))) }
-    {
-        let count = self.count();
-        if count < APPLICATION_LIMIT {
-            return Ok(true);
-        }
-        if APPLICATION_LIMIT < count {
-            return Ok(false);
-        }
-        match self.entry(alloc, key)? {
-            Some(_) => Ok(true),
-            None => Ok(false),
-        }
-    }
-
-    /// Makes a change that fits the store. It fails only for want of memory, and then changes nothing. A boot number
-    /// takes no memory.
+    /// Makes a change that fits the tables. It takes memory only for a new entry and for an install, fails only for want of
+    /// it, and then changes nothing.
     pub fn apply(&mut self, alloc: Global, change: Change) -> Result<(), StateFault>
         requires { Fits self.old change }
         ensures ok { OnOk result (self.new ≡ effect change self.old) }
         ensures err { OnErr result (self.new ≡ self.old) }
-        ensures boot { OnErr result (¬ IsBoot change) }
+        ensures memory { OnErr result (TakesMemory self.old change) }
     {
         match change {
             Change::Boot { boot } => {
-                self.boot = boot;
+                self.set_boot(alloc, boot);
                 Ok(())
             }
             Change::Require { key, version } => self.require(alloc, key, version),
+            Change::Install {
+                view,
+                contents,
+                provider,
+                now,
+            } => self.install(alloc, view, contents, provider, now),
+        }
+    }
+
+    // Another boot number than before ends all leases.
+    fn set_boot(&mut self, alloc: Global, boot: u64)
+        ensures { self.new ≡ effect (change.Boot boot) self.old }
+    {
+        if self.boot != boot {
+            self.boot = boot;
+            self.leases = List::from_vec(Vec::new(alloc));
         }
     }
 
     // Raises the minimum of the application, which has an entry from then on. An `Err` changes nothing.
     fn require(&mut self, alloc: Global, key: Key, version: Version) -> Result<(), StateFault>
-        ensures ok { OnOk result (self.new ≡ record self.old { apps = require key version self.old.apps }) }
+        ensures ok { OnOk result (self.new ≡ record self.old { apps = required key version self.old.apps }) }
         ensures err { OnErr result (self.new ≡ self.old) }
+        ensures memory { OnErr result (entry_of key self.old.apps ≡ None) }
     {
-        let text = key.print(alloc)?;
-        match place_of(self.keys.as_slice(), text.as_bytes()) {
+        match place_of(self.keys.as_slice(), &key) {
             Ok(place) => {
                 raise_at(alloc, &mut self.apps, place, version);
                 Ok(())
             }
             Err(place) => {
-                let app = AppState {
-                    key,
-                    minimum: Some(version),
-                };
+                let text = key.print(alloc)?;
+                let app = new_entry(key, version);
                 insert_both(alloc, &mut self.keys, &mut self.apps, place, text, app)?;
                 Ok(())
             }
         }
+    }
+
+    // Adds the view with its contents, as the current one of its application. An `Err` changes nothing.
+    fn install(
+        &mut self,
+        alloc: Global,
+        view: View,
+        contents: List<Content>,
+        provider: Target,
+        now: u64,
+    ) -> Result<(), StateFault>
+        requires { Fits self.old (change.Install view contents provider now) }
+        ensures ok { OnOk result (self.new ≡ effect (change.Install view contents provider now) self.old) }
+        ensures err { OnErr result (self.new ≡ self.old) }
+    {
+        let more = signs_of(alloc, contents.as_slice())?;
+        self.index.reserve(more.len())?;
+        let count = self.views.as_slice().len();
+        let held = self.contents.as_slice().len();
+        add_rows(alloc, &mut self.views, &mut self.contents, view, contents)?;
+        let added = &self.views.as_slice()[count];
+        let done = install_app(alloc, &mut self.keys, &mut self.apps, added, provider, now);
+        if let Err(fault) = done {
+            cut(alloc, &mut self.views, count);
+            cut(alloc, &mut self.contents, held);
+            return Err(fault);
+        }
+        add_signs(&mut self.index, more);
+        self.next_view += 1;
+        Ok(())
     }
 }

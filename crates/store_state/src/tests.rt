@@ -1,8 +1,9 @@
-use crate::{AppState, Change, StoreState};
+use crate::{Change, StoreState};
 use identity::{Key, Version};
 use small_types::Text;
 use small_types::limits::NUMBER_LIMIT;
 use std::alloc::Global;
+use std::process::Abort;
 use std::test::Fail;
 
 fn version(a: u16, b: u16) -> Version {
@@ -11,11 +12,20 @@ fn version(a: u16, b: u16) -> Version {
 
 // Makes the change, where it fits.
 fn make(alloc: Global, state: &mut StoreState, change: Change) -> Result<bool, Fail> {
-    if !state.fits(alloc, &change)? {
-        return Ok(false);
+    match state.fits(alloc, &change) {
+        Err(fault) => {
+            drop(change);
+            Err(fault.into())
+        }
+        Ok(false) => {
+            drop(change);
+            Ok(false)
+        }
+        Ok(true) => match state.apply(alloc, change) {
+            Ok(()) => Ok(true),
+            Err(fault) => Err(fault.into()),
+        },
     }
-    state.apply(alloc, change)?;
-    Ok(true)
 }
 
 fn require(
@@ -30,29 +40,38 @@ fn require(
 
 fn minimum(alloc: Global, state: &StoreState, word: &str) -> Result<Option<Version>, Fail> {
     let key = Key::read(alloc, word.as_bytes())?;
-    match state.entry(alloc, &key)? {
+    match state.entry(&key) {
         Some(app) => Ok(app.minimum),
         None => Ok(None),
     }
 }
 
-#[test]
-fn the_empty_store(rt: HostRuntime) -> Result<(), Fail> {
-    let state = StoreState::empty(rt.alloc())?;
+fn is_empty(rt: &impl Abort, alloc: Global, state: &mut StoreState) -> Result<(), Fail> {
     assert_eq!(rt; state.boot, 0);
+    assert_eq!(rt; state.next_view, 1);
+    assert_eq!(rt; state.next_lease, 1);
     assert_eq!(rt; state.count(), 0);
-    assert_eq!(rt; minimum(rt.alloc(), &state, "n,t,l,a")?, None);
+    assert_eq!(rt; state.view_count(), 0);
+    assert_eq!(rt; state.file_count(), 0);
+    assert_eq!(rt; state.used_blocks(), 0);
+    assert_eq!(rt; minimum(alloc, state, "n,t,l,a")?, None);
     Ok(())
 }
 
 #[test]
-fn applications_stand_in_order(rt: HostRuntime) -> Result<(), Fail> {
+fn the_empty_store(rt: HostRuntime) -> Result<(), Fail> {
     let mut state = StoreState::empty(rt.alloc())?;
+    let done = is_empty(&rt, rt.alloc(), &mut state);
+    drop(state);
+    done
+}
+
+fn keep_order(rt: &impl Abort, alloc: Global, state: &mut StoreState) -> Result<(), Fail> {
     // `,` is below `b`, and both below the `~` that stands for itself.
     for word in ["b,t,l,a", "ab,t,l,a", "a~,t,l,a", "a,t,l,a"] {
-        assert!(rt; require(rt.alloc(), &mut state, word, version(1, 0))?);
+        assert!(rt; require(alloc, state, word, version(1, 0))?);
     }
-    let mut names = String::new(rt.alloc());
+    let mut names = String::new(alloc);
     for app in state.apps.as_slice() {
         names.push_str(app.key.name.as_str())?;
         names.push(' ')?;
@@ -62,45 +81,65 @@ fn applications_stand_in_order(rt: HostRuntime) -> Result<(), Fail> {
 }
 
 #[test]
+fn applications_stand_in_order(rt: HostRuntime) -> Result<(), Fail> {
+    let mut state = StoreState::empty(rt.alloc())?;
+    let done = keep_order(&rt, rt.alloc(), &mut state);
+    drop(state);
+    done
+}
+
+fn only_rises(rt: &impl Abort, alloc: Global, state: &mut StoreState) -> Result<(), Fail> {
+    for (a, b, held) in [(1, 5, 5), (1, 4, 5), (1, 6, 6)] {
+        assert!(rt; require(alloc, state, "n,t,l,a", version(a, b))?);
+        assert_eq!(rt; minimum(alloc, state, "n,t,l,a")?, Some(version(1, held)));
+    }
+    assert_eq!(rt; minimum(alloc, state, "n,t,l,b")?, None);
+    assert_eq!(rt; state.count(), 1);
+    Ok(())
+}
+
+#[test]
 fn a_minimum_only_rises(rt: HostRuntime) -> Result<(), Fail> {
     let mut state = StoreState::empty(rt.alloc())?;
-    for (a, b, held) in [(1, 5, 5), (1, 4, 5), (1, 6, 6)] {
-        assert!(rt; require(rt.alloc(), &mut state, "n,t,l,a", version(a, b))?);
-        assert_eq!(rt;
-            minimum(rt.alloc(), &state, "n,t,l,a")?,
-            Some(version(1, held))
-        );
-    }
-    assert_eq!(rt; minimum(rt.alloc(), &state, "n,t,l,b")?, None);
-    assert_eq!(rt; state.count(), 1);
+    let done = only_rises(&rt, rt.alloc(), &mut state);
+    drop(state);
+    done
+}
+
+fn take_boot_numbers(rt: &impl Abort, alloc: Global, state: &mut StoreState) -> Result<(), Fail> {
+    assert!(rt; make(alloc, state, Change::Boot { boot: NUMBER_LIMIT })?);
+    assert_eq!(rt; state.boot, 4_611_686_018_427_387_904);
+    let above = Change::Boot {
+        boot: 4_611_686_018_427_387_905,
+    };
+    assert!(rt; !make(alloc, state, above)?);
     Ok(())
 }
 
 #[test]
 fn boot_numbers(rt: HostRuntime) -> Result<(), Fail> {
     let mut state = StoreState::empty(rt.alloc())?;
-    assert!(rt; make(rt.alloc(), &mut state, Change::Boot { boot: NUMBER_LIMIT })?);
-    assert_eq!(rt; state.boot, 4_611_686_018_427_387_904);
-    let above = Change::Boot {
-        boot: 4_611_686_018_427_387_905,
-    };
-    assert!(rt; !make(rt.alloc(), &mut state, above)?);
+    let done = take_boot_numbers(&rt, rt.alloc(), &mut state);
+    drop(state);
+    done
+}
+
+fn take_256(rt: &impl Abort, alloc: Global, state: &mut StoreState) -> Result<(), Fail> {
+    for i in 0..256u32 {
+        let word = format!(in alloc; "k{i},t,l,a")?;
+        assert!(rt; require(alloc, state, word.as_str(), version(1, 0))?);
+    }
+    assert_eq!(rt; state.count(), 256);
+    assert!(rt; !require(alloc, state, "k256,t,l,a", version(1, 0))?);
+    assert!(rt; require(alloc, state, "k255,t,l,a", version(2, 0))?);
+    assert_eq!(rt; minimum(alloc, state, "k255,t,l,a")?, Some(version(2, 0)));
     Ok(())
 }
 
 #[test]
 fn there_are_256_at_most(rt: HostRuntime) -> Result<(), Fail> {
     let mut state = StoreState::empty(rt.alloc())?;
-    for i in 0..256u32 {
-        let word = format!(in rt.alloc(); "k{i},t,l,a")?;
-        assert!(rt; require(rt.alloc(), &mut state, word.as_str(), version(1, 0))?);
-    }
-    assert_eq!(rt; state.count(), 256);
-    assert!(rt; !require(rt.alloc(), &mut state, "k256,t,l,a", version(1, 0))?);
-    assert!(rt; require(rt.alloc(), &mut state, "k255,t,l,a", version(2, 0))?);
-    assert_eq!(rt;
-        minimum(rt.alloc(), &state, "k255,t,l,a")?,
-        Some(version(2, 0))
-    );
-    Ok(())
+    let done = take_256(&rt, rt.alloc(), &mut state);
+    drop(state);
+    done
 }

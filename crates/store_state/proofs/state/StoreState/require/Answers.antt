@@ -1,30 +1,52 @@
-use Rattle.std.proofs.Common.{ℕ, List, sym, ap, ◌∙◌}
+use Rattle.std.proofs.Common.{ℕ, List, Result, Ok, Err, OnErr, sym, ap, ◌∙◌}
 use Rattle.std.specs.List.{insert}
-use Rattle.store_state.specs.declared.app.AppState.{AppState}
-use Rattle.store_state.specs.Store.{Store, require}
-use Rattle.store_state.proofs.Required.{Holds, raised_place, inserted_place}
+use Rattle.machine.specs.declared.app.AppState.{AppState}
+use Rattle.machine.specs.Entries.{entry_of}
+use Rattle.machine.specs.RequireRow.{required}
+use Rattle.store_state.specs.Tables.{Tables}
+use Rattle.store_state.proofs.Holding.{with_apps}
+use Rattle.store_state.proofs.Searching.{absent_at}
+use Rattle.store_state.proofs.Required.{raised_place, inserted_place}
 use Rattle.store_state.proofs.state.StoreState.require.Goals as goal
 
--- the key's entry stands at the place, and its minimum is raised
-raised : (c : goal.After-drop-key-in-Ok-4) → Holds c.args.key c.args.version c.self.inside.apps c.raise_at.new.apps c.self.inside.keys
-raised c = raised_place c.args.key c.args.version c.self.inside.apps c.raise_at.new.apps c.self.inside.keys c.as_bytes.result.now c.in-Ok.place c.self.invariant (c.as_bytes.ensures.value ∙ c.in_ok-text.ensures.text) (rw (← c.as_slice.ensures) c.in-Ok.ensures.range) (rw (← c.as_slice.ensures) c.in-Ok.ensures.found) c.raise_at.ensures
+-- what holds holds after an error
+after : {T E P : Type 0} (r : Result T E) → P → OnErr r P
+after (Ok x) p = tt
+after (Err e) p = p
 
+-- the key's entry stands at the place, and its minimum is raised
 pub invariant_of-self : goal.invariant_of-self
-invariant_of-self c = let h = raised c in h.kept
+invariant_of-self c =
+    let h = raised_place c.args.key c.args.version c.self.inside.apps c.raise_at.new.apps c.self.inside.keys c.in-Ok.place (c.self.invariant.0, c.self.invariant.1.order) (record { range = rw (← c.as_slice.ensures) c.in-Ok.ensures.range; found = rw (← c.as_slice.ensures) c.in-Ok.ensures.found }) c.raise_at.ensures in
+    (h.kept.0, with_apps (record { boot = c.self.inside.boot; next_view = c.self.inside.next_view; next_lease = c.self.inside.next_lease; leases = c.self.inside.leases; views = c.self.inside.views; apps = c.self.inside.apps; contents = c.self.inside.contents }) _ c.self.invariant.1 h.kept.1, c.self.invariant.2)
 
 pub returns-in-Ok-clause-ok : goal.returns-in-Ok-clause-ok
 returns-in-Ok-clause-ok c =
-    let h = raised c in
-    ap (λ (xs : List AppState). record { boot = c.self.inside.boot; apps = xs }) h.is ∙ ap (λ (s : Store). record s { apps = require c.args.key c.args.version s.apps }) c.self.view_is
+    let h = raised_place c.args.key c.args.version c.self.inside.apps c.raise_at.new.apps c.self.inside.keys c.in-Ok.place (c.self.invariant.0, c.self.invariant.1.order) (record { range = rw (← c.as_slice.ensures) c.in-Ok.ensures.range; found = rw (← c.as_slice.ensures) c.in-Ok.ensures.found }) c.raise_at.ensures in
+    ap (λ (xs : List AppState). record { boot = c.self.inside.boot; next_view = c.self.inside.next_view; next_lease = c.self.inside.next_lease; leases = c.self.inside.leases; views = c.self.inside.views; apps = xs; contents = c.self.inside.contents }) h.is ∙ ap (λ (t : Tables). record t { apps = required c.args.key c.args.version t.apps }) c.self.view_is
 
--- the key has no entry, and gets one
-inserted : (c : goal.In_ok-insert_both-in-Err) → Holds c.args.key c.args.version c.self.inside.apps c.insert_both.new.apps c.insert_both.new.keys
-inserted c = inserted_place c.args.key c.args.version c.self.inside.apps c.insert_both.new.apps c.self.inside.keys c.insert_both.new.keys c.as_bytes.result.now c.in-Err.place c.self.invariant (c.as_bytes.ensures.value ∙ c.in_ok-text.ensures.text) (rw (← c.as_slice.ensures) c.in-Err.ensures.range) (rw (← c.as_slice.ensures) c.in-Err.ensures.found) c.in_ok-insert_both-in-Err.ensures.apps (c.in_ok-insert_both-in-Err.ensures.keys ∙ ap (λ (t : List ℕ). insert c.self.inside.keys c.in-Err.place t) (sym c.as_bytes.ensures.value))
+-- the key has no entry
+pub returns-in_err-text-in-Err-clause-memory : goal.returns-in_err-text-in-Err-clause-memory
+returns-in_err-text-in-Err-clause-memory c =
+    let none = absent_at c.args.key c.self.inside.apps c.as_slice.result.now c.in-Err.place (c.as_slice.ensures ∙ c.self.invariant.0, c.self.invariant.1.order) (record { range = c.in-Err.ensures.range; found = c.in-Err.ensures.found }) in
+    after c.from_residual.result (ap (λ (t : Tables). entry_of c.args.key t.apps) (sym c.self.view_is) ∙ none)
 
+pub returns-in_err-insert_both-in-Err-clause-memory : goal.returns-in_err-insert_both-in-Err-clause-memory
+returns-in_err-insert_both-in-Err-clause-memory c =
+    let none = absent_at c.args.key c.self.inside.apps c.as_slice.result.now c.in-Err.place (c.as_slice.ensures ∙ c.self.invariant.0, c.self.invariant.1.order) (record { range = c.in-Err.ensures.range; found = c.in-Err.ensures.found }) in
+    after c.from_residual-in_err-insert_both-in-Err.result (ap (λ (t : Tables). entry_of c.args.key t.apps) (sym c.self.view_is) ∙ none)
+
+-- it gets one
 pub invariant_of-self-in-Err : goal.invariant_of-self-in-Err
-invariant_of-self-in-Err c = let h = inserted c in h.kept
+invariant_of-self-in-Err c =
+    let h = inserted_place c.args.key c.args.version c.self.inside.apps c.insert_both.new.apps c.self.inside.keys c.insert_both.new.keys c.in-Err.place (c.self.invariant.0, c.self.invariant.1.order) (record { range = rw (← c.as_slice.ensures) c.in-Err.ensures.range; found = rw (← c.as_slice.ensures) c.in-Err.ensures.found })
+    (c.in_ok-insert_both-in-Err.ensures.apps ∙ ap (λ (app : AppState). insert c.self.inside.apps c.in-Err.place app) c.new_entry-app.ensures)
+    (c.in_ok-insert_both-in-Err.ensures.keys ∙ ap (λ (text : List ℕ). insert c.self.inside.keys c.in-Err.place text) c.in_ok-text-in-Err.ensures.text) in
+    (h.kept.0, with_apps (record { boot = c.self.inside.boot; next_view = c.self.inside.next_view; next_lease = c.self.inside.next_lease; leases = c.self.inside.leases; views = c.self.inside.views; apps = c.self.inside.apps; contents = c.self.inside.contents }) _ c.self.invariant.1 h.kept.1, c.self.invariant.2)
 
 pub returns-in_ok-insert_both-in-Err-clause-ok : goal.returns-in_ok-insert_both-in-Err-clause-ok
 returns-in_ok-insert_both-in-Err-clause-ok c =
-    let h = inserted c in
-    ap (λ (xs : List AppState). record { boot = c.self.inside.boot; apps = xs }) h.is ∙ ap (λ (s : Store). record s { apps = require c.args.key c.args.version s.apps }) c.self.view_is
+    let h = inserted_place c.args.key c.args.version c.self.inside.apps c.insert_both.new.apps c.self.inside.keys c.insert_both.new.keys c.in-Err.place (c.self.invariant.0, c.self.invariant.1.order) (record { range = rw (← c.as_slice.ensures) c.in-Err.ensures.range; found = rw (← c.as_slice.ensures) c.in-Err.ensures.found })
+    (c.in_ok-insert_both-in-Err.ensures.apps ∙ ap (λ (app : AppState). insert c.self.inside.apps c.in-Err.place app) c.new_entry-app.ensures)
+    (c.in_ok-insert_both-in-Err.ensures.keys ∙ ap (λ (text : List ℕ). insert c.self.inside.keys c.in-Err.place text) c.in_ok-text-in-Err.ensures.text) in
+    ap (λ (xs : List AppState). record { boot = c.self.inside.boot; next_view = c.self.inside.next_view; next_lease = c.self.inside.next_lease; leases = c.self.inside.leases; views = c.self.inside.views; apps = xs; contents = c.self.inside.contents }) h.is ∙ ap (λ (t : Tables). record t { apps = required c.args.key c.args.version t.apps }) c.self.view_is

@@ -1,0 +1,36 @@
+-- Contents: the bytes that program files of equal content keys share.
+use Rattle.std.specs.Prelude.{◌≡◌, Bool, true, false, ◌==◌, ◌&&◌, List, ◌++◌, All, AllPairs, Any, IsSome, Option, find, length}
+use lib.Pointwise.{pointwise}
+use Rattle.manifests.specs.declared.facts.FileEntry.{FileEntry}
+use Rattle.machine.specs.Views.{same_digest}
+use Rattle.store_state.specs.declared.view.Content.{Content}
+
+-- the content is that of the file: of its size and its list of digests
+abbrev pub is_content_of : FileEntry → Content → Bool
+is_content_of entry content = entry.size == content.size && pointwise same_digest entry.list content.list
+
+-- two contents of one size and one list of digests
+abbrev pub is_same : Content → Content → Bool
+is_same a b = a.size == b.size && pointwise same_digest a.list b.list
+
+-- the content of the file, where there is one
+abbrev pub content_of : List Content → FileEntry → Option Content
+content_of contents entry = find (is_content_of entry) contents
+
+-- each file has its content, each content is that of a file, and no two are the same
+pub record AreContentsOf (entries : List FileEntry) (contents : List Content) : Type 0 where
+  pub each : All (λ entry. IsSome (content_of contents entry)) entries
+  pub only : All (λ content. Any (λ entry. is_content_of entry content ≡ true) entries) contents
+  pub once : AllPairs (λ (a b : Content). is_same a b ≡ false) contents
+
+-- a content has as many bytes as its size says
+abbrev pub IsMeasured : Content → Type 0
+IsMeasured content = length content.bytes ≡ content.size
+
+-- The new contents are exactly those that files lack, each once, and whole.
+pub record Brings (old : List Content) (entries : List FileEntry) (new : List Content) : Type 0 where
+  pub each : All (λ entry. IsSome (content_of (old ++ new) entry)) entries
+  pub only : All (λ content. Any (λ entry. is_content_of entry content ≡ true) entries) new
+  pub lacking : All (λ content. All (λ other. is_same other content ≡ false) old) new
+  pub once : AllPairs (λ (a b : Content). is_same a b ≡ false) new
+  pub measured : All IsMeasured new

@@ -1,0 +1,24 @@
+-- What holds of the tables that the code has.
+use Rattle.std.specs.Prelude.{◌≡◌, ◌<◌, ◌≤◌, ℕ, List, All, AllPairs, map}
+use Rattle.small_types.specs.declared.limits.TheConstants.{FILE_COUNT_LIMIT, NUMBER_LIMIT}
+use Rattle.identity.specs.Key.{key_text}
+use Rattle.machine.specs.declared.app.AppState.{AppState}
+use Rattle.machine.specs.Blocks.{standing_files}
+use Rattle.machine.specs.Entries.{AreInOrder}
+use Rattle.store_state.specs.Contents.{AreContentsOf}
+use Rattle.store_state.specs.Rows.{listed_files}
+use Rattle.store_state.specs.Tables.{Tables, bare_row}
+
+-- Applications stand in their order, and views in that of their numbers, which are below the next one. Views list few enough
+-- files. The contents are those of the program files that stand in views.
+pub record AreTables (tables : Tables) : Type 0 where
+  pub order : AreInOrder tables.apps
+  pub rising : AllPairs (λ (m n : ℕ). m < n) (map (λ view. view.number) tables.views)
+  pub below : All (λ number. number < tables.next_view) (map (λ view. view.number) tables.views)
+  pub limit : tables.next_view ≤ NUMBER_LIMIT
+  pub few_files : listed_files tables.views ≤ FILE_COUNT_LIMIT
+  pub contents : AreContentsOf (standing_files (map bare_row tables.views)) tables.contents
+
+-- the printed keys of applications, which stand in their order
+abbrev pub AreKept : List (List ℕ) → List AppState → Type 0
+AreKept keys apps = (keys ≡ map (λ app. key_text app.key) apps) × AreInOrder apps

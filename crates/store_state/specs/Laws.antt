@@ -1,0 +1,51 @@
+-- What is true of tables and the stores that they show.
+use Rattle.std.specs.Prelude.{◌≡◌, ◌≤◌, ℕ, List, map}
+use Rattle.small_types.specs.declared.limits.TheConstants.{BLOCK_LIMIT}
+use Rattle.small_types.specs.declared.target.Target.{Target}
+use Rattle.machine.specs.Blocks.{used_blocks}
+use Rattle.machine.specs.Installed.{with_view}
+use Rattle.machine.specs.Shape.{shape_of}
+use Rattle.machine.specs.Store.{Store}
+use Rattle.machine.specs.Valid.{Ordered, Valid}
+use Rattle.machine.specs.Views.{standing_entries}
+use Rattle.store_state.specs.declared.change.Change.{Change}
+use Rattle.store_state.specs.declared.change.Change.TheVariants.{Install}
+use Rattle.store_state.specs.declared.view.Content.{Content}
+use Rattle.store_state.specs.declared.view.View.{View}
+use Rattle.store_state.specs.Change.{Fits, Replays, effect}
+use Rattle.store_state.specs.Shows.{Shows, shown_data, shown_file}
+use Rattle.store_state.specs.Tables.{Tables, bare_row, empty, table_shape}
+
+-- tables show one store
+abbrev pub OneStoreIsShown : Type 0
+OneStoreIsShown = (blocks : ℕ) (tables : Tables) (image : List ℕ) (a b : Store)
+    → Shows blocks tables image a → Shows blocks tables image b → a ≡ b
+
+-- a store that tables show has their shape
+abbrev pub ShapesAreShown : Type 0
+ShapesAreShown = (blocks : ℕ) (tables : Tables) (image : List ℕ) (store : Store)
+    → Shows blocks tables image store → shape_of store ≡ table_shape blocks tables
+
+-- Tables that changes led to from the empty ones show a store within its order and its limits, where the number of blocks is
+-- possible. Where its files have room, it is valid.
+pub record ShowsOrdered (blocks : ℕ) (tables : Tables) (image : List ℕ) : Type 0 where
+  pub store : Store
+  pub shows : Shows blocks tables image store
+  pub ordered : Ordered store
+  pub valid : used_blocks (map bare_row tables.views) ≤ blocks → Valid store
+
+abbrev pub ChangesShowOrderedStores : Type 0
+ChangesShowOrderedStores = (blocks : ℕ) (changes : List Change) (tables : Tables) (image : List ℕ)
+    → 1 ≤ blocks → blocks ≤ BLOCK_LIMIT → Replays empty changes tables
+    → ShowsOrdered blocks tables image
+
+-- an install that fits leads from tables that show a store to tables that show it with the new view
+abbrev pub InstallsShowTheView : Type 0
+InstallsShowTheView = (blocks : ℕ) (tables : Tables) (view : View) (contents : List Content) (provider : Target) (now : ℕ)
+    (image later : List ℕ) (store : Store) → Shows blocks tables image store
+    → Fits tables (Install view contents provider now)
+    → Shows blocks (effect (Install view contents provider now) tables) later
+    (with_view provider view.base view.deployment view.application
+    (map (shown_file (effect (Install view contents provider now) tables).contents)
+    (standing_entries view.groups view.application))
+    (map shown_data view.locals) now store)

@@ -1,0 +1,187 @@
+// Whether contents are exactly those that files of a view lack.
+ghost use Rattle.std.specs.Prelude.{◌≡◌, ◌≢◌, ◌↔◌, ◌⊎◌, ◌&&◌, not, map, bytes_eq, All, AllPairs, Contains, IsTrue, IfOk};
+ghost use Rattle.std.specs.List.{list_any};
+ghost use Rattle.std.specs.List.Sorted.{IsSorted};
+ghost use Rattle.std.specs.declared.cmp.Ordering.TheVariants.{Less};
+ghost use Rattle.machine.specs.Views.{standing_entries, stands_by};
+ghost use Rattle.store_state.specs.declared.sign.Sign.{Sign};
+ghost use Rattle.store_state.specs.Contents.{IsMeasured};
+ghost use Rattle.store_state.specs.Signs.{Agree, entry_sign, sign_cmp};
+
+use crate::sign::{Sign, has_sign, sign_order};
+use crate::{Content, StateFault, View};
+use manifests::FileEntry;
+use small_types::{Duplicate, Text};
+use std::alloc::Global;
+
+// Whether the content has as many bytes as its size says.
+fn is_measured(content: &Content) -> bool
+    ensures { IsTrue result ↔ IsMeasured content.now }
+{
+    content.bytes.as_slice().len() as u64 == content.size
+}
+
+// Whether each content has.
+pub(crate) fn are_measured(contents: &[Content]) -> bool
+    ensures { IsTrue result ↔ All IsMeasured contents.now }
+{
+    contents.iter().all(|content| is_measured(content))
+}
+
+// ---- the files that stand
+
+// Whether the texts are equal.
+fn is_text(text: &Text, other: &Text) -> bool
+    ensures { result ≡ bytes_eq text.now other.now }
+{
+    text.as_bytes() == other.as_bytes()
+}
+
+// Whether the group is among them.
+fn is_group(groups: &[Text], group: &Text) -> bool
+    ensures { result ≡ list_any (bytes_eq group.now) groups.now }
+{
+    groups.iter().any(|other| is_text(group, other))
+}
+
+// Whether the group stands, where there is one.
+fn stands_by(groups: &[Text], group: &Option<Text>) -> bool
+    ensures { result ≡ stands_by groups.now group.now }
+{
+    match group {
+        Some(group) => is_group(groups, group),
+        None => true,
+    }
+}
+
+// Whether the file is a program file that stands.
+fn stands(groups: &[Text], entry: &FileEntry) -> bool
+    ensures { result ≡ (not entry.now.local && stands_by groups.now entry.now.group) }
+{
+    !entry.local && stands_by(groups, &entry.group)
+}
+
+// The sign of the content of a file.
+fn sign_of(alloc: Global, entry: &FileEntry) -> Result<Sign, StateFault>
+    ensures { IfOk result (λ sign. sign ≡ entry_sign entry.now) }
+{
+    Ok(Sign {
+        size: entry.size,
+        list: entry.list.copy(alloc)?,
+    })
+}
+
+// The signs of the program files that stand in the view.
+pub(crate) fn standing_signs(alloc: Global, view: &View) -> Result<Vec<Sign>, StateFault>
+    ensures { IfOk result (λ signs. signs.items
+        ≡ map entry_sign (standing_entries view.now.groups view.now.application)) }
+{
+    let groups = view.groups.as_slice();
+    let mut signs = Vec::new(alloc);
+    for entry in view.application.files.as_slice() {
+        if stands(groups, entry) {
+            signs.push(sign_of(alloc, entry)?)?;
+        }
+    }
+    Ok(signs)
+}
+
+// ---- signs in order
+
+// Whether the first is below the second.
+fn is_below(a: &Sign, b: &Sign) -> bool
+    ensures { IsTrue result ↔ sign_cmp a.now b.now ≡ Less }
+{
+    sign_order(a, b.size, b.list.as_slice()).is_lt()
+}
+
+// Whether no two are equal.
+fn are_distinct(signs: &[Sign]) -> bool
+    requires { IsSorted sign_cmp signs.now }
+    ensures { IsTrue result ↔ AllPairs (λ (a b : Sign). a ≢ b) signs.now }
+{
+    for place in 1..signs.len() {
+        if !is_below(&signs[place - 1], &signs[place]) {
+            return false;
+        }
+    }
+    true
+}
+
+// Whether the sign is among them.
+fn is_among(signs: &[Sign], sign: &Sign) -> bool
+    requires { IsSorted sign_cmp signs.now }
+    ensures { IsTrue result ↔ Contains signs.now sign.now }
+{
+    has_sign(signs, sign.size, sign.list.as_slice())
+}
+
+// Whether the sign is among the one or the other.
+fn is_among_either(held: &[Sign], brought: &[Sign], sign: &Sign) -> bool
+    requires held { IsSorted sign_cmp held.now }
+    requires brought { IsSorted sign_cmp brought.now }
+    ensures { IsTrue result ↔ (Contains held.now sign.now ⊎ Contains brought.now sign.now) }
+{
+    is_among(held, sign) || is_among(brought, sign)
+}
+
+// Whether each standing sign is held or brought.
+fn is_each(held: &[Sign], standing: &[Sign], brought: &[Sign]) -> bool
+    requires held { IsSorted sign_cmp held.now }
+    requires brought { IsSorted sign_cmp brought.now }
+    ensures { IsTrue result ↔ All (λ sign. Contains held.now sign ⊎ Contains brought.now sign) standing.now }
+{
+    for sign in standing {
+        if !is_among_either(held, brought, sign) {
+            return false;
+        }
+    }
+    true
+}
+
+// Whether each sign that is brought stands.
+fn is_only(standing: &[Sign], brought: &[Sign]) -> bool
+    requires { IsSorted sign_cmp standing.now }
+    ensures { IsTrue result ↔ All (λ sign. Contains standing.now sign) brought.now }
+{
+    for sign in brought {
+        if !is_among(standing, sign) {
+            return false;
+        }
+    }
+    true
+}
+
+// Whether no sign that is brought is held.
+fn is_lacking(held: &[Sign], brought: &[Sign]) -> bool
+    requires { IsSorted sign_cmp held.now }
+    ensures { IsTrue result ↔ All (λ sign. ¬ Contains held.now sign) brought.now }
+{
+    for sign in brought {
+        if is_among(held, sign) {
+            return false;
+        }
+    }
+    true
+}
+
+// Whether exactly the signs are brought that stand and are not held, each once.
+pub(crate) fn agree(held: &[Sign], standing: &[Sign], brought: &[Sign]) -> bool
+    requires held { IsSorted sign_cmp held.now }
+    requires standing { IsSorted sign_cmp standing.now }
+    requires brought { IsSorted sign_cmp brought.now }
+    ensures { IsTrue result ↔ Agree held.now standing.now brought.now }
+{
+    let once = are_distinct(brought);
+    let each = is_each(held, standing, brought);
+    let only = is_only(standing, brought);
+    let lacking = is_lacking(held, brought);
+    are_all(once, each, only, lacking)
+}
+
+// Whether all four hold.
+fn are_all(once: bool, each: bool, only: bool, lacking: bool) -> bool
+    ensures { result ≡ (once && each && only && lacking) }
+{
+    once && each && only && lacking
+}

@@ -1,0 +1,127 @@
+// Which changes fit the tables.
+ghost use Rattle.std.specs.Prelude.{◌≡◌, ◌↔◌, ◌+◌, ◌<◌, ◌≤◌, length, List, [], None, IsTrue, IfOk};
+ghost use Rattle.small_types.specs.declared.limits.TheConstants as limits;
+ghost use Rattle.identity.specs.Version.{IsVersion};
+ghost use Rattle.machine.specs.Entries.{entry_of};
+ghost use Rattle.machine.specs.Fields.{IsShortKey, IsTarget};
+ghost use Rattle.machine.specs.Views.{standing_entries};
+ghost use Rattle.store_state.specs.Change.{Fits, FitsInstall};
+ghost use Rattle.store_state.specs.Contents.{Brings};
+ghost use Rattle.store_state.specs.Rows.{listed_files};
+
+use crate::bringing::{agree, are_measured, standing_signs};
+use crate::fields::{is_row, is_short_key, is_target};
+use crate::sign::{signs_of, sort_signs};
+use crate::{Change, Content, StateFault, StoreState, View};
+use identity::{Key, Version};
+use small_types::limits::{APPLICATION_LIMIT, FILE_COUNT_LIMIT, NUMBER_LIMIT, VIEW_LIMIT};
+use small_types::{List, Target};
+use std::alloc::Global;
+
+impl StoreState {
+    /// Whether the change may be made: a boot number is at most 2 ^ 62, a key's parts are within their limits (one may
+    /// be empty), and a new application finds fewer than 256. The view that an install brings has the next number and
+    /// manifests that can be read, no group of it stands yet, and its contents are exactly those that the tables lack; views
+    /// and their files are not too many. It takes memory for an install alone.
+    pub fn fits(&self, alloc: Global, change: &Change) -> Result<bool, StateFault>
+        ensures { IfOk result (λ answer. IsTrue answer ↔ Fits self.now change.now) }
+    {
+        match change {
+            Change::Boot { boot } => Ok(*boot <= NUMBER_LIMIT),
+            Change::Require { key, version } => Ok(self.fits_require(key, *version)),
+            Change::Install {
+                view,
+                contents,
+                provider,
+                now,
+            } => self.fits_install(alloc, view, contents, provider, *now),
+        }
+    }
+
+    // Whether that version may be required of the key.
+    fn fits_require(&self, key: &Key, version: Version) -> bool
+        ensures { IsTrue result ↔ (IsShortKey key.now × IsVersion version
+            × (entry_of key.now self.now.apps ≡ None → length self.now.apps < limits.APPLICATION_LIMIT)) }
+    {
+        is_short_key(key) && self.has_room(key)
+    }
+
+    // Whether the key has an entry, or there is room for one.
+    fn has_room(&self, key: &Key) -> bool
+        ensures { IsTrue result
+            ↔ (entry_of key.now self.now.apps ≡ None → length self.now.apps < limits.APPLICATION_LIMIT) }
+    {
+        self.count() < APPLICATION_LIMIT || self.entry(key).is_some()
+    }
+
+    // Whether the view finds room and has the next number.
+    fn is_next(&self, view: &View, now: u64) -> bool
+        ensures { IsTrue result ↔ ((view.now.number ≡ self.now.next_view) × (self.now.next_view < limits.NUMBER_LIMIT)
+            × (now ≤ limits.NUMBER_LIMIT) × (view.now.groups ≡ [])
+            × (length self.now.views < limits.VIEW_LIMIT)
+            × (listed_files self.now.views + length view.now.application.files ≤ limits.FILE_COUNT_LIMIT)) }
+    {
+        view.number == self.next_view
+            && self.next_view < NUMBER_LIMIT
+            && now <= NUMBER_LIMIT
+            && view.groups.as_slice().is_empty()
+            && self.view_count() < VIEW_LIMIT
+            && has_place(self.file_count(), view.application.files.as_slice().len())
+    }
+
+    // Whether the view may be installed with the contents.
+    fn fits_install(
+        &self,
+        alloc: Global,
+        view: &View,
+        contents: &List<Content>,
+        provider: &Target,
+        now: u64,
+    ) -> Result<bool, StateFault>
+        ensures { IfOk result (λ answer. IsTrue answer
+            ↔ FitsInstall self.now view.now contents.now provider.now now) }
+    {
+        if !self.is_next(view, now) || !is_target(provider) {
+            return Ok(false);
+        }
+        if !self.has_room(&view.deployment.identity.key) {
+            return Ok(false);
+        }
+        if !is_row(alloc, view)? {
+            return Ok(false);
+        }
+        self.is_brought(alloc, view, contents.as_slice())
+    }
+
+    // Whether the view brings exactly the contents that its files lack.
+    fn is_brought(
+        &self,
+        alloc: Global,
+        view: &View,
+        contents: &[Content],
+    ) -> Result<bool, StateFault>
+        ensures { IfOk result (λ answer. IsTrue answer ↔ Brings self.now.contents
+            (standing_entries view.now.groups view.now.application) contents.now) }
+    {
+        if !are_measured(contents) {
+            return Ok(false);
+        }
+        let mut brought = signs_of(alloc, contents)?;
+        sort_signs(&mut brought);
+        let mut standing = standing_signs(alloc, view)?;
+        sort_signs(&mut standing);
+        Ok(agree(
+            self.index.as_slice(),
+            standing.as_slice(),
+            brought.as_slice(),
+        ))
+    }
+}
+
+// Whether there is a place for so many files beside the others.
+fn has_place(others: usize, files: usize) -> bool
+    requires { others ≤ limits.FILE_COUNT_LIMIT }
+    ensures { IsTrue result ↔ others + files ≤ limits.FILE_COUNT_LIMIT }
+{
+    files <= FILE_COUNT_LIMIT - others
+}

@@ -1,0 +1,118 @@
+// What is read in the tables. None of it takes memory.
+ghost use Rattle.std.specs.Prelude.{◌≡◌, ◌↔◌, ◌<◌, ◌≤◌, ◌-◌, ◌^◌, ℕ, length, map, min, option_map, IsTrue};
+ghost use Rattle.std.specs.Option.{option_copied};
+ghost use Rattle.machine.specs.Blocks.{free_blocks, standing_files, used_blocks};
+ghost use Rattle.machine.specs.Current.{current_bare};
+ghost use Rattle.machine.specs.Entries.{entry_of};
+ghost use Rattle.machine.specs.Wanted.{is_held};
+ghost use Rattle.store_state.specs.Kept.{AreTables};
+ghost use Rattle.store_state.specs.Rows.{current_row, listed_files, row_at};
+ghost use Rattle.store_state.specs.Tables.{bare_row, table_shape};
+
+use crate::contents::sum_blocks;
+use crate::entries::place_of;
+use crate::sign::has_sign;
+use crate::views::{add_views, find_view, sum_files};
+use crate::{StoreState, View};
+use identity::Key;
+use machine::AppState;
+use manifests::FileEntry;
+
+impl StoreState {
+    /// The tables are in their order and within their limits, and their contents are those of the program files that stand.
+    pub fn are_tables(&self)
+        ensures { AreTables self.now }
+    {
+        let _boot = self.boot;
+    }
+
+    /// How many applications there are.
+    pub fn count(&self) -> usize
+        ensures { result ≡ length self.now.apps }
+    {
+        self.apps.as_slice().len()
+    }
+
+    /// How many views there are.
+    pub fn view_count(&self) -> usize
+        ensures { result ≡ length self.now.views }
+    {
+        self.views.as_slice().len()
+    }
+
+    /// How many files the views list.
+    pub fn file_count(&self) -> usize
+        ensures { result ≡ listed_files self.now.views }
+    {
+        sum_files(self.views.as_slice())
+    }
+
+    /// What is known of the application with that key, where anything is.
+    pub fn entry(&self, key: &Key) -> Option<&AppState>
+        ensures { option_copied result ≡ entry_of key.now self.now.apps }
+    {
+        match place_of(self.keys.as_slice(), key) {
+            Ok(place) => Some(&self.apps.as_slice()[place]),
+            Err(_) => None,
+        }
+    }
+
+    /// The view of that number.
+    pub fn view(&self, number: u64) -> Option<&View>
+        ensures { option_copied result ≡ row_at number self.now.views }
+    {
+        find_view(self.views.as_slice(), number)
+    }
+
+    /// The view that is current for the key, where one is.
+    pub fn current(&self, key: &Key) -> Option<&View>
+        ensures row { option_copied result ≡ current_row key.now self.now }
+        ensures bare { (blocks : ℕ) → option_map bare_row (option_copied result)
+            ≡ current_bare key.now (table_shape blocks self.now) }
+    {
+        self.current_row(key)
+    }
+
+    // The view that is current for the key.
+    fn current_row(&self, key: &Key) -> Option<&View>
+        ensures { option_copied result ≡ current_row key.now self.now }
+    {
+        let Some(app) = self.entry(key) else {
+            return None;
+        };
+        let Some(number) = app.current else {
+            return None;
+        };
+        self.view(number)
+    }
+
+    /// Whether a program file with that content stands in a view.
+    pub fn holds(&self, entry: &FileEntry) -> bool
+        ensures { result ≡ is_held (standing_files (map bare_row self.now.views)) entry.now }
+    {
+        has_sign(self.index.as_slice(), entry.size, entry.list.as_slice())
+    }
+
+    /// How many blocks files take, as far as a number goes: those of each content of a program file that stands in a view,
+    /// and of each data file.
+    pub fn used_blocks(&self) -> u64
+        ensures { result ≡ min (used_blocks (map bare_row self.now.views)) (2 ^ 64 - 1) }
+    {
+        add_views(sum_blocks(self.contents.as_slice()), self.views.as_slice())
+    }
+
+    /// How many of so many blocks no file takes.
+    pub fn free_blocks(&self, blocks: u64) -> u64
+        ensures { result ≡ free_blocks (table_shape blocks self.now) }
+    {
+        blocks.saturating_sub(self.used_blocks())
+    }
+
+    /// Whether files take at most so many blocks.
+    pub fn is_within(&self, blocks: u64) -> bool
+        requires { blocks < 2 ^ 64 - 1 }
+        ensures { IsTrue result ↔ used_blocks (map bare_row self.now.views) ≤ blocks }
+    {
+        self.used_blocks() <= blocks
+    }
+}
