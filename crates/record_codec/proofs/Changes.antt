@@ -1,96 +1,32 @@
 -- What is read is spelled so, and what is spelled so is read.
 use Rattle.std.proofs.Common.{◌≡◌, ◌≢◌, ℕ, zero, suc, ◌+◌, ◌^◌, ◌≤◌, cond, eqb, List, [], ◌∷◌, ◌++◌, length, drop, Result, Ok, Err, refl, sym, ap, subst, ◌∙◌, arith}
 use Rattle.std.specs.Prelude.{IfOk}
-use Rattle.std.specs.Int.{w16, w64, to_be_bytes}
+use Rattle.std.specs.Int.{w64, to_be_bytes}
 use Rattle.std.proofs.lemmas.Bool.{eqb-true, eq-eqb}
 use Rattle.std.proofs.lemmas.List.{append-nil}
-use Rattle.identity.specs.declared.version.Version.{Version}
-use Rattle.identity.specs.declared.key.Key.{Key}
-use Rattle.identity.specs.Key.{IsKey}
-use Rattle.identity.specs.Version.{IsVersion}
+use Rattle.small_types.specs.declared.limits.TheConstants.{FILE_COUNT_LIMIT}
+use Rattle.small_types.specs.declared.target.Target.{Target}
 use Rattle.small_types.specs.Reading.{◌>>=◌}
-use Rattle.small_types.specs.declared.limits.TheConstants.{IDENTITY_PART_LIMIT, NAME_LIMIT}
 use Rattle.store_state.specs.declared.change.Change.{Change}
-use Rattle.store_state.specs.declared.change.Change.TheVariants.{Boot, Require}
+use Rattle.store_state.specs.declared.change.Change.TheVariants.{Boot, Require, Install}
+use Rattle.store_state.specs.declared.view.Content.{Content}
+use Rattle.store_state.specs.declared.view.View.{View}
 use Rattle.record_codec.specs.declared.fault.CodecFault.{CodecFault}
 use Rattle.record_codec.specs.declared.fault.CodecFault.TheVariants.{Bad}
-use Rattle.record_codec.specs.Codec.{text_field, key_field, version_field, change_text, IsChange}
+use Rattle.record_codec.specs.Codec.{change_text, install_text, IsChange}
+use Rattle.record_codec.specs.Fields.{key_field, version_field}
 use Rattle.record_codec.specs.Places.{Stands}
-use Rattle.record_codec.specs.Reading.{Gives, number_at, text_at, key_at, version_at, boot_at, require_at, change_at, change_of}
-use Rattle.record_codec.proofs.Fields.{bind_ok, ok_is, passed_test, IsBytes, Stands-then, Stands-first, Stands-second, wide16, wide64, number_takes, number_again, text_takes, text_again}
-
--- ---- four fields in a row
-
-pub Stands-four : (bytes a b c d : List ℕ) (place p q r next : ℕ) → Stands bytes place a p → Stands bytes p b q → Stands bytes q c r → Stands bytes r d next → Stands bytes place (a ++ (b ++ (c ++ d))) next
-Stands-four bytes a b c d place p q r next first second third fourth =
-    Stands-then bytes a (b ++ (c ++ d)) place p next first (Stands-then bytes b (c ++ d) p q next second (Stands-then bytes c d q r next third fourth))
-
-pub record FourStand (bytes a b c d : List ℕ) (place next : ℕ) : Type 0 where
-  pub first : Stands bytes place a (place + length a)
-  pub second : Stands bytes (place + length a) b (place + length a + length b)
-  pub third : Stands bytes (place + length a + length b) c (place + length a + length b + length c)
-  pub fourth : Stands bytes (place + length a + length b + length c) d next
-
-pub four_stand : (bytes a b c d : List ℕ) (place next : ℕ) → Stands bytes place (a ++ (b ++ (c ++ d))) next → FourStand bytes a b c d place next
-four_stand bytes a b c d place next stands =
-    let behind_a = Stands-second bytes a (b ++ (c ++ d)) place next stands in
-    let behind_b = Stands-second bytes b (c ++ d) (place + length a) next behind_a in
-    record {
-      first = Stands-first bytes a (b ++ (c ++ d)) place next stands;
-      second = Stands-first bytes b (c ++ d) (place + length a) next behind_a;
-      third = Stands-first bytes c d (place + length a + length b) next behind_b;
-      fourth = Stands-second bytes c d (place + length a + length b) next behind_b;
-    }
-
--- ---- keys
-
-pub key_takes : (bytes : List ℕ) (place : ℕ) (x : Key × ℕ) → IsBytes bytes → place ≤ length bytes → key_at bytes place ≡ Ok x → Stands bytes place (key_field x.0) x.1 × IsKey x.0
-unfolding key_at key_field
-key_takes bytes place x fits within e =
-    let a = bind_ok (text_at NAME_LIMIT bytes place) (λ name. text_at IDENTITY_PART_LIMIT bytes name.1 >>= λ token. text_at IDENTITY_PART_LIMIT bytes token.1 >>= λ language. text_at IDENTITY_PART_LIMIT bytes language.1 >>= λ architecture. Ok (record { name = name.0; token = token.0; language = language.0; architecture = architecture.0 }, architecture.1)) x e in
-    let b = bind_ok (text_at IDENTITY_PART_LIMIT bytes a.0.1) (λ token. text_at IDENTITY_PART_LIMIT bytes token.1 >>= λ language. text_at IDENTITY_PART_LIMIT bytes language.1 >>= λ architecture. Ok (record { name = a.0.0; token = token.0; language = language.0; architecture = architecture.0 }, architecture.1)) x a.2 in
-    let c = bind_ok (text_at IDENTITY_PART_LIMIT bytes b.0.1) (λ language. text_at IDENTITY_PART_LIMIT bytes language.1 >>= λ architecture. Ok (record { name = a.0.0; token = b.0.0; language = language.0; architecture = architecture.0 }, architecture.1)) x b.2 in
-    let d = bind_ok (text_at IDENTITY_PART_LIMIT bytes c.0.1) (λ architecture. Ok (record { name = a.0.0; token = b.0.0; language = c.0.0; architecture = architecture.0 }, architecture.1)) x c.2 in
-    let ta = text_takes NAME_LIMIT bytes place a.0 fits within a.1 in
-    let tb = text_takes IDENTITY_PART_LIMIT bytes a.0.1 b.0 fits ta.0.within b.1 in
-    let tc = text_takes IDENTITY_PART_LIMIT bytes b.0.1 c.0 fits tb.0.within c.1 in
-    let td = text_takes IDENTITY_PART_LIMIT bytes c.0.1 d.0 fits tc.0.within d.1 in
-    let made : Key × ℕ = (record { name = a.0.0; token = b.0.0; language = c.0.0; architecture = d.0.0 }, d.0.1) in
-    subst (λ (y : Key × ℕ). Stands bytes place (key_field y.0) y.1 × IsKey y.0) (ok_is made x d.2) (
-      Stands-four bytes (text_field a.0.0) (text_field b.0.0) (text_field c.0.0) (text_field d.0.0) place a.0.1 b.0.1 c.0.1 d.0.1 ta.0 tb.0 tc.0 td.0,
-      record { name = ta.1; token = tb.1; language = tc.1; architecture = td.1 },
-    )
-
-pub key_again : (bytes : List ℕ) (place : ℕ) (key : Key) (next : ℕ) → IsKey key → Stands bytes place (key_field key) next → key_at bytes place ≡ Ok (key, next)
-unfolding key_at key_field
-key_again bytes place key next fits stands =
-    let four = four_stand bytes (text_field key.name) (text_field key.token) (text_field key.language) (text_field key.architecture) place next stands in
-    rw (text_again NAME_LIMIT bytes place key.name _ (omega arith) fits.name four.first, text_again IDENTITY_PART_LIMIT bytes _ key.token _ (omega arith) fits.token four.second, text_again IDENTITY_PART_LIMIT bytes _ key.language _ (omega arith) fits.language four.third, text_again IDENTITY_PART_LIMIT bytes _ key.architecture next (omega arith) fits.architecture four.fourth) refl
-
--- ---- versions
-
-pub version_takes : (bytes : List ℕ) (place : ℕ) (x : Version × ℕ) → IsBytes bytes → place ≤ length bytes → version_at bytes place ≡ Ok x → Stands bytes place (version_field x.0) x.1 × IsVersion x.0
-unfolding version_at version_field
-version_takes bytes place x fits within e =
-    let a = bind_ok (number_at w16 bytes place) (λ a. number_at w16 bytes a.1 >>= λ b. number_at w16 bytes b.1 >>= λ c. number_at w16 bytes c.1 >>= λ d. Ok (record { a = a.0; b = b.0; c = c.0; d = d.0 }, d.1)) x e in
-    let b = bind_ok (number_at w16 bytes a.0.1) (λ b. number_at w16 bytes b.1 >>= λ c. number_at w16 bytes c.1 >>= λ d. Ok (record { a = a.0.0; b = b.0; c = c.0; d = d.0 }, d.1)) x a.2 in
-    let c = bind_ok (number_at w16 bytes b.0.1) (λ c. number_at w16 bytes c.1 >>= λ d. Ok (record { a = a.0.0; b = b.0.0; c = c.0; d = d.0 }, d.1)) x b.2 in
-    let d = bind_ok (number_at w16 bytes c.0.1) (λ d. Ok (record { a = a.0.0; b = b.0.0; c = c.0.0; d = d.0 }, d.1)) x c.2 in
-    let ta = number_takes w16 (2 ^ 16) wide16 bytes place a.0 fits within a.1 in
-    let tb = number_takes w16 (2 ^ 16) wide16 bytes a.0.1 b.0 fits ta.0.within b.1 in
-    let tc = number_takes w16 (2 ^ 16) wide16 bytes b.0.1 c.0 fits tb.0.within c.1 in
-    let td = number_takes w16 (2 ^ 16) wide16 bytes c.0.1 d.0 fits tc.0.within d.1 in
-    let made : Version × ℕ = (record { a = a.0.0; b = b.0.0; c = c.0.0; d = d.0.0 }, d.0.1) in
-    subst (λ (y : Version × ℕ). Stands bytes place (version_field y.0) y.1 × IsVersion y.0) (ok_is made x d.2) (
-      Stands-four bytes (to_be_bytes w16 a.0.0) (to_be_bytes w16 b.0.0) (to_be_bytes w16 c.0.0) (to_be_bytes w16 d.0.0) place a.0.1 b.0.1 c.0.1 d.0.1 ta.0 tb.0 tc.0 td.0,
-      record { a = ta.1; b = tb.1; c = tc.1; d = td.1 },
-    )
-
-pub version_again : (bytes : List ℕ) (place : ℕ) (v : Version) (next : ℕ) → IsVersion v → Stands bytes place (version_field v) next → version_at bytes place ≡ Ok (v, next)
-unfolding version_at version_field
-version_again bytes place v next fits stands =
-    let four = four_stand bytes (to_be_bytes w16 v.a) (to_be_bytes w16 v.b) (to_be_bytes w16 v.c) (to_be_bytes w16 v.d) place next stands in
-    rw (number_again w16 (2 ^ 16) wide16 bytes place v.a _ fits.a four.first, number_again w16 (2 ^ 16) wide16 bytes _ v.b _ fits.b four.second, number_again w16 (2 ^ 16) wide16 bytes _ v.c _ fits.c four.third, number_again w16 (2 ^ 16) wide16 bytes _ v.d next fits.d four.fourth) refl
+use Rattle.record_codec.specs.Reading.{Gives, number_at, key_at, version_at}
+use Rattle.record_codec.specs.Parts.{list_at, target_at}
+use Rattle.record_codec.specs.Records.{content_at, view_at}
+use Rattle.record_codec.specs.Changes.{boot_at, require_at, install_at, change_at, change_of}
+use Rattle.record_codec.specs.Spelling.{content_field, list_field, target_field, view_field}
+use Rattle.record_codec.specs.Values.{IsInstall}
+use Rattle.record_codec.proofs.Fields.{bind_ok, ok_is, passed_test, IsBytes, Stands-then, Stands-first, Stands-second, wide64, number_takes, number_again}
+use Rattle.record_codec.proofs.Keys.{Stands-four, four_stand, key_takes, key_again, version_takes, version_again}
+use Rattle.record_codec.proofs.Lists.{list_reads}
+use Rattle.record_codec.proofs.Records.{content_reads, number64_reads, view_reads}
+use Rattle.record_codec.proofs.Structs.{target_reads}
 
 -- ---- changes
 
@@ -118,17 +54,44 @@ require_takes rest x fits e =
     subst (λ (y : Change × ℕ). Stands (1 ∷ rest) 0 (change_text y.0) y.1 × IsChange y.0) (ok_is made x version.2)
     (Stands-then (1 ∷ rest) (1 ∷ []) (key_field key.0.0 ++ version_field version.0.0) 0 1 version.0.1 (kind_stands 1 rest) fields, (tk.1, tv.1))
 
+install_takes : (rest : List ℕ) (x : Change × ℕ) → IsBytes (2 ∷ rest) → install_at (2 ∷ rest) 1 ≡ Ok x → Stands (2 ∷ rest) 0 (change_text x.0) x.1 × IsChange x.0
+unfolding install_at change_text install_text
+install_takes rest x fits e =
+    let bytes : List ℕ = 2 ∷ rest in
+    let a = bind_ok (view_at bytes 1) (λ view. list_at FILE_COUNT_LIMIT content_at bytes view.1 >>= λ contents. target_at bytes contents.1 >>= λ provider. number_at w64 bytes provider.1 >>= λ now. Ok (Install view.0 contents.0 provider.0 now.0, now.1)) x e in
+    let b = bind_ok (list_at FILE_COUNT_LIMIT content_at bytes a.0.1) (λ contents. target_at bytes contents.1 >>= λ provider. number_at w64 bytes provider.1 >>= λ now. Ok (Install a.0.0 contents.0 provider.0 now.0, now.1)) x a.2 in
+    let c = bind_ok (target_at bytes b.0.1) (λ provider. number_at w64 bytes provider.1 >>= λ now. Ok (Install a.0.0 b.0.0 provider.0 now.0, now.1)) x b.2 in
+    let d = bind_ok (number_at w64 bytes c.0.1) (λ now. Ok (Install a.0.0 b.0.0 c.0.0 now.0, now.1)) x c.2 in
+    let ta = view_reads.takes bytes 1 a.0 fits (omega arith) a.1 in
+    let tb = (list_reads content_reads FILE_COUNT_LIMIT (omega arith)).takes bytes a.0.1 b.0 fits ta.0.within b.1 in
+    let tc = target_reads.takes bytes b.0.1 c.0 fits tb.0.within c.1 in
+    let td = number64_reads.takes bytes c.0.1 d.0 fits tc.0.within d.1 in
+    let made : Change × ℕ = (Install a.0.0 b.0.0 c.0.0 d.0.0, d.0.1) in
+    let fields = Stands-four bytes (view_field a.0.0) (list_field content_field b.0.0) (target_field c.0.0) (to_be_bytes w64 d.0.0) 1 a.0.1 b.0.1 c.0.1 d.0.1 ta.0 tb.0 tc.0 td.0 in
+    let within : IsInstall a.0.0 b.0.0 c.0.0 d.0.0 = record { view = ta.1; few = tb.1.0; contents = tb.1.1; provider = tc.1; now = td.1 } in
+    subst (λ (y : Change × ℕ). Stands bytes 0 (change_text y.0) y.1 × IsChange y.0) (ok_is made x d.2)
+    (Stands-then bytes (2 ∷ []) (view_field a.0.0 ++ (list_field content_field b.0.0 ++ (target_field c.0.0 ++ to_be_bytes w64 d.0.0))) 0 1 d.0.1 (kind_stands 2 rest) fields, within)
+
+install_again : (rest : List ℕ) (view : View) (contents : List Content) (provider : Target) (now next : ℕ) → IsInstall view contents provider now → Stands (2 ∷ rest) 1 (view_field view ++ (list_field content_field contents ++ (target_field provider ++ to_be_bytes w64 now))) next → install_at (2 ∷ rest) 1 ≡ Ok (Install view contents provider now, next)
+unfolding install_at
+install_again rest view contents provider now next is stands =
+    let bytes : List ℕ = 2 ∷ rest in
+    let four = four_stand bytes (view_field view) (list_field content_field contents) (target_field provider) (to_be_bytes w64 now) 1 next stands in
+    rw (view_reads.again bytes 1 view _ is.view four.first, (list_reads content_reads FILE_COUNT_LIMIT (omega arith)).again bytes _ contents _ (is.few, is.contents) four.second, target_reads.again bytes _ provider _ is.provider four.third, number64_reads.again bytes _ now next is.now four.fourth) refl
+
 change_takes : (bytes : List ℕ) (x : Change × ℕ) → IsBytes bytes → change_at bytes ≡ Ok x → Stands bytes 0 (change_text x.0) x.1 × IsChange x.0
 unfolding change_at
 change_takes [] x fits e = absurd cc
 change_takes (zero ∷ rest) x fits e = boot_takes rest x fits e
 change_takes (suc zero ∷ rest) x fits e = require_takes rest x fits e
-change_takes (suc (suc kind) ∷ rest) x fits e = absurd cc
+change_takes (suc (suc zero) ∷ rest) x fits e = install_takes rest x fits e
+change_takes (suc (suc (suc kind)) ∷ rest) x fits e = absurd cc
 
 change_again : (bytes : List ℕ) (c : Change) (next : ℕ) → IsChange c → Stands bytes 0 (change_text c) next → change_at bytes ≡ Ok (c, next)
-unfolding change_at boot_at require_at change_text
+unfolding change_at boot_at require_at change_text install_text
 change_again [] (Boot boot) next fits stands = absurd (let e = stands.parts in cc)
 change_again [] (Require key version) next fits stands = absurd (let e = stands.parts in cc)
+change_again [] (Install view contents provider now) next fits stands = absurd (let e = stands.parts in cc)
 change_again (kind ∷ rest) (Boot boot) next fits stands =
     let is : kind ≡ 0 = (let e = stands.parts in cc) in
     let field = subst (λ (k : ℕ). Stands (k ∷ rest) 1 (to_be_bytes w64 boot) next) is (Stands-second (kind ∷ rest) (0 ∷ []) (to_be_bytes w64 boot) 0 next stands) in
@@ -139,6 +102,11 @@ change_again (kind ∷ rest) (Require key version) next fits stands =
     let first = Stands-first (1 ∷ rest) (key_field key) (version_field version) 1 next fields in
     let second = Stands-second (1 ∷ rest) (key_field key) (version_field version) 1 next fields in
     rw (is, key_again (1 ∷ rest) 1 key (1 + length (key_field key)) fits.0 first, version_again (1 ∷ rest) (1 + length (key_field key)) version next fits.1 second) refl
+change_again (kind ∷ rest) (Install view contents provider now) next fits stands =
+    let fields = view_field view ++ (list_field content_field contents ++ (target_field provider ++ to_be_bytes w64 now)) in
+    let is : kind ≡ 2 = (let e = stands.parts in cc) in
+    let behind = subst (λ (k : ℕ). Stands (k ∷ rest) 1 fields next) is (Stands-second (kind ∷ rest) (2 ∷ []) fields 0 next stands) in
+    rw is (install_again rest view contents provider now next fits behind)
 
 -- ---- all of the bytes
 

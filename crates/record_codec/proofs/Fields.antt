@@ -1,17 +1,17 @@
 -- A field that is read stands at its place, and a field that stands at a place is read there.
 use Rattle.std.proofs.Common.{◌≡◌, ℕ, ◌+◌, ◌-◌, ◌^◌, ◌<◌, ◌≤◌, Bool, true, false, cond, ltb, ◌&&◌, List, ◌++◌, length, get_or, take, drop, Result, Ok, Err, refl, sym, ap, subst, ◌∙◌, append_assoc, arith, inl, inr}
-use Rattle.std.specs.Prelude.{nat_lt, nat_le}
+use Rattle.std.specs.Prelude.{nat_le}
 use Rattle.std.specs.Int.{Width, w16, w32, w64, byte_len, from_be_bytes, to_be_bytes}
 use Rattle.std.specs.Str.{is_utf8}
-use Rattle.std.proofs.lemmas.Bool.{cases_lt, ltb-false, ltb-true, leb-true, lt-ltb, le-ltb, le-leb, and_parts}
+use Rattle.std.proofs.lemmas.Bool.{cases_lt, ltb-false, leb-true, le-ltb, le-leb, and_parts}
 use Rattle.std.proofs.lemmas.List.{take_at, drop_at, drop-drop, take-append-drop, length-append, length-take, length-drop, get_or-drop, get_or-take, get_or_past}
 use Rattle.std.proofs.lemmas.Nat.{be_bytes_2, be_bytes_4, be_bytes_8, from_be_bytes-to_be_bytes_2, from_be_bytes-to_be_bytes_4, from_be_bytes-to_be_bytes_8}
 use Rattle.std.proofs.lemmas.Str.{IsUtf8-from_is_utf8, is_utf8-from_IsUtf8}
-use Rattle.identity.specs.Key.{IsPart}
+use Rattle.machine.specs.Fields.{IsShort}
 use Rattle.small_types.specs.Reading.{◌>>=◌}
 use Rattle.record_codec.specs.declared.fault.CodecFault.{CodecFault}
 use Rattle.record_codec.specs.declared.fault.CodecFault.TheVariants.{Bad}
-use Rattle.record_codec.specs.Codec.{text_field}
+use Rattle.record_codec.specs.Fields.{text_field}
 use Rattle.record_codec.specs.Places.{Stands}
 use Rattle.record_codec.specs.Reading.{number_at, sized_at, text_at}
 
@@ -69,7 +69,7 @@ Stands-second bytes a b place next both =
       parts = behind_parts bytes a (b ++ drop next bytes) place parts;
     }
 
-split : (bytes : List ℕ) (place size : ℕ) → drop place bytes ≡ take size (drop place bytes) ++ drop (place + size) bytes
+pub split : (bytes : List ℕ) (place size : ℕ) → drop place bytes ≡ take size (drop place bytes) ++ drop (place + size) bytes
 split bytes place size = sym (take-append-drop size (drop place bytes)) ∙ ap (λ (t : List ℕ). take size (drop place bytes) ++ t) (drop-drop size place bytes)
 
 -- ---- numbers
@@ -147,35 +147,32 @@ module _ (w : Width) (limit : ℕ) (wide : IsWide w limit) where
 
 -- ---- texts
 
-sized_takes : (limit : ℕ) (bytes : List ℕ) (place size start : ℕ) (x : List ℕ × ℕ) → start ≤ length bytes → sized_at limit bytes place size start ≡ Ok x → Stands bytes start x.0 x.1 × IsPart limit x.0 × (length x.0 ≡ size)
+sized_takes : (limit : ℕ) (bytes : List ℕ) (place size start : ℕ) (x : List ℕ × ℕ) → start ≤ length bytes → sized_at limit bytes place size start ≡ Ok x → Stands bytes start x.0 x.1 × IsShort limit x.0 × (length x.0 ≡ size)
 sized_takes limit bytes place size start x within e =
     let text = take size (drop start bytes) in
-    let g = passed_test (nat_lt 0 size && nat_le size limit && nat_le size (length bytes - start) && is_utf8 text) (Bad place) (text, start + size) x e in
-    let utf8 = and_parts (nat_lt 0 size && nat_le size limit && nat_le size (length bytes - start)) (is_utf8 text) g.0 in
-    let there = and_parts (nat_lt 0 size && nat_le size limit) (nat_le size (length bytes - start)) utf8.0 in
-    let small = and_parts (nat_lt 0 size) (nat_le size limit) there.0 in
-    let some : 0 < size = ltb-true _ _ small.0 in
-    let most : size ≤ limit = leb-true _ _ small.1 in
+    let g = passed_test (nat_le size limit && nat_le size (length bytes - start) && is_utf8 text) (Bad place) (text, start + size) x e in
+    let utf8 = and_parts (nat_le size limit && nat_le size (length bytes - start)) (is_utf8 text) g.0 in
+    let there = and_parts (nat_le size limit) (nat_le size (length bytes - start)) utf8.0 in
+    let most : size ≤ limit = leb-true _ _ there.0 in
     let room : size ≤ length bytes - start = leb-true _ _ there.1 in
     let long : length text ≡ size = omega (arith, length-take size (drop start bytes), length-drop start bytes) in
-    subst (λ (y : List ℕ × ℕ). Stands bytes start y.0 y.1 × IsPart limit y.0 × (length y.0 ≡ size)) g.1 (
+    subst (λ (y : List ℕ × ℕ). Stands bytes start y.0 y.1 × IsShort limit y.0 × (length y.0 ≡ size)) g.1 (
       record { behind = omega arith; within = omega arith; parts = split bytes start size },
-      record { nonempty = omega arith; within = omega arith; utf8 = IsUtf8-from_is_utf8 text utf8.1 },
+      record { within = omega arith; utf8 = IsUtf8-from_is_utf8 text utf8.1 },
       long,
     )
 
-sized_again : (limit : ℕ) (bytes : List ℕ) (place : ℕ) (text : List ℕ) (start next : ℕ) → IsPart limit text → Stands bytes start text next → sized_at limit bytes place (length text) start ≡ Ok (text, next)
+sized_again : (limit : ℕ) (bytes : List ℕ) (place : ℕ) (text : List ℕ) (start next : ℕ) → IsShort limit text → Stands bytes start text next → sized_at limit bytes place (length text) start ≡ Ok (text, next)
 sized_again limit bytes place text start next part stands =
     let behind = stands.behind in
     let within = stands.within in
     let front : take (length text) (drop start bytes) ≡ text = ap (take (length text)) stands.parts ∙ take_at text (drop next bytes) (length text) refl in
-    let some : nat_lt 0 (length text) ≡ true = lt-ltb 0 (length text) part.nonempty in
     let most : nat_le (length text) limit ≡ true = le-leb (length text) limit part.within in
     let room : nat_le (length text) (length bytes - start) ≡ true = le-leb (length text) (length bytes - start) (omega arith) in
     let utf8 : is_utf8 text ≡ true = is_utf8-from_IsUtf8 text part.utf8 in
-    rw (front, some, most, room, utf8, behind) refl
+    rw (front, most, room, utf8, behind) refl
 
-pub text_takes : (limit : ℕ) (bytes : List ℕ) (place : ℕ) (x : List ℕ × ℕ) → IsBytes bytes → place ≤ length bytes → text_at limit bytes place ≡ Ok x → Stands bytes place (text_field x.0) x.1 × IsPart limit x.0
+pub text_takes : (limit : ℕ) (bytes : List ℕ) (place : ℕ) (x : List ℕ × ℕ) → IsBytes bytes → place ≤ length bytes → text_at limit bytes place ≡ Ok x → Stands bytes place (text_field x.0) x.1 × IsShort limit x.0
 unfolding text_at text_field
 text_takes limit bytes place x fits within e =
     let size = bind_ok (number_at w32 bytes place) (λ size. sized_at limit bytes place size.0 size.1) x e in
@@ -185,7 +182,7 @@ text_takes limit bytes place x fits within e =
     let number : Stands bytes place (to_be_bytes w32 (length x.0)) size.0.1 = rw second.2 first.0 in
     (Stands-then bytes (to_be_bytes w32 (length x.0)) x.0 place size.0.1 x.1 number second.0, second.1)
 
-pub text_again : (limit : ℕ) (bytes : List ℕ) (place : ℕ) (text : List ℕ) (next : ℕ) → limit < 2 ^ 32 → IsPart limit text → Stands bytes place (text_field text) next → text_at limit bytes place ≡ Ok (text, next)
+pub text_again : (limit : ℕ) (bytes : List ℕ) (place : ℕ) (text : List ℕ) (next : ℕ) → limit < 2 ^ 32 → IsShort limit text → Stands bytes place (text_field text) next → text_at limit bytes place ≡ Ok (text, next)
 unfolding text_at text_field
 text_again limit bytes place text next small part stands =
     let size = to_be_bytes w32 (length text) in

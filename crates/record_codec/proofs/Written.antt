@@ -1,14 +1,19 @@
 -- Fields that are written one behind another.
 use Rattle.std.proofs.Common.{◌≡◌, ℕ, ◌+◌, ◌≤◌, List, [], ◌∷◌, ◌++◌, length, take, drop, refl, sym, ap, ◌∙◌, append_assoc, arith}
-use Rattle.std.specs.Int.{w16, w32, w64, to_be_bytes}
-use Rattle.std.proofs.lemmas.List.{take_at, drop_at, drop-drop, length-append, length-take, length-drop}
+use Rattle.std.specs.Int.{w64, to_be_bytes}
+use Rattle.std.proofs.lemmas.List.{take_at, drop_at, drop-drop, take-append-drop, length-append, length-take, length-drop}
+use Rattle.small_types.specs.declared.target.Target.{Target}
 use Rattle.identity.specs.declared.version.Version.{Version}
 use Rattle.identity.specs.declared.key.Key.{Key}
-use Rattle.identity.specs.Key.{IsKey}
 use Rattle.store_state.specs.declared.change.Change.{Change}
-use Rattle.store_state.specs.declared.change.Change.TheVariants.{Boot, Require}
-use Rattle.record_codec.specs.Codec.{text_field, key_field, version_field, change_text, IsChange}
-use Rattle.record_codec.specs.Places.{written}
+use Rattle.store_state.specs.declared.change.Change.TheVariants.{Boot, Require, Install}
+use Rattle.store_state.specs.declared.view.Content.{Content}
+use Rattle.store_state.specs.declared.view.View.{View}
+use Rattle.record_codec.specs.Codec.{change_text, install_text}
+use Rattle.record_codec.specs.Fields.{key_field, version_field}
+use Rattle.record_codec.specs.Spelling.{content_field, list_field, target_field, view_field}
+use Rattle.record_codec.specs.Places.{written, Writes}
+use Rattle.record_codec.proofs.Long.{length-version_field}
 
 length-written : (old a : List ℕ) (place : ℕ) → place + length a ≤ length old → length (written old place a) ≡ length old
 length-written old a place room = omega (arith, length-append (take place old) (a ++ drop (place + length a) old), length-append a (drop (place + length a) old), length-take place old, length-drop (place + length a) old)
@@ -40,45 +45,44 @@ two_written old first second a b place mid room one at two =
     let enough : place + length a + length b ≤ length old = omega (arith, length-append a b) in
     two ∙ ap (λ (xs : List ℕ). written xs mid b) one ∙ ap (λ (n : ℕ). written (written old place a) n b) at ∙ written_written old a b place enough
 
--- four fields
-pub four_written : (old first second third fourth a b c d : List ℕ) (place p q r : ℕ) → place + length (a ++ (b ++ (c ++ d))) ≤ length old → first ≡ written old place a → p ≡ place + length a → second ≡ written first p b → q ≡ p + length b → third ≡ written second q c → r ≡ q + length c → fourth ≡ written third r d
-    → fourth ≡ written old place (a ++ (b ++ (c ++ d)))
-four_written old first second third fourth a b c d place p q r room one at_p two at_q three at_r four =
-    let abcd = length-append a (b ++ (c ++ d)) in
-    let bcd = length-append b (c ++ d) in
-    let cd = length-append c d in
-    let long_one : length first ≡ length old = ap (length {A = ℕ}) one ∙ length-written old a place (omega arith) in
-    let long_two : length second ≡ length old = ap (length {A = ℕ}) two ∙ length-written first b p (omega arith) ∙ long_one in
-    let last : fourth ≡ written second q (c ++ d) = two_written second third fourth c d q r (omega arith) three at_r four in
-    let more : fourth ≡ written first p (b ++ (c ++ d)) = two_written first second fourth b (c ++ d) p q (omega arith) two at_q last in
-    two_written old first fourth a (b ++ (c ++ d)) place p room one at_p more
+-- ---- fields that were written
 
--- three fields
-pub three_written : (old first second third a b c : List ℕ) (place p q : ℕ) → place + length (a ++ (b ++ c)) ≤ length old → first ≡ written old place a → p ≡ place + length a → second ≡ written first p b → q ≡ p + length b → third ≡ written second q c → third ≡ written old place (a ++ (b ++ c))
-three_written old first second third a b c place p q room one at_p two at_q three =
-    let abc = length-append a (b ++ c) in
-    let bc = length-append b c in
-    let long_one : length first ≡ length old = ap (length {A = ℕ}) one ∙ length-written old a place (omega arith) in
-    let more : third ≡ written first p (b ++ c) = two_written first second third b c p q (omega arith) two at_q three in
-    two_written old first third a (b ++ c) place p room one at_p more
+pub length-Writes : {old a new : List ℕ} {place next : ℕ} → Writes old place a new next
+    → length new ≡ length old
+length-Writes {old} {a} {new} {place} {next} w =
+    let behind = w.behind in
+    let within = w.within in
+    ap (length {A = ℕ}) w.text ∙ length-written old a place (omega arith)
 
--- at the front
-pub front_written : (old new a : List ℕ) (next : ℕ) → new ≡ written old 0 a → next ≡ length a → new ≡ a ++ drop next old
-front_written old new a next is end = is ∙ ap (λ (n : ℕ). a ++ drop n old) (omega arith)
+-- two fields are one
+pub then : {old mid new a b : List ℕ} {place next last : ℕ} → Writes old place a mid next
+    → Writes mid next b new last → Writes old place (a ++ b) new last
+then {old} {mid} {new} {a} {b} {place} {next} {last} first second =
+    let at = first.behind in
+    let end = second.behind in
+    let long = length-Writes first in
+    let both = length-append a b in
+    let inside = second.within in
+    record {
+      text = two_written old mid new a b place next (omega arith) first.text at second.text;
+      behind = omega arith;
+      within = omega arith;
+    }
 
--- ---- the parts of fields
+pub at_front : {old new a : List ℕ} {next : ℕ} → Writes old 0 a new next → new ≡ a ++ drop next old
+at_front {old} {new} {a} {next} w =
+    let behind = w.behind in
+    let same : 0 + length a ≡ next = omega arith in
+    w.text ∙ ap (λ (n : ℕ). a ++ drop n old) same
 
-pub text_field-parts : (text : List ℕ) → to_be_bytes w32 (length text) ++ text ≡ text_field text
-unfolding text_field
-text_field-parts text = refl
+-- nothing is written
+pub nothing : (out : List ℕ) (place : ℕ) → place ≤ length out → Writes out place [] out place
+nothing out place within =
+    let same : place + 0 ≡ place = omega arith in
+    let whole = ap (λ (n : ℕ). take place out ++ drop n out) same ∙ take-append-drop place out in
+    record { text = sym whole; behind = omega arith; within = within }
 
-pub key_field-parts : (key : Key) → text_field key.name ++ (text_field key.token ++ (text_field key.language ++ text_field key.architecture)) ≡ key_field key
-unfolding key_field
-key_field-parts key = refl
-
-pub version_field-parts : (v : Version) → to_be_bytes w16 v.a ++ (to_be_bytes w16 v.b ++ (to_be_bytes w16 v.c ++ to_be_bytes w16 v.d)) ≡ version_field v
-unfolding version_field
-version_field-parts v = refl
+-- ---- the parts of changes
 
 pub change_text_boot : (boot : ℕ) → change_text (Boot boot) ≡ (0 ∷ []) ++ to_be_bytes w64 boot
 unfolding change_text
@@ -88,29 +92,12 @@ pub change_text_require : (key : Key) (version : Version) → change_text (Requi
 unfolding change_text
 change_text_require key version = refl
 
--- ---- how long fields are
+pub change_text_install : (view : View) (contents : List Content) (provider : Target) (now : ℕ)
+    → change_text (Install view contents provider now) ≡ install_text view contents provider now
+unfolding change_text
+change_text_install view contents provider now = refl
 
-pub length-text_field : (text : List ℕ) → length (text_field text) ≡ 4 + length text
-unfolding text_field
-length-text_field text = length-append (to_be_bytes w32 (length text)) text
-
-pub length-key_field : (key : Key) → length (key_field key) ≡ 16 + length key.name + length key.token + length key.language + length key.architecture
-unfolding key_field
-length-key_field key =
-    omega (
-      arith,
-      length-append (text_field key.name) (text_field key.token ++ (text_field key.language ++ text_field key.architecture)),
-      length-append (text_field key.token) (text_field key.language ++ text_field key.architecture),
-      length-append (text_field key.language) (text_field key.architecture),
-      length-text_field key.name,
-      length-text_field key.token,
-      length-text_field key.language,
-      length-text_field key.architecture,
-    )
-
-pub length-version_field : (v : Version) → length (version_field v) ≡ 8
-unfolding version_field
-length-version_field v = refl
+-- ---- how long changes are
 
 pub length-change_text_boot : (boot : ℕ) → length (change_text (Boot boot)) ≡ 9
 unfolding change_text
@@ -120,18 +107,36 @@ pub length-change_text_require : (key : Key) (version : Version) → length (cha
 unfolding change_text
 length-change_text_require key version = omega (arith, length-append (key_field key) (version_field version), length-version_field version)
 
-pub length-key_field_le : (key : Key) → IsKey key → length (key_field key) ≤ 448
-length-key_field_le key fits =
-    let name = fits.name.within in
-    let token = fits.token.within in
-    let language = fits.language.within in
-    let architecture = fits.architecture.within in
-    omega (arith, length-key_field key)
+-- the moment takes eight bytes, whatever it is
+length-install_text : (view : View) (contents : List Content) (provider : Target) (now other : ℕ)
+    → length (install_text view contents provider now)
+    ≡ length (install_text view contents provider other)
+unfolding install_text
+length-install_text view contents provider now other =
+    let v = view_field view in
+    let c = list_field content_field contents in
+    let p = target_field provider in
+    let n = to_be_bytes w64 now in
+    let m = to_be_bytes w64 other in
+    omega (
+      arith,
+      length-append v (c ++ (p ++ n)),
+      length-append c (p ++ n),
+      length-append p n,
+      length-append v (c ++ (p ++ m)),
+      length-append c (p ++ m),
+      length-append p m,
+    )
 
--- an encoding is short
-pub length-change_text_le : (c : Change) → IsChange c → length (change_text c) ≤ 457
-length-change_text_le (Boot boot) fits = omega (arith, length-change_text_boot boot)
-length-change_text_le (Require key version) fits = omega (arith, length-change_text_require key version, length-key_field_le key fits.0)
+pub length-installed : {change : Change} {view : View} {contents list : List Content}
+    {provider : Target} {now : ℕ} (other : ℕ) → change ≡ Install view contents provider now
+    → list ≡ contents
+    → length (install_text view list provider other) ≡ length (change_text change)
+length-installed {change} {view} {contents} {list} {provider} {now} other is same =
+    ap (λ (l : List Content). length (install_text view l provider other)) same
+    ∙ length-install_text view contents provider other now
+    ∙ ap (length {A = ℕ}) (sym (change_text_install view contents provider now))
+    ∙ sym (ap (λ (c : Change). length (change_text c)) is)
 
 -- ---- room for a change
 

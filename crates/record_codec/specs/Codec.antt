@@ -1,29 +1,37 @@
--- How changes are spelled as bytes. Numbers are big-endian.
-use Rattle.std.specs.Prelude.{◌<◌, ◌^◌, List, ℕ, ◌∷◌, ◌++◌, length}
-use Rattle.std.specs.Int.{to_be_bytes, w16, w32, w64}
-use Rattle.identity.specs.declared.version.Version.{Version}
-use Rattle.identity.specs.declared.key.Key.{Key}
+-- How changes are spelled as bytes.
+use Rattle.std.specs.Prelude.{◌<◌, ◌^◌, List, ℕ, ◌∷◌, ◌++◌}
+use Rattle.std.specs.Int.{to_be_bytes, w64}
+use Rattle.small_types.specs.declared.target.Target.{Target}
 use Rattle.identity.specs.Version.{IsVersion}
-use Rattle.identity.specs.Key.{IsKey}
+use Rattle.machine.specs.Fields.{IsShortKey}
 use Rattle.store_state.specs.declared.change.Change.{Change}
-use Rattle.store_state.specs.declared.change.Change.TheVariants.{Boot, Require}
+use Rattle.store_state.specs.declared.change.Change.TheVariants.{Boot, Require, Install}
+use Rattle.store_state.specs.declared.view.Content.{Content}
+use Rattle.store_state.specs.declared.view.View.{View}
+use Rattle.record_codec.specs.Fields.{key_field, version_field}
+use Rattle.record_codec.specs.Spelling.{content_field, list_field, target_field, view_field}
+use Rattle.record_codec.specs.Values.{IsInstall}
 
--- a text: its length and its bytes
-unfoldable pub text_field : List ℕ → List ℕ
-text_field text = to_be_bytes w32 (length text) ++ text
-
-unfoldable pub key_field : Key → List ℕ
-key_field key = text_field key.name ++ (text_field key.token ++ (text_field key.language ++ text_field key.architecture))
-
-unfoldable pub version_field : Version → List ℕ
-version_field v = to_be_bytes w16 v.a ++ (to_be_bytes w16 v.b ++ (to_be_bytes w16 v.c ++ to_be_bytes w16 v.d))
+-- the number of the kind, and the fields
+unfoldable pub install_text : View → List Content → Target → ℕ → List ℕ
+install_text view contents provider now =
+    2 ∷ (view_field view ++ (list_field content_field contents
+    ++ (target_field provider ++ to_be_bytes w64 now)))
 
 -- the bytes of a change: the number of its kind, and its fields
 unfoldable pub change_text : Change → List ℕ
 change_text (Boot boot) = 0 ∷ to_be_bytes w64 boot
 change_text (Require key version) = 1 ∷ (key_field key ++ version_field version)
+change_text (Install view contents provider now) = install_text view contents provider now
 
--- the fields are within their limits
+-- The fields are within their limits: just such a change has an encoding. A part of a key may be empty, as any text.
 abbrev pub IsChange : Change → Type 0
 IsChange (Boot boot) = boot < 2 ^ 64
-IsChange (Require key version) = IsKey key × IsVersion version
+IsChange (Require key version) = IsShortKey key × IsVersion version
+IsChange (Install view contents provider now) = IsInstall view contents provider now
+
+-- the most bytes of an encoding
+abbrev pub length_limit : Change → ℕ
+length_limit (Boot boot) = 9
+length_limit (Require key version) = 457
+length_limit (Install view contents provider now) = 2 ^ 48

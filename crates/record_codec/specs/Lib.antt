@@ -1,3 +1,9 @@
+pub mod Changes
 pub mod Codec
+pub mod Fields
+pub mod Parts
 pub mod Places
 pub mod Reading
+pub mod Records
+pub mod Spelling
+pub mod Values

@@ -1,14 +1,12 @@
 -- Reading from the left. A field gives its value and the place behind it, and the fault is the first field that
 -- cannot be read, by the place where it begins.
-use Rattle.std.specs.Prelude.{◌≡◌, ℕ, zero, suc, ◌+◌, ◌-◌, ◌≤◌, List, [], ◌∷◌, length, take, drop, Result, Ok, Err, nat_lt, nat_le, ◌==◌, ◌&&◌, if◌then◌else◌}
+use Rattle.std.specs.Prelude.{◌≡◌, ℕ, ◌+◌, ◌-◌, ◌≤◌, List, length, take, drop, Result, Ok, Err, nat_lt, nat_le, ◌&&◌, if◌then◌else◌}
 use Rattle.std.specs.Int.{Width, w16, w32, w64, byte_len, from_be_bytes}
 use Rattle.std.specs.Str.{is_utf8}
 use Rattle.identity.specs.declared.version.Version.{Version}
 use Rattle.identity.specs.declared.key.Key.{Key}
 use Rattle.small_types.specs.Reading.{◌>>=◌}
 use Rattle.small_types.specs.declared.limits.TheConstants.{IDENTITY_PART_LIMIT, NAME_LIMIT}
-use Rattle.store_state.specs.declared.change.Change.{Change}
-use Rattle.store_state.specs.declared.change.Change.TheVariants.{Boot, Require}
 use Rattle.record_codec.specs.declared.fault.CodecFault.{CodecFault}
 use Rattle.record_codec.specs.declared.fault.CodecFault.TheVariants.{Bad, Memory}
 
@@ -33,10 +31,10 @@ number_at w bytes place =
     if nat_lt (length bytes - place) (byte_len w) then Err (Bad place)
     else Ok (from_be_bytes w (take (byte_len w) (drop place bytes)), place + byte_len w)
 
--- that many bytes, of which there are some and at most the limit, in UTF-8
+-- that many bytes, at most the limit, in UTF-8
 abbrev pub sized_at : ℕ → List ℕ → ℕ → ℕ → ℕ → Result (List ℕ × ℕ) CodecFault
 sized_at limit bytes place size start =
-    if nat_lt 0 size && nat_le size limit && nat_le size (length bytes - start) && is_utf8 (take size (drop start bytes))
+    if nat_le size limit && nat_le size (length bytes - start) && is_utf8 (take size (drop start bytes))
     then Ok (take size (drop start bytes), start + size)
     else Err (Bad place)
 
@@ -61,27 +59,3 @@ version_at bytes place = do
   c ← number_at w16 bytes b.1
   d ← number_at w16 bytes c.1
   Ok (record { a = a.0; b = b.0; c = c.0; d = d.0 }, d.1)
-
-unfoldable pub boot_at : List ℕ → ℕ → Result (Change × ℕ) CodecFault
-boot_at bytes place = do
-  boot ← number_at w64 bytes place
-  Ok (Boot boot.0, boot.1)
-
-unfoldable pub require_at : List ℕ → ℕ → Result (Change × ℕ) CodecFault
-require_at bytes place = do
-  key ← key_at bytes place
-  version ← version_at bytes key.1
-  Ok (Require key.0 version.0, version.1)
-
--- the number of the kind, and the fields
-unfoldable pub change_at : List ℕ → Result (Change × ℕ) CodecFault
-change_at [] = Err (Bad 0)
-change_at (zero ∷ rest) = boot_at (zero ∷ rest) 1
-change_at (suc zero ∷ rest) = require_at (suc zero ∷ rest) 1
-change_at (suc (suc kind) ∷ rest) = Err (Bad 0)
-
--- all of the bytes
-unfoldable pub change_of : List ℕ → Result Change CodecFault
-change_of bytes = do
-  change ← change_at bytes
-  if change.1 == length bytes then Ok change.0 else Err (Bad change.1)

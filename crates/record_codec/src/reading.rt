@@ -4,17 +4,21 @@ ghost use Rattle.std.specs.Int.{w16, w32, w64};
 ghost use Rattle.std.specs.Str.{is_utf8};
 ghost use Rattle.store_state.specs.declared.change.Change.{Change};
 ghost use Rattle.record_codec.specs.Codec.{change_text, IsChange};
-ghost use Rattle.record_codec.specs.Reading.{Gives, IsWithin, number_at, sized_at, text_at, key_at, version_at, boot_at, require_at, change_at, change_of};
+ghost use Rattle.record_codec.specs.Reading.{Gives, IsWithin, number_at, sized_at, text_at, key_at, version_at};
+ghost use Rattle.record_codec.specs.Changes.{boot_at, require_at, install_at, change_at, change_of};
 
 use crate::CodecFault;
+use crate::list_reading::list_here;
+use crate::part_reading::target_here;
+use crate::view_reading::view_here;
 use identity::{Key, Version};
 use small_types::Text;
-use small_types::limits::{IDENTITY_PART_LIMIT, NAME_LIMIT};
+use small_types::limits::{FILE_COUNT_LIMIT, IDENTITY_PART_LIMIT, NAME_LIMIT};
 use std::alloc::Global;
-use store_state::Change;
+use store_state::{Change, Content};
 
 // The fault of the field that begins at the place.
-fn bad(place: usize) -> CodecFault
+pub(crate) fn bad(place: usize) -> CodecFault
     ensures { result ≡ CodecFault.Bad place }
 {
     CodecFault::Bad {
@@ -107,7 +111,7 @@ fn sized_text(
     ensures next { IfOk result (λ x. x.1 ≤ length bytes.now) }
     ensures fault { IfErr result (IsWithin (length bytes.now)) }
 {
-    if size == 0 || limit < size {
+    if limit < size {
         return Err(bad(place));
     }
     let Some(front) = front(bytes, start, size) else {
@@ -121,7 +125,7 @@ fn sized_text(
 }
 
 /// The text at the place, behind its length in four bytes, and the place behind it. The fault is at the place, where
-/// the bytes end before the text does, or it is empty, has more bytes than the limit or is no UTF-8.
+/// the bytes end before the text does, or it has more bytes than the limit or is no UTF-8. An empty text is one.
 #[tactic(auto, unfolding(crate::specs::Reading::text_at))]
 pub fn read_text(
     alloc: Global,
@@ -177,7 +181,7 @@ pub fn read_version(bytes: &[u8], place: usize) -> Result<(Version, usize), Code
 }
 
 // The boot number at the place.
-#[tactic(auto, unfolding(crate::specs::Reading::boot_at))]
+#[tactic(auto, unfolding(crate::specs::Changes::boot_at))]
 fn read_boot(bytes: &[u8], place: usize) -> Result<(Change, usize), CodecFault>
     requires { place ≤ length bytes.now }
     ensures exact { Gives result (boot_at bytes.now place) }
@@ -189,7 +193,7 @@ fn read_boot(bytes: &[u8], place: usize) -> Result<(Change, usize), CodecFault>
 }
 
 // The key and the version at the place.
-#[tactic(auto, unfolding(crate::specs::Reading::require_at))]
+#[tactic(auto, unfolding(crate::specs::Changes::require_at))]
 fn read_require(alloc: Global, bytes: &[u8], place: usize) -> Result<(Change, usize), CodecFault>
     requires { place ≤ length bytes.now }
     ensures exact { Gives result (require_at bytes.now place) }
@@ -201,8 +205,30 @@ fn read_require(alloc: Global, bytes: &[u8], place: usize) -> Result<(Change, us
     Ok((Change::Require { key, version }, next))
 }
 
+// The view, the contents that it brings, the address that updates come from and the moment, at the
+// place.
+#[tactic(auto, unfolding(crate::specs::Changes::install_at))]
+fn read_install(alloc: Global, bytes: &[u8], place: usize) -> Result<(Change, usize), CodecFault>
+    requires { place ≤ length bytes.now }
+    ensures exact { Gives result (install_at bytes.now place) }
+    ensures next { IfOk result (λ x. x.1 ≤ length bytes.now) }
+    ensures fault { IfErr result (IsWithin (length bytes.now)) }
+{
+    let (view, next) = view_here(alloc, bytes, place)?;
+    let (contents, next) = list_here::<Content>(alloc, bytes, next, FILE_COUNT_LIMIT)?;
+    let (provider, next) = target_here(alloc, bytes, next)?;
+    let (now, next) = read_u64(bytes, next)?;
+    let change = Change::Install {
+        view,
+        contents,
+        provider,
+        now,
+    };
+    Ok((change, next))
+}
+
 // The change at the front.
-#[tactic(auto, unfolding(crate::specs::Reading::change_at))]
+#[tactic(auto, unfolding(crate::specs::Changes::change_at))]
 fn read_change(alloc: Global, bytes: &[u8]) -> Result<(Change, usize), CodecFault>
     ensures exact { Gives result (change_at bytes.now) }
     ensures next { IfOk result (λ x. x.1 ≤ length bytes.now) }
@@ -211,12 +237,13 @@ fn read_change(alloc: Global, bytes: &[u8]) -> Result<(Change, usize), CodecFaul
     match bytes {
         [0, ..] => read_boot(bytes, 1),
         [1, ..] => read_require(alloc, bytes, 1),
+        [2, ..] => read_install(alloc, bytes, 1),
         _ => Err(bad(0)),
     }
 }
 
 // The change that is all of the bytes.
-#[tactic(auto, unfolding(crate::specs::Reading::change_of))]
+#[tactic(auto, unfolding(crate::specs::Changes::change_of))]
 fn read_all(alloc: Global, bytes: &[u8]) -> Result<Change, CodecFault>
     ensures exact { Gives result (change_of bytes.now) }
     ensures fault { IfErr result (IsWithin (length bytes.now)) }
@@ -228,8 +255,8 @@ fn read_all(alloc: Global, bytes: &[u8]) -> Result<Change, CodecFault>
     Ok(change)
 }
 
-/// The change that the bytes encode. What is read is within its limits, and the bytes are its encoding. Bytes that
-/// encode a change are read, unless memory runs out. `Bad` names the place, at most their length, where the first
+/// The change that the bytes encode: what is read is within its limits, and the bytes are its encoding; bytes that
+/// encode a change within its limits are read, unless memory runs out. `Bad` names the place, at most their length, where the first
 /// field begins that cannot be read, or where bytes are left over.
 pub fn decode_change(alloc: Global, bytes: &[u8]) -> Result<Change, CodecFault>
     ensures found { IfOk result (λ c. IsChange c × (bytes.now ≡ change_text c)) }

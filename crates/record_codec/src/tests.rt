@@ -15,6 +15,7 @@ const REQUIRE: [u8; 29] = [
     4,
 ];
 
+#[tactic(auto, using(machine::proofs::Shortness::short_key))]
 fn requirement(key: Key) -> Change
     requires { IsKey key }
     ensures { IsChange result }
@@ -28,8 +29,48 @@ fn requirement(key: Key) -> Change
     Change::Require { key, version }
 }
 
+// What bytes were read as, in short.
+#[derive(Clone, Copy, Debug, PartialEq, Eq)]
+enum Said {
+    Boot(u64),
+    // The first and the last number of the version, and how many bytes the parts of the key have.
+    Require(u16, u16, [usize; 4]),
+    Bad(u64),
+    Other,
+}
+
+fn short_form(change: &Change) -> Said {
+    match change {
+        Change::Boot { boot } => Said::Boot(*boot),
+        Change::Require { key, version } => Said::Require(
+            version.a,
+            version.d,
+            [
+                key.name.as_bytes().len(),
+                key.token.as_bytes().len(),
+                key.language.as_bytes().len(),
+                key.architecture.as_bytes().len(),
+            ],
+        ),
+        Change::Install { .. } => Said::Other,
+    }
+}
+
+// Reads the bytes. It promises nothing, so that what a test asks is tried and not proved.
+fn read(alloc: Global, bytes: &[u8]) -> Said {
+    match decode_change(alloc, bytes) {
+        Ok(change) => {
+            let said = short_form(&change);
+            drop(change);
+            said
+        }
+        Err(CodecFault::Bad { place }) => Said::Bad(place),
+        Err(CodecFault::Memory) => Said::Other,
+    }
+}
+
 fn fails(rt: &impl Abort, alloc: Global, bytes: &[u8], place: u64) {
-    assert_eq!(rt; decode_change(alloc, bytes), Err(CodecFault::Bad { place }));
+    assert_eq!(rt; read(alloc, bytes), Said::Bad(place));
 }
 
 #[test]
@@ -40,14 +81,10 @@ fn a_boot_number(rt: HostRuntime) -> Result<(), Fail> {
     assert_eq!(rt; encode_change(&boot, &mut out), 9);
     assert_eq!(rt; &out[..9], BOOT_ONE.as_slice());
     assert_eq!(rt; &out[9..], [7; 23].as_slice());
-    assert_eq!(rt; decode_change(rt.alloc(), &BOOT_ONE), Ok(boot));
+    drop(boot);
+    assert_eq!(rt; read(rt.alloc(), &BOOT_ONE), Said::Boot(1));
     let wide = [0, 1, 2, 3, 4, 5, 6, 7, 8];
-    assert_eq!(rt;
-        decode_change(rt.alloc(), &wide),
-        Ok(Change::Boot {
-            boot: 0x0102_0304_0506_0708
-        })
-    );
+    assert_eq!(rt; read(rt.alloc(), &wide), Said::Boot(0x0102_0304_0506_0708));
     Ok(())
 }
 
@@ -61,16 +98,21 @@ fn a_requirement(rt: HostRuntime) -> Result<(), Fail> {
     let mut wanted = [7; 32];
     wanted[..29].copy_from_slice(&REQUIRE);
     assert_eq!(rt; out, wanted);
-    assert_eq!(rt; decode_change(rt.alloc(), &REQUIRE), Ok(change));
+    drop(change);
+    assert_eq!(rt;
+        read(rt.alloc(), &REQUIRE),
+        Said::Require(1, 4, [1, 1, 1, 1])
+    );
     Ok(())
 }
 
 #[test]
 fn what_is_no_encoding(rt: HostRuntime) -> Result<(), Fail> {
     fails(&rt, rt.alloc(), &[], 0);
-    fails(&rt, rt.alloc(), &[2], 0);
+    fails(&rt, rt.alloc(), &[3], 0);
     // It ends too soon.
     fails(&rt, rt.alloc(), &[0], 1);
+    fails(&rt, rt.alloc(), &[2], 1);
     fails(&rt, rt.alloc(), &BOOT_ONE[..8], 1);
     fails(&rt, rt.alloc(), &REQUIRE[..1], 1);
     fails(&rt, rt.alloc(), &REQUIRE[..5], 1);
@@ -78,8 +120,7 @@ fn what_is_no_encoding(rt: HostRuntime) -> Result<(), Fail> {
     fails(&rt, rt.alloc(), &REQUIRE[..28], 27);
     // A byte is left over.
     fails(&rt, rt.alloc(), &[0, 0, 0, 0, 0, 0, 0, 0, 1, 0], 9);
-    // The name is empty, and it is no UTF-8.
-    fails(&rt, rt.alloc(), &[1, 0, 0, 0, 0, 0, 0, 0, 1, b't'], 1);
+    // The name is no UTF-8.
     fails(&rt, rt.alloc(), &[1, 0, 0, 0, 1, 0xff, 0, 0, 0, 1, b't'], 1);
     Ok(())
 }
@@ -97,8 +138,20 @@ fn with_token(alloc: Global, length: u8) -> Result<Vec<u8>, Fail> {
 #[test]
 fn parts_have_limits(rt: HostRuntime) -> Result<(), Fail> {
     let longest = with_token(rt.alloc(), 64)?;
-    assert!(rt; decode_change(rt.alloc(), longest.as_slice()).is_ok());
+    assert_eq!(rt;
+        read(rt.alloc(), longest.as_slice()),
+        Said::Require(1, 4, [1, 64, 1, 1])
+    );
     let longer = with_token(rt.alloc(), 65)?;
     fails(&rt, rt.alloc(), longer.as_slice(), 6);
+    Ok(())
+}
+
+#[test]
+fn parts_may_be_empty(rt: HostRuntime) -> Result<(), Fail> {
+    let mut bytes = [0; 25];
+    bytes[0] = 1;
+    bytes[24] = 9;
+    assert_eq!(rt; read(rt.alloc(), &bytes), Said::Require(0, 9, [0, 0, 0, 0]));
     Ok(())
 }

@@ -1,19 +1,21 @@
-// Writing into room that is there.
+// Writing into room that is there. A writer leaves all bytes but those of its field.
 ghost use Rattle.std.specs.Prelude.{◌≡◌, ◌+◌, ◌<◌, ◌≤◌, ◌^◌, ◌++◌, length, drop};
 ghost use Rattle.std.specs.Int.{w16, w32, w64, to_be_bytes};
-ghost use Rattle.identity.specs.Key.{IsKey};
-ghost use Rattle.record_codec.specs.Codec.{text_field, key_field, version_field, change_text, IsChange};
-ghost use Rattle.record_codec.specs.Places.{written};
+ghost use Rattle.machine.specs.Fields.{IsShortKey};
+ghost use Rattle.record_codec.specs.Codec.{change_text, IsChange, length_limit};
+ghost use Rattle.record_codec.specs.Fields.{text_field, key_field, version_field};
+ghost use Rattle.record_codec.specs.Places.{Writes};
 
+use crate::lengths::{install_length, key_length};
+use crate::view_writing::write_install;
 use identity::{Key, Version};
 use small_types::Text;
 use store_state::Change;
 
-// Writes the bytes at the place, and answers the place behind them.
-fn put(out: &mut [u8], place: usize, bytes: &[u8]) -> usize
+// Writes the bytes at the place, leaves all others, and answers the place behind them.
+pub(crate) fn put(out: &mut [u8], place: usize, bytes: &[u8]) -> usize
     requires { place + length bytes.now ≤ length out.old }
-    ensures next { result ≡ place + length bytes.now }
-    ensures text { out.new ≡ written out.old place bytes.now }
+    ensures { Writes out.old place bytes.now out.new result }
 {
     let end = place + bytes.len();
     out[place..end].copy_from_slice(bytes);
@@ -23,8 +25,7 @@ fn put(out: &mut [u8], place: usize, bytes: &[u8]) -> usize
 /// Writes the number at the place in two bytes, the first the greater, and answers the place behind them.
 pub fn write_u16(out: &mut [u8], place: usize, number: u16) -> usize
     requires { place + 2 ≤ length out.old }
-    ensures next { result ≡ place + 2 }
-    ensures text { out.new ≡ written out.old place (to_be_bytes w16 number) }
+    ensures { Writes out.old place (to_be_bytes w16 number) out.new result }
 {
     put(out, place, &number.to_be_bytes())
 }
@@ -32,8 +33,7 @@ pub fn write_u16(out: &mut [u8], place: usize, number: u16) -> usize
 /// Writes the number at the place in four bytes, the first the greatest, and answers the place behind them.
 pub fn write_u32(out: &mut [u8], place: usize, number: u32) -> usize
     requires { place + 4 ≤ length out.old }
-    ensures next { result ≡ place + 4 }
-    ensures text { out.new ≡ written out.old place (to_be_bytes w32 number) }
+    ensures { Writes out.old place (to_be_bytes w32 number) out.new result }
 {
     put(out, place, &number.to_be_bytes())
 }
@@ -41,30 +41,36 @@ pub fn write_u32(out: &mut [u8], place: usize, number: u32) -> usize
 /// Writes the number at the place in eight bytes, the first the greatest, and answers the place behind them.
 pub fn write_u64(out: &mut [u8], place: usize, number: u64) -> usize
     requires { place + 8 ≤ length out.old }
-    ensures next { result ≡ place + 8 }
-    ensures text { out.new ≡ written out.old place (to_be_bytes w64 number) }
+    ensures { Writes out.old place (to_be_bytes w64 number) out.new result }
 {
     put(out, place, &number.to_be_bytes())
+}
+
+// Writes bytes at the place, behind their number in four bytes, and answers the place behind them.
+pub(crate) fn write_bytes(out: &mut [u8], place: usize, bytes: &[u8]) -> usize
+    requires size { length bytes.now < 2 ^ 32 }
+    requires room { place + 4 + length bytes.now ≤ length out.old }
+    ensures { Writes out.old place (text_field bytes.now) out.new result }
+{
+    let start = write_u32(out, place, bytes.len() as u32);
+    put(out, start, bytes)
 }
 
 /// Writes the text at the place, behind its length in four bytes, and answers the place behind it.
 pub fn write_text(out: &mut [u8], place: usize, text: &Text) -> usize
     requires size { length text.now < 2 ^ 32 }
     requires room { place + 4 + length text.now ≤ length out.old }
-    ensures next { result ≡ place + length (text_field text.now) }
-    ensures text { out.new ≡ written out.old place (text_field text.now) }
+    ensures { Writes out.old place (text_field text.now) out.new result }
 {
-    let bytes = text.as_bytes();
-    let start = write_u32(out, place, bytes.len() as u32);
-    put(out, start, bytes)
+    write_bytes(out, place, text.as_bytes())
 }
 
 /// Writes the key at the place, its four parts as texts, and answers the place behind it.
+#[tactic(auto, unfolding(crate::specs::Fields::key_field, crate::specs::Fields::text_field))]
 pub fn write_key(out: &mut [u8], place: usize, key: &Key) -> usize
-    requires key { IsKey key.now }
+    requires key { IsShortKey key.now }
     requires room { place + length (key_field key.now) ≤ length out.old }
-    ensures next { result ≡ place + length (key_field key.now) }
-    ensures text { out.new ≡ written out.old place (key_field key.now) }
+    ensures { Writes out.old place (key_field key.now) out.new result }
 {
     let next = write_text(out, place, &key.name);
     let next = write_text(out, next, &key.token);
@@ -75,8 +81,7 @@ pub fn write_key(out: &mut [u8], place: usize, key: &Key) -> usize
 /// Writes the version at the place, its four numbers in two bytes each, and answers the place behind it.
 pub fn write_version(out: &mut [u8], place: usize, version: Version) -> usize
     requires { place + 8 ≤ length out.old }
-    ensures next { result ≡ place + 8 }
-    ensures text { out.new ≡ written out.old place (version_field version) }
+    ensures { Writes out.old place (version_field version) out.new result }
 {
     let next = write_u16(out, place, version.a);
     let next = write_u16(out, next, version.b);
@@ -84,27 +89,22 @@ pub fn write_version(out: &mut [u8], place: usize, version: Version) -> usize
     write_u16(out, next, version.d)
 }
 
-// How many bytes a key takes.
-fn key_length(key: &Key) -> usize
-    requires { IsKey key.now }
-    ensures { result ≡ length (key_field key.now) }
-{
-    let name = key.name.as_bytes().len();
-    let token = key.token.as_bytes().len();
-    let language = key.language.as_bytes().len();
-    let architecture = key.architecture.as_bytes().len();
-    16 + name + token + language + architecture
-}
-
-/// How many bytes the change's encoding has: at most 457.
+/// How many bytes the change's encoding has: 9 of a boot number, at most 457 of a requirement, and
+/// at most 2^48 of an installation.
 pub fn encoded_length(change: &Change) -> u64
     requires { IsChange change.now }
     ensures length { result ≡ length (change_text change.now) }
-    ensures bound { result ≤ 457 }
+    ensures bound { result ≤ length_limit change.now }
 {
     match change {
         Change::Boot { .. } => 9,
-        Change::Require { key, .. } => 9 + key_length(key) as u64,
+        Change::Require { key, .. } => 9 + key_length(key),
+        Change::Install {
+            view,
+            contents,
+            provider,
+            ..
+        } => install_length(view, contents.as_slice(), provider),
     }
 }
 
@@ -126,5 +126,11 @@ pub fn encode_change(change: &Change, out: &mut [u8]) -> usize
             let next = write_key(out, next, key);
             write_version(out, next, *version)
         }
+        Change::Install {
+            view,
+            contents,
+            provider,
+            now,
+        } => write_install(out, view, contents.as_slice(), provider, *now),
     }
 }
