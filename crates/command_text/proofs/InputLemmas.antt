@@ -1,5 +1,5 @@
 -- How a cut grows byte by byte, and what lines it gives; and how events go with lines.
-use Rattle.std.proofs.Common.{◌≡◌, ◌≢◌, ◌==◌, ◌+◌, ℕ, false, List, [], ◌∷◌, ◌++◌, length, map, Option, Some, None, Result, Ok, Err, inl, inr, refl, sym, ap, suc, ◌∙◌, arith, if◌then◌else◌}
+use Rattle.std.proofs.Common.{◌≡◌, ◌≢◌, ◌==◌, ◌+◌, ℕ, false, List, [], ◌∷◌, ◌++◌, length, map, Option, Some, None, Ok, Err, refl, sym, ap, suc, ◌∙◌, arith, if◌then◌else◌}
 use Rattle.std.specs.List.{All, slice_split, count_by}
 use Rattle.std.specs.Str.Lines.{lines, lines_of_parts, strip_carriage_return}
 use Rattle.std.proofs.lemmas.Bool.{ne_eqb}
@@ -7,14 +7,14 @@ use Rattle.std.proofs.lemmas.List.{append-nil, append_assoc, length-append}
 use Rattle.std.proofs.lemmas.List.Elements.{All-nil, All-push, All-head, All-tail, All-weaker}
 use Rattle.std.proofs.lemmas.List.Splits.{slice_split_none, slice_split_at, length-slice_split}
 use Rattle.std.proofs.lemmas.Grind.{flat_map-append}
-use Rattle.store_state.specs.declared.command.Command.{Command}
-use Rattle.store_state.specs.declared.command.LineFault.{LineFault}
-use Rattle.store_state.specs.declared.command.LineFault.TheVariants.{LineTooLong, NoSuchCommand, WordCount, BadWord}
-use Rattle.store_state.specs.declared.command.LineFault.TheVariants as fault
-use Rattle.store_state.specs.declared.event.Event.{Event}
-use Rattle.store_state.specs.declared.reply.Reply.{Reply}
+use Rattle.machine.specs.declared.command.Command.{Command}
+use Rattle.machine.specs.declared.command.LineFault.{LineFault}
+use Rattle.machine.specs.declared.event.Event.{Event}
+use Rattle.machine.specs.declared.event.Event.TheVariants.{Line, Unread}
+use Rattle.machine.specs.declared.event.Heard.{Heard}
+use Rattle.machine.specs.declared.reply.Reply.{Reply}
 use Rattle.command_text.specs.Input.{HasNoFeed, fed, Cut}
-use Rattle.command_text.specs.Lines.{command_of, Gives, event_of, IsEvent, AreEvents, reply_text, texts_of}
+use Rattle.command_text.specs.Lines.{command_of, Gives, IsEvent, AreEvents, reply_text, texts_of}
 
 -- the empty input
 pub cut_none : Cut [] [] []
@@ -97,25 +97,25 @@ feeds_cut {bytes} {raw} {rest} cut =
     omega (arith, parts, split)
 
 -- one line and its event more
-pub events_push : (now : ℕ) (lines : List (List ℕ)) (events : List Event) (line : List ℕ) (event : Event) → AreEvents now lines events → IsEvent now line event → AreEvents now (lines ++ line ∷ []) (events ++ event ∷ [])
-events_push now [] [] line event are is = (is, tt)
-events_push now [] (first ∷ events) line event are is = absurd are
-events_push now (first ∷ lines) [] line event are is = absurd are
-events_push now (first ∷ lines) (shown ∷ events) line event are is = (are.0, events_push now lines events line event are.1 is)
+pub events_push : (lines : List (List ℕ)) (events : List Event) (line : List ℕ) (event : Event) → AreEvents lines events → IsEvent line event → AreEvents (lines ++ line ∷ []) (events ++ event ∷ [])
+events_push [] [] line event are is = (is, tt)
+events_push [] (first ∷ events) line event are is = absurd are
+events_push (first ∷ lines) [] line event are is = absurd are
+events_push (first ∷ lines) (shown ∷ events) line event are is = (are.0, events_push lines events line event are.1 is)
 
 -- events of lines, and those of the lines behind them
-pub events_append : (now : ℕ) (lines : List (List ℕ)) (events : List Event) (lines' : List (List ℕ)) (events' : List Event) → AreEvents now lines events → AreEvents now lines' events' → AreEvents now (lines ++ lines') (events ++ events')
-events_append now [] [] lines' events' are more = more
-events_append now [] (event ∷ events) lines' events' are more = absurd are
-events_append now (line ∷ lines) [] lines' events' are more = absurd are
-events_append now (line ∷ lines) (event ∷ events) lines' events' are more = (are.0, events_append now lines events lines' events' are.1 more)
+pub events_append : (lines : List (List ℕ)) (events : List Event) (lines' : List (List ℕ)) (events' : List Event) → AreEvents lines events → AreEvents lines' events' → AreEvents (lines ++ lines') (events ++ events')
+events_append [] [] lines' events' are more = more
+events_append [] (event ∷ events) lines' events' are more = absurd are
+events_append (line ∷ lines) [] lines' events' are more = absurd are
+events_append (line ∷ lines) (event ∷ events) lines' events' are more = (are.0, events_append lines events lines' events' are.1 more)
 
 -- each line is one event
-pub length_events : (now : ℕ) (lines : List (List ℕ)) (events : List Event) → AreEvents now lines events → length events ≡ length lines
-length_events now [] [] are = refl
-length_events now [] (event ∷ events) are = absurd are
-length_events now (line ∷ lines) [] are = absurd are
-length_events now (line ∷ lines) (event ∷ events) are = ap suc (length_events now lines events are.1)
+pub length_events : (lines : List (List ℕ)) (events : List Event) → AreEvents lines events → length events ≡ length lines
+length_events [] [] are = refl
+length_events [] (event ∷ events) are = absurd are
+length_events (line ∷ lines) [] are = absurd are
+length_events (line ∷ lines) (event ∷ events) are = ap suc (length_events lines events are.1)
 
 -- the texts of two runs of replies, one behind the other
 pub texts_of-append : (a b : List (Option Reply)) → texts_of (a ++ b) ≡ texts_of a ++ texts_of b
@@ -123,11 +123,10 @@ texts_of-append [] b = refl
 texts_of-append (None ∷ replies) b = texts_of-append replies b
 texts_of-append (Some reply ∷ replies) b = ap (λ rest. reply_text reply ++ rest) (texts_of-append replies b) ∙ sym (append_assoc (reply_text reply) (texts_of replies) (texts_of b))
 
--- what a line's reading gives is its event
-pub gives_event : (now : ℕ) (line : List ℕ) (read : Result Command LineFault) → Gives read (command_of line) → IsEvent now line (event_of now read)
-gives_event now line (Ok command) is = inl (ap (event_of now) (sym is))
-gives_event now line (Err LineTooLong) is = inl (ap (event_of now) (sym is))
-gives_event now line (Err NoSuchCommand) is = inl (ap (event_of now) (sym is))
-gives_event now line (Err WordCount) is = inl (ap (event_of now) (sym is))
-gives_event now line (Err (BadWord place)) is = inl (ap (event_of now) (sym is))
-gives_event now line (Err fault.Memory) is = inr refl
+-- a line that was read as a command is its event, at any moment
+pub command_event : (now : ℕ) (heard : Heard) (line : List ℕ) (command : Command) → Gives (Ok command) (command_of line) → IsEvent line (Line command now heard)
+command_event now heard line command is = is
+
+-- a line that was not read is its event
+pub unread_event : (line : List ℕ) (fault : LineFault) → Gives (Err fault) (command_of line) → IsEvent line (Unread fault)
+unread_event line fault is = is

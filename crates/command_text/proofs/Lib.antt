@@ -1,2 +1,5 @@
 pub mod InputLemmas
+pub mod Joining
+mod UrlWords
 mod WordLemmas
+pub mod Writing

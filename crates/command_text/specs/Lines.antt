@@ -1,27 +1,39 @@
 -- How lines are read, and how replies are written.
-use Rattle.std.specs.Prelude.{◌≡◌, ◌⊎◌, ℕ, List, [], ◌∷◌, ◌++◌, length, nat_le, if◌then◌else◌, codes, Option, Some, None, Result, Ok, Err}
+use Rattle.std.specs.Prelude.{◌≡◌, ℕ, Bool, ◌&&◌, List, [], ◌∷◌, ◌++◌, length, map, nat_le, if◌then◌else◌, codes, Option, Some, None, Result, Ok, Err}
 use Rattle.std.specs.Fmt.{decimal}
+use Rattle.std.specs.List.{join_with_byte, list_all}
 use Rattle.std.specs.Str.{bytes_eq}
 use Rattle.std.specs.Str.Lines.{lines}
 use Rattle.identity.specs.declared.version.Version.{Version}
 use Rattle.identity.specs.declared.version.VersionFault.{VersionFault}
 use Rattle.identity.specs.declared.key.Key.{Key}
 use Rattle.identity.specs.declared.key.KeyFault.{KeyFault}
-use Rattle.identity.specs.Version.{IsVersion, version_of, version_text}
-use Rattle.identity.specs.Key.{IsKey, key_of}
-use Rattle.store_state.specs.declared.command.Command.{Command}
-use Rattle.store_state.specs.declared.command.Command.TheVariants.{Require}
-use Rattle.store_state.specs.declared.command.LineFault.{LineFault}
-use Rattle.store_state.specs.declared.command.LineFault.TheVariants.{LineTooLong, NoSuchCommand, WordCount, BadWord}
-use Rattle.store_state.specs.declared.command.LineFault.TheVariants as fault
-use Rattle.store_state.specs.declared.event.Event.{Event}
-use Rattle.store_state.specs.declared.event.Event.TheVariants.{Line, Unread}
+use Rattle.identity.specs.Version.{version_of, version_text}
+use Rattle.identity.specs.Key.{comma, key_of, key_text}
+use Rattle.digest_list.specs.declared.difference.Difference.TheVariants.{Digest, Size}
+use Rattle.digest_list.specs.Algorithm.{name_of}
+use Rattle.hex.specs.Hex.{encode_lower}
+use Rattle.causes.specs.declared.cause.Cause.{Cause}
+use Rattle.causes.specs.declared.cause.Cause.TheVariants.{Differs, Down, Missing, TooLong}
+use Rattle.addresses.specs.Join.{target_text}
+use Rattle.manifests.specs.declared.releases.ReleaseFault.{ReleaseFault}
+use Rattle.manifests.specs.declared.releases.ReleaseFault.TheVariants as unlike
+use Rattle.manifest_text.specs.Lines.{refusal_text, two}
+use Rattle.machine.specs.declared.command.Command.{Command}
+use Rattle.machine.specs.declared.command.Command.TheVariants.{At, Require, Install}
+use Rattle.machine.specs.declared.command.LineFault.{LineFault}
+use Rattle.machine.specs.declared.command.LineFault.TheVariants.{LineTooLong, NoSuchCommand, WordCount, BadWord}
+use Rattle.machine.specs.declared.command.LineFault.TheVariants as fault
+use Rattle.machine.specs.declared.event.Event.{Event}
+use Rattle.machine.specs.declared.event.Event.TheVariants.{Boot, Line, Unread}
 use Rattle.small_types.specs.Cuts.{parts_between}
 use Rattle.small_types.specs.Limit.{limit_text}
-use Rattle.small_types.specs.declared.limits.TheConstants.{LINE_LIMIT}
-use Rattle.store_state.specs.declared.reply.Reply.{Reply}
-use Rattle.store_state.specs.declared.reply.Reply.TheVariants.{Minimum, TooMany}
-use Rattle.store_state.specs.declared.reply.Reply.TheVariants as reply
+use Rattle.small_types.specs.declared.limits.TheConstants.{LINE_LIMIT, URL_LIMIT}
+use Rattle.small_types.specs.declared.target.Target.{Target}
+use Rattle.command_text.specs.Numbers.{number_of}
+use Rattle.machine.specs.declared.reply.Reply.{Reply}
+use Rattle.machine.specs.declared.reply.Reply.TheVariants.{AllLinks, BadUrl, BelowMinimum, Full, Installed, Manifest, Minimum, NotHttp, NotNewer, Release, Spent, TooMany}
+use Rattle.machine.specs.declared.reply.Reply.TheVariants as reply
 
 -- words are separated by one space each
 abbrev pub words_of : List ℕ → List (List ℕ)
@@ -45,10 +57,39 @@ require_words (key ∷ []) = Err WordCount
 require_words (key ∷ version ∷ []) = require_of (key_of key) (version_of version)
 require_words (key ∷ version ∷ more ∷ rest) = Err WordCount
 
+-- what the word of an `at` is
+abbrev pub at_of : Option ℕ → Result Command LineFault
+at_of None = Err (BadWord 1)
+at_of (Some now) = Ok (At now)
+
+-- the words after `at`
+abbrev pub at_words : List (List ℕ) → Result Command LineFault
+at_words [] = Err WordCount
+at_words (now ∷ []) = at_of (number_of now)
+at_words (now ∷ more ∷ rest) = Err WordCount
+
+-- an address is 1 to 2,048 bytes, each from 33 to 126
+abbrev pub is_visible : ℕ → Bool
+is_visible byte = nat_le 33 byte && nat_le byte 126
+
+unfoldable pub is_url : List ℕ → Bool
+is_url word =
+    nat_le 1 (length word) && nat_le (length word) URL_LIMIT && list_all is_visible word
+
+-- the words after `install`
+abbrev pub install_words : List (List ℕ) → Result Command LineFault
+install_words [] = Err WordCount
+install_words (url ∷ []) = if is_url url then Ok (Install url) else Err (BadWord 1)
+install_words (url ∷ more ∷ rest) = Err WordCount
+
 -- the first word names the command
 abbrev pub command_words : List (List ℕ) → Result Command LineFault
 command_words [] = Err NoSuchCommand
-command_words (name ∷ args) = if bytes_eq name (codes "require") then require_words args else Err NoSuchCommand
+command_words (name ∷ args) =
+    if bytes_eq name (codes "at") then at_words args
+    else if bytes_eq name (codes "require") then require_words args
+    else if bytes_eq name (codes "install") then install_words args
+    else Err NoSuchCommand
 
 -- what a line asks for, or why it is no command
 unfoldable pub command_of : List ℕ → Result Command LineFault
@@ -64,25 +105,19 @@ abbrev pub Gives : Result Command LineFault → Result Command LineFault → Typ
 Gives (Ok command) read = read ≡ Ok command
 Gives (Err e) read = Fails e read
 
--- the key and the version of a command are such
-abbrev pub IsCommand : Command → Type 0
-IsCommand (Require key version) = IsKey key × IsVersion version
-
--- Each line is an event at that moment: a command, or unread with its fault. Where reading it found no memory it is
--- unread for that.
-abbrev pub event_of : ℕ → Result Command LineFault → Event
-event_of now (Ok command) = Line command now (record { texts = [] })
-event_of now (Err fault) = Unread fault
-
-abbrev pub IsEvent : ℕ → List ℕ → Event → Type 0
-IsEvent now line event = (event ≡ event_of now (command_of line)) ⊎ (event ≡ Unread fault.Memory)
+-- Each line is an event: a command, or unread with its fault. Where reading it found no memory it is unread for that. The
+-- moment of a command, and what it heard, are those of the run.
+abbrev pub IsEvent : List ℕ → Event → Type 0
+IsEvent line (Line command now heard) = command_of line ≡ Ok command
+IsEvent line (Unread fault) = Fails fault (command_of line)
+IsEvent line (Boot boot) = ⊥
 
 -- one event for each line
-abbrev pub AreEvents : ℕ → List (List ℕ) → List Event → Type 0
-AreEvents now [] [] = Unit {0}
-AreEvents now [] (event ∷ events) = ⊥
-AreEvents now (line ∷ lines) [] = ⊥
-AreEvents now (line ∷ lines) (event ∷ events) = IsEvent now line event × AreEvents now lines events
+abbrev pub AreEvents : List (List ℕ) → List Event → Type 0
+AreEvents [] [] = Unit {0}
+AreEvents [] (event ∷ events) = ⊥
+AreEvents (line ∷ lines) [] = ⊥
+AreEvents (line ∷ lines) (event ∷ events) = IsEvent line event × AreEvents lines events
 
 abbrev pub fault_text : LineFault → List ℕ
 fault_text LineTooLong = codes "no line too-long\n"
@@ -91,10 +126,67 @@ fault_text WordCount = codes "no line words\n"
 fault_text (BadWord place) = codes "no line word " ++ (decimal place ++ codes "\n")
 fault_text fault.Memory = codes "no memory\n"
 
+-- ---- replies
+
+-- a key, a version and the number of a view
+abbrev pub installed_text : Key → Version → ℕ → List ℕ
+installed_text key version view =
+    codes "ok installed " ++ (key_text key ++ (codes " " ++ (version_text version
+    ++ (codes " " ++ (decimal view ++ codes "\n")))))
+
+-- why one link did not serve
+abbrev pub reason_text : Cause → List ℕ
+reason_text Down = codes "down"
+reason_text Missing = codes "missing"
+reason_text (TooLong length limit) =
+    codes "too-long:" ++ (decimal length ++ (codes ":" ++ decimal limit))
+reason_text (Differs (Size listed found)) =
+    codes "size:" ++ (decimal listed ++ (codes ":" ++ decimal found))
+reason_text (Differs (Digest algorithm listed found)) =
+    codes "differs:" ++ (name_of algorithm
+    ++ (codes ":" ++ (encode_lower listed ++ (codes ":" ++ encode_lower found))))
+
+-- those of all links, with commas between them
+unfoldable pub reasons_text : List Cause → List ℕ
+reasons_text causes = join_with_byte comma (map reason_text causes)
+
+-- what no link gave, and why
+abbrev pub lacking_text : Target → List ℕ
+lacking_text target = codes "no links " ++ (target_text target ++ codes " ")
+
+abbrev pub links_text : Target → List Cause → List ℕ
+links_text target causes = lacking_text target ++ (reasons_text causes ++ codes "\n")
+
+-- the listed one and the one that was found
+abbrev pub identities_text : Key → Key → List ℕ
+identities_text listed found =
+    codes "no release identity " ++ (key_text listed
+    ++ (codes " " ++ (key_text found ++ codes "\n")))
+
+-- no row answers the last two
+abbrev pub release_text : ReleaseFault → List ℕ
+release_text (unlike.IdentityDiffers listed found) = identities_text listed found
+release_text (unlike.VersionDiffers listed found) =
+    codes "no release version " ++ (two (version_text listed) (version_text found) ++ codes "\n")
+release_text (unlike.Mismatch difference) = codes "no release mismatch\n"
+release_text unlike.Memory = codes "no memory\n"
+
 -- the bytes of a reply
 unfoldable pub reply_text : Reply → List ℕ
+reply_text (reply.At now) = codes "ok at " ++ (decimal now ++ codes "\n")
 reply_text (Minimum version) = codes "ok minimum " ++ (version_text version ++ codes "\n")
 reply_text (TooMany what limit) = codes "no too-many " ++ (limit_text what ++ (codes " " ++ (decimal limit ++ codes "\n")))
+reply_text (Installed key version view) = installed_text key version view
+reply_text (NotNewer have) = codes "no not-newer " ++ (version_text have ++ codes "\n")
+reply_text (BelowMinimum minimum) = codes "no below-minimum " ++ (version_text minimum ++ codes "\n")
+reply_text (Spent next) = codes "no spent " ++ (decimal next ++ codes "\n")
+reply_text (Full need free) =
+    codes "no full " ++ (decimal need ++ (codes " " ++ (decimal free ++ codes "\n")))
+reply_text (AllLinks target causes) = links_text target causes
+reply_text (Manifest fault) = refusal_text fault
+reply_text (Release fault) = release_text fault
+reply_text BadUrl = codes "no bad-url\n"
+reply_text NotHttp = codes "no not-http\n"
 reply_text (reply.Line fault) = fault_text fault
 reply_text reply.Memory = codes "no memory\n"
 

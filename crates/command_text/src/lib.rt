@@ -1,11 +1,17 @@
 //! Lines in, replies out: what a session's line asks for, and the bytes of its reply.
 #![tactic(auto)]
 
+mod escapes;
 mod lines;
 mod numbers;
+mod pieces;
+mod raw;
+mod reasons;
+mod refusals;
 mod replies;
 #[cfg(test)]
 mod tests;
+mod urls;
 mod words;
 
 pub use lines::{read_line, strip_carriage_return};

@@ -1,128 +1,177 @@
 // The bytes of a reply.
-ghost use Rattle.std.specs.Prelude.{◌≡◌, ◌+◌, ◌≤◌, ◌++◌, length, codes, decimal, OnOk, OnErr};
-ghost use Rattle.arrayvec.specs.ArrayVec.{array_vec_len};
-ghost use Rattle.identity.specs.Version.{version_text};
+ghost use Rattle.std.specs.Prelude.{OnOk, OnErr};
 ghost use Rattle.outside.specs.Streams.{Appends, AppendsPart, Causes};
-ghost use Rattle.small_types.specs.Limit.{limit_text};
-ghost use Rattle.command_text.specs.Lines.{fault_text, reply_text};
+ghost use Rattle.command_text.specs.Lines.{fault_text, installed_text, lacking_text, links_text, reply_text};
+ghost use Rattle.command_text.specs.Pieces.{Writes};
 
-use arrayvec::ArrayVec;
-use identity::Version;
-use itoa::Buffer;
-use outside::{Failed, Sink, write_all};
-use small_types::Limit;
-use store_state::{LineFault, Reply};
+use crate::pieces::{Piece, print_pieces};
+use crate::reasons::print_reasons;
+use crate::refusals::{print_manifest, print_release};
+use causes::Cause;
+use identity::{Key, Version};
+use machine::{LineFault, Reply};
+use outside::{Failed, Sink};
+use small_types::Target;
 
-// A reply's text. The longest has 46 bytes.
-type Text = ArrayVec<u8, 64>;
-
-// Adds bytes.
-fn append(text: &mut Text, bytes: &[u8])
-    requires { array_vec_len text.old + length bytes.now ≤ 64 }
-    ensures items { text.new.items ≡ text.old.items ++ bytes.now }
-    ensures len { array_vec_len text.new ≡ array_vec_len text.old + length bytes.now }
-{
-    let Ok(()) = text.try_extend_from_slice(bytes) else {
-        unreachable!();
-    };
-}
-
-// Adds a number, of at most 20 digits.
-fn append_number(text: &mut Text, number: u64)
-    requires { array_vec_len text.old + 20 ≤ 64 }
-    ensures items { text.new.items ≡ text.old.items ++ decimal number }
-    ensures len { array_vec_len text.new ≤ array_vec_len text.old + 20 }
-{
-    let mut buffer = Buffer::new();
-    append(text, buffer.format(number).as_bytes());
-}
-
-// Adds a version, of at most 23 bytes.
-fn append_version(text: &mut Text, version: Version)
-    requires { array_vec_len text.old + 23 ≤ 64 }
-    ensures items { text.new.items ≡ text.old.items ++ version_text version }
-    ensures len { array_vec_len text.new ≤ array_vec_len text.old + 23 }
-{
-    let mut buffer = [0; 23];
-    let end = version.write(&mut buffer);
-    append(text, &buffer[..end]);
-}
-
-// A text that begins with these bytes.
-fn text_of(bytes: &[u8]) -> Text
-    requires { length bytes.now ≤ 64 }
-    ensures { result.items ≡ bytes.now }
-{
-    let mut text = ArrayVec::new();
-    append(&mut text, bytes);
-    text
-}
-
-// The reply of a raised minimum.
-fn minimum_text(version: Version) -> Text
-    ensures { result.items ≡ codes "ok minimum " ++ (version_text version ++ codes "\n") }
-{
-    let mut text = text_of(b"ok minimum ");
-    append_version(&mut text, version);
-    append(&mut text, b"\n");
-    text
-}
-
-// The reply of too many.
-fn too_many_text(what: Limit, limit: u64) -> Text
-    ensures { result.items ≡ codes "no too-many " ++ (limit_text what ++ (codes " " ++ (decimal limit ++ codes "\n"))) }
-{
-    let mut text = text_of(b"no too-many ");
-    append(&mut text, what.word());
-    append(&mut text, b" ");
-    append_number(&mut text, limit);
-    append(&mut text, b"\n");
-    text
-}
-
-// The reply of a word that cannot be read.
-fn bad_word_text(place: u8) -> Text
-    ensures { result.items ≡ codes "no line word " ++ (decimal place ++ codes "\n") }
-{
-    let mut text = text_of(b"no line word ");
-    append_number(&mut text, u64::from(place));
-    append(&mut text, b"\n");
-    text
-}
-
-// The reply of a line that is no command.
-fn line_text(fault: LineFault) -> Text
-    ensures { result.items ≡ fault_text fault }
+// Writes the reply of a line that is no command.
+fn print_fault<K: Sink>(fault: LineFault, sink: &mut K) -> Result<(), Failed>
+    ensures { Writes K.Sink sink.old sink.new (fault_text fault) result }
 {
     match fault {
-        LineFault::LineTooLong => text_of(b"no line too-long\n"),
-        LineFault::NoSuchCommand => text_of(b"no line command\n"),
-        LineFault::WordCount => text_of(b"no line words\n"),
-        LineFault::BadWord { place } => bad_word_text(place),
-        LineFault::Memory => text_of(b"no memory\n"),
+        LineFault::LineTooLong => print_pieces(&[Piece::Bytes(b"no line too-long\n")], sink),
+        LineFault::NoSuchCommand => print_pieces(&[Piece::Bytes(b"no line command\n")], sink),
+        LineFault::WordCount => print_pieces(&[Piece::Bytes(b"no line words\n")], sink),
+        LineFault::BadWord { place } => print_pieces(
+            &[
+                Piece::Bytes(b"no line word "),
+                Piece::Number(place as u64),
+                Piece::Bytes(b"\n"),
+            ],
+            sink,
+        ),
+        LineFault::Memory => print_pieces(&[Piece::Bytes(b"no memory\n")], sink),
     }
 }
 
-// The bytes of a reply.
-#[tactic(auto, unfolding(crate::specs::Lines::reply_text))]
-fn text_of_reply(reply: &Reply) -> Text
-    ensures { result.items ≡ reply_text reply.now }
+// Writes what is installed.
+fn print_installed<K: Sink>(
+    key: &Key,
+    version: Version,
+    view: u64,
+    sink: &mut K,
+) -> Result<(), Failed>
+    ensures { Writes K.Sink sink.old sink.new (installed_text key.now version view) result }
 {
-    match *reply {
-        Reply::Minimum { version } => minimum_text(version),
-        Reply::TooMany { what, limit } => too_many_text(what, limit),
-        Reply::Line { fault } => line_text(fault),
-        Reply::Memory => text_of(b"no memory\n"),
+    let comma = Piece::Bytes(b",");
+    print_pieces(
+        &[
+            Piece::Bytes(b"ok installed "),
+            Piece::Part(key.name.as_bytes()),
+            comma,
+            Piece::Part(key.token.as_bytes()),
+            comma,
+            Piece::Part(key.language.as_bytes()),
+            comma,
+            Piece::Part(key.architecture.as_bytes()),
+            Piece::Bytes(b" "),
+            Piece::Version(version),
+            Piece::Bytes(b" "),
+            Piece::Number(view),
+            Piece::Bytes(b"\n"),
+        ],
+        sink,
+    )
+}
+
+// Writes what no link gave, up to the causes.
+fn print_target<K: Sink>(target: &Target, sink: &mut K) -> Result<(), Failed>
+    ensures { Writes K.Sink sink.old sink.new (lacking_text target.now) result }
+{
+    print_pieces(
+        &[
+            Piece::Bytes(b"no links http://"),
+            Piece::Bytes(target.host.as_bytes()),
+            Piece::Bytes(b":"),
+            Piece::Number(target.port as u64),
+            Piece::Bytes(target.path.as_bytes()),
+            Piece::Bytes(b" "),
+        ],
+        sink,
+    )
+}
+
+// Writes what no link gave, and why.
+fn print_links<K: Sink>(target: &Target, causes: &[Cause], sink: &mut K) -> Result<(), Failed>
+    ensures { Writes K.Sink sink.old sink.new (links_text target.now causes.now) result }
+{
+    print_target(target, sink)?;
+    print_reasons(causes, sink)?;
+    print_pieces(&[Piece::Bytes(b"\n")], sink)
+}
+
+// Writes the reply, a line for each.
+#[tactic(auto, unfolding(crate::specs::Lines::reply_text))]
+fn print_line<K: Sink>(reply: &Reply, sink: &mut K) -> Result<(), Failed>
+    ensures { Writes K.Sink sink.old sink.new (reply_text reply.now) result }
+{
+    match reply {
+        Reply::At { now } => print_pieces(
+            &[
+                Piece::Bytes(b"ok at "),
+                Piece::Number(*now),
+                Piece::Bytes(b"\n"),
+            ],
+            sink,
+        ),
+        Reply::Minimum { version } => print_pieces(
+            &[
+                Piece::Bytes(b"ok minimum "),
+                Piece::Version(*version),
+                Piece::Bytes(b"\n"),
+            ],
+            sink,
+        ),
+        Reply::TooMany { what, limit } => print_pieces(
+            &[
+                Piece::Bytes(b"no too-many "),
+                Piece::Limit(*what),
+                Piece::Bytes(b" "),
+                Piece::Number(*limit),
+                Piece::Bytes(b"\n"),
+            ],
+            sink,
+        ),
+        Reply::Installed { key, version, view } => print_installed(key, *version, *view, sink),
+        Reply::NotNewer { have } => print_pieces(
+            &[
+                Piece::Bytes(b"no not-newer "),
+                Piece::Version(*have),
+                Piece::Bytes(b"\n"),
+            ],
+            sink,
+        ),
+        Reply::BelowMinimum { minimum } => print_pieces(
+            &[
+                Piece::Bytes(b"no below-minimum "),
+                Piece::Version(*minimum),
+                Piece::Bytes(b"\n"),
+            ],
+            sink,
+        ),
+        Reply::Spent { next } => print_pieces(
+            &[
+                Piece::Bytes(b"no spent "),
+                Piece::Number(*next),
+                Piece::Bytes(b"\n"),
+            ],
+            sink,
+        ),
+        Reply::Full { need, free } => print_pieces(
+            &[
+                Piece::Bytes(b"no full "),
+                Piece::Number(*need),
+                Piece::Bytes(b" "),
+                Piece::Number(*free),
+                Piece::Bytes(b"\n"),
+            ],
+            sink,
+        ),
+        Reply::AllLinks { target, causes } => print_links(target, causes.as_slice(), sink),
+        Reply::Manifest { fault } => print_manifest(fault, sink),
+        Reply::Release { fault } => print_release(fault, sink),
+        Reply::BadUrl => print_pieces(&[Piece::Bytes(b"no bad-url\n")], sink),
+        Reply::NotHttp => print_pieces(&[Piece::Bytes(b"no not-http\n")], sink),
+        Reply::Line { fault } => print_fault(*fault, sink),
+        Reply::Memory => print_pieces(&[Piece::Bytes(b"no memory\n")], sink),
     }
 }
 
-/// Writes the reply's line to the sink, of at most 46 bytes and with its line feed. It takes no memory. Where it
-/// fails the sink has taken a first part of the line, and not all.
+/// Writes the reply's line to the sink, with its line feed, piece by piece: no memory is taken, and nothing bounds how
+/// long a reply may be. Where it fails the sink has taken a first part of the line, and not all.
 pub fn print_reply<K: Sink>(reply: &Reply, sink: &mut K) -> Result<(), Failed>
     ensures bytes { K.tells → OnOk result (Appends (K.taken sink.old) (K.taken sink.new) (reply_text reply.now)) }
     ensures part { K.tells → OnErr result (AppendsPart (K.taken sink.old) (K.taken sink.new) (reply_text reply.now)) }
     ensures cause { Causes (K.count sink.old) (K.count sink.new) result }
 {
-    let text = text_of_reply(reply);
-    write_all(sink, text.as_slice())
+    print_line(reply, sink)
 }

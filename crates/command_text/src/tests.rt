@@ -1,11 +1,13 @@
+ghost use Rattle.outside.specs.MemSink.{sink_taken, sink_faults};
+
 use crate::{print_reply, read_line, read_number, strip_carriage_return};
 use identity::{Key, Version};
+use machine::{Command, LineFault, Reply};
 use outside::{Failed, MemSink, Sink};
 use small_types::limits::NUMBER_LIMIT;
 use small_types::{Bytes, Limit, List, Text};
 use std::alloc::{AllocError, Global};
 use std::test::Fail;
-use store_state::{Command, LineFault, Reply};
 
 fn text(alloc: Global, text: &str) -> Result<Text, AllocError> {
     Ok(Text::from_string(String::from_str(alloc, text)?))
@@ -33,12 +35,24 @@ fn commands_are_read(rt: HostRuntime) -> Result<(), Fail> {
         b"require org.example%2Fapp,b77a,en,x86%2064 01.2.0.65535",
     );
     assert_eq!(rt; read, Ok(wanted));
+    let cases: [(&str, u64); 3] = [
+        ("at 0", 0),
+        ("at 0001700000000", 1_700_000_000),
+        ("at 4611686018427387904", NUMBER_LIMIT),
+    ];
+    for (line, now) in cases {
+        assert_eq!(rt;
+            read_line(alloc, line.as_bytes()),
+            Ok(Command::At { now }),
+            "at {line}"
+        );
+    }
     Ok(())
 }
 
 #[test]
 fn faults_come_in_order(rt: HostRuntime) {
-    let cases: [(&str, LineFault); 19] = [
+    let cases: [(&str, LineFault); 38] = [
         ("", LineFault::NoSuchCommand),
         (" ", LineFault::NoSuchCommand),
         ("frob", LineFault::NoSuchCommand),
@@ -47,6 +61,15 @@ fn faults_come_in_order(rt: HostRuntime) {
         (" require a,b,c,d 1.0.0.0", LineFault::NoSuchCommand),
         ("requires a,b,c,d 1.0.0.0", LineFault::NoSuchCommand),
         ("require\ta,b,c,d 1.0.0.0", LineFault::NoSuchCommand),
+        ("At 1", LineFault::NoSuchCommand),
+        ("at1", LineFault::NoSuchCommand),
+        ("at", LineFault::WordCount),
+        ("at 1 ", LineFault::WordCount),
+        ("at x y", LineFault::WordCount),
+        ("at ", LineFault::BadWord { place: 1 }),
+        ("at x", LineFault::BadWord { place: 1 }),
+        ("at 4611686018427387905", LineFault::BadWord { place: 1 }),
+        ("at 00000000000000000001", LineFault::BadWord { place: 1 }),
         ("require", LineFault::WordCount),
         ("require ", LineFault::WordCount),
         ("require a,b,c,d", LineFault::WordCount),
@@ -58,6 +81,16 @@ fn faults_come_in_order(rt: HostRuntime) {
         ("require x 1.0", LineFault::BadWord { place: 1 }),
         ("require a,b,c,d 1.0", LineFault::BadWord { place: 2 }),
         ("require a,b,c,d 1.0.0.0\r", LineFault::BadWord { place: 2 }),
+        ("installs a", LineFault::NoSuchCommand),
+        ("Install a", LineFault::NoSuchCommand),
+        ("install", LineFault::WordCount),
+        ("install a b", LineFault::WordCount),
+        ("install a ", LineFault::WordCount),
+        ("install ", LineFault::BadWord { place: 1 }),
+        ("install a\tb", LineFault::BadWord { place: 1 }),
+        ("install a\r", LineFault::BadWord { place: 1 }),
+        ("install a\u{7f}", LineFault::BadWord { place: 1 }),
+        ("install h\u{e9}", LineFault::BadWord { place: 1 }),
     ];
     for (line, wanted) in cases {
         assert_eq!(rt;
@@ -93,7 +126,12 @@ fn replies_are_printed(rt: HostRuntime) -> Result<(), Fail> {
         d: 65_535,
     };
     let what = Limit::Applications;
-    let cases: [(Reply, &str); 11] = [
+    let cases: [(Reply, &str); 13] = [
+        (Reply::At { now: 0 }, "ok at 0\n"),
+        (
+            Reply::At { now: NUMBER_LIMIT },
+            "ok at 4611686018427387904\n",
+        ),
         (Reply::Minimum { version }, "ok minimum 1.2.0.0\n"),
         (
             Reply::Minimum { version: most },
@@ -158,17 +196,48 @@ fn replies_are_printed(rt: HostRuntime) -> Result<(), Fail> {
     Ok(())
 }
 
+// A sink that takes one byte a call.
+#[derive(Drop)]
+struct Narrow {
+    inner: MemSink,
+}
+
+impl Sink for Narrow {
+    ghost tells = { Unit {0} };
+
+    ghost taken = { λ n. sink_taken n.inner };
+
+    ghost count = { λ n. sink_faults n.inner };
+
+    fn write(&mut self, bytes: &[u8]) -> Result<usize, Failed> {
+        self.inner.write(&bytes[..1])
+    }
+
+    fn faults(&self) -> u64 {
+        self.inner.faults()
+    }
+}
+
+// Each call fails once: what was taken is what stands before it, and the line is whole again after that.
 #[test]
-fn a_failing_sink_takes_nothing(rt: HostRuntime) -> Result<(), Fail> {
+fn a_failing_sink_takes_a_first_part(rt: HostRuntime) -> Result<(), Fail> {
     let alloc = rt.alloc();
-    let failing = List::from_vec([2].to_vec(alloc)?);
-    let mut sink = MemSink::new(alloc, Bytes::from_vec(Vec::new(alloc)), failing);
-    assert_eq!(rt; print_reply(&Reply::Memory, &mut sink), Ok(()));
-    assert_eq!(rt; print_reply(&Reply::Memory, &mut sink), Err(Failed));
-    assert_eq!(rt; sink.taken(), b"no memory\n".as_slice());
-    assert_eq!(rt; sink.faults(), 1);
-    assert_eq!(rt; print_reply(&Reply::Memory, &mut sink), Ok(()));
-    assert_eq!(rt; sink.taken(), b"no memory\nno memory\n".as_slice());
+    let line = "no too-many applications 256\n".as_bytes();
+    let reply = Reply::TooMany {
+        what: Limit::Applications,
+        limit: 256,
+    };
+    for (calls, _) in line.iter().enumerate() {
+        let failing = List::from_vec([calls as u64 + 1].to_vec(alloc)?);
+        let inner = MemSink::new(alloc, Bytes::from_vec(Vec::new(alloc)), failing);
+        let mut sink = Narrow { inner };
+        assert_eq!(rt; print_reply(&reply, &mut sink), Err(Failed));
+        assert_eq!(rt; sink.inner.taken(), &line[..calls]);
+        assert_eq!(rt; sink.faults(), 1);
+        assert_eq!(rt; print_reply(&reply, &mut sink), Ok(()));
+        assert_eq!(rt; &sink.inner.taken()[calls..], line);
+        assert_eq!(rt; sink.faults(), 1);
+    }
     Ok(())
 }
 

@@ -15,6 +15,18 @@ pub(crate) fn first_word(line: &[u8]) -> (&[u8], Option<&[u8]>)
     }
 }
 
+/// The word, where there is one.
+pub(crate) fn one_word(line: &[u8]) -> Option<&[u8]>
+    ensures words { IfSome result (λ w. words_of line.now ≡ w.now ∷ []) }
+    ensures count { IfNone result (length (words_of line.now) ≢ 1) }
+{
+    let (word, more) = first_word(line);
+    match more {
+        Some(_) => None,
+        None => Some(word),
+    }
+}
+
 /// The words, where there are two.
 pub(crate) fn two_words(line: &[u8]) -> Option<(&[u8], &[u8])>
     ensures words { IfSome result (λ w. words_of line.now ≡ w.0.now ∷ w.1.now ∷ []) }

@@ -1,0 +1,77 @@
+-- Causes with commas between them, hexadecimal digits, and keys and addresses before other text.
+use Rattle.std.proofs.Common.{◌≡◌, ◌∙◌, ◌<◌, ◌+◌, ℕ, List, [], ◌∷◌, ◌++◌, drop, get_or, length, map, decimal, codes, refl, sym, ap, append_assoc}
+use Rattle.std.specs.List.{join_with_byte}
+use Rattle.std.proofs.Math.Numerals.{add-one}
+use Rattle.std.proofs.Math.Seq.{drop-cons}
+use Rattle.std.proofs.lemmas.List.{append-nil}
+use Rattle.small_types.specs.declared.target.Target.{Target}
+use Rattle.addresses.specs.Join.{target_text}
+use Rattle.causes.specs.declared.cause.Cause.{Cause}
+use Rattle.hex.specs.Hex.{encode_lower, encode_with}
+use Rattle.identity.specs.declared.key.Key.{Key}
+use Rattle.identity.specs.Key.{comma, key_text, part_text}
+use Rattle.manifest_text.specs.Lines.{two}
+use Rattle.command_text.specs.Lines.{reason_text, reasons_text}
+
+-- ---- causes
+
+-- the causes that are left, with those bytes before the first one, and a comma before each other
+pub rest_text : List ℕ → List Cause → List ℕ
+rest_text before [] = []
+rest_text before (cause ∷ causes) = (before ++ reason_text cause) ++ rest_text (comma ∷ []) causes
+
+pub none_left : (before : List ℕ) → rest_text before [] ≡ []
+unfolding rest_text
+none_left before = refl
+
+one_left : (before : List ℕ) (causes : List Cause) (i : ℕ) (d : Cause) → i < length causes → rest_text before (drop i causes) ≡ (before ++ reason_text (get_or causes i d)) ++ rest_text (comma ∷ []) (drop (i + 1) causes)
+unfolding rest_text
+one_left before causes i d within = rw (add-one, drop-cons causes i d within) refl
+
+-- the next one, as a loop has it
+pub one_item : (before : List ℕ) (causes : List Cause) (i : ℕ) (cause : Cause) → i < length causes → cause ≡ get_or causes i cause → rest_text before (drop i causes) ≡ (before ++ reason_text cause) ++ rest_text (comma ∷ []) (drop (i + 1) causes)
+one_item before causes i cause within is =
+    one_left before causes i cause within ∙ ap (λ (c : Cause). (before ++ reason_text c) ++ rest_text (comma ∷ []) (drop (i + 1) causes)) (sym is)
+
+-- with no bytes before the first they are joined by commas
+joined : (cause : Cause) (causes : List Cause) → join_with_byte comma (map reason_text (cause ∷ causes)) ≡ reason_text cause ++ rest_text (comma ∷ []) causes
+unfolding rest_text
+joined cause [] = sym (append-nil (reason_text cause))
+joined cause (next ∷ causes) = ap (λ (t : List ℕ). reason_text cause ++ (comma ∷ t)) (joined next causes)
+
+pub all_left : (causes : List Cause) → reasons_text causes ≡ rest_text [] causes
+unfolding reasons_text rest_text
+all_left [] = refl
+all_left (cause ∷ causes) = joined cause causes
+
+-- ---- hexadecimal digits
+
+-- two digits for a byte, and then the others
+pub hex_at : (bytes : List ℕ) (i : ℕ) → i < length bytes → encode_lower (drop i bytes) ≡ encode_lower (get_or bytes i 0 ∷ []) ++ encode_lower (drop (i + 1) bytes)
+unfolding encode_with
+hex_at bytes i within = rw (add-one, drop-cons bytes i 0 within) refl
+
+pub hex_none : encode_lower [] ≡ []
+unfolding encode_with
+hex_none = refl
+
+-- ---- before other text
+
+key_then : (key : Key) (more : List ℕ) → key_text key ++ more ≡ part_text key.name ++ (44 ∷ (part_text key.token ++ (44 ∷ (part_text key.language ++ (44 ∷ (part_text key.architecture ++ more))))))
+unfolding key_text
+key_then key more = simp append_assoc
+
+-- its parts, where these are they
+pub parts_then : (key : Key) (more a b c d : List ℕ) → a ≡ key.name → b ≡ key.token → c ≡ key.language → d ≡ key.architecture → part_text a ++ (44 ∷ (part_text b ++ (44 ∷ (part_text c ++ (44 ∷ (part_text d ++ more)))))) ≡ key_text key ++ more
+parts_then key more a b c d p q r s = let whole = key_then key more in cc
+
+target_then : (target : Target) (more : List ℕ) → target_text target ++ more ≡ codes "http://" ++ (target.host ++ (58 ∷ (decimal target.port ++ (target.path ++ more))))
+unfolding target_text
+target_then target more = simp append_assoc
+
+pub address_then : (target : Target) (more host path : List ℕ) → host ≡ target.host → path ≡ target.path → codes "http://" ++ (host ++ (58 ∷ (decimal target.port ++ (path ++ more)))) ≡ target_text target ++ more
+address_then target more host path p q = let whole = target_then target more in cc
+
+-- two words and the end of a line
+pub two_then : (front a b : List ℕ) → front ++ (a ++ (32 ∷ (b ++ 10 ∷ []))) ≡ front ++ (two a b ++ 10 ∷ [])
+two_then front a b = ap (λ (text : List ℕ). front ++ text) (sym (append_assoc a (32 ∷ b) (10 ∷ [])))

@@ -1,0 +1,294 @@
+//! Replies as they are printed, and addresses as lines give them. What it prints is compared with what it must print.
+#![tactic(auto)]
+
+use causes::Cause;
+use command_text::{print_reply, read_line};
+use digest_list::{Algorithm, Difference};
+use identity::{Key, Version};
+use machine::{Command, LineFault, Reply};
+use manifest_parts::ManifestFault;
+use manifest_tree::{TreeFault, TreeKind};
+use manifests::ReleaseFault;
+use outside::MemSink;
+use small_types::{Bytes, Limit, List, Target, Text};
+use std::alloc::{AllocError, Global};
+use std::io::{self, ErrorKind};
+
+// Prints a reply.
+fn say(rt: &HostRuntime, reply: Reply) -> io::Result<()> {
+    let alloc = rt.alloc();
+    let none = List::from_vec(Vec::new(alloc));
+    let mut sink = MemSink::new(alloc, Bytes::from_vec(Vec::new(alloc)), none);
+    if print_reply(&reply, &mut sink).is_err() {
+        return Err(ErrorKind::InvalidData.into());
+    }
+    match std::str::from_utf8(sink.taken()) {
+        Ok(line) => rt.print(line),
+        Err(_) => Err(ErrorKind::InvalidData.into()),
+    }
+}
+
+fn version(a: u16, b: u16, c: u16, d: u16) -> Version {
+    Version { a, b, c, d }
+}
+
+// Numbers, versions and words.
+fn plain(rt: &HostRuntime) -> io::Result<()> {
+    say(rt, Reply::At { now: 0 })?;
+    let now = 4_611_686_018_427_387_904;
+    say(rt, Reply::At { now })?;
+    let version = version(1, 2, 0, 65_535);
+    say(rt, Reply::Minimum { version })?;
+    say(rt, Reply::NotNewer { have: version })?;
+    say(rt, Reply::BelowMinimum { minimum: version })?;
+    say(rt, Reply::Spent { next: now })?;
+    say(rt, Reply::Full { need: 11, free: 10 })?;
+    say(rt, Reply::BadUrl)?;
+    say(rt, Reply::NotHttp)?;
+    say(rt, Reply::Memory)
+}
+
+// What there may be too many of.
+fn counts(rt: &HostRuntime) -> io::Result<()> {
+    let cases: [(Limit, u64); 5] = [
+        (Limit::Applications, 256),
+        (Limit::Views, 1_024),
+        (Limit::Files, 16_384),
+        (Limit::Locals, 0),
+        (Limit::Locals, 18_446_744_073_709_551_615),
+    ];
+    for (what, limit) in cases {
+        say(rt, Reply::TooMany { what, limit })?;
+    }
+    Ok(())
+}
+
+// Lines that are no command.
+fn faults(rt: &HostRuntime) -> io::Result<()> {
+    let cases: [LineFault; 6] = [
+        LineFault::LineTooLong,
+        LineFault::NoSuchCommand,
+        LineFault::WordCount,
+        LineFault::BadWord { place: 1 },
+        LineFault::BadWord { place: 255 },
+        LineFault::Memory,
+    ];
+    for fault in cases {
+        say(rt, Reply::Line { fault })?;
+    }
+    Ok(())
+}
+
+fn text(alloc: Global, words: &str) -> Result<Text, AllocError> {
+    Ok(Text::from_string(String::from_str(alloc, words)?))
+}
+
+fn plain_key(alloc: Global) -> Result<Key, AllocError> {
+    Ok(Key {
+        name: text(alloc, "demo.application")?,
+        token: text(alloc, "0000000000000000")?,
+        language: text(alloc, "neutral")?,
+        architecture: text(alloc, "msil")?,
+    })
+}
+
+fn odd_key(alloc: Global) -> Result<Key, AllocError> {
+    Ok(Key {
+        name: text(alloc, "org.example/app")?,
+        token: text(alloc, "a,b")?,
+        language: text(alloc, "h\u{e9}~_-")?,
+        architecture: text(alloc, "x86 64%")?,
+    })
+}
+
+// Keys, in which bytes are escaped.
+fn keys(rt: &HostRuntime) -> io::Result<()> {
+    let alloc = rt.alloc();
+    let reply = Reply::Installed {
+        key: plain_key(alloc)?,
+        version: version(1, 0, 0, 0),
+        view: 1,
+    };
+    say(rt, reply)?;
+    let reply = Reply::Installed {
+        key: odd_key(alloc)?,
+        version: version(65_535, 65_535, 65_535, 65_535),
+        view: 4_611_686_018_427_387_904,
+    };
+    say(rt, reply)
+}
+
+// Manifests that are not those of one release.
+fn releases(rt: &HostRuntime) -> io::Result<()> {
+    let alloc = rt.alloc();
+    let fault = ReleaseFault::IdentityDiffers {
+        listed: plain_key(alloc)?,
+        found: odd_key(alloc)?,
+    };
+    say(rt, Reply::Release { fault })?;
+    let fault = ReleaseFault::VersionDiffers {
+        listed: version(1, 0, 0, 0),
+        found: version(2, 0, 0, 0),
+    };
+    say(rt, Reply::Release { fault })
+}
+
+fn target(alloc: Global, path: &str) -> Result<Target, AllocError> {
+    Ok(Target {
+        host: text(alloc, "demo.test")?,
+        port: 80,
+        path: text(alloc, path)?,
+    })
+}
+
+// A file with another digest.
+fn different(alloc: Global) -> Result<Cause, AllocError> {
+    Ok(Cause::Differs(Difference::Digest {
+        algorithm: Algorithm::Sha256,
+        listed: Bytes::from_slice(alloc, &[0x00, 0x9a, 0xbc])?,
+        found: Bytes::from_slice(alloc, &[0xde, 0xf5, 0x10])?,
+    }))
+}
+
+// All causes there are.
+fn all_causes(alloc: Global) -> Result<List<Cause>, AllocError> {
+    let size = Difference::Size {
+        listed: 3,
+        found: 4,
+    };
+    let long = Cause::TooLong {
+        length: 4_194_305,
+        limit: 4_194_304,
+    };
+    let mut causes = Vec::new(alloc);
+    causes.push(Cause::Missing)?;
+    causes.push(long)?;
+    causes.push(Cause::Differs(size))?;
+    causes.push(different(alloc)?)?;
+    causes.push(Cause::Down)?;
+    Ok(List::from_vec(causes))
+}
+
+fn one_cause(alloc: Global, cause: Cause) -> Result<List<Cause>, AllocError> {
+    let mut causes = Vec::new(alloc);
+    causes.push(cause)?;
+    Ok(List::from_vec(causes))
+}
+
+// What no link gave, and why.
+fn links(rt: &HostRuntime) -> io::Result<()> {
+    let alloc = rt.alloc();
+    let reply = Reply::AllLinks {
+        target: target(alloc, "/one/demo.application")?,
+        causes: one_cause(alloc, Cause::Down)?,
+    };
+    say(rt, reply)?;
+    let reply = Reply::AllLinks {
+        target: target(alloc, "/one/Application%20Files/a?b,c")?,
+        causes: all_causes(alloc)?,
+    };
+    say(rt, reply)
+}
+
+// Texts that spell no tree.
+fn trees(rt: &HostRuntime) -> io::Result<()> {
+    let cases: [(TreeKind, u64); 7] = [
+        (TreeKind::NotUtf8, 0),
+        (TreeKind::Syntax, 5),
+        (TreeKind::Entity, 3),
+        (TreeKind::TagMismatch, 4),
+        (TreeKind::AttributeTwice, 9),
+        (TreeKind::TooDeep, 192),
+        (TreeKind::TooLong, 4_194_304),
+    ];
+    for (kind, place) in cases {
+        let fault = ManifestFault::Tree(TreeFault { kind, place });
+        say(rt, Reply::Manifest { fault })?;
+    }
+    Ok(())
+}
+
+fn refuse(rt: &HostRuntime, fault: ManifestFault) -> io::Result<()> {
+    say(rt, Reply::Manifest { fault })
+}
+
+// Manifests that are refused for a name.
+fn names(rt: &HostRuntime) -> io::Result<()> {
+    let alloc = rt.alloc();
+    let what = text(alloc, "assembly")?;
+    refuse(rt, ManifestFault::Missing { what })?;
+    let what = text(alloc, "assemblyIdentity")?;
+    refuse(rt, ManifestFault::Twice { what })?;
+    let what = text(alloc, "size")?;
+    refuse(rt, ManifestFault::BadValue { what })?;
+    let file = text(alloc, "lib/a b.dll")?;
+    refuse(rt, ManifestFault::NoDigest { file })?;
+    let file = text(alloc, "c:\\d")?;
+    refuse(rt, ManifestFault::BadName { file })?;
+    let file = text(alloc, "h\u{e9}")?;
+    refuse(rt, ManifestFault::TwiceNamed { file })
+}
+
+// Other manifests that are refused.
+fn manifests(rt: &HostRuntime) -> io::Result<()> {
+    refuse(rt, ManifestFault::Signed)?;
+    let fault = ManifestFault::MinimumAboveVersion {
+        minimum: version(2, 0, 0, 0),
+        version: version(1, 0, 0, 0),
+    };
+    refuse(rt, fault)?;
+    refuse(rt, ManifestFault::OnlineOnly)?;
+    for what in [Limit::Files, Limit::Locals, Limit::Hashes] {
+        refuse(rt, ManifestFault::TooMany { what })?;
+    }
+    Ok(())
+}
+
+// What a line is read as.
+fn tell(rt: &HostRuntime, line: &[u8]) -> io::Result<()> {
+    match read_line(rt.alloc(), line) {
+        Ok(Command::Install { url }) => {
+            let length = url.as_slice().len();
+            println!(rt; "an address of {length}")
+        }
+        Ok(_) => println!(rt; "another command"),
+        Err(fault) => say(rt, Reply::Line { fault }),
+    }
+}
+
+// The line that installs from an address of so many bytes.
+fn long_line(alloc: Global, length: usize) -> Result<Bytes, AllocError> {
+    let mut line = Bytes::from_slice(alloc, b"install ")?;
+    let address = vec![in alloc; b'x'; length]?;
+    line.extend(&address)?;
+    Ok(line)
+}
+
+// Addresses that a line may give, and others.
+fn addresses(rt: &HostRuntime) -> io::Result<()> {
+    tell(rt, b"install http://demo.test/demo.application")?;
+    tell(rt, b"install !")?;
+    tell(rt, b"install ~")?;
+    tell(rt, b"install a\x7f")?;
+    tell(rt, b"install a\x1f")?;
+    tell(rt, b"install ")?;
+    tell(rt, b"install a ")?;
+    for length in [2_048, 2_049] {
+        let line = long_line(rt.alloc(), length)?;
+        tell(rt, line.as_slice())?;
+    }
+    Ok(())
+}
+
+fn main(rt: HostRuntime) -> io::Result<()> {
+    plain(&rt)?;
+    counts(&rt)?;
+    faults(&rt)?;
+    keys(&rt)?;
+    releases(&rt)?;
+    links(&rt)?;
+    trees(&rt)?;
+    names(&rt)?;
+    manifests(&rt)?;
+    addresses(&rt)
+}
