@@ -1,0 +1,106 @@
+-- The program files of the new view: a kept view has their contents, or they were fetched.
+use Rattle.std.proofs.Common.{◌≡◌, ◌∙◌, ◌⊎◌, ◌++◌, inl, inr, refl, sym, ap, subst, ℕ, true, List, [], ◌∷◌, map, Option, Some, None, IsSome, Result, Ok}
+use Rattle.std.specs.Prelude.{Any}
+use Rattle.small_types.specs.declared.target.Target.{Target}
+use Rattle.addresses.specs.declared.fault.UrlFault.{UrlFault}
+use Rattle.addresses.specs.Join.{file_target_of}
+use Rattle.digest_list.specs.Matches.{Matches}
+use Rattle.manifests.specs.declared.facts.FileEntry.{FileEntry}
+use Rattle.machine.specs.Blocks.{standing_files}
+use Rattle.machine.specs.Installed.{new_view}
+use Rattle.machine.specs.Views.{content_key, same_content, standing_entries}
+use Rattle.machine.specs.Views.{View as KeptView}
+use Rattle.machine.specs.Wanted.{is_held, wanted}
+use Rattle.machine.proofs.Members.{all_in, contains_in, in_all, in_contains, map_in}
+use Rattle.machine.proofs.Needing.{in_passes, is_same}
+use Rattle.store_state.specs.declared.view.Content.{Content}
+use Rattle.store_state.specs.Contents.{AreContentsOf, Brings, content_of, is_content_of}
+use Rattle.store_state.specs.Shows.{bytes_in, shown_file}
+use Rattle.store_state.specs.Tables.{Tables, bare_row, table_shape}
+use Rattle.links.specs.Links.{LinksState}
+use Rattle.install_plan.specs.declared.plan.Plan.{Plan}
+use Rattle.install_plan.specs.Brought.{AreContentsFor, IsBrought, IsHeldOrFetched}
+use Rattle.install_plan.specs.Given.{IsFrom}
+use Rattle.install_plan.specs.Plans.{IsPlan, targets_of}
+use Rattle.install_plan.proofs.Aligning.{for_one, rest_is}
+use Rattle.install_plan.proofs.Keyed.{content_is, find_right, found, kept_key}
+
+-- a list ends in one item
+last_is : {X : Type 0} (xs : List X) (x y : X) → xs ++ x ∷ [] ≡ xs ++ y ∷ [] → x ≡ y
+last_is [] x y e = cc
+last_is (z ∷ xs) x y e = last_is xs x y (rest_is z z (xs ++ x ∷ []) (xs ++ y ∷ []) e)
+
+module _ (blocks : ℕ) (tables : Tables) (url : List ℕ) (texts : List (List ℕ)) (plan : Plan) (is : IsPlan (table_shape blocks tables) url texts plan) (a c : LinksState) (contents : List Content)
+    (are : AreContentsOf (standing_files (map bare_row tables.views)) tables.contents)
+    (fetched : AreContentsFor a c (wanted (map bare_row tables.views) plan.application) (targets_of plan) contents)
+    (brings : Brings tables.contents (standing_entries [] plan.application) contents) where
+  abbrev held : List FileEntry
+  held = standing_files (map bare_row tables.views)
+
+  abbrev wants : List FileEntry
+  wants = wanted (map bare_row tables.views) plan.application
+
+  abbrev after : List Content
+  after = tables.contents ++ contents
+
+  abbrev place_of : FileEntry → Result Target UrlFault
+  place_of entry = file_target_of plan.base plan.deployment.mapped entry.name
+
+  -- the file was fetched for one of the same content
+  IsFetchedFor : FileEntry → Type 0
+  IsFetchedFor entry = Any (λ (wish : FileEntry). (target : Target)
+      × (place_of wish ≡ Ok target)
+      × (same_content wish entry ≡ true)
+      × IsFrom (Matches wish.list wish.size) target a c (shown_file after entry).bytes)
+      wants
+
+  kept_one : (entry : FileEntry) → IsSome (content_of tables.contents entry) → is_held held entry ≡ true
+  kept_one entry some =
+      let first = found (is_content_of entry) tables.contents some in
+      let of = all_in (λ (content : Content). Any (λ file. is_content_of file content ≡ true) held) tables.contents first.item are.only first.there in
+      in_passes (same_content entry) held of.1 (in_contains held of.1 (of.0, of.2, of.3))
+      (is_same entry of.1 (content_is entry first.item first.passes ∙ sym (content_is of.1 first.item of.4)))
+
+  new_one : (entry : FileEntry) → content_of tables.contents entry ≡ None → IsSome (content_of after entry) → IsFetchedFor entry
+  unfolding IsFetchedFor
+  new_one entry none some =
+      let right = find_right (is_content_of entry) tables.contents contents none in
+      let first = found (is_content_of entry) contents (subst (λ (o : Option Content). IsSome o) right some) in
+      let one = for_one a c place_of wants (targets_of plan) contents first.item fetched is.targets first.there in
+      let bytes : (shown_file after entry).bytes ≡ first.item.bytes = ap bytes_in (right ∙ first.is) in
+      let key : kept_key first.item ≡ content_key one.entry =
+      ap (λ (n : ℕ). record (kept_key first.item) { size = n }) one.is.size ∙ ap (λ l. record (content_key one.entry) { list = l }) one.is.list in
+      let at = contains_in wants one.entry one.there in (
+        at.0,
+        one.entry,
+        at.1,
+        at.2,
+        (
+          one.target,
+          one.named,
+          is_same one.entry entry (sym key ∙ sym (content_is entry first.item first.passes)),
+          subst (λ (bs : List ℕ). IsFrom (Matches one.entry.list one.entry.size) one.target a c bs) (sym bytes) one.is.from,
+        ),
+      )
+
+  either : (entry : FileEntry) → IsSome (content_of after entry) → (is_held held entry ≡ true) ⊎ IsFetchedFor entry
+  either entry some = by (content_of tables.contents entry) refl
+    where
+      by : (o : Option Content) → content_of tables.contents entry ≡ o → (is_held held entry ≡ true) ⊎ IsFetchedFor entry
+      by None e = inr (new_one entry e some)
+      by (Some content) e = inl (kept_one entry (subst (λ (o : Option Content). IsSome o) (sym e) refl))
+
+  abbrev view : ℕ → KeptView
+  view number = new_view number plan.base plan.deployment plan.application (map (shown_file after) (standing_entries [] plan.application)) []
+
+  pub brought_view : (number : ℕ) → IsBrought (table_shape blocks tables) a c (view number)
+  unfolding IsFetchedFor
+  brought_view number = record {
+    files = in_all (IsHeldOrFetched (table_shape blocks tables) a c (view number)) (view number).program_files (λ file there.
+        let of = map_in (shown_file after) (standing_entries [] plan.application) file there in
+        let some = all_in (λ (e : FileEntry). IsSome (content_of after e)) (standing_entries [] plan.application) of.0 brings.each of.1 in
+        subst (IsHeldOrFetched (table_shape blocks tables) a c (view number)) of.2 (either of.0 some));
+  }
+
+  pub brought_last : (number : ℕ) (views : List KeptView) (last : KeptView) → views ++ view number ∷ [] ≡ views ++ last ∷ [] → IsBrought (table_shape blocks tables) a c last
+  brought_last number views last same = subst (IsBrought (table_shape blocks tables) a c) (last_is views (view number) last same) (brought_view number)

@@ -1,0 +1,91 @@
+-- All that is ready once the files of a plan are fetched.
+use Rattle.std.proofs.Common.{◌≡◌, ◌≤◌, refl, sym, subst, ℕ, Bool, true, false, cond, not, ◌&&◌, List, [], ◌∷◌, length, map, arith}
+use Rattle.std.proofs.lemmas.List.{append-nil}
+use Rattle.small_types.specs.declared.limits.TheConstants.{FILE_COUNT_LIMIT, NUMBER_LIMIT}
+use Rattle.manifests.specs.declared.facts.FileEntry.{FileEntry}
+use Rattle.machine.specs.declared.reply.Reply.{Reply}
+use Rattle.machine.specs.declared.reply.Reply.TheVariants.{Memory}
+use Rattle.machine.specs.Blocks.{standing_files}
+use Rattle.machine.specs.Sound.{Sound}
+use Rattle.machine.specs.Store.{Session}
+use Rattle.machine.specs.Views.{is_required}
+use Rattle.machine.specs.Wanted.{is_held, wanted, wanted_beside}
+use Rattle.store_state.specs.declared.change.Change.{Change}
+use Rattle.store_state.specs.declared.view.Content.{Content}
+use Rattle.store_state.specs.Change.{Fits}
+use Rattle.store_state.specs.Kept.{AreTables}
+use Rattle.store_state.specs.Laws.{InstallsShowTheView, ShapesAreShown}
+use Rattle.store_state.specs.Shows.{Shows}
+use Rattle.store_state.specs.Tables.{Tables, bare_row, table_shape}
+use Rattle.links.specs.Links.{LinksState}
+use Rattle.install_plan.specs.declared.plan.Plan.{Plan}
+use Rattle.install_plan.specs.Brought.{AreContentsFor}
+use Rattle.install_plan.specs.Changes.{change_of_plan, installed_of}
+use Rattle.install_plan.specs.Fetching.{ArePlaces, HasFetched}
+use Rattle.install_plan.specs.Plans.{IsPlan, IsPlanned, IsRefused, targets_of}
+use Rattle.install_plan.specs.Ready.{IsReady, IsStep}
+use Rattle.install_plan.proofs.Aligning.{are_places, contents_for, count_for, keys_for, whole_for}
+use Rattle.install_plan.proofs.Delivering.{brought_last}
+use Rattle.install_plan.proofs.Fetches.{all_from}
+use Rattle.install_plan.proofs.Outcome.{held_application, led, plan_effect, plan_fits, plan_passes, plan_shows}
+use Rattle.install_plan.proofs.Serving.{no_memory, served_all}
+
+-- no more files are wanted than there are
+few_wanted : (es held : List FileEntry) → length (wanted_beside held es) ≤ length es
+few_wanted [] held = omega arith
+few_wanted (e ∷ es) held = by e.local (is_required e && not (is_held held e)) (few_wanted es held) (few_wanted es (e ∷ held))
+  where
+    by : (b t : Bool) → length (wanted_beside held es) ≤ length es → length (wanted_beside (e ∷ held) es) ≤ length es → length (cond b (e ∷ wanted_beside held es) (cond t (e ∷ wanted_beside (e ∷ held) es) (wanted_beside held es))) ≤ length (e ∷ es)
+    by true t same more = omega arith
+    by false true same more = omega arith
+    by false false same more = omega arith
+
+-- the places of a plan are those of files
+pub plan_places : (blocks : ℕ) (tables : Tables) (url : List ℕ) (texts : List (List ℕ)) (plan : Plan) → IsPlan (table_shape blocks tables) url texts plan → ArePlaces plan.application.files plan.wanted
+plan_places blocks tables url texts plan is = are_places plan.application.files plan.wanted (wanted (map bare_row tables.views) plan.application) (held_application blocks tables url texts plan is).facts.each is.places
+
+module _ (blocks : ℕ) (tables : Tables) (url : List ℕ) (texts : List (List ℕ)) (a b c : LinksState) (plan : Plan) (planned : IsPlanned (table_shape blocks tables) url texts a b plan) (contents : List Content)
+    (got : HasFetched plan.application.files plan.wanted b c contents) where
+  -- want of memory behind the files
+  pub refused_behind : (reply : Reply) → reply ≡ Memory → IsRefused (table_shape blocks tables) url texts a c reply
+  refused_behind reply none = subst (λ (r : Reply). IsRefused (table_shape blocks tables) url texts a c r) (sym none) (no_memory (table_shape blocks tables) url texts a b c plan planned got.kept (targets_of plan) [] got.grown (sym (append-nil (targets_of plan))))
+
+  abbrev entries : List FileEntry
+  entries = wanted (map bare_row tables.views) plan.application
+
+  contents_are : AreContentsFor a c entries (targets_of plan) contents
+  contents_are = contents_for plan.application.files a c plan.wanted entries contents planned.is.places (all_from a b c planned.hearing.kept got.kept plan.application.files plan.wanted contents got.each)
+
+  few_contents : length contents ≤ FILE_COUNT_LIMIT
+  few_contents =
+      let few = (held_application blocks tables url texts plan planned.is).facts.files.few in
+      omega (arith, few, few_wanted plan.application.files (standing_files (map bare_row tables.views)), count_for a c entries (targets_of plan) contents contents_are)
+
+  module _ (now : ℕ) (are : AreTables tables) (moment : now ≤ NUMBER_LIMIT) (shapes : ShapesAreShown) (law : InstallsShowTheView) where
+    fits : Fits tables (change_of_plan tables plan contents now)
+    fits = plan_fits blocks tables url texts plan planned.is contents now are moment
+        (keys_for a c entries (targets_of plan) contents contents_are) (whole_for a c entries (targets_of plan) contents contents_are)
+
+    step : (image : List ℕ) (old : Session) → Shows blocks tables image old.store → Sound old.store → IsStep blocks tables url texts a c now (change_of_plan tables plan contents now) (installed_of tables plan) old
+    step image old shows sound = record {
+      new = led blocks tables url texts plan planned.is shapes image old contents now shows are (whole_for a c entries (targets_of plan) contents contents_are) fits;
+      installs = plan_effect blocks tables url texts plan planned.is shapes image old contents now shows are (whole_for a c entries (targets_of plan) contents contents_are) fits sound;
+      shows = λ later. plan_shows blocks tables url texts plan planned.is shapes image old contents now shows are (whole_for a c entries (targets_of plan) contents contents_are) fits law later;
+      brought = λ view same. brought_last blocks tables url texts plan planned.is a c contents are.contents contents_are fits.brings old.store.next_view old.store.views view same;
+    }
+
+    ready : IsReady blocks tables url texts a c now (change_of_plan tables plan contents now) (installed_of tables plan)
+    ready = record {
+      hears = planned.hears;
+      passes = plan_passes blocks tables url texts plan planned.is;
+      replied = (plan.deployment.identity.key, plan.deployment.identity.version, tables.next_view, refl);
+      served = served_all (table_shape blocks tables) url texts a b c plan planned got.kept plan.deployment.identity.key plan.deployment.identity.version tables.next_view got.grown;
+      fits = fits;
+      few = (refl, few_contents);
+      step = step;
+    }
+
+    pub ready_with : (change : Change) (reply : Reply) → change ≡ change_of_plan tables plan contents now → reply ≡ installed_of tables plan → IsReady blocks tables url texts a c now change reply
+    ready_with change reply made due =
+        subst (λ (x : Change). IsReady blocks tables url texts a c now x reply) (sym made)
+        (subst (λ (r : Reply). IsReady blocks tables url texts a c now (change_of_plan tables plan contents now) r) (sym due) ready)

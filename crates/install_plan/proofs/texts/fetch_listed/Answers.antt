@@ -1,0 +1,16 @@
+use Rattle.std.proofs.Common.{refl, subst, sym}
+use Rattle.digest_list.specs.Matches.{Matches}
+use Rattle.fetcher.specs.Causes.{IsFileCause}
+use Rattle.machine.specs.declared.reply.Reply.{Reply}
+use Rattle.install_plan.specs.Stages.{StopsOne}
+use Rattle.install_plan.proofs.Stops.{file_stops}
+use Rattle.install_plan.proofs.texts.fetch_listed.Goals as goal
+
+pub returns-in-Err-clause-stopped : goal.returns-in-Err-clause-stopped
+returns-in-Err-clause-stopped g c = λ facts texts.
+    let t = c.args.base.now in
+    let d = c.args.d.now in
+    let a = g.L.Links.links c.args.links.now in
+    let b = g.L.Links.links c.fetch_file.new.links in
+    subst (λ (reply : Reply). StopsOne facts (IsFileCause d.app_list d.app_size t) (Matches d.app_list d.app_size) t a b texts texts reply) (sym c.fetch_reply.ensures)
+    (file_stops t a b facts texts texts refl d.app_list d.app_size c.in-Err.fault c.in-Err.ensures.fault)

@@ -1,0 +1,48 @@
+-- The files that an install fetched.
+use Rattle.std.specs.Prelude.{◌≡◌, ◌⊎◌, List, [], ◌∷◌, true, All, Any, Ok}
+use Rattle.small_types.specs.declared.target.Target.{Target}
+use Rattle.addresses.specs.Join.{file_target_of}
+use Rattle.digest_list.specs.Matches.{Matches}
+use Rattle.manifests.specs.declared.facts.FileEntry.{FileEntry}
+use Rattle.machine.specs.Blocks.{standing_files}
+use Rattle.machine.specs.Shape.{Shape}
+use Rattle.machine.specs.Views.{ListedFile, View, same_content}
+use Rattle.machine.specs.Wanted.{is_held, wanted}
+use Rattle.store_state.specs.declared.view.Content.{Content}
+use Rattle.links.specs.Links.{LinksState}
+use Rattle.install_plan.specs.Given.{IsFrom}
+
+-- ---- contents
+
+-- the content of a file, which was got at the target and matches
+pub record IsContentFor (before after : LinksState) (entry : FileEntry) (target : Target)
+    (content : Content) : Type 0 where
+  pub size : content.size ≡ entry.size
+  pub list : content.list ≡ entry.list
+  pub from : IsFrom (Matches entry.list entry.size) target before after content.bytes
+
+-- one for each file, in order
+abbrev pub AreContentsFor :
+    LinksState → LinksState → List FileEntry → List Target → List Content → Type 0
+AreContentsFor before after [] [] [] = Unit {0}
+AreContentsFor before after (entry ∷ entries) (target ∷ targets) (content ∷ contents) =
+    IsContentFor before after entry target content
+    × AreContentsFor before after entries targets contents
+AreContentsFor before after entries targets contents = ⊥
+
+-- ---- the files of the view
+
+-- A kept view has the content of a program file, or its bytes were got at the address of a wanted
+-- file of that content.
+abbrev pub IsHeldOrFetched : Shape → LinksState → LinksState → View → ListedFile → Type 0
+IsHeldOrFetched shape before after view file =
+    (is_held (standing_files shape.views) file.entry ≡ true)
+    ⊎ Any (λ entry. (target : Target)
+    × (file_target_of view.base view.deployment.mapped entry.name ≡ Ok target)
+    × (same_content entry file.entry ≡ true)
+    × IsFrom (Matches entry.list entry.size) target before after file.bytes)
+    (wanted shape.views view.application)
+
+-- so are all program files of a view that an install brings to a store of this shape
+pub record IsBrought (shape : Shape) (before after : LinksState) (view : View) : Type 0 where
+  pub files : All (IsHeldOrFetched shape before after view) view.program_files

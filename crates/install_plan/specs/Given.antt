@@ -1,0 +1,24 @@
+-- What links gave for a target, or why they did not, from the beginning of a line to its end.
+use Rattle.std.specs.Prelude.{ℕ, List, Some, None}
+use Rattle.small_types.specs.declared.target.Target.{Target}
+use Rattle.causes.specs.declared.cause.Cause.{Cause}
+use Rattle.links.specs.Link.{LinkState}
+use Rattle.links.specs.Links.{LinksState}
+use Rattle.fetcher.specs.Causes.{AreCauses}
+use Rattle.fetcher.specs.Fetched.{AllTell, AreQuiet}
+use Rattle.fetcher.specs.Given.{Given, IsOfSite}
+
+-- Bytes that fit were got at the target. Over links that tell they are those of one link's site,
+-- and where no link failed those of the first link whose bytes fit.
+pub record IsFrom (Fits : List ℕ → Type 0) (target : Target) (before after : LinksState)
+    (bytes : List ℕ) : Type 0 where
+  pub fits : Fits bytes
+  pub site : AllTell before → IsOfSite before target bytes
+  pub given : AreQuiet before after → Given Fits before target (Some bytes)
+
+-- No link gave the target, each for its cause. Where no link failed, none of these has bytes that
+-- fit.
+pub record IsUngiven (IsCause : LinkState → LinkState → Cause → Type 0) (Fits : List ℕ → Type 0)
+    (target : Target) (before after links : LinksState) (reasons : List Cause) : Type 0 where
+  pub causes : AreCauses IsCause before after reasons
+  pub none : AreQuiet before after → Given Fits links target None

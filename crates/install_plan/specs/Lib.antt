@@ -1,0 +1,11 @@
+pub mod Brought
+pub mod Changes
+pub mod Fetching
+pub mod Given
+pub mod Hearing
+pub mod Judging
+pub mod Plans
+pub mod Ready
+pub mod Replies
+pub mod Stages
+pub mod Wanting

@@ -1,0 +1,53 @@
+-- What an install comes to once all that it wants is fetched: a change of the tables, and a reply.
+use Rattle.std.specs.Prelude.{◌≡◌, ◌≤◌, ℕ, List, [], ◌∷◌, ◌++◌, length}
+use Rattle.small_types.specs.declared.limits.TheConstants.{FILE_COUNT_LIMIT}
+use Rattle.identity.specs.declared.key.Key.{Key}
+use Rattle.identity.specs.declared.version.Version.{Version}
+use Rattle.machine.specs.declared.reply.Reply.{Reply}
+use Rattle.machine.specs.declared.reply.Reply.TheVariants.{Installed}
+use Rattle.machine.specs.declared.views.TheConstants.{INSTALLED_LOCALS}
+use Rattle.machine.specs.InstallReplies.{install_replies}
+use Rattle.machine.specs.InstallRow.{HearsRelease, InstallEffect, install_refusals}
+use Rattle.machine.specs.Rows.{PassesAll}
+use Rattle.machine.specs.Sound.{Sound}
+use Rattle.machine.specs.Store.{Session}
+use Rattle.machine.specs.Views.{View}
+use Rattle.store_state.specs.declared.change.Change.{Change}
+use Rattle.store_state.specs.declared.change.Change.TheVariants.{Boot, Require, Install}
+use Rattle.store_state.specs.Change.{Fits, effect}
+use Rattle.store_state.specs.Shows.{Shows}
+use Rattle.store_state.specs.Tables.{Tables, table_shape}
+use Rattle.links.specs.Links.{LinksState}
+use Rattle.install_plan.specs.Brought.{IsBrought}
+use Rattle.install_plan.specs.Hearing.{Served}
+
+-- it is an install without data files, and of as many contents as a release may have files
+abbrev pub HasFew : Change → Type 0
+HasFew (Boot boot) = ⊥
+HasFew (Require key version) = ⊥
+HasFew (Install view contents provider now) =
+    (view.locals ≡ []) × (length contents ≤ FILE_COUNT_LIMIT)
+
+-- the step of a session over the store that the tables show
+pub record IsStep (blocks : ℕ) (tables : Tables) (url : List ℕ) (texts : List (List ℕ))
+    (before after : LinksState) (now : ℕ) (change : Change) (reply : Reply) (old : Session)
+    : Type 0 where
+  pub new : Session
+  pub installs : InstallEffect install_replies url texts now old reply new
+  pub shows : (image : List ℕ) → Shows blocks (effect change tables) image new.store
+  pub brought : (view : View) → new.store.views ≡ old.store.views ++ view ∷ []
+      → IsBrought (table_shape blocks tables) before after view
+
+pub record IsReady (blocks : ℕ) (tables : Tables) (url : List ℕ) (texts : List (List ℕ))
+    (before after : LinksState) (now : ℕ) (change : Change) (reply : Reply) : Type 0 where
+  pub hears : HearsRelease install_replies url (table_shape blocks tables) texts
+  pub passes : PassesAll (install_refusals install_replies INSTALLED_LOCALS url texts
+      (table_shape blocks tables))
+  pub replied : (key : Key) × (version : Version) × (view : ℕ)
+      × (reply ≡ Installed key version view)
+  pub served : Served (table_shape blocks tables) url texts before after reply
+  pub fits : Fits tables change
+  pub few : HasFew change
+  pub step : (image : List ℕ) (old : Session) → Shows blocks tables image old.store
+      → Sound old.store
+      → IsStep blocks tables url texts before after now change reply old

@@ -1,0 +1,74 @@
+// The files that an install fetches.
+ghost use Rattle.std.specs.Prelude.{◌≡◌, ◌<◌, ◌^◌, IfOk, IfErr};
+ghost use Rattle.fetcher.specs.Fetched.{Kept};
+ghost use Rattle.install_plan.specs.Fetching.{ArePlaces, HasFetched, IsFetched, IsLack, IsStopped};
+
+use crate::Plan;
+use crate::basket::ByteBasket;
+use crate::replies::fetch_reply;
+use fetcher::fetch_file;
+use links::Links;
+use machine::Reply;
+use manifests::FileEntry;
+use small_types::{Duplicate, List, Target};
+use std::alloc::Global;
+use store_state::Content;
+
+// The content of a file: the bytes at the target that match what is listed. It is hashed once, and
+// no piece is copied but into the content.
+fn fetch_content<L: Links>(
+    alloc: Global,
+    links: &mut L,
+    target: &Target,
+    entry: &FileEntry,
+) -> Result<Content, Reply>
+    requires one { (L.links links.old).sources ≡ 1 }
+    requires below { entry.now.size < 2 ^ 61 }
+    ensures fetched { IfOk result (IsFetched entry.now target.now
+        (L.links links.old) (L.links links.new)) }
+    ensures lack { IfErr result (IsLack entry.now target.now
+        (L.links links.old) (L.links links.new)) }
+    ensures kept { Kept (L.links links.old) (L.links links.new) }
+{
+    let Ok(list) = entry.list.copy(alloc) else {
+        return Err(Reply::Memory);
+    };
+    let mut basket = ByteBasket::new(alloc);
+    match fetch_file(alloc, links, target, entry.size, &entry.list, &mut basket) {
+        Ok(()) => Ok(Content {
+            size: entry.size,
+            list,
+            bytes: basket.bytes,
+        }),
+        Err(fault) => Err(fetch_reply(fault)),
+    }
+}
+
+// Fetches the files that the plan wants, in their order. The first that no link gives is the reply;
+// each file before it was fetched, and nothing behind it is asked for.
+pub(crate) fn fetch_wanted<L: Links>(
+    alloc: Global,
+    links: &mut L,
+    plan: &Plan,
+) -> Result<List<Content>, Reply>
+    requires one { (L.links links.old).sources ≡ 1 }
+    requires places { ArePlaces plan.now.application.files plan.now.wanted }
+    ensures fetched { IfOk result (HasFetched plan.now.application.files plan.now.wanted
+        (L.links links.old) (L.links links.new)) }
+    ensures stopped { IfErr result (IsStopped plan.now.application.files plan.now.wanted
+        (L.links links.old) (L.links links.new)) }
+{
+    let files = plan.application.files.as_slice();
+    let mut contents = Vec::new(alloc);
+    for file in plan.wanted.as_slice() {
+        let place = file.place;
+        let content = match fetch_content(alloc, links, &file.target, &files[place]) {
+            Ok(content) => content,
+            Err(reply) => return Err(reply),
+        };
+        let Ok(()) = contents.push(content) else {
+            return Err(Reply::Memory);
+        };
+    }
+    Ok(List::from_vec(contents))
+}

@@ -1,0 +1,86 @@
+// The manifests of an install.
+ghost use Rattle.std.specs.Prelude.{◌≡◌, [], IfErr, IfOk};
+ghost use Rattle.machine.specs.Installed.{IsProvidedBy};
+ghost use Rattle.install_plan.specs.Plans.{IsPlanned, IsRefused};
+ghost use Rattle.store_state.specs.Tables.{table_shape};
+
+use crate::Plan;
+use crate::judging::{given_address, judge_deployment};
+use crate::release::judge_release;
+use crate::texts::{hear_application, hear_deployment};
+use addresses::target_of;
+use links::Links;
+use machine::{Heard, Reply};
+use manifests::Deployment;
+use small_types::{Bytes, Duplicate, Target};
+use std::alloc::Global;
+use store_state::StoreState;
+
+// The address that updates come from: the manifest's, or the given one where the manifest gives
+// none. What a manifest gives was read as an address, so only want of memory is left to refuse it.
+fn provider_of(alloc: Global, target: &Target, d: &Deployment) -> Result<Target, Reply>
+    ensures provided { IfOk result (IsProvidedBy target.now d.now.provider) }
+    ensures memory { IfErr result (λ reply. reply ≡ Reply.Memory) }
+{
+    let Some(text) = &d.provider else {
+        return match target.copy(alloc) {
+            Ok(provider) => Ok(provider),
+            Err(_) => Err(Reply::Memory),
+        };
+    };
+    match target_of(alloc, text.as_bytes()) {
+        Ok(provider) => Ok(provider),
+        Err(_) => Err(Reply::Memory),
+    }
+}
+
+/// Hears the manifests of the release at the address, and judges them. The deployment manifest is
+/// asked for where the address is one, and the application manifest where the deployment is not
+/// refused; nothing else is asked for. The texts that were heard are added. An `Err` is the reply.
+pub fn hear<L: Links>(
+    alloc: Global,
+    state: &StoreState,
+    blocks: u64,
+    links: &mut L,
+    url: &Bytes,
+    heard: &mut Heard,
+) -> Result<Plan, Reply>
+    requires one { (L.links links.old).sources ≡ 1 }
+    requires empty { heard.old.texts ≡ [] }
+    ensures plan { IfOk result (IsPlanned (table_shape blocks state.now) url.now heard.new.texts
+        (L.links links.old) (L.links links.new)) }
+    ensures refused { IfErr result (IsRefused (table_shape blocks state.now) url.now heard.new.texts
+        (L.links links.old) (L.links links.new)) }
+{
+    let target = match given_address(alloc, url) {
+        Ok(target) => target,
+        Err(reply) => return Err(reply),
+    };
+    let deployment = match hear_deployment(alloc, links, &target, heard) {
+        Ok(deployment) => deployment,
+        Err(reply) => return Err(reply),
+    };
+    let base = match judge_deployment(alloc, state, &target, &deployment) {
+        Ok(base) => base,
+        Err(reply) => return Err(reply),
+    };
+    let application = match hear_application(alloc, links, &base, &deployment, heard) {
+        Ok(application) => application,
+        Err(reply) => return Err(reply),
+    };
+    let wanted = match judge_release(alloc, state, blocks, &base, &deployment, &application) {
+        Ok(wanted) => wanted,
+        Err(reply) => return Err(reply),
+    };
+    match provider_of(alloc, &target, &deployment) {
+        Ok(provider) => Ok(Plan {
+            deployment,
+            application,
+            url: target,
+            base,
+            provider,
+            wanted,
+        }),
+        Err(reply) => Err(reply),
+    }
+}

@@ -1,0 +1,213 @@
+// Whether an application is the listed one, and whether there is a place for its files.
+ghost use Rattle.std.specs.Prelude.{◌≡◌, ◌↔◌, ◌<◌, ◌+◌, ◌-◌, ◌^◌, ◌&&◌, ◌⊎◌, ℕ, Any, Err, IfErr, IfOk, IsTrue, List, Ok, Some, length, map, min, not, slice_get, sum_by};
+ghost use Rattle.std.specs.List.{list_any};
+ghost use Rattle.small_types.specs.declared.limits.TheConstants as limits;
+ghost use Rattle.addresses.specs.declared.fault.UrlFault.TheVariants as no_address;
+ghost use Rattle.addresses.specs.Join.{file_target_of};
+ghost use Rattle.manifests.specs.Applications.{is_below_pre};
+ghost use Rattle.machine.specs.declared.views.TheConstants as views;
+ghost use Rattle.machine.specs.Blocks.{blocks_of, free_blocks, standing_files};
+ghost use Rattle.machine.specs.Current.{bare_data_of, current_bare};
+ghost use Rattle.machine.specs.Fields.{IsApplication};
+ghost use Rattle.machine.specs.InstallRow.{base_of, locals_after};
+ghost use Rattle.machine.specs.Wanted.{wanted, wanted_beside};
+ghost use Rattle.store_state.specs.Rows.{listed_files};
+ghost use Rattle.store_state.specs.Tables.{bare_row, table_shape};
+ghost use Rattle.install_plan.specs.Judging.{Judges, file_checks, identity_checks, release_checks, room_checks};
+
+use crate::WantedFile;
+use crate::wanting::{blocks_needed, wanted_files, wanted_places};
+use identity::Key;
+use machine::{INSTALLED_LOCALS, Reply};
+use manifests::{Application, Deployment, FileEntry, ReleaseFault};
+use small_types::limits::FILE_COUNT_LIMIT;
+use small_types::{Duplicate, Limit, List, Name, Target};
+use std::alloc::Global;
+use store_state::{LocalFile, StoreState};
+
+// The refusal of an application of another key.
+fn other_key(alloc: Global, listed: &Key, found: &Key) -> Reply
+    ensures { (result ≡ Reply.Memory)
+        ⊎ (result ≡ Reply.Release (ReleaseFault.IdentityDiffers listed.now found.now)) }
+{
+    let Ok(listed) = listed.copy(alloc) else {
+        return Reply::Memory;
+    };
+    match found.copy(alloc) {
+        Ok(found) => Reply::Release {
+            fault: ReleaseFault::IdentityDiffers { listed, found },
+        },
+        Err(_) => Reply::Memory,
+    }
+}
+
+// Whether the application has the key and the version that the deployment lists.
+pub(crate) fn judge_identity(alloc: Global, d: &Deployment, a: &Application) -> Result<(), Reply>
+    ensures { Judges (identity_checks d.now a.now) result }
+{
+    if d.app.key != a.identity.key {
+        return Err(other_key(alloc, &d.app.key, &a.identity.key));
+    }
+    if d.app.version != a.identity.version {
+        return Err(Reply::Release {
+            fault: ReleaseFault::VersionDiffers {
+                listed: d.app.version,
+                found: a.identity.version,
+            },
+        });
+    }
+    Ok(())
+}
+
+// Whether the views and the application list more files than may be.
+fn lists_too_many(state: &StoreState, a: &Application) -> bool
+    ensures { IsTrue result
+        ↔ limits.FILE_COUNT_LIMIT < listed_files state.now.views + length a.now.files }
+{
+    let listed = state.file_count();
+    let more = a.files.as_slice().len();
+    listed > FILE_COUNT_LIMIT || more > FILE_COUNT_LIMIT - listed
+}
+
+// Whether the name is outside `.pre`.
+fn is_outside(name: &Name) -> bool
+    ensures { result ≡ not (is_below_pre name.now) }
+{
+    !name.is_below_pre()
+}
+
+// Whether one of the data files is outside `.pre`.
+fn has_outside(files: &[LocalFile]) -> bool
+    ensures { result ≡ list_any (λ file. not (is_below_pre file.name)) files.now }
+{
+    files.iter().any(|file| is_outside(&file.name))
+}
+
+// Whether the current view of the application has data files outside `.pre`.
+fn has_old_data(state: &StoreState, key: &Key) -> bool
+    ensures { (blocks : ℕ) → result ≡ list_any (λ file. not (is_below_pre file.name))
+        (bare_data_of (current_bare key.now (table_shape blocks state.now))) }
+{
+    match state.current(key) {
+        Some(view) => has_outside(view.locals.as_slice()),
+        None => false,
+    }
+}
+
+// Whether the files have a data file outside `.pre`.
+fn has_new_data(files: &[FileEntry]) -> bool
+    ensures { result ≡ list_any (λ entry. entry.local && not (is_below_pre entry.name)) files.now }
+{
+    files
+        .iter()
+        .any(|entry| entry.local && is_outside(&entry.name))
+}
+
+// Whether the new view would have data files outside `.pre`.
+fn has_data(state: &StoreState, d: &Deployment, a: &Application) -> bool
+    ensures { (blocks : ℕ) → IsTrue result
+        ↔ views.INSTALLED_LOCALS < locals_after (table_shape blocks state.now) d.now a.now }
+{
+    has_old_data(state, &d.identity.key) || has_new_data(a.files.as_slice())
+}
+
+// Whether there is a place for the files of the application.
+pub(crate) fn judge_files(state: &StoreState, d: &Deployment, a: &Application) -> Result<(), Reply>
+    ensures { (blocks : ℕ)
+        → Judges (file_checks (table_shape blocks state.now) d.now a.now) result }
+{
+    if lists_too_many(state, a) {
+        return Err(Reply::TooMany {
+            what: Limit::Files,
+            limit: FILE_COUNT_LIMIT as u64,
+        });
+    }
+    if has_data(state, d, a) {
+        return Err(Reply::TooMany {
+            what: Limit::Locals,
+            limit: INSTALLED_LOCALS,
+        });
+    }
+    Ok(())
+}
+
+// Whether so many blocks are free.
+pub(crate) fn judge_room(state: &StoreState, blocks: u64, need: u64) -> Result<(), Reply>
+    ensures { Judges (room_checks need (free_blocks (table_shape blocks state.now))) result }
+{
+    let free = state.free_blocks(blocks);
+    if free < need {
+        return Err(Reply::Full { need, free });
+    }
+    Ok(())
+}
+
+// The files that are wanted, with their addresses, and the blocks that they need.
+#[derive(Drop)]
+struct FilesNeeded {
+    files: List<WantedFile>,
+    need: u64,
+}
+
+// The files of the application that are wanted.
+fn wants(
+    alloc: Global,
+    state: &StoreState,
+    base: &Target,
+    mapped: bool,
+    files: &[FileEntry],
+) -> Result<FilesNeeded, Reply>
+    ensures places { IfOk result (λ w. map (λ file. slice_get files.now file.place) w.files
+        ≡ map Some (wanted_beside (standing_files (map bare_row state.now.views)) files.now)) }
+    ensures targets { IfOk result (λ w. map (λ entry. file_target_of base.now mapped entry.name)
+        (wanted_beside (standing_files (map bare_row state.now.views)) files.now)
+        ≡ map (λ file. Ok file.target) w.files) }
+    ensures need { IfOk result (λ w. w.need ≡ min (sum_by (λ entry. blocks_of entry.size)
+        (wanted_beside (standing_files (map bare_row state.now.views)) files.now)) (2 ^ 64 - 1)) }
+    ensures refused { IfErr result (λ reply. (reply ≡ Reply.Memory) ⊎ ((reply ≡ Reply.BadUrl)
+        × Any (λ entry. file_target_of base.now mapped entry.name ≡ Err no_address.BadUrl)
+        (wanted_beside (standing_files (map bare_row state.now.views)) files.now))) }
+{
+    let places = match wanted_places(alloc, state, files) {
+        Ok(places) => places,
+        Err(reply) => return Err(reply),
+    };
+    let need = blocks_needed(files, places.as_slice());
+    match wanted_files(alloc, base, mapped, files, places.as_slice()) {
+        Ok(files) => Ok(FilesNeeded { files, need }),
+        Err(reply) => Err(reply),
+    }
+}
+
+// Judges the release that was heard, and answers the files that are wanted.
+pub(crate) fn judge_release(
+    alloc: Global,
+    state: &StoreState,
+    blocks: u64,
+    base: &Target,
+    d: &Deployment,
+    a: &Application,
+) -> Result<List<WantedFile>, Reply>
+    ensures places { IfOk result (λ w. map (λ file. slice_get a.now.files file.place) w
+        ≡ map Some (wanted (map bare_row state.now.views) a.now)) }
+    ensures targets { IfOk result (λ w.
+        map (λ entry. file_target_of base.now d.now.mapped entry.name)
+        (wanted (map bare_row state.now.views) a.now) ≡ map (λ file. Ok file.target) w) }
+    ensures judged { (url : List ℕ) → base_of url d.now ≡ Ok base.now → IsApplication a.now
+        → Judges (release_checks url (table_shape blocks state.now) d.now a.now) result }
+{
+    if let Err(reply) = judge_identity(alloc, d, a) {
+        return Err(reply);
+    }
+    if let Err(reply) = judge_files(state, d, a) {
+        return Err(reply);
+    }
+    let wants = match wants(alloc, state, base, d.mapped, a.files.as_slice()) {
+        Ok(wants) => wants,
+        Err(reply) => return Err(reply),
+    };
+    match judge_room(state, blocks, wants.need) {
+        Ok(()) => Ok(wants.files),
+        Err(reply) => Err(reply),
+    }
+}
