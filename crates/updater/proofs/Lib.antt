@@ -1,5 +1,10 @@
+pub mod Changing
+pub mod Commanding
+pub mod Encoding
+pub mod Installing
 pub mod Keeping
 pub mod Loading
+pub mod Opening
 pub mod Recovering
 pub mod Requiring
 pub mod Standing

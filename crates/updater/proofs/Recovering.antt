@@ -1,63 +1,138 @@
--- What opening a store finds and leaves.
-use Rattle.std.proofs.Common.{◌≡◌, ℕ, ◌+◌, ◌≤◌, List, Option, Some, sym, ap, subst, ◌∙◌, arith}
-use Rattle.std.specs.Prelude.{IfSome}
+-- What reading a store finds.
+use Rattle.std.proofs.Common.{◌≡◌, ◌↔◌, ◌≤◌, ◌+◌, ℕ, Bool, true, false, List, Option, Some, None, Result, Ok, Err, map, sym, ap, subst, ◌∙◌, arith}
+use Rattle.std.specs.Prelude.{IfNone, IfSome, IsTrue}
+use Rattle.disks.specs.declared.disk.Disk.{Ghosts}
+use Rattle.disks.specs.Disk.{Only}
 use Rattle.disks.specs.Moments.{LeavesOnly}
-use Rattle.store_log.specs.declared.log.Log.{Log}
+use Rattle.machine.specs.Blocks.{used_blocks}
+use Rattle.machine.specs.Shape.{bare_view}
 use Rattle.store_log.specs.Log.{head_of, IsStore, IsOpen}
 use Rattle.store_log.proofs.Store.{unique}
-use Rattle.store_state.specs.Store.{Store, empty}
-use Rattle.store_state.proofs.Validity.{valid_empty}
-use Rattle.updater.specs.Stands.{Stands, StandsForEither, Loads, Holds}
-use Rattle.updater.proofs.Loading.{loads_same, loads_valid}
+use Rattle.store_state.specs.Shows.{Shows}
+use Rattle.store_state.specs.Tables.{Tables, bare_row, empty}
+use Rattle.store_state.proofs.Showing.{shows_same}
+use Rattle.updater.specs.declared.updater.Updater.{Updater}
+use Rattle.updater.specs.declared.fault.RecoverFault.{RecoverFault}
+use Rattle.updater.specs.declared.fault.RecoverFault.TheVariants.{DiskFault, NotAStore, Memory as OutOfMemory}
+use Rattle.updater.specs.Loaded.{IsLoaded, Loaded}
+use Rattle.updater.specs.Replay.{Settled, SettleNone, Settles}
+use Rattle.updater.specs.Stands.{StandsForNone, Loads}
+use Rattle.updater.specs.Updater.{room_of, tables_of}
+use Rattle.updater.proofs.Changing.{blocks_shown, journal_shown, views_shown}
+use Rattle.updater.proofs.Loading.{loads_same}
 
--- the store that the changes of a journal led to
-pub loaded_from : (loaded : Option Store) (store : Store) (texts changes : List (List ℕ)) → IfSome loaded (λ s. Loads empty texts s) → loaded ≡ Some store → texts ≡ changes → Loads empty changes store
-loaded_from loaded store texts changes loads is same =
+-- what reading a journal to its end does to a disk
+pub record Reads {D : Type 0} (on : Ghosts D) (disk_old disk_new : D) : Type 0 where
+  pub seen : on.seen disk_new ≡ on.seen disk_old
+  pub written : on.total disk_new ≡ on.total disk_old
+  pub stop : LeavesOnly on disk_old disk_new (on.left_at disk_old (on.moment disk_old))
+  pub durable : Only (on.seen disk_old) (on.left_at disk_new (on.moment disk_new))
+  pub tick : on.moment disk_new ≡ on.moment disk_old + 1
+  pub within : on.moment disk_new ≤ on.moment disk_old + 1
+  pub told : on.tells disk_new → on.tells disk_old
+  pub count : on.count disk_old ≤ on.count disk_new
+  pub quiet : on.count disk_new ≡ on.count disk_old
+
+-- a journal whose changes lead to these tables stands for a store that they show, and an updater over them holds it, where
+-- its files have room
+pub found_holds : {D : Type 0} (on : Ghosts D) (disk_old : D) (updater : Updater) (disk_new : D) (changes : List (List ℕ)) → IsStore (room_of updater) changes (on.seen disk_old) → Loads empty changes (tables_of updater) → IsOpen on updater.log (head_of (room_of updater)) changes disk_new → used_blocks (map bare_row (tables_of updater).views) ≤ room_of updater → IsLoaded on disk_old updater disk_new
+found_holds on disk_old updater disk_new changes journal loads opened room =
+    let shown = journal_shown (room_of updater) (on.seen disk_old) (tables_of updater) changes journal.some journal.limit loads in
+    let same : shown.store.blocks ≡ room_of updater = blocks_shown shown.shows in
+    let shows = subst (λ (n : ℕ). Shows n (tables_of updater) (on.seen disk_old) shown.store) (sym same) shown.shows in
+    record {
+      store = shown.store;
+      stands = record {
+        changes = changes;
+        tables = tables_of updater;
+        journal = subst (λ (n : ℕ). IsStore n changes (on.seen disk_old)) (sym same) journal;
+        loads = loads;
+        shows = shows;
+        valid = shown.valid room;
+      };
+      holds = record {
+        changes = changes;
+        opened = subst (λ (n : ℕ). IsOpen on updater.log (head_of n) changes disk_new) (sym same) opened;
+        loads = loads;
+        blocks = sym same;
+        shows = λ image left. shows_same image shows;
+        valid = shown.valid room;
+      };
+    }
+
+-- where the changes lead to no tables whose files have room, the journal stands for no store
+pub none_settled : (image : List ℕ) (blocks : ℕ) (changes : List (List ℕ)) → IsStore blocks changes image → SettleNone blocks changes → StandsForNone image
+unfolding SettleNone
+none_settled image blocks changes journal none store stands =
+    let one = unique image blocks store.blocks changes stands.changes journal stands.journal in
+    let views : used_blocks (map bare_view store.views) ≡ used_blocks (map bare_row stands.tables.views) = ap used_blocks (views_shown stands.shows) in
+    let within = stands.valid.room in
+    let few : blocks ≡ store.blocks = one.0 in
+    none stands.tables (record {
+      loads = subst (λ (l : List (List ℕ)). Loads empty l stands.tables) (sym one.1) stands.loads;
+      room = omega arith;
+    })
+
+-- ---- what the changes lead to
+
+-- the tables that texts led to
+pub settled_from : (loaded : Option Tables) (blocks : ℕ) (tables : Tables) (texts : List (List ℕ)) → IfSome loaded (λ t. Loads empty texts t) → loaded ≡ Some tables → used_blocks (map bare_row tables.views) ≤ blocks → Settles blocks texts tables
+settled_from loaded blocks tables texts loads is room = record { loads = (let at = rw is at loads in at); room = room }
+
+-- texts that lead nowhere settle nowhere
+pub unloaded : (blocks : ℕ) (texts : List (List ℕ)) → ((tables : Tables) → Loads empty texts tables → ⊥) → SettleNone blocks texts
+unfolding SettleNone
+unloaded blocks texts none tables settles = none tables settles.loads
+
+-- nor do those that lead to files without room
+pub overfull : (loaded : Option Tables) (blocks : ℕ) (tables : Tables) (texts : List (List ℕ)) → IfSome loaded (λ t. Loads empty texts t) → loaded ≡ Some tables → (used_blocks (map bare_row tables.views) ≤ blocks → ⊥) → SettleNone blocks texts
+unfolding SettleNone
+overfull loaded blocks tables texts loads is over other settles =
     let at = rw is at loads in
-    subst (λ (l : List (List ℕ)). Loads empty l store) same at
+    let same : other ≡ tables = loads_same empty other tables texts settles.loads at in
+    over (subst (λ (t : Tables). used_blocks (map bare_row t.views) ≤ blocks) same settles.room)
 
-pub found_stands : (image : List ℕ) (blocks : ℕ) (changes : List (List ℕ)) (store : Store) → IsStore blocks changes image → Loads empty changes store → Stands image store
-found_stands image blocks changes store journal loads = record {
-  blocks = blocks;
-  changes = changes;
-  journal = journal;
-  loads = loads;
-  valid = loads_valid empty store changes valid_empty loads;
-}
+-- ---- by what the calls answered
 
--- bytes stand for one store
-pub found_same : (image : List ℕ) (blocks : ℕ) (changes : List (List ℕ)) (store old : Store) → IsStore blocks changes image → Loads empty changes store → Stands image old → store ≡ old
-found_same image blocks changes store old journal loads stands =
-    let one = unique image blocks stands.blocks changes stands.changes journal stands.journal in
-    loads_same empty store old stands.changes (subst (λ (l : List (List ℕ)). Loads empty l store) one.1 loads) stands.loads
+pub unloaded_by : (loaded : Option Tables) (blocks : ℕ) (texts : List (List ℕ)) → IfNone loaded ((tables : Tables) → Loads empty texts tables → ⊥) → loaded ≡ None → SettleNone blocks texts
+unloaded_by loaded blocks texts none is = unloaded blocks texts (subst (λ (o : Option Tables). IfNone o ((tables : Tables) → Loads empty texts tables → ⊥)) is none)
 
-pub found_holds : {D : Type 0} (moment : D → ℕ) (left_at : D → ℕ → List ℕ → Type 0) (log : Log) (blocks : ℕ) (changes : List (List ℕ)) (store : Store) (disk : D) → (1 ≤ blocks) × (blocks ≤ 65536)
-    → IsOpen moment left_at log (head_of blocks) changes disk → Loads empty changes store → Holds moment left_at log store disk
-found_holds moment left_at log blocks changes store disk limits opened loads = record {
-  blocks = blocks;
-  some = limits.0;
-  few = limits.1;
-  changes = changes;
-  opened = opened;
-  loads = loads;
-  valid = loads_valid empty store changes valid_empty loads;
-}
+pub overfull_by : (loaded : Option Tables) (blocks : ℕ) (tables : Tables) (texts : List (List ℕ)) (within : Bool) → IfSome loaded (λ t. Loads empty texts t) → loaded ≡ Some tables → IsTrue within ↔ (used_blocks (map bare_row tables.views) ≤ blocks) → within ≡ false → SettleNone blocks texts
+overfull_by loaded blocks tables texts within loads is tests over =
+    overfull loaded blocks tables texts loads is (λ room. (let e : within ≡ true = tests.1 room in let f : within ≡ false = over in absurd cc))
 
--- a store with that boot number is itself with it
-pub same_boot : (store old : Store) (boot : ℕ) → store ≡ old → store.boot ≡ boot → store ≡ record old { boot = boot }
-same_boot store old boot is at = is ∙ ap (λ (b : ℕ). record old { boot = b }) (sym (ap (λ (s : Store). s.boot) is) ∙ at)
+pub settled_by : (loaded : Option Tables) (blocks : ℕ) (tables : Tables) (texts : List (List ℕ)) (within : Bool) → IfSome loaded (λ t. Loads empty texts t) → loaded ≡ Some tables → IsTrue within ↔ (used_blocks (map bare_row tables.views) ≤ blocks) → within ≡ true → Settles blocks texts tables
+settled_by loaded blocks tables texts within loads is tests room = settled_from loaded blocks tables texts loads is (tests.0 room)
 
-pub with_boot : (store old : Store) (boot : ℕ) → store ≡ old → record store { boot = boot } ≡ record old { boot = boot }
-with_boot store old boot is = ap (λ (s : Store). record s { boot = boot }) is
+-- ---- openings that end without a store
 
-pub either_same : (store old : Store) (boot : ℕ) (image : List ℕ) → store ≡ old → StandsForEither store (record store { boot = boot }) image → StandsForEither old (record old { boot = boot }) image
-either_same store old boot image is either = subst (λ (s : Store). StandsForEither s (record s { boot = boot }) image) is either
+module _ {D : Type 0} (on : Ghosts D) (disk_old disk_new : D) (blocks : ℕ) (changes : List (List ℕ)) where
+  -- the journal was read, and its changes lead to no tables
+  pub unsettled : (fault : RecoverFault) → Settled blocks changes (Err fault) → (on.tells disk_new → IsStore blocks changes (on.seen disk_old)) → Reads on disk_old disk_new → Loaded on disk_old (Err fault) disk_new
+  unsettled fault settled journal reads = record {
+    found = λ told. tt;
+    not_a_store = λ told e. by fault settled (err_is e) told;
+    seen = reads.seen;
+    written = reads.written;
+    stop = reads.stop;
+    durable = λ fine. reads.durable;
+    tick = λ fine. reads.tick;
+    within = reads.within;
+    told = reads.told;
+    count = reads.count;
+    cause = λ e. absurd (never fault settled (err_is e));
+    undisturbed = λ fine. reads.quiet;
+  }
+    where
+      err_is : {told : RecoverFault} → ◌≡◌ {A = Result Updater RecoverFault} (Err fault) (Err told) → fault ≡ told
+      err_is e = cc
 
-module _ {D : Type 0} (moment : D → ℕ) (left_at : D → ℕ → List ℕ → Type 0) where
-  -- before the first of two runs nothing changed
-  pub past_both : (old mid new : D) (P Q : List ℕ → Type 0) → LeavesOnly moment left_at old mid P → LeavesOnly moment left_at mid new Q → (t : ℕ) (image : List ℕ) → t ≤ moment old → left_at new t image → left_at old t image
-  past_both old mid new P Q first second t image le left = first.past t image le (second.past t image (omega (arith, first.later)) left)
+      by : (f : RecoverFault) → Settled blocks changes (Err f) → f ≡ NotAStore → on.tells disk_new → StandsForNone (on.seen disk_old)
+      by NotAStore none is told = none_settled (on.seen disk_old) blocks changes (journal told) none
+      by DiskFault none is told = absurd none
+      by OutOfMemory none is told = absurd cc
 
-  -- from the end of the first run on
-  pub since_first : (old mid new : D) (Q : List ℕ → Type 0) → moment mid ≡ moment old + 1 → LeavesOnly moment left_at mid new Q → (t : ℕ) (image : List ℕ) → moment old + 1 ≤ t → t ≤ moment new → left_at new t image → Q image
-  since_first old mid new Q tick run t image from to left = run.each t image (omega (arith, tick)) to left
+      never : (f : RecoverFault) → Settled blocks changes (Err f) → f ≡ DiskFault → ⊥
+      never NotAStore none is = absurd cc
+      never DiskFault none is = none
+      never OutOfMemory none is = absurd cc

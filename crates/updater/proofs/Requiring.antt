@@ -1,68 +1,117 @@
 -- What requiring a version of a key comes to.
-use Rattle.std.proofs.Common.{◌≡◌, ◌≢◌, ◌+◌, ◌<◌, ◌≤◌, true, false, List, length, Option, Some, None, sym, ap, subst, ◌∙◌, refl, arith}
+use Rattle.std.proofs.Common.{◌≡◌, ◌≢◌, ◌<◌, ◌≤◌, ◌⊎◌, ℕ, List, [], length, Option, Some, None, true, false, inl, inr, refl, sym, ap, subst, ◌∙◌}
 use Rattle.std.specs.Prelude.{option_and_then}
 use Rattle.std.specs.Ordering.{is_lt}
-use Rattle.identity.specs.declared.version.Version.{Version}
+use Rattle.std.proofs.lemmas.Bool.{cases_lt}
+use Rattle.small_types.specs.declared.limits.TheConstants.{APPLICATION_LIMIT}
 use Rattle.identity.specs.declared.key.Key.{Key}
-use Rattle.identity.specs.Version.{version_cmp, greater_of, IsBelow}
+use Rattle.identity.specs.declared.version.Version.{Version}
+use Rattle.identity.specs.Key.{IsKey}
+use Rattle.identity.specs.Version.{IsBelow, IsVersion, greater_of, version_cmp}
 use Rattle.identity.proofs.VersionLemmas.{IsBelow-irreflexive}
-use Rattle.store_state.specs.declared.app.AppState.{AppState}
-use Rattle.store_state.specs.Store.{Store, require, raised, entry_of, minimum_of}
-use Rattle.store_state.proofs.Required.{length-require_known, length-require_new, minimum_of-require, require-same_not_below}
-use Rattle.updater.specs.declared.requirement.Requirement.TheVariants.{TooMany, Holds, Raises}
-use Rattle.updater.specs.Requirement.{ComesTo}
+use Rattle.machine.specs.declared.app.AppState.{AppState}
+use Rattle.machine.specs.declared.command.Command.TheVariants as command
+use Rattle.machine.specs.declared.reply.Reply.TheVariants as says
+use Rattle.machine.specs.Entries.{entry_of}
+use Rattle.machine.specs.Machine.{Answers, refusals}
+use Rattle.machine.specs.Minimums.{minimum_of, raised}
+use Rattle.machine.specs.RequireRow.{required}
+use Rattle.machine.specs.Rows.{PassesAll}
+use Rattle.machine.specs.Store.{Session, Store}
+use Rattle.machine.specs.Valid.{Valid}
+use Rattle.machine.proofs.Raising.{minimum_of-required}
+use Rattle.machine.proofs.Shortness.{short_key}
+use Rattle.store_state.specs.declared.change.Change.TheVariants as change
+use Rattle.store_state.specs.Change.{Fits}
+use Rattle.store_state.specs.Shows.{Shows}
+use Rattle.store_state.specs.Tables.{Tables, table_shape}
+use Rattle.store_state.proofs.Required.{required-same_not_below}
+use Rattle.store_state.proofs.Showing.{shape_shown}
+use Rattle.links.specs.Links.{LinksState}
+use Rattle.updater.specs.Requirement.{Stays, Raises}
+use Rattle.updater.proofs.Changing.{apps_shown, required_leads}
+use Rattle.updater.proofs.Commanding.{Rests, Does, effect_answers}
 
--- how many there are once a known key is required
-pub length_known : (key : Key) (version : Version) (apps : List AppState) (known : AppState) → Some known ≡ entry_of key apps → length (require key version apps) ≡ length apps
-length_known key version apps known is = length-require_known key version apps known (sym is)
+-- ---- the minimum of the key
 
--- how many there are once an unknown key is
-pub length_new : (key : Key) (version : Version) (apps : List AppState) → None ≡ entry_of key apps → length (require key version apps) ≡ length apps + 1
-length_new key version apps is = length-require_new key version apps (sym is)
-
-minimum_is : (key : Key) (apps : List AppState) (entry : Option AppState) → entry ≡ entry_of key apps → option_and_then (λ (app : AppState). app.minimum) entry ≡ minimum_of key apps
-minimum_is key apps entry is = ap (λ (o : Option AppState). option_and_then (λ (app : AppState). app.minimum) o) is
-
--- the minimum that then holds
-raised_from : (key : Key) (version : Version) (apps : List AppState) (minimum : Option Version) → minimum ≡ minimum_of key apps → minimum_of key (require key version apps) ≡ Some (raised minimum version)
-raised_from key version apps minimum is = minimum_of-require key version apps ∙ ap (λ (o : Option Version). Some (raised o version)) (sym is)
+minimum_in : (key : Key) (apps : List AppState) (entry : Option AppState) → entry ≡ entry_of key apps → minimum_of key apps ≡ option_and_then (λ (app : AppState). app.minimum) entry
+minimum_in key apps entry is = ap (λ (o : Option AppState). option_and_then (λ (app : AppState). app.minimum) o) (sym is)
 
 -- where the minimum is another than before, so are the applications
-changed : (key : Key) (version : Version) (apps : List AppState) → minimum_of key (require key version apps) ≢ minimum_of key apps → require key version apps ≢ apps
-changed key version apps other same = other (ap (minimum_of key) same)
+differs : (key : Key) (version : Version) (apps : List AppState) → raised (minimum_of key apps) version ≡ version → minimum_of key apps ≢ Some version → required key version apps ≢ apps
+differs key version apps raises other same =
+    other (sym (ap (minimum_of key) same) ∙ minimum_of-required key version apps ∙ ap Some raises)
 
-pub new_raises : (store : Store) (key : Key) (version : Version) → None ≡ entry_of key store.apps → length store.apps < 256 → ComesTo store key version Raises
-new_raises store key version is room =
-    let long = length_new key version store.apps is in
-    let minimum = raised_from key version store.apps None (minimum_is key store.apps None is) in
-    (omega (arith, long), changed key version store.apps (λ same. let e : None ≡ Some version = minimum_is key store.apps None is ∙ sym same ∙ minimum in cc), minimum)
+-- there is none
+pub bare_raises : (key : Key) (version : Version) (apps : List AppState) → minimum_of key apps ≡ None → Raises key version apps
+bare_raises key version apps none =
+    let minimum : raised (minimum_of key apps) version ≡ version = ap (λ (o : Option Version). raised o version) none in
+    record {
+      other = differs key version apps minimum (λ e. let clash : None ≡ Some version = sym none ∙ e in cc);
+      minimum = minimum;
+    }
 
-pub new_too_many : (store : Store) (key : Key) (version : Version) → None ≡ entry_of key store.apps → 256 ≤ length store.apps → ComesTo store key version TooMany
-new_too_many store key version is full = let long = length_new key version store.apps is in omega (arith, long)
+pub new_raises : (key : Key) (version : Version) (apps : List AppState) → None ≡ entry_of key apps → Raises key version apps
+new_raises key version apps is = bare_raises key version apps (minimum_in key apps None is)
 
-pub known_too_many : (store : Store) (key : Key) (version : Version) (known : AppState) → Some known ≡ entry_of key store.apps → 256 < length store.apps → ComesTo store key version TooMany
-known_too_many store key version known is full = let long = length_known key version store.apps known is in omega (arith, long)
+pub known_bare_raises : (key : Key) (version : Version) (apps : List AppState) (known : AppState) → Some known ≡ entry_of key apps → known.minimum ≡ None → Raises key version apps
+known_bare_raises key version apps known is none = bare_raises key version apps (minimum_in key apps (Some known) is ∙ none)
 
-pub bare_raises : (store : Store) (key : Key) (version : Version) (known : AppState) → Some known ≡ entry_of key store.apps → length store.apps ≤ 256 → known.minimum ≡ None → ComesTo store key version Raises
-bare_raises store key version known is room bare =
-    let long = length_known key version store.apps known is in
-    let none : None ≡ minimum_of key store.apps = sym bare ∙ minimum_is key store.apps (Some known) is in
-    let minimum = raised_from key version store.apps None none in
-    (omega (arith, long), changed key version store.apps (λ same. let e : None ≡ Some version = none ∙ sym same ∙ minimum in cc), minimum)
-
-pub known_raises : (store : Store) (key : Key) (version m : Version) (known : AppState) → Some known ≡ entry_of key store.apps → length store.apps ≤ 256 → known.minimum ≡ Some m → IsBelow m version → is_lt (version_cmp m version) ≡ true → ComesTo store key version Raises
-known_raises store key version m known is room holds below less =
-    let long = length_known key version store.apps known is in
-    let old : Some m ≡ minimum_of key store.apps = sym holds ∙ minimum_is key store.apps (Some known) is in
+-- there is one that is below the version
+pub known_raises : (key : Key) (version m : Version) (apps : List AppState) (known : AppState) → Some known ≡ entry_of key apps → known.minimum ≡ Some m → IsBelow m version → is_lt (version_cmp m version) ≡ true → Raises key version apps
+known_raises key version m apps known is holds below less =
+    let old : minimum_of key apps ≡ Some m = minimum_in key apps (Some known) is ∙ holds in
     let greater : greater_of m version ≡ version = rw less refl in
-    let minimum : minimum_of key (require key version store.apps) ≡ Some version = raised_from key version store.apps (Some m) old ∙ ap Some greater in
-    (omega (arith, long), changed key version store.apps (λ same. let e : Some version ≡ Some m = sym minimum ∙ same ∙ sym old in let v : version ≡ m = cc in IsBelow-irreflexive m (below_at m version v below)), minimum)
-  where
-    below_at : (m v : Version) → v ≡ m → IsBelow m v → IsBelow m m
-    below_at m v e b = subst (λ (w : Version). IsBelow m w) e b
+    let minimum : raised (minimum_of key apps) version ≡ version = ap (λ (o : Option Version). raised o version) old ∙ greater in
+    record {
+      other = differs key version apps minimum (λ e. let v : m ≡ version = let clash : Some m ≡ Some version = sym old ∙ e in cc in IsBelow-irreflexive version (subst (λ (w : Version). IsBelow w version) v below));
+      minimum = minimum;
+    }
 
-pub known_holds : (store : Store) (key : Key) (version m : Version) (known : AppState) → Some known ≡ entry_of key store.apps → length store.apps ≤ 256 → known.minimum ≡ Some m → is_lt (version_cmp m version) ≡ false → ComesTo store key version (Holds m)
-known_holds store key version m known is room holds above =
-    let long = length_known key version store.apps known is in
-    let old : minimum_of key store.apps ≡ Some m = sym (minimum_is key store.apps (Some known) is) ∙ holds in
-    (omega (arith, long), require-same_not_below key version m store.apps old above, old)
+-- there is one that is not
+pub known_stays : (key : Key) (version m : Version) (apps : List AppState) (known : AppState) → Some known ≡ entry_of key apps → known.minimum ≡ Some m → is_lt (version_cmp m version) ≡ false → Stays key version m apps
+known_stays key version m apps known is holds above =
+    let old : minimum_of key apps ≡ Some m = minimum_in key apps (Some known) is ∙ holds in
+    let greater : greater_of m version ≡ m = rw above refl in
+    record {
+      same = required-same_not_below key version m apps old above;
+      minimum = ap (λ (o : Option Version). raised o version) old ∙ greater;
+    }
+
+-- ---- the change that it makes
+
+room_from : (key : Key) (apps : List AppState) → ¬ ((entry_of key apps ≡ None) × (APPLICATION_LIMIT ≤ length apps)) → entry_of key apps ≡ None → length apps < APPLICATION_LIMIT
+room_from key apps passes new = by (cases_lt (length apps) APPLICATION_LIMIT)
+  where
+    by : (length apps < APPLICATION_LIMIT) ⊎ (APPLICATION_LIMIT ≤ length apps) → length apps < APPLICATION_LIMIT
+    by (inl less) = less
+    by (inr full) = absurd (passes (new, full))
+
+-- it fits where the row's refusals are passed
+pub required_fits : (now : ℕ) (tables : Tables) (key : Key) (version : Version) → IsKey key → IsVersion version → ((blocks : ℕ) → PassesAll (refusals now [] (table_shape blocks tables) (command.Require key version))) → Fits tables (change.Require key version)
+required_fits now tables key version is_key is_version passes = (short_key is_key, is_version, room_from key tables.apps (passes 0).0)
+
+-- ---- the effect of the row
+
+module _ (now : ℕ) (key : Key) (version : Version) (blocks : ℕ) (tables : Tables) (image : List ℕ) (before after : LinksState) (old : Session) (shows : Shows blocks tables image old.store) (passes : PassesAll (refusals now [] (table_shape blocks tables) (command.Require key version))) where
+  answers_with : (minimum : Version) → raised (minimum_of key tables.apps) version ≡ minimum → Answers now [] old (command.Require key version) (says.Minimum minimum) (record old { store = record old.store { apps = required key version old.store.apps } })
+  answers_with minimum is = effect_answers now [] blocks tables old (shape_shown shows) (command.Require key version) (says.Minimum minimum) (record old { store = record old.store { apps = required key version old.store.apps } }) passes
+      (ap says.Minimum (sym (ap (λ (apps : List AppState). raised (minimum_of key apps) version) (apps_shown shows) ∙ is)), refl)
+
+  pub required_rests : (minimum : Version) → Stays key version minimum tables.apps → Rests now [] (command.Require key version) before after old (says.Minimum minimum)
+  required_rests minimum kept = record {
+    new = record old { store = record old.store { apps = required key version old.store.apps } };
+    step = answers_with minimum kept.minimum;
+    same = ap (λ (apps : List AppState). record old.store { apps = apps })
+        (subst (λ (apps : List AppState). required key version apps ≡ apps) (sym (apps_shown shows)) kept.same);
+    served = tt;
+  }
+
+  pub required_does : Fits tables (change.Require key version) → Valid old.store → Raises key version tables.apps → Does now [] (command.Require key version) before after (change.Require key version) tables old (says.Minimum version)
+  required_does fits valid raises = record {
+    new = record old { store = record old.store { apps = required key version old.store.apps } };
+    step = answers_with version raises.minimum;
+    leads = required_leads blocks tables image old.store key version shows fits valid;
+    other = λ same. raises.other (subst (λ (apps : List AppState). required key version apps ≡ apps) (apps_shown shows) (ap (λ (s : Store). s.apps) same));
+    served = tt;
+  }

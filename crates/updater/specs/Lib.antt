@@ -1,4 +1,9 @@
+pub mod Answer
+pub mod Commanded
+pub mod Keeps
+pub mod Loaded
 pub mod Moments
+pub mod Opened
 pub mod Replay
 pub mod Requirement
 pub mod Stands

@@ -1,17 +1,54 @@
--- What a text does to a store as one of a journal's changes.
-use Rattle.std.specs.Prelude.{◌≡◌, ℕ, List}
-use Rattle.record_codec.specs.Codec.{change_text}
+-- What a text does to tables as one of a journal's changes.
+use Rattle.std.specs.Prelude.{◌≡◌, ◌≤◌, ℕ, Bool, true, false, List, map, Result, Ok, Err}
+use Rattle.machine.specs.Blocks.{used_blocks}
 use Rattle.store_state.specs.declared.change.Change.{Change}
+use Rattle.store_state.specs.declared.state.StateFault.{StateFault}
 use Rattle.store_state.specs.Change.{Fits, effect}
-use Rattle.store_state.specs.Store.{Store}
+use Rattle.store_state.specs.Tables.{Tables, bare_row, empty}
+use Rattle.updater.specs.declared.fault.RecoverFault.{RecoverFault}
+use Rattle.updater.specs.declared.fault.RecoverFault.TheVariants.{NotAStore, DiskFault, Memory}
+use Rattle.updater.specs.Stands.{Encodes, Loads}
 
--- the text is that of a change which fits the old store and leads to the new one
-pub record Makes (text : List ℕ) (old new : Store) : Type 0 where
+-- the text is the encoding of a change which fits the old tables and leads to the new ones
+pub record Makes (text : List ℕ) (old new : Tables) : Type 0 where
   pub change : Change
-  pub is : text ≡ change_text change
+  pub encodes : Encodes change text
   pub fits : Fits old change
   pub leads : new ≡ effect change old
 
--- the text is that of no change which fits the store
-abbrev pub FitsNone : List ℕ → Store → Type 0
-FitsNone text old = (change : Change) → text ≡ change_text change → Fits old change → ⊥
+-- the text is the encoding of no change which fits the tables
+unfoldable pub FitsNone : List ℕ → Tables → Type 0
+FitsNone text old = (change : Change) → Encodes change text → Fits old change → ⊥
+
+-- whether the change fits: it was made, or nothing was done
+abbrev pub Tests : Change → Tables → Tables → Bool → Type 0
+Tests change old new true = Fits old change × (new ≡ effect change old)
+Tests change old new false = Fits old change → ⊥
+
+-- how a change that fits ends
+abbrev pub IsMade : Result (Unit {0}) StateFault → Result Bool StateFault → Type 0
+IsMade (Ok done) result = result ≡ Ok true
+IsMade (Err fault) result = result ≡ Err fault
+
+-- whether the text was made
+abbrev pub Tries : List ℕ → Tables → Tables → Bool → Type 0
+Tries text old new true = Makes text old new
+Tries text old new false = FitsNone text old
+
+-- ---- the whole journal
+
+-- the texts lead from the empty tables to these, whose files have room
+pub record Settles (blocks : ℕ) (texts : List (List ℕ)) (tables : Tables) : Type 0 where
+  pub loads : Loads empty texts tables
+  pub room : used_blocks (map bare_row tables.views) ≤ blocks
+
+-- they lead to none of which it is so
+unfoldable pub SettleNone : ℕ → List (List ℕ) → Type 0
+SettleNone blocks texts = (tables : Tables) → Settles blocks texts tables → ⊥
+
+-- the tables that they settle, or that there are none
+abbrev pub Settled : ℕ → List (List ℕ) → Result Tables RecoverFault → Type 0
+Settled blocks texts (Ok tables) = Settles blocks texts tables
+Settled blocks texts (Err NotAStore) = SettleNone blocks texts
+Settled blocks texts (Err Memory) = Unit {0}
+Settled blocks texts (Err DiskFault) = ⊥

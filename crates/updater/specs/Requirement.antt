@@ -1,16 +1,17 @@
--- What requiring a version of a key comes to.
-use Rattle.std.specs.Prelude.{◌≡◌, ◌≢◌, ◌<◌, ◌≤◌, length, Some}
-use Rattle.identity.specs.declared.version.Version.{Version}
+-- What requiring a version of a key comes to where it is not refused.
+use Rattle.std.specs.Prelude.{◌≡◌, ◌≢◌, List}
 use Rattle.identity.specs.declared.key.Key.{Key}
-use Rattle.store_state.specs.Store.{Store, require, minimum_of}
-use Rattle.updater.specs.declared.requirement.Requirement.{Requirement}
-use Rattle.updater.specs.declared.requirement.Requirement.TheVariants.{TooMany, Holds, Raises}
+use Rattle.identity.specs.declared.version.Version.{Version}
+use Rattle.machine.specs.declared.app.AppState.{AppState}
+use Rattle.machine.specs.Minimums.{minimum_of, raised}
+use Rattle.machine.specs.RequireRow.{required}
 
--- there would be more than 256 applications; or the minimum holds, and nothing changes; or the version becomes the
--- minimum
-abbrev pub ComesTo : Store → Key → Version → Requirement → Type 0
-ComesTo store key version TooMany = 256 < length (require key version store.apps)
-ComesTo store key version (Holds minimum) =
-    (length (require key version store.apps) ≤ 256) × (require key version store.apps ≡ store.apps) × (minimum_of key store.apps ≡ Some minimum)
-ComesTo store key version Raises =
-    (length (require key version store.apps) ≤ 256) × (require key version store.apps ≢ store.apps) × (minimum_of key (require key version store.apps) ≡ Some version)
+-- the minimum of the key is not below the version, and nothing changes
+pub record Stays (key : Key) (version held : Version) (apps : List AppState) : Type 0 where
+  pub same : required key version apps ≡ apps
+  pub minimum : raised (minimum_of key apps) version ≡ held
+
+-- the version becomes the minimum of the key, which it was not
+pub record Raises (key : Key) (version : Version) (apps : List AppState) : Type 0 where
+  pub other : required key version apps ≢ apps
+  pub minimum : raised (minimum_of key apps) version ≡ version

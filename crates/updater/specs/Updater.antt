@@ -1,24 +1,40 @@
--- What an updater holds, and what is asked of it.
-use Rattle.std.specs.Prelude.{ℕ, List}
-use Rattle.identity.specs.Key.{IsKey}
-use Rattle.identity.specs.Version.{IsVersion}
-use Rattle.store_state.specs.declared.command.Command.{Command}
-use Rattle.store_state.specs.declared.command.Command.TheVariants.{Require}
-use Rattle.store_state.specs.Store.{Store, Session}
+-- Which store an updater holds, and when a disk has no number left for a call.
+use Rattle.std.specs.Prelude.{◌≡◌, ◌⊎◌, ◌+◌, ◌≤◌, ℕ, List}
+use Rattle.disks.specs.declared.disk.Disk.{Ghosts}
+use Rattle.disks.specs.Moments.{Each}
+use Rattle.machine.specs.Store.{Store}
+use Rattle.machine.specs.Valid.{Valid}
+use Rattle.store_log.specs.declared.piece.TheConstants.{AROUND, CHANGE_LIMIT}
+use Rattle.store_log.specs.Log.{IsFull, IsOpen, head_of}
+use Rattle.store_state.specs.Tables.{Tables, empty}
+use Rattle.store_state.specs.Shows.{Shows}
 use Rattle.updater.specs.declared.updater.Updater.{Updater}
-use Rattle.updater.specs.Stands.{Holds}
+use Rattle.updater.specs.Stands.{Loads}
 
--- the store of its tables
-abbrev pub store_of : Updater → Store
-store_of updater = updater.state
+-- its tables, as `state` shows them
+abbrev pub tables_of : Updater → Tables
+tables_of updater = updater.state
 
-abbrev pub session_of : Updater → Session
-session_of updater = record { store = updater.state }
+-- the number of blocks that it keeps
+abbrev pub room_of : Updater → ℕ
+room_of updater = updater.blocks
 
--- its log is that of the disk, and each image that a stop may leave now stands for its store
-abbrev pub IsStored : {D : Type 0} → (D → ℕ) → (D → ℕ → List ℕ → Type 0) → Updater → D → Type 0
-IsStored moment left_at updater disk = Holds moment left_at updater.log updater.state disk
+-- The updater holds the store on the disk. Its log is open behind changes that lead to its tables, on a
+-- journal of the store's number of blocks, which it keeps. Each stop now leaves such a journal, and with
+-- each such image the tables show the store.
+pub record Holds {D : Type 0} (on : Ghosts D) (updater : Updater) (disk : D) (store : Store)
+    : Type 0 where
+  pub changes : List (List ℕ)
+  pub opened : IsOpen on updater.log (head_of store.blocks) changes disk
+  pub loads : Loads empty changes (tables_of updater)
+  pub blocks : room_of updater ≡ store.blocks
+  pub shows : Each on disk (λ image. Shows store.blocks (tables_of updater) image store)
+  pub valid : Valid store
 
--- the words of a command have their forms
-abbrev pub IsCommand : Command → Type 0
-IsCommand (Require key version) = IsKey key × IsVersion version
+-- the disk has no number left for a call that writes a change, however long it is
+abbrev pub IsSpent : {D : Type 0} → Ghosts D → D → Type 0
+IsSpent on disk = IsFull (on.moment disk) (on.total disk) (AROUND + CHANGE_LIMIT)
+
+-- a call of the disk was counted, save where it had no number left
+abbrev pub TakesNumber : {D : Type 0} → Ghosts D → D → D → Type 0
+TakesNumber on old new = (on.moment old + 1 ≤ on.moment new) ⊎ IsSpent on new

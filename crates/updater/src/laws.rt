@@ -1,6 +1,6 @@
 // What is true of images, with no code.
 ghost use Rattle.std.specs.Prelude.{◌≡◌, ℕ, List};
-ghost use Rattle.store_state.specs.Store.{Store};
+ghost use Rattle.machine.specs.Store.{Store};
 ghost use Rattle.updater.specs.Stands.{Stands};
 
 /// The bytes of a disk stand for one store at most.

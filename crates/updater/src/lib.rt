@@ -4,6 +4,7 @@
 mod fault;
 mod laws;
 mod piece;
+mod refusal;
 mod replay;
 mod requirement;
 #[cfg(test)]

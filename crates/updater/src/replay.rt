@@ -1,63 +1,60 @@
 // How the changes of a journal are made anew.
-ghost use Rattle.std.specs.Prelude.{◌≡◌, ◌≤◌, ◌↔◌, List, ℕ, true, false, length, IsTrue, IfOk, IfSome, IfNone};
-ghost use Rattle.record_codec.specs.Codec.{IsChange};
-ghost use Rattle.store_state.specs.Change.{Fits};
-ghost use Rattle.store_state.specs.Store.{Store, empty, require};
-ghost use Rattle.identity.specs.declared.version.Version.{Version};
+ghost use Rattle.std.specs.Prelude.{◌≤◌, IfOk, IfSome, IfNone};
+ghost use Rattle.small_types.specs.declared.limits.TheConstants.{BLOCK_LIMIT};
+ghost use Rattle.store_state.specs.Tables.{Tables, empty};
 ghost use Rattle.updater.specs.Stands.{Loads};
-ghost use Rattle.updater.specs.Replay.{Makes, FitsNone};
+ghost use Rattle.updater.specs.Replay.{IsMade, Settled, Tests, Tries};
 
-use identity::Key;
+use crate::RecoverFault;
 use record_codec::{CodecFault, decode_change};
 use small_types::Bytes;
-use small_types::limits::{APPLICATION_LIMIT, NUMBER_LIMIT};
 use std::alloc::Global;
 use store_state::{Change, StateFault, StoreState};
 
-// Whether there are at most 256 applications once the key has an entry.
-fn has_room(alloc: Global, state: &StoreState, key: &Key) -> Result<bool, StateFault>
-    ensures { IfOk result (λ room. (version : Version) → IsTrue room ↔ (length (require key.now version state.now.apps) ≤ 256)) }
+// How a change that fits ends.
+fn made(applied: Result<(), StateFault>) -> Result<bool, StateFault>
+    ensures { IsMade applied result }
 {
-    let count = state.count();
-    match state.entry(alloc, key)? {
-        Some(_) => Ok(count <= APPLICATION_LIMIT),
-        None => Ok(count < APPLICATION_LIMIT),
+    match applied {
+        Ok(()) => Ok(true),
+        Err(fault) => Err(fault),
     }
 }
 
-// Whether the change fits the store.
-fn fits(alloc: Global, state: &StoreState, change: &Change) -> Result<bool, StateFault>
-    requires { IsChange change.now }
-    ensures { IfOk result (λ fits. IsTrue fits ↔ Fits state.now change.now) }
+// Makes the change where it fits, and answers whether it does.
+fn make(alloc: Global, state: &mut StoreState, change: Change) -> Result<bool, StateFault>
+    ensures { IfOk result (Tests change state.old state.new) }
 {
-    match change {
-        Change::Boot { boot } => Ok(*boot <= NUMBER_LIMIT),
-        Change::Require { key, .. } => has_room(alloc, state, key),
+    match state.fits(alloc, &change) {
+        Err(fault) => {
+            drop(change);
+            Err(fault)
+        }
+        Ok(false) => {
+            drop(change);
+            Ok(false)
+        }
+        Ok(true) => made(state.apply(alloc, change)),
     }
 }
 
 // Makes the change with that text, where it is that of a change that fits, and answers whether it is.
 fn replay_one(alloc: Global, state: &mut StoreState, text: &[u8]) -> Result<bool, StateFault>
-    ensures made { IfOk result (λ made. made ≡ true → Makes text.now state.old state.new) }
-    ensures none { IfOk result (λ made. made ≡ false → FitsNone text.now state.old) }
+    ensures { IfOk result (Tries text.now state.old state.new) }
 {
-    let change = match decode_change(alloc, text) {
-        Ok(change) => change,
-        Err(CodecFault::Bad { .. }) => return Ok(false),
-        Err(CodecFault::Memory) => return Err(StateFault::Memory),
-    };
-    if !fits(alloc, state, &change)? {
-        return Ok(false);
+    match decode_change(alloc, text) {
+        Ok(change) => make(alloc, state, change),
+        Err(CodecFault::Bad { .. }) => Ok(false),
+        Err(CodecFault::Memory) => Err(StateFault::Memory),
     }
-    state.apply(alloc, change)?;
-    Ok(true)
 }
 
-/// The store that the changes with these texts lead to from the empty one, one after another. There is none where
-/// one of them is no change that fits.
-pub(crate) fn replay(alloc: Global, changes: &[Bytes]) -> Result<Option<StoreState>, StateFault>
+// The tables that the changes with these texts lead to from the empty ones, one after another. There are none where
+// one of them is no change that fits.
+fn replay(alloc: Global, changes: &[Bytes]) -> Result<Option<StoreState>, StateFault>
     ensures found { IfOk result (λ o. IfSome o (λ state. Loads empty changes.now state)) }
-    ensures none { IfOk result (λ o. IfNone o ((store : Store) → Loads empty changes.now store → ⊥)) }
+    ensures none { IfOk result (λ o. IfNone o ((tables : Tables) → Loads empty changes.now tables
+        → ⊥)) }
 {
     let mut state = StoreState::empty(alloc)?;
     for change in changes {
@@ -66,4 +63,26 @@ pub(crate) fn replay(alloc: Global, changes: &[Bytes]) -> Result<Option<StoreSta
         }
     }
     Ok(Some(state))
+}
+
+/// The tables of a journal of so many blocks and these changes, where their files have room.
+pub(crate) fn settle(
+    alloc: Global,
+    blocks: u64,
+    changes: &[Bytes],
+) -> Result<StoreState, RecoverFault>
+    requires { blocks ≤ BLOCK_LIMIT }
+    ensures { Settled blocks changes.now result }
+{
+    let Ok(loaded) = replay(alloc, changes) else {
+        return Err(RecoverFault::Memory);
+    };
+    let Some(state) = loaded else {
+        return Err(RecoverFault::NotAStore);
+    };
+    if !state.is_within(blocks) {
+        drop(state);
+        return Err(RecoverFault::NotAStore);
+    }
+    Ok(state)
 }

@@ -1,47 +1,23 @@
 // What requiring a version comes to.
-ghost use Rattle.std.specs.Prelude.{IfOk};
-ghost use Rattle.updater.specs.Requirement.{ComesTo};
+ghost use Rattle.std.specs.Prelude.{◌≡◌, None, IfSome};
+ghost use Rattle.updater.specs.Requirement.{Stays, Raises};
 
 use identity::{Key, Version};
-use small_types::limits::APPLICATION_LIMIT;
-use std::alloc::Global;
-use store_state::{StateFault, StoreState};
+use store_state::StoreState;
 
-/// What requiring a version of a key comes to.
-#[derive(Clone, Copy, Debug, PartialEq, Eq)]
-pub(crate) enum Requirement {
-    /// There would be too many applications.
-    TooMany,
-    /// The minimum that holds is not below the version.
-    Holds { minimum: Version },
-    /// The version becomes the minimum.
-    Raises,
-}
-
-/// What requiring the version of the key comes to. It fails only for want of memory.
-pub(crate) fn requirement_of(
-    alloc: Global,
-    state: &StoreState,
-    key: &Key,
-    version: Version,
-) -> Result<Requirement, StateFault>
-    ensures { IfOk result (ComesTo state.now key.now version) }
+/// The minimum of the key, where it is not below the version, so that requiring the version changes nothing.
+pub(crate) fn minimum_that_stays(state: &StoreState, key: &Key, version: Version) -> Option<Version>
+    ensures some { IfSome result (λ minimum. Stays key.now version minimum state.now.apps) }
+    ensures none { result ≡ None → Raises key.now version state.now.apps }
 {
-    let count = state.count();
-    let Some(app) = state.entry(alloc, key)? else {
-        if count < APPLICATION_LIMIT {
-            return Ok(Requirement::Raises);
-        }
-        return Ok(Requirement::TooMany);
+    let Some(app) = state.entry(key) else {
+        return None;
     };
-    if count > APPLICATION_LIMIT {
-        return Ok(Requirement::TooMany);
-    }
     let Some(minimum) = app.minimum else {
-        return Ok(Requirement::Raises);
+        return None;
     };
     if minimum.is_below(&version) {
-        return Ok(Requirement::Raises);
+        return None;
     }
-    Ok(Requirement::Holds { minimum })
+    Some(minimum)
 }

@@ -1,16 +1,19 @@
-ghost use Rattle.std.specs.Prelude.{IfOk};
+ghost use Rattle.std.specs.Prelude.{◌≤◌, IfOk};
+ghost use Rattle.small_types.specs.declared.limits.TheConstants.{NUMBER_LIMIT};
 ghost use Rattle.identity.specs.Version.{IsVersion};
-ghost use Rattle.updater.specs.Updater.{IsCommand};
+ghost use Rattle.machine.specs.Words.{IsCommand};
 
 use crate::{RecoverFault, Updater};
 use disks::{Disk, MemDisk};
 use identity::{Key, Version};
+use links::{MemLink, Page, Single, are_distinct};
+use machine::{Command, Heard, Reply};
+use outside::Failed;
 use small_types::{Bytes, Limit, List};
 use std::alloc::Global;
 use std::process::Abort;
 use std::test::Fail;
 use store_log::Log;
-use store_state::{Command, Reply};
 
 // A disk of these bytes, whose call of the number `failing`, counted from 1, fails.
 fn disk_of(alloc: Global, bytes: &[u8], failing: u64) -> Result<MemDisk, Fail> {
@@ -49,6 +52,40 @@ fn require(alloc: Global, key: &str, a: u16) -> Result<Command, Fail>
     })
 }
 
+// Opens the store. It promises nothing, so that what a test asks is tried and not proved.
+fn open(alloc: Global, disk: &mut MemDisk, boot: u64) -> Result<(Updater, bool), RecoverFault>
+    requires { boot ≤ NUMBER_LIMIT }
+{
+    Updater::recover(alloc, disk, boot)
+}
+
+// One link, over these pages.
+fn links_of(alloc: Global, pages: List<Page>) -> Result<Single<MemLink>, Failed> {
+    if !are_distinct(pages.as_slice()) {
+        return Err(Failed);
+    }
+    Ok(Single {
+        link: MemLink::new(alloc, pages, List::from_vec(Vec::new(alloc))),
+        asked: List::from_vec(Vec::new(alloc)),
+    })
+}
+
+// Runs the command over a link without pages. It promises nothing either.
+fn run(
+    alloc: Global,
+    updater: &mut Updater,
+    disk: &mut MemDisk,
+    command: &Command,
+) -> Result<Reply, Failed>
+    requires { IsCommand command.now }
+{
+    let mut links = links_of(alloc, List::from_vec(Vec::new(alloc)))?;
+    let mut heard = Heard {
+        texts: List::from_vec(Vec::new(alloc)),
+    };
+    updater.apply(alloc, disk, &mut links, 1000, command, &mut heard)
+}
+
 // Requires the version, and expects that minimum and so many calls of the disk.
 fn shows(
     rt: &impl Abort,
@@ -61,7 +98,7 @@ fn shows(
 ) -> Result<(), Fail> {
     let before = disk.calls();
     let command = require(alloc, "demo,0000,neutral,msil", a)?;
-    let reply = updater.apply(alloc, disk, 1000, &command)?;
+    let reply = run(alloc, updater, disk, &command)?;
     let want = Reply::Minimum {
         version: version(minimum),
     };
@@ -70,99 +107,220 @@ fn shows(
     Ok(())
 }
 
+// Opens the store, and expects that answer, that boot number and so many applications. A store that is open is dropped
+// here alone: its proof then has one place where all of the tables go.
+fn opens(
+    rt: &impl Abort,
+    alloc: Global,
+    disk: &mut MemDisk,
+    boot: u64,
+    other: bool,
+    count: usize,
+) -> Result<(), Fail>
+    requires { boot ≤ NUMBER_LIMIT }
+{
+    match open(alloc, disk, boot) {
+        Ok((updater, answer)) => {
+            let kept = updater.state().boot;
+            let found = updater.state().count();
+            drop(updater);
+            assert_eq!(rt; (answer, kept, found), (other, boot, count));
+            Ok(())
+        }
+        Err(fault) => Err(fault.into()),
+    }
+}
+
 #[test]
 fn a_boot_number_is_kept(rt: HostRuntime) -> Result<(), Fail> {
     let mut disk = new_disk(rt.alloc())?;
     for (boot, other) in [(1, true), (1, false), (7, true), (7, false)] {
-        let (updater, answer) = Updater::recover(rt.alloc(), &mut disk, boot)?;
-        assert_eq!(rt; answer, other);
-        assert_eq!(rt; updater.state().boot, boot);
-        assert_eq!(rt; updater.state().count(), 0);
+        opens(&rt, rt.alloc(), &mut disk, boot, other, 0)?;
     }
     Ok(())
+}
+
+// The minimum rises, and only then the disk is called.
+fn rises(
+    rt: &impl Abort,
+    alloc: Global,
+    updater: &mut Updater,
+    disk: &mut MemDisk,
+) -> Result<(), Fail> {
+    shows(rt, alloc, updater, disk, 2, 2, 4)?;
+    shows(rt, alloc, updater, disk, 1, 2, 0)?;
+    shows(rt, alloc, updater, disk, 3, 3, 4)
+}
+
+// Opens the store with boot number 1, and lets the minimum rise.
+fn rises_in(rt: &impl Abort, alloc: Global, disk: &mut MemDisk) -> Result<(), Fail> {
+    match open(alloc, disk, 1) {
+        Ok((mut updater, _)) => {
+            let done = rises(rt, alloc, &mut updater, disk);
+            drop(updater);
+            done
+        }
+        Err(fault) => Err(fault.into()),
+    }
+}
+
+// Opens the store anew, and expects the minimum that was kept.
+fn shows_in(rt: &impl Abort, alloc: Global, disk: &mut MemDisk) -> Result<(), Fail> {
+    match open(alloc, disk, 1) {
+        Ok((mut updater, _)) => {
+            let done = shows(rt, alloc, &mut updater, disk, 1, 3, 0);
+            drop(updater);
+            done
+        }
+        Err(fault) => Err(fault.into()),
+    }
 }
 
 #[test]
 fn a_minimum_is_raised_and_kept(rt: HostRuntime) -> Result<(), Fail> {
     let mut disk = new_disk(rt.alloc())?;
-    let (mut updater, _) = Updater::recover(rt.alloc(), &mut disk, 1)?;
-    shows(&rt, rt.alloc(), &mut updater, &mut disk, 2, 2, 4)?;
-    shows(&rt, rt.alloc(), &mut updater, &mut disk, 1, 2, 0)?;
-    shows(&rt, rt.alloc(), &mut updater, &mut disk, 3, 3, 4)?;
-    let (mut again, _) = Updater::recover(rt.alloc(), &mut disk, 1)?;
-    shows(&rt, rt.alloc(), &mut again, &mut disk, 1, 3, 0)?;
+    rises_in(&rt, rt.alloc(), &mut disk)?;
+    shows_in(&rt, rt.alloc(), &mut disk)
+}
+
+// The moment is shown, and the disk is not called.
+fn shows_moment(
+    rt: &impl Abort,
+    alloc: Global,
+    updater: &mut Updater,
+    disk: &mut MemDisk,
+) -> Result<(), Fail> {
+    let before = disk.calls();
+    let reply = run(alloc, updater, disk, &Command::At { now: 5 })?;
+    assert_eq!(rt; reply, Reply::At { now: 5 });
+    assert_eq!(rt; disk.calls(), before);
     Ok(())
+}
+
+fn shows_moment_in(rt: &impl Abort, alloc: Global, disk: &mut MemDisk) -> Result<(), Fail> {
+    match open(alloc, disk, 1) {
+        Ok((mut updater, _)) => {
+            let done = shows_moment(rt, alloc, &mut updater, disk);
+            drop(updater);
+            done
+        }
+        Err(fault) => Err(fault.into()),
+    }
+}
+
+#[test]
+fn a_moment_is_shown_and_not_kept(rt: HostRuntime) -> Result<(), Fail> {
+    let mut disk = new_disk(rt.alloc())?;
+    shows_moment_in(&rt, rt.alloc(), &mut disk)
+}
+
+// Requires version 1 of the application of that number, and answers whether it was one too many.
+fn is_too_many(
+    alloc: Global,
+    updater: &mut Updater,
+    disk: &mut MemDisk,
+    number: u64,
+) -> Result<bool, Fail> {
+    let key = format!(in alloc; "app{number},0000,neutral,msil")?;
+    let command = require(alloc, key.as_str(), 1)?;
+    let reply = run(alloc, updater, disk, &command)?;
+    Ok(
+        reply
+            == Reply::TooMany {
+                what: Limit::Applications,
+                limit: 256,
+            },
+    )
+}
+
+fn takes_256(
+    rt: &impl Abort,
+    alloc: Global,
+    updater: &mut Updater,
+    disk: &mut MemDisk,
+) -> Result<(), Fail> {
+    for number in 0..257u64 {
+        assert_eq!(rt; is_too_many(alloc, updater, disk, number)?, number == 256);
+    }
+    assert_eq!(rt; is_too_many(alloc, updater, disk, 0)?, false);
+    Ok(())
+}
+
+fn takes_256_in(rt: &impl Abort, alloc: Global, disk: &mut MemDisk) -> Result<(), Fail> {
+    match open(alloc, disk, 1) {
+        Ok((mut updater, _)) => {
+            let done = takes_256(rt, alloc, &mut updater, disk);
+            drop(updater);
+            done
+        }
+        Err(fault) => Err(fault.into()),
+    }
 }
 
 #[test]
 fn a_257th_application_is_one_too_many(rt: HostRuntime) -> Result<(), Fail> {
     let mut disk = new_disk(rt.alloc())?;
-    let (mut updater, _) = Updater::recover(rt.alloc(), &mut disk, 1)?;
-    for i in 0..257u64 {
-        let key = format!(in rt.alloc(); "app{i},0000,neutral,msil")?;
-        let command = require(rt.alloc(), key.as_str(), 1)?;
-        let reply = updater.apply(rt.alloc(), &mut disk, 1000, &command)?;
-        let want = if i < 256 {
-            Reply::Minimum {
-                version: version(1),
-            }
-        } else {
-            Reply::TooMany {
-                what: Limit::Applications,
-                limit: 256,
-            }
-        };
-        assert_eq!(rt; reply, want);
+    takes_256_in(&rt, rt.alloc(), &mut disk)
+}
+
+// Whether the disk holds no store.
+fn is_no_store(alloc: Global, disk: &mut MemDisk) -> bool {
+    match open(alloc, disk, 1) {
+        Ok((updater, _)) => {
+            drop(updater);
+            false
+        }
+        Err(fault) => fault == RecoverFault::NotAStore,
     }
-    let command = require(rt.alloc(), "app0,0000,neutral,msil", 2)?;
-    let reply = updater.apply(rt.alloc(), &mut disk, 1000, &command)?;
-    let want = Reply::Minimum {
-        version: version(2),
-    };
-    assert_eq!(rt; reply, want);
-    Ok(())
 }
 
 #[test]
 fn other_bytes_are_no_store(rt: HostRuntime) -> Result<(), Fail> {
     let mut disk = disk_of(rt.alloc(), &[0; 10], 0)?;
-    let fault = Updater::recover(rt.alloc(), &mut disk, 1).err();
-    assert_eq!(rt; fault, Some(RecoverFault::NotAStore));
+    assert!(rt; is_no_store(rt.alloc(), &mut disk));
     // A journal whose only change is none.
     let mut disk = new_disk(rt.alloc())?;
     let (mut log, _) = Log::recover(rt.alloc(), &mut disk)?;
     log.append(&mut disk, &mut [0, 0, 0, 0, 0, 9, 0])?;
-    let fault = Updater::recover(rt.alloc(), &mut disk, 1).err();
-    assert_eq!(rt; fault, Some(RecoverFault::NotAStore));
+    assert!(rt; is_no_store(rt.alloc(), &mut disk));
     Ok(())
 }
 
 // Opens the store with boot number 2, and requires a version. Answers whether both succeeded.
 fn runs(alloc: Global, disk: &mut MemDisk) -> Result<bool, Fail> {
     let command = require(alloc, "demo,0000,neutral,msil", 1)?;
-    match Updater::recover(alloc, disk, 2) {
+    match open(alloc, disk, 2) {
         Err(RecoverFault::DiskFault) => Ok(false),
         Err(fault) => Err(fault.into()),
-        Ok((mut updater, _)) => Ok(updater.apply(alloc, disk, 1000, &command).is_ok()),
+        Ok((mut updater, _)) => {
+            let ran = run(alloc, &mut updater, disk, &command).is_ok();
+            drop(updater);
+            Ok(ran)
+        }
     }
 }
 
 #[test]
 fn a_call_that_fails_leaves_the_store_before_or_after(rt: HostRuntime) -> Result<(), Fail> {
     let mut disk = new_disk(rt.alloc())?;
-    let _ = Updater::recover(rt.alloc(), &mut disk, 1)?;
+    opens(&rt, rt.alloc(), &mut disk, 1, true, 0)?;
     let bytes = disk.bytes().to_vec(rt.alloc())?;
     // A sync, a read of the bytes and one of the end, and four calls each of the boot number and of the minimum.
     // With 0 none fails.
     for failing in 0..12u64 {
         let mut disk = disk_of(rt.alloc(), &bytes, failing)?;
         assert_eq!(rt; runs(rt.alloc(), &mut disk)?, failing == 0, "at {failing}");
-        let (updater, answer) = Updater::recover(rt.alloc(), &mut disk, 2)?;
         // A change is there once its gate is written, also where the last sync failed.
         let has_boot = failing == 0 || failing >= 7;
         let has_minimum = failing == 0 || failing >= 11;
-        assert_eq!(rt; answer, !has_boot, "at {failing}");
-        assert_eq!(rt; updater.state().count() == 1, has_minimum, "at {failing}");
+        opens(
+            &rt,
+            rt.alloc(),
+            &mut disk,
+            2,
+            !has_boot,
+            has_minimum as usize,
+        )?;
     }
     Ok(())
 }

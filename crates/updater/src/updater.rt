@@ -1,91 +1,80 @@
 // The store in memory and on the disk, and the commands on it.
-ghost use Rattle.std.specs.Prelude.{◌≡◌, ◌≢◌, ◌<◌, ◌≤◌, ◌+◌, ◌^◌, ℕ, List, true, false, IfOk, IfErr, OnOk, OnErr, length, Some};
-ghost use Rattle.outside.specs.Streams.{Causes, Rose};
-ghost use Rattle.disks.specs.Moments.{LeavesOnly};
+ghost use Rattle.std.specs.Prelude.{◌≡◌, ◌≤◌, ℕ, List, [], map};
+ghost use Rattle.small_types.specs.declared.limits.TheConstants.{NUMBER_LIMIT};
 ghost use Rattle.identity.specs.Key.{IsKey};
 ghost use Rattle.identity.specs.Version.{IsVersion};
-ghost use Rattle.store_state.specs.declared.command.Command.TheVariants as command;
-ghost use Rattle.store_state.specs.declared.reply.Reply.{Reply};
-ghost use Rattle.store_state.specs.Change.{Fits, effect};
-ghost use Rattle.store_state.specs.Step.{Answers};
-ghost use Rattle.store_state.specs.Store.{Session, Store, require, minimum_of};
-ghost use Rattle.updater.specs.declared.fault.RecoverFault.TheVariants.{NotAStore, DiskFault, Memory};
-ghost use Rattle.updater.specs.declared.fault.StepFault.TheVariants as step;
-ghost use Rattle.updater.specs.Stands.{Stands, StandsForNone, StandsForEither};
+ghost use Rattle.machine.specs.declared.command.Command.TheVariants as command;
+ghost use Rattle.machine.specs.Machine.{refusals};
+ghost use Rattle.machine.specs.Blocks.{used_blocks};
+ghost use Rattle.machine.specs.Rows.{PassesAll};
+ghost use Rattle.machine.specs.Shape.{bare_view};
+ghost use Rattle.machine.specs.Store.{Store};
+ghost use Rattle.machine.specs.Valid.{Valid};
+ghost use Rattle.machine.specs.Words.{IsCommand};
+ghost use Rattle.record_codec.specs.Codec.{IsChange};
+ghost use Rattle.store_state.specs.Change.{Fits};
+ghost use Rattle.store_state.specs.Shows.{Shows};
+ghost use Rattle.store_state.specs.Tables.{table_shape};
+ghost use Rattle.updater.specs.Answer.{IsAnswer};
+ghost use Rattle.updater.specs.Requirement.{Raises};
 
 use crate::RecoverFault;
 use crate::fault::StepFault;
 use crate::piece::piece_of;
-use crate::replay::replay;
-use crate::requirement::{Requirement, requirement_of};
+use crate::refusal::require_refusal;
+use crate::replay::settle;
+use crate::requirement::minimum_that_stays;
 use disks::Disk;
 use identity::{Key, Version};
+use install_plan::prepare;
+use links::Links;
+use machine::{Command, Heard, Reply};
 use outside::Failed;
-use small_types::limits::APPLICATION_LIMIT;
-use small_types::{Duplicate, Limit};
+use small_types::{Bytes, Duplicate};
 use std::alloc::Global;
 use store_log::{Log, LogFault};
-use store_state::{Change, Command, Reply, StoreState};
+use store_state::{Change, StoreState};
 
-/// A store that is open: its log and its tables.
+/// A store that is open: its log, its number of blocks and its tables.
 #[derive(Debug, Drop)]
 pub struct Updater {
     log: Log,
+    blocks: u64,
     state: StoreState,
 }
 
+// How a command ends once its change was tried.
+fn answer(kept: Result<(), StepFault>, reply: Reply) -> Result<Reply, Failed>
+    ensures { IsAnswer reply kept result }
+{
+    match kept {
+        Ok(()) => Ok(reply),
+        Err(StepFault::Memory) => Ok(Reply::Memory),
+        Err(StepFault::DiskFault) => Err(Failed),
+    }
+}
+
 impl Updater {
-    ghost use Rattle.updater.specs.Updater.{store_of, session_of, IsStored, IsCommand};
-    ghost use Rattle.updater.specs.Moments.{LeavesSince, LeavesSinceOrNot};
+    ghost use Rattle.updater.specs.Commanded.{Commanded};
+    ghost use Rattle.updater.specs.Keeps.{Keeps};
+    ghost use Rattle.updater.specs.Loaded.{Loaded};
+    ghost use Rattle.updater.specs.Opened.{Opened};
+    ghost use Rattle.updater.specs.Updater.{tables_of};
 
     /// Opens the store on the disk. Where the kept boot number differs from the given one, which is at most 2^62,
-    /// the given one is made durable, and the answer is true.
+    /// the given one is made durable, which ends all leases, and the answer is true.
     pub fn recover<D: Disk>(
         alloc: Global,
         disk: &mut D,
         boot: u64,
     ) -> Result<(Updater, bool), RecoverFault>
-        requires { boot ≤ 2 ^ 62 }
-
-        // The store is the one that reads stand for, with the given boot number.
-        ensures found { D.tells → OnOk result ((old : Store) × Stands (D.seen disk.old) old) }
-        ensures store { D.tells → (old : Store) → Stands (D.seen disk.old) old → IfOk result (λ r. store_of r.0 ≡ record old { boot = boot }) }
-        ensures same_boot { D.tells → (old : Store) → Stands (D.seen disk.old) old → IfOk result (λ r. r.1 ≡ false → old.boot ≡ boot) }
-        ensures other_boot { D.tells → (old : Store) → Stands (D.seen disk.old) old → IfOk result (λ r. r.1 ≡ true → old.boot ≢ boot) }
-        ensures stored { D.tells → IfOk result (λ r. IsStored D.moment D.left_at r.0 disk.new) }
-        ensures not_a_store { D.tells → result ≡ Err NotAStore → StandsForNone (D.seen disk.old) }
-
-        // From its first sync on a stop leaves the store with the old boot number or with the given one. Where that
-        // sync fails a stop leaves what it could leave before.
-        ensures past { D.tells → (t : ℕ) (image : List ℕ) → t ≤ D.moment disk.old → D.left_at disk.new t image → D.left_at disk.old t image }
-        ensures stop { D.tells → (old : Store) → Stands (D.seen disk.old) old → result ≢ Err DiskFault
-            → LeavesSince D.moment D.left_at (D.moment disk.old + 1) disk.new (StandsForEither old (record old { boot = boot })) }
-        ensures stop_fault { D.tells → (old : Store) → Stands (D.seen disk.old) old
-            → LeavesSinceOrNot D.moment D.left_at disk.old disk.new (StandsForEither old (record old { boot = boot })) }
-        ensures stop_memory { D.tells → (old : Store) → Stands (D.seen disk.old) old → result ≡ Err Memory → LeavesSince D.moment D.left_at (D.moment disk.old + 1) disk.new (λ image. Stands image old) }
-        ensures seen { D.tells → IfErr result (λ fault. fault ≢ DiskFault → D.seen disk.new ≡ D.seen disk.old) }
-        ensures within { IfErr result (λ fault. fault ≢ DiskFault → D.moment disk.new ≤ D.moment disk.old + 1) }
-        ensures unwritten { result ≡ Err NotAStore → D.total disk.new ≡ D.total disk.old }
-        ensures synced { OnOk result (D.moment disk.old + 1 ≤ D.moment disk.new) }
-        ensures quiet { IfOk result (λ r. r.1 ≡ false → D.moment disk.new ≡ D.moment disk.old + 1) }
-        ensures tick { IfOk result (λ r. r.1 ≡ true → D.moment disk.new ≡ D.moment disk.old + 5) }
-        ensures later { D.moment disk.old ≤ D.moment disk.new }
-        ensures count { D.count disk.old ≤ D.count disk.new }
-        ensures cause { result ≡ Err DiskFault → Rose (D.count disk.old) (D.count disk.new) }
+        requires { boot ≤ NUMBER_LIMIT }
+        ensures { Opened D.Disk boot disk.old result disk.new }
     {
-        let (log, recovered) = match Log::recover(alloc, disk) {
-            Ok(found) => found,
-            Err(LogFault::NotALog) => return Err(RecoverFault::NotAStore),
-            Err(LogFault::Memory) => return Err(RecoverFault::Memory),
-            Err(_) => return Err(RecoverFault::DiskFault),
+        let mut updater = match Updater::load(alloc, disk) {
+            Ok(updater) => updater,
+            Err(fault) => return Err(fault),
         };
-        let Ok(loaded) = replay(alloc, recovered.changes.as_slice()) else {
-            return Err(RecoverFault::Memory);
-        };
-        let Some(state) = loaded else {
-            return Err(RecoverFault::NotAStore);
-        };
-        let mut updater = Updater { log, state };
         if updater.state.boot == boot {
             return Ok((updater, false));
         }
@@ -96,43 +85,65 @@ impl Updater {
         }
     }
 
-    /// Runs a command at a moment in seconds, at most 2^62. What it changes is durable once it is answered. Want of
-    /// memory is a reply. `Failed`: the disk failed; the store is then that before or after the command, and is to
-    /// be recovered anew.
-    pub fn apply<D: Disk>(
+    /// Runs a command at a moment in seconds, at most 2^62. What it changes is durable once it is answered. The manifest
+    /// texts that it heard of the links are added. Want of memory is a reply. `Failed`: the disk failed; the store is
+    /// then that before or after the command, and is to be recovered anew.
+    pub fn apply<D: Disk, L: Links>(
         &mut self,
         alloc: Global,
         disk: &mut D,
-        _now: u64,
+        links: &mut L,
+        now: u64,
         command: &Command,
+        heard: &mut Heard,
     ) -> Result<Reply, Failed>
-        requires { IsCommand command.now }
-
-        // One step of the machine.
-        ensures step { IfOk result (λ reply. Answers (session_of self.old) command.now reply (session_of self.new)) }
-        ensures stored { D.tells → IsStored D.moment D.left_at self.old disk.old → OnOk result (IsStored D.moment D.left_at self.new disk.new) }
-
-        // A stop at any moment of the call leaves the store before the command or that after it.
-        ensures stop { D.tells → IsStored D.moment D.left_at self.old disk.old → OnOk result (LeavesOnly D.moment D.left_at disk.old disk.new (StandsForEither (store_of self.old) (store_of self.new))) }
-        ensures stop_fault { D.tells → IsStored D.moment D.left_at self.old disk.old → OnErr result ((new : Session) × (reply : Reply) × Answers (session_of self.old) command.now reply new
-            × LeavesOnly D.moment D.left_at disk.old disk.new (StandsForEither (store_of self.old) new.store)) }
-
-        // The disk is touched only where the store changes.
-        ensures quiet { OnOk result (store_of self.new ≡ store_of self.old → disk.new ≡ disk.old) }
-        ensures tick { OnOk result (store_of self.new ≢ store_of self.old → D.moment disk.new ≡ D.moment disk.old + 4) }
-        ensures later { D.moment disk.old ≤ D.moment disk.new }
-        ensures cause { Causes (D.count disk.old) (D.count disk.new) result }
+        requires command { IsCommand command.now }
+        requires moment { now ≤ NUMBER_LIMIT }
+        requires one { (L.links links.old).sources ≡ 1 }
+        requires empty { heard.old.texts ≡ [] }
+        ensures { Commanded D.Disk L.Links now heard.new.texts command.now self.old disk.old links.old
+            result self.new disk.new links.new }
     {
         match command {
-            Command::Require { key, version } => self.require(alloc, disk, key, *version),
+            Command::At { now: next } => Ok(Reply::At { now: *next }),
+            Command::Require { key, version } => self.require(
+                alloc, disk, links, now, key, *version,
+            ),
+            Command::Install { url } => self.install(alloc, disk, links, now, url, heard),
         }
+    }
+
+    /// How many blocks the files of its views take: those of each content that program files share, and of each data file.
+    pub fn used_blocks(&self) -> u64
+        ensures { (blocks : ℕ) (image : List ℕ) (store : Store)
+            → Shows blocks (tables_of self.now) image store → Valid store
+            → result ≡ used_blocks (map bare_view store.views) }
+    {
+        self.state.used_blocks()
     }
 
     /// Its tables, to be read.
     pub fn state(&self) -> &StoreState
-        ensures { result.now ≡ store_of self.now }
+        ensures { result.now ≡ tables_of self.now }
     {
         &self.state
+    }
+
+    // Reads the store that the disk stands for.
+    fn load<D: Disk>(alloc: Global, disk: &mut D) -> Result<Updater, RecoverFault>
+        ensures { Loaded D.Disk disk.old result disk.new }
+    {
+        let (log, recovered) = match Log::recover(alloc, disk) {
+            Ok(found) => found,
+            Err(LogFault::NotALog) => return Err(RecoverFault::NotAStore),
+            Err(LogFault::Memory) => return Err(RecoverFault::Memory),
+            Err(_) => return Err(RecoverFault::DiskFault),
+        };
+        let blocks = recovered.blocks;
+        match settle(alloc, blocks, recovered.changes.as_slice()) {
+            Ok(state) => Ok(Updater { log, blocks, state }),
+            Err(fault) => Err(fault),
+        }
     }
 
     // Makes a change that fits durable, and makes it in the tables. For want of memory it does nothing.
@@ -142,18 +153,12 @@ impl Updater {
         disk: &mut D,
         change: Change,
     ) -> Result<(), StepFault>
-        requires { Fits (store_of self.old) change }
-        ensures ok { OnOk result (store_of self.new ≡ effect change (store_of self.old)) }
-        ensures stored { D.tells → IsStored D.moment D.left_at self.old disk.old → OnOk result (IsStored D.moment D.left_at self.new disk.new) }
-        ensures stop { D.tells → IsStored D.moment D.left_at self.old disk.old → LeavesOnly D.moment D.left_at disk.old disk.new (StandsForEither (store_of self.old) (effect change (store_of self.old))) }
-        ensures memory { result ≡ Err step.Memory → (self.new ≡ self.old) × (disk.new ≡ disk.old) }
-        ensures tick { OnOk result (D.moment disk.new ≡ D.moment disk.old + 4) }
-        ensures later { D.moment disk.old ≤ D.moment disk.new }
-        ensures count { D.count disk.old ≤ D.count disk.new }
-        ensures cause { result ≡ Err step.DiskFault → Rose (D.count disk.old) (D.count disk.new) }
-        ensures quiet { OnOk result (D.count disk.new ≡ D.count disk.old) }
+        requires { Fits (tables_of self.old) change × IsChange change }
+        ensures { Keeps D.Disk change self.old disk.old result self.new disk.new }
     {
-        let mut piece = piece_of(alloc, &change)?;
+        let Ok(mut piece) = piece_of(alloc, &change) else {
+            return Err(StepFault::Memory);
+        };
         self.state.apply(alloc, change)?;
         match self.log.append(disk, &mut piece) {
             Ok(()) => Ok(()),
@@ -161,66 +166,85 @@ impl Updater {
         }
     }
 
-    // Makes the version the minimum of the key, which it is to be and is not.
-    fn raise<D: Disk>(
+    // Requires the version of the key. The links are not asked.
+    fn require<D: Disk, L: Links>(
         &mut self,
         alloc: Global,
         disk: &mut D,
+        links: &L,
+        now: u64,
         key: &Key,
         version: Version,
     ) -> Result<Reply, Failed>
         requires words { IsKey key.now × IsVersion version }
-        requires room { length (require key.now version (store_of self.old).apps) ≤ 256 }
-        requires other { require key.now version (store_of self.old).apps ≢ (store_of self.old).apps }
-        requires raised { minimum_of key.now (require key.now version (store_of self.old).apps) ≡ Some version }
-        ensures step { IfOk result (λ reply. Answers (session_of self.old) (command.Require key.now version) reply (session_of self.new)) }
-        ensures stored { D.tells → IsStored D.moment D.left_at self.old disk.old → OnOk result (IsStored D.moment D.left_at self.new disk.new) }
-        ensures stop { D.tells → IsStored D.moment D.left_at self.old disk.old → OnOk result (LeavesOnly D.moment D.left_at disk.old disk.new (StandsForEither (store_of self.old) (store_of self.new))) }
-        ensures stop_fault { D.tells → IsStored D.moment D.left_at self.old disk.old → OnErr result (LeavesOnly D.moment D.left_at disk.old disk.new (StandsForEither (store_of self.old) (record (store_of self.old) { apps = require key.now version (store_of self.old).apps }))) }
-        ensures quiet { OnOk result (store_of self.new ≡ store_of self.old → disk.new ≡ disk.old) }
-        ensures tick { OnOk result (store_of self.new ≢ store_of self.old → D.moment disk.new ≡ D.moment disk.old + 4) }
-        ensures later { D.moment disk.old ≤ D.moment disk.new }
-        ensures cause { Causes (D.count disk.old) (D.count disk.new) result }
+        requires moment { now ≤ NUMBER_LIMIT }
+        ensures { Commanded D.Disk L.Links now [] (command.Require key.now version)
+            self.old disk.old links.now result self.new disk.new links.now }
+    {
+        if let Some(reply) = require_refusal(&self.state, key) {
+            return Ok(reply);
+        }
+        if let Some(minimum) = minimum_that_stays(&self.state, key, version) {
+            return Ok(Reply::Minimum { version: minimum });
+        }
+        self.raise(alloc, disk, links, now, key, version)
+    }
+
+    // Makes the version the minimum of the key, which it is to be and is not.
+    fn raise<D: Disk, L: Links>(
+        &mut self,
+        alloc: Global,
+        disk: &mut D,
+        _links: &L,
+        _now: u64,
+        key: &Key,
+        version: Version,
+    ) -> Result<Reply, Failed>
+        requires words { IsKey key.now × IsVersion version }
+        requires moment { _now ≤ NUMBER_LIMIT }
+        requires passed { (blocks : ℕ) → PassesAll (refusals _now []
+            (table_shape blocks (tables_of self.old)) (command.Require key.now version)) }
+        requires raises { Raises key.now version (tables_of self.old).apps }
+        ensures { Commanded D.Disk L.Links _now [] (command.Require key.now version)
+            self.old disk.old _links.now result self.new disk.new _links.now }
     {
         let Ok(key) = key.copy(alloc) else {
             return Ok(Reply::Memory);
         };
-        match self.keep(alloc, disk, Change::Require { key, version }) {
-            Ok(()) => Ok(Reply::Minimum { version }),
-            Err(StepFault::Memory) => Ok(Reply::Memory),
-            Err(StepFault::DiskFault) => Err(Failed),
-        }
+        answer(
+            self.keep(alloc, disk, Change::Require { key, version }),
+            Reply::Minimum { version },
+        )
     }
 
-    // Requires the version of the key.
-    fn require<D: Disk>(
+    // Installs the release at the address.
+    fn install<D: Disk, L: Links>(
         &mut self,
         alloc: Global,
         disk: &mut D,
-        key: &Key,
-        version: Version,
+        links: &mut L,
+        now: u64,
+        url: &Bytes,
+        heard: &mut Heard,
     ) -> Result<Reply, Failed>
-        requires { IsKey key.now × IsVersion version }
-        ensures step { IfOk result (λ reply. Answers (session_of self.old) (command.Require key.now version) reply (session_of self.new)) }
-        ensures stored { D.tells → IsStored D.moment D.left_at self.old disk.old → OnOk result (IsStored D.moment D.left_at self.new disk.new) }
-        ensures stop { D.tells → IsStored D.moment D.left_at self.old disk.old → OnOk result (LeavesOnly D.moment D.left_at disk.old disk.new (StandsForEither (store_of self.old) (store_of self.new))) }
-        ensures stop_fault { D.tells → IsStored D.moment D.left_at self.old disk.old → OnErr result ((new : Session) × (reply : Reply) × Answers (session_of self.old) (command.Require key.now version) reply new
-            × LeavesOnly D.moment D.left_at disk.old disk.new (StandsForEither (store_of self.old) new.store)) }
-        ensures quiet { OnOk result (store_of self.new ≡ store_of self.old → disk.new ≡ disk.old) }
-        ensures tick { OnOk result (store_of self.new ≢ store_of self.old → D.moment disk.new ≡ D.moment disk.old + 4) }
-        ensures later { D.moment disk.old ≤ D.moment disk.new }
-        ensures cause { Causes (D.count disk.old) (D.count disk.new) result }
+        requires moment { now ≤ NUMBER_LIMIT }
+        requires one { (L.links links.old).sources ≡ 1 }
+        requires empty { heard.old.texts ≡ [] }
+        ensures { Commanded D.Disk L.Links now heard.new.texts (command.Install url.now) self.old
+            disk.old links.old result self.new disk.new links.new }
     {
-        let Ok(requirement) = requirement_of(alloc, &self.state, key, version) else {
-            return Ok(Reply::Memory);
+        let (change, reply) = match prepare(
+            alloc,
+            &self.state,
+            self.blocks,
+            links,
+            now,
+            url,
+            heard,
+        ) {
+            Ok(ready) => ready,
+            Err(reply) => return Ok(reply),
         };
-        match requirement {
-            Requirement::TooMany => Ok(Reply::TooMany {
-                what: Limit::Applications,
-                limit: APPLICATION_LIMIT as u64,
-            }),
-            Requirement::Holds { minimum } => Ok(Reply::Minimum { version: minimum }),
-            Requirement::Raises => self.raise(alloc, disk, key, version),
-        }
+        answer(self.keep(alloc, disk, change), reply)
     }
 }

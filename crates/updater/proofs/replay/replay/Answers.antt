@@ -1,5 +1,5 @@
 use Rattle.std.proofs.Common.{rules}
-use Rattle.updater.proofs.Loading.{leads_first, leads_more, leads_nowhere, leads_through}
+use Rattle.updater.proofs.Loading.{leads_first, leads_more, leads_nowhere, leads_through, made_if, none_if}
 use Rattle.updater.proofs.replay.replay.Goals as goal
 
 pub loop-change-init : goal.loop-change-init
@@ -8,12 +8,12 @@ loop-change-init c = leads_first c.args.changes.now c.in_ok-state.state (search 
 pub loop-change-preserved : goal.loop-change-preserved
 loop-change-preserved c =
     leads_more c.args.changes.now c.loop-change.change-index c.change-item.result c.loop-change.state c.replay_one.new.state c.loop-change.invariant c.loop-change-test.true c.change-item.is
-    (rw c.as_slice.ensures at (c.in_ok-replay_one.ensures.made c.if-not-branch.false))
+    (rw c.as_slice.ensures at (made_if _ _ _ _ c.in_ok-replay_one.ensures c.if-not-branch.false))
 
 pub returns-then-not-branch-clause-none : goal.returns-then-not-branch-clause-none
 returns-then-not-branch-clause-none c =
     leads_nowhere c.args.changes.now c.loop-change.change-index c.change-item.result c.loop-change.state c.loop-change.invariant c.loop-change-test.true c.change-item.is
-    (rw c.as_slice.ensures at (c.in_ok-replay_one.ensures.none c.if-not-branch.true))
+    (rw c.as_slice.ensures at (none_if _ _ _ _ c.in_ok-replay_one.ensures c.if-not-branch.true))
 
 pub returns-clause-found : goal.returns-clause-found
 returns-clause-found c = leads_through c.args.changes.now c.loop-change.change-index c.loop-change.state c.loop-change.invariant c.loop-change-test.false

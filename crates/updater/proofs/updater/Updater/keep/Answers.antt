@@ -1,23 +1,41 @@
-use Rattle.std.proofs.Common.{◌≡◌, ap, ◌∙◌}
+use Rattle.std.proofs.Common.{◌≡◌, ◌≤◌, ◌+◌, List, ℕ, length, refl, sym, ap, subst, ◌∙◌}
+use Rattle.store_log.specs.declared.piece.TheConstants.{AROUND, CHANGE_LIMIT}
 use Rattle.store_log.specs.Log.{entry_in}
-use Rattle.record_codec.specs.Codec.{change_text}
-use Rattle.updater.proofs.Keeping.{holds_more, either_store}
+use Rattle.updater.specs.Stands.{Encodes}
+use Rattle.updater.specs.Updater.{room_of}
+use Rattle.updater.proofs.Keeping.{holds_more, either_store, numbered_by}
 use Rattle.updater.proofs.updater.Updater.keep.Goals as goal
 
-pub returns-in-Ok-clause-stored : goal.returns-in-Ok-clause-stored
-returns-in-Ok-clause-stored g c = λ told.
-    let is : entry_in c.deref_mut.result.now ≡ change_text c.args.change = ap entry_in c.deref_mut.ensures.value ∙ c.in_ok-piece.ensures.change in
-    holds_more g.D.Disk.moment g.D.Disk.left_at c.args.self.now.log c.append.new.self c.args.self.now.state c.apply.new.self c.args.change (entry_in c.deref_mut.result.now) c.args.disk.now c.append.new.disk
-    c.requires is c.in_ok-apply.ensures.ok (c.in-Ok.ensures.ok told)
+pub returns-in-Ok-append : goal.returns-in-Ok-append
+returns-in-Ok-append g c =
+    let encodes : Encodes c.args.change (entry_in c.deref_mut.result.now) = record { has = c.requires.1; is = ap entry_in c.deref_mut.ensures.value ∙ c.in-Ok.ensures.change } in
+    record {
+      stored = λ old new leads holds. holds_more g.D.Disk c.args.self.now c.args.disk.now c.args.change (entry_in c.deref_mut.result.now) c.requires.0 encodes old new leads holds (record { log = c.append.new.self; blocks = room_of c.args.self.now; state = c.apply.new.self }) c.append.new.disk c.in_ok-apply.ensures.ok refl c.in-Ok-append.ensures.ok;
+      stop = λ old new leads holds. either_store g.D.Disk c.args.self.now c.args.disk.now c.args.change (entry_in c.deref_mut.result.now) c.requires.0 encodes old new leads holds c.append.new.disk (g.met.D.Disk.seen_left c.args.disk.now) c.append.ensures.any_moment;
+      past = c.append.ensures.outside.past;
+      memory = λ e. absurd (cc);
+      tick = c.in-Ok-append.ensures.tick;
+      later = c.append.ensures.later;
+      told = c.append.ensures.told;
+      count = c.append.ensures.cause.later;
+      cause = λ e. absurd (cc);
+      undisturbed = λ other. c.in-Ok-append.ensures.cause.quiet;
+      numbered = λ e. absurd (cc);
+    }
 
-pub returns-in-Ok-clause-stop : goal.returns-in-Ok-clause-stop
-returns-in-Ok-clause-stop g c = λ told.
-    let is : entry_in c.deref_mut.result.now ≡ change_text c.args.change = ap entry_in c.deref_mut.ensures.value ∙ c.in_ok-piece.ensures.change in
-    either_store g.D.Disk.moment g.D.Disk.left_at c.args.self.now.log c.args.self.now.state c.args.change (entry_in c.deref_mut.result.now) c.args.disk.now c.append.new.disk
-    c.requires is (c.append.ensures.any_moment told)
-
-pub returns-clause-stop : goal.returns-clause-stop
-returns-clause-stop g c = λ told.
-    let is : entry_in c.deref_mut.result.now ≡ change_text c.args.change = ap entry_in c.deref_mut.ensures.value ∙ c.in_ok-piece.ensures.change in
-    either_store g.D.Disk.moment g.D.Disk.left_at c.args.self.now.log c.args.self.now.state c.args.change (entry_in c.deref_mut.result.now) c.args.disk.now c.append.new.disk
-    c.requires is (c.append.ensures.any_moment told)
+pub returns : goal.returns
+returns g c =
+    let encodes : Encodes c.args.change (entry_in c.deref_mut.result.now) = record { has = c.requires.1; is = ap entry_in c.deref_mut.ensures.value ∙ c.in-Ok.ensures.change } in
+    record {
+      stored = λ old new leads holds. tt;
+      stop = λ old new leads holds. either_store g.D.Disk c.args.self.now c.args.disk.now c.args.change (entry_in c.deref_mut.result.now) c.requires.0 encodes old new leads holds c.append.new.disk (g.met.D.Disk.seen_left c.args.disk.now) c.append.ensures.any_moment;
+      past = c.append.ensures.outside.past;
+      memory = λ e. absurd (cc);
+      tick = tt;
+      later = c.append.ensures.later;
+      told = c.append.ensures.told;
+      count = c.append.ensures.cause.later;
+      cause = λ e. c.in-Err.ensures.cause.rose;
+      undisturbed = λ other. absurd (other refl);
+      numbered = λ e. numbered_by _ _ _ _ _ (subst (λ (l : List ℕ). length l ≤ AROUND + CHANGE_LIMIT) (sym c.deref_mut.ensures.value) c.in-Ok.ensures.size.1) c.append.ensures.counted;
+    }

@@ -1,10 +1,27 @@
-use Rattle.std.proofs.Common.{◌≡◌, Err, ◌∙◌, ap}
-use Rattle.updater.specs.declared.fault.StepFault.TheVariants as step
-use Rattle.updater.proofs.Keeping.{still_stands}
+use Rattle.std.proofs.Common.{[], subst, sym}
+use Rattle.identity.specs.declared.key.Key.{Key}
+use Rattle.machine.specs.declared.command.Command.TheVariants as command
+use Rattle.machine.specs.declared.reply.Reply.TheVariants as says
+use Rattle.store_state.specs.declared.change.Change.TheVariants as change
+use Rattle.store_state.specs.Change.{Fits}
+use Rattle.updater.proofs.Commanding.{Does, kept, memory_missed, unlinked}
+use Rattle.updater.proofs.Requiring.{required_does, required_fits}
 use Rattle.updater.proofs.updater.Updater.raise.Goals as goal
 
-pub returns-in-Err-Memory-clause-stop : goal.returns-in-Err-Memory-clause-stop
-returns-in-Err-Memory-clause-stop g c = λ told stored.
-    let want : c.keep.result ≡ Err step.Memory = c.in-Err-Memory.is ∙ ap Err c.in-Err-Memory.field-0-is in
-    let same = c.keep.ensures.memory want in
-    rw (same.0, same.1) (still_stands g.D.Disk.moment g.D.Disk.left_at c.args.self.now.log c.args.self.now.state c.args.self.now.state c.args.disk.now stored)
+pub keep-requires : goal.keep-requires
+keep-requires g c = let fits = subst (λ (key : Key). Fits c.args.self.now.state (change.Require key c.args.version)) (sym c.in-Ok.ensures)
+    (required_fits c.args._now c.args.self.now.state c.args.key.now c.args.version c.requires.words.0 c.requires.words.1 c.requires.passed) in
+    (fits, (fits.0, fits.1))
+
+pub returns : goal.returns
+returns g c =
+    let fits : Fits c.args.self.now.state (change.Require c.args.key.now c.args.version) =
+    required_fits c.args._now c.args.self.now.state c.args.key.now c.args.version c.requires.words.0 c.requires.words.1 c.requires.passed in
+    let command = command.Require c.args.key.now c.args.version in
+    kept g.D.Disk g.L.Links c.args._now [] command c.args.self.now c.args.disk.now c.args._links.now c.args._links.now (g.met.D.Disk.seen_left c.args.disk.now) c.requires.moment
+    (unlinked g.L.Links command c.args.self.now c.args._links.now)
+    (change.Require c.in-Ok.key c.args.version) (says.Minimum c.args.version) c.requires.moment
+    (λ old s. subst (λ (key : Key). Does c.args._now [] command (g.L.Links.links c.args._links.now) (g.L.Links.links c.args._links.now) (change.Require key c.args.version) c.args.self.now.state old (says.Minimum c.args.version)) (sym c.in-Ok.ensures)
+    (required_does c.args._now c.args.key.now c.args.version _ c.args.self.now.state _ _ _ old s.shows (c.requires.passed c.args.self.now.blocks) fits s.valid c.requires.raises))
+    (memory_missed g.D.Disk g.L.Links c.args._now command c.args.self.now c.args.disk.now c.args._links.now (g.met.D.Disk.seen_left c.args.disk.now) c.requires.moment tt)
+    c.keep.new.self c.keep.new.disk c.keep.result c.answer.result c.keep.ensures c.answer.ensures

@@ -1,12 +1,23 @@
-use Rattle.std.proofs.Common.{refl}
-use Rattle.std.proofs.lemmas.Result.{on_err_weaker}
-use Rattle.store_state.specs.declared.reply.Reply.TheVariants as reply
-use Rattle.store_state.specs.Store.{Session, Store, require}
+use Rattle.std.proofs.Common.{[], ◌≤◌, ℕ, refl, subst, sym}
+use Rattle.small_types.specs.declared.limits.TheConstants.{NUMBER_LIMIT}
+use Rattle.machine.specs.declared.command.Command.TheVariants as command
+use Rattle.machine.specs.declared.reply.Reply.TheVariants as says
+use Rattle.updater.proofs.Commanding.{refused, rested, unlinked}
+use Rattle.updater.proofs.Requiring.{required_rests}
 use Rattle.updater.proofs.updater.Updater.require.Goals as goal
 
-pub returns-in-Raises-clause-stop_fault : goal.returns-in-Raises-clause-stop_fault
-returns-in-Raises-clause-stop_fault g c = λ told stored.
-    let comes = rw c.in-Raises.is at c.in-Ok.ensures in
-    let store : Store = record c.args.self.now.state { apps = require c.args.key.now c.args.version c.args.self.now.state.apps } in
-    let new : Session = record { store = store } in
-    on_err_weaker c.raise.result (λ leaves. (new, reply.Minimum c.args.version, (comes.0, refl, comes.2), leaves)) (c.raise.ensures.stop_fault told stored)
+pub returns-in-Some : goal.returns-in-Some
+returns-in-Some g c =
+    refused g.D.Disk g.L.Links c.args.now (command.Require c.args.key.now c.args.version) c.args.self.now c.args.disk.now c.args.links.now (g.met.D.Disk.seen_left c.args.disk.now) c.requires.moment tt c.in-Some.reply
+    (subst (λ (n : ℕ). n ≤ NUMBER_LIMIT) (sym (c.in-Some.ensures.still c.args.now)) c.requires.moment)
+    (λ blocks old. c.in-Some.ensures.some c.args.now blocks c.args.version old)
+
+pub returns-in-Some-minimum_that_stays : goal.returns-in-Some-minimum_that_stays
+returns-in-Some-minimum_that_stays g c =
+    let command = command.Require c.args.key.now c.args.version in
+    rested g.D.Disk g.L.Links c.args.now [] command c.args.self.now c.args.disk.now c.args.links.now c.args.links.now (g.met.D.Disk.seen_left c.args.disk.now) c.requires.moment
+    (unlinked g.L.Links command c.args.self.now c.args.links.now) (says.Minimum c.in-Some-minimum_that_stays.minimum) c.requires.moment
+    (λ old s. required_rests c.args.now c.args.key.now c.args.version _ c.args.self.now.state _ _ _ old s.shows (c.in_default.ensures.none refl c.args.now c.args.self.now.blocks c.args.version) c.in-Some-minimum_that_stays.minimum c.in-Some-minimum_that_stays.ensures.some)
+
+pub raise-requires-clause-passed : goal.raise-requires-clause-passed
+raise-requires-clause-passed g c = λ blocks. c.in_default.ensures.none refl c.args.now blocks c.args.version

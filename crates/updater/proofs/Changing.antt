@@ -1,0 +1,68 @@
+-- Changes of the tables lead from one valid store that they show to another.
+use Rattle.std.proofs.Common.{◌≡◌, ◌≤◌, ◌<◌, ◌-◌, ◌^◌, min, ℕ, List, [], None, length, map, sym, ap, subst, arith}
+use Rattle.small_types.specs.declared.limits.TheConstants.{APPLICATION_LIMIT, BLOCK_LIMIT, NUMBER_LIMIT}
+use Rattle.identity.specs.declared.key.Key.{Key}
+use Rattle.identity.specs.declared.version.Version.{Version}
+use Rattle.machine.specs.declared.app.AppState.{AppState}
+use Rattle.machine.specs.Blocks.{used_blocks}
+use Rattle.machine.specs.Entries.{entry_of}
+use Rattle.machine.specs.RequireRow.{required}
+use Rattle.machine.specs.Shape.{Shape, bare_view}
+use Rattle.machine.specs.Store.{Store, booted}
+use Rattle.machine.specs.Valid.{Valid}
+use Rattle.machine.proofs.Keeping.{booted_valid, required_valid}
+use Rattle.store_state.specs.declared.change.Change.TheVariants.{Boot, Require}
+use Rattle.store_state.specs.Change.{Fits, effect}
+use Rattle.store_state.specs.Laws.{ShowsOrdered}
+use Rattle.store_state.specs.Shows.{Shows}
+use Rattle.store_state.specs.Tables.{Tables, bare_row, empty}
+use Rattle.store_state.proofs.Showing.{shape_shown, shows_booted, shows_required}
+use Rattle.store_state.proofs.Validity.{loaded_ordered}
+use Rattle.updater.specs.Keeps.{Leads}
+use Rattle.updater.specs.Stands.{Loads}
+use Rattle.updater.proofs.Loading.{changes_in, loads_replays}
+
+module _ {blocks : ℕ} {tables : Tables} {image : List ℕ} {store : Store} (shows : Shows blocks tables image store) where
+  pub apps_shown : store.apps ≡ tables.apps
+  apps_shown = ap (λ (s : Shape). s.apps) (shape_shown shows)
+
+  pub boot_shown : store.boot ≡ tables.boot
+  boot_shown = ap (λ (s : Shape). s.boot) (shape_shown shows)
+
+  pub blocks_shown : store.blocks ≡ blocks
+  blocks_shown = ap (λ (s : Shape). s.blocks) (shape_shown shows)
+
+  pub views_shown : map bare_view store.views ≡ map bare_row tables.views
+  views_shown = ap (λ (s : Shape). s.views) (shape_shown shows)
+
+-- the blocks in use of a valid store are a number that the code can hold
+pub used_shown : (blocks : ℕ) (tables : Tables) (image : List ℕ) (store : Store) (used : ℕ) → Shows blocks tables image store → Valid store → used ≡ min (used_blocks (map bare_row tables.views)) (2 ^ 64 - 1) → used ≡ used_blocks (map bare_view store.views)
+used_shown blocks tables image store used shows valid is =
+    let views : used_blocks (map bare_view store.views) ≡ used_blocks (map bare_row tables.views) = ap used_blocks (views_shown shows) in
+    let room = valid.room in
+    let few = valid.ordered.few_blocks in
+    omega arith
+
+-- a boot number leads on from the store that is shown
+pub booted_leads : (blocks : ℕ) (tables : Tables) (image : List ℕ) (store : Store) (boot : ℕ) → Shows blocks tables image store → boot ≤ NUMBER_LIMIT → Valid store → Leads (Boot boot) tables store (booted boot store)
+booted_leads blocks tables image store boot shows few valid = record {
+  shows = λ after. subst (λ (n : ℕ). Shows n (effect (Boot boot) tables) after (booted boot store)) (sym (blocks_shown shows)) (shows_booted after boot shows);
+  valid = booted_valid boot store few valid;
+}
+
+room_is : (key : Key) (apps : List AppState) → (entry_of key apps ≡ None → length apps < APPLICATION_LIMIT) → ¬ ((entry_of key apps ≡ None) × (APPLICATION_LIMIT ≤ length apps))
+room_is key apps room = λ full. (let few = room full.0 in let many = full.1 in absurd (omega arith))
+
+-- so does a requirement that fits
+pub required_leads : (blocks : ℕ) (tables : Tables) (image : List ℕ) (store : Store) (key : Key) (version : Version) → Shows blocks tables image store → Fits tables (Require key version) → Valid store → Leads (Require key version) tables store (record store { apps = required key version store.apps })
+required_leads blocks tables image store key version shows fits valid =
+    let room = subst (λ (apps : List AppState). entry_of key apps ≡ None → length apps < APPLICATION_LIMIT) (sym (apps_shown shows)) fits.2 in
+    record {
+      shows = λ after. subst (λ (n : ℕ). Shows n (effect (Require key version) tables) after (record store { apps = required key version store.apps })) (sym (blocks_shown shows)) (shows_required after key version shows);
+      valid = required_valid key version store fits.0 fits.1 (room_is key store.apps room) valid;
+    }
+
+-- the tables that a journal's changes lead to show a store
+pub journal_shown : (blocks : ℕ) (image : List ℕ) (tables : Tables) (texts : List (List ℕ)) → 1 ≤ blocks → blocks ≤ BLOCK_LIMIT → Loads empty texts tables → ShowsOrdered blocks tables image
+journal_shown blocks image tables texts some few loads =
+    loaded_ordered blocks (changes_in empty tables texts loads) tables image some few (loads_replays empty tables texts loads)

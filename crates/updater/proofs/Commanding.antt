@@ -1,0 +1,238 @@
+-- How commands end.
+use Rattle.std.proofs.Common.{◌≡◌, ◌≢◌, ◌≤◌, ◌++◌, ◌∷◌, ℕ, List, [], length, length-append, Some, Result, Ok, Err, inl, inr, refl, sym, ap, subst, arith}
+use Rattle.small_types.specs.declared.limits.TheConstants.{NUMBER_LIMIT}
+use Rattle.outside.specs.declared.failed.Failed.{Failed}
+use Rattle.disks.specs.declared.disk.Disk.{Ghosts}
+use Rattle.links.specs.declared.links.Links.{Ghosts as LinksGhosts}
+use Rattle.links.specs.Links.{LinksState}
+use Rattle.fetcher.specs.Fetched.{Kept}
+use Rattle.fetcher.proofs.Sequence.{kept_same}
+use Rattle.machine.specs.declared.command.Command.{Command}
+use Rattle.machine.specs.declared.command.Command.TheVariants.{At, Require, Install}
+use Rattle.machine.specs.declared.reply.Reply.{Reply}
+use Rattle.machine.specs.declared.reply.Reply.TheVariants as says
+use Rattle.machine.specs.Machine.{Answers, Hears, effect, moment_after, refusals}
+use Rattle.machine.specs.Rows.{PassesAll, Refuses}
+use Rattle.machine.specs.Shape.{Shape, shape_of}
+use Rattle.machine.specs.Store.{Session, Store}
+use Rattle.machine.specs.Valid.{Valid}
+use Rattle.machine.specs.Words.{IsCommand}
+use Rattle.store_state.specs.declared.change.Change.{Change}
+use Rattle.store_state.specs.Shows.{Shows}
+use Rattle.store_state.specs.Tables.{Tables, table_shape}
+use Rattle.store_state.proofs.Showing.{shape_shown}
+use Rattle.updater.specs.declared.fault.StepFault.{StepFault}
+use Rattle.updater.specs.declared.fault.StepFault.TheVariants.{Memory, DiskFault}
+use Rattle.updater.specs.declared.updater.Updater.{Updater}
+use Rattle.updater.specs.Answer.{IsAnswer}
+use Rattle.updater.specs.Commanded.{Commanded, LeavesLinks, Serves, SoundFor}
+use Rattle.updater.specs.Keeps.{Keeps, Leads}
+use Rattle.updater.specs.Updater.{Holds, room_of, tables_of}
+use Rattle.updater.proofs.Standing.{still_stands}
+
+-- ---- commands that are no installs
+
+abbrev pub IsPlain : Command → Type 0
+IsPlain (At next) = Unit {0}
+IsPlain (Require key version) = Unit {0}
+IsPlain (Install url) = ⊥
+
+-- a command may hear nothing
+pub hears_nothing : (shape : Shape) (command : Command) → Hears shape command []
+hears_nothing shape (At next) = refl
+hears_nothing shape (Require key version) = refl
+hears_nothing shape (Install url) = tt
+
+nothing_left : {L : Type 0} (command : Command) (links : L) → LeavesLinks command links links
+nothing_left (At next) links = refl
+nothing_left (Require key version) links = refl
+nothing_left (Install url) links = tt
+
+nothing_served : (command : Command) (heard : List (List ℕ)) (before after : LinksState) (old : Store) (reply : Reply) (new : Store) → IsPlain command → Serves command heard before after old reply new
+nothing_served (At next) heard before after old reply new plain = tt
+nothing_served (Require key version) heard before after old reply new plain = tt
+nothing_served (Install url) heard before after old reply new plain = absurd plain
+
+-- ---- steps
+
+-- a step that leaves the store as it was
+pub record Rests (now : ℕ) (heard : List (List ℕ)) (command : Command) (before after : LinksState) (old : Session) (reply : Reply) : Type 0 where
+  pub new : Session
+  pub step : Answers now heard old command reply new
+  pub same : new.store ≡ old.store
+  pub served : Serves command heard before after old.store reply new.store
+
+-- what a change is to a session: a step to another store, to which it leads
+pub record Does (now : ℕ) (heard : List (List ℕ)) (command : Command) (before after : LinksState) (change : Change) (tables : Tables) (old : Session) (reply : Reply) : Type 0 where
+  pub new : Session
+  pub step : Answers now heard old command reply new
+  pub leads : Leads change tables old.store new.store
+  pub other : new.store ≢ old.store
+  pub served : Serves command heard before after old.store reply new.store
+
+-- what was heard of the links, and what is left of them
+pub record Linked {L : Type 0} (net : LinksGhosts L) (heard : List (List ℕ)) (command : Command) (updater : Updater) (links_old links_new : L) : Type 0 where
+  pub kept : Kept (net.links links_old) (net.links links_new)
+  pub left : LeavesLinks command links_old links_new
+  pub hears : Hears (table_shape (room_of updater) (tables_of updater)) command heard
+
+-- nothing was asked
+pub unlinked : {L : Type 0} (net : LinksGhosts L) (command : Command) (updater : Updater) (links : L) → Linked net [] command updater links links
+unlinked net command updater links = record {
+  kept = kept_same (net.links links);
+  left = nothing_left command links;
+  hears = hears_nothing (table_shape (room_of updater) (tables_of updater)) command;
+}
+
+-- what the tables say of a session whose store is held
+pub record Shown (image : List ℕ) (command : Command) (updater : Updater) (old : Session) : Type 0 where
+  pub shape : shape_of old.store ≡ table_shape (room_of updater) (tables_of updater)
+  pub shows : Shows (room_of updater) (tables_of updater) image old.store
+  pub blocks : room_of updater ≡ old.store.blocks
+  pub valid : Valid old.store
+  pub sound : SoundFor command old.store
+
+-- ---- answers
+
+module _ (now : ℕ) (heard : List (List ℕ)) (blocks : ℕ) (tables : Tables) (old : Session) (shape : shape_of old.store ≡ table_shape blocks tables) (command : Command) where
+  -- a refusal that the tables give is one of the session
+  pub refused_answers : (reply : Reply) (new : Session) → Refuses (refusals now heard (table_shape blocks tables) command) old reply new → Answers now heard old command reply new
+  refused_answers reply new refuses = inl (inr (tt, subst (λ (s : Shape). Refuses (refusals now heard s command) old reply new) (sym shape) refuses))
+
+  -- the effect, once the tables pass all refusals
+  pub effect_answers : (reply : Reply) (new : Session) → PassesAll (refusals now heard (table_shape blocks tables) command) → effect now heard command old reply new → Answers now heard old command reply new
+  effect_answers reply new passes done = inr ((tt, subst (λ (s : Shape). PassesAll (refusals now heard s command)) (sym shape) passes), done)
+
+ok_no_fault : {T : Type 0} (done : T) → ◌≢◌ {A = Result T StepFault} (Ok done) (Err DiskFault)
+ok_no_fault done e = cc
+
+module _ {D L : Type 0} (on : Ghosts D) (net : LinksGhosts L) (now : ℕ) (heard : List (List ℕ)) (command : Command) (updater : Updater) (disk : D) (links_old links_new : L)
+    (seen_left : on.left_at disk (on.moment disk) (on.seen disk)) (moment : now ≤ NUMBER_LIMIT) (linked : Linked net heard command updater links_old links_new) where
+  shown : (old : Session) → Holds on updater disk old.store → SoundFor command old.store → Shown (on.seen disk) command updater old
+  shown old holds sound =
+      let shows = subst (λ (n : ℕ). Shows n (tables_of updater) (on.seen disk) old.store) (sym holds.blocks) (holds.shows (on.seen disk) seen_left) in
+      record { shape = shape_shown shows; shows = shows; blocks = holds.blocks; valid = holds.valid; sound = sound }
+
+  heard_by : (old : Session) → Shown (on.seen disk) command updater old → Hears (shape_of old.store) command heard
+  heard_by old s = subst (λ (shape : Shape). Hears shape command heard) (sym s.shape) linked.hears
+
+  -- the disk is not touched
+  pub rested : (reply : Reply) → moment_after now (Some reply) ≤ NUMBER_LIMIT → ((old : Session) → Shown (on.seen disk) command updater old → Rests now heard command (net.links links_old) (net.links links_new) old reply)
+      → Commanded on net now heard command updater disk links_old (Ok reply) updater disk links_new
+  rested reply few rests = record {
+    answered = λ old holds sound. let s = shown old holds sound in let r = rests old s in record {
+      new = r.new;
+      hears = heard_by old s;
+      step = r.step;
+      stored = subst (λ (store : Store). Holds on updater disk store) (sym r.same) holds;
+      stop = still_stands on updater disk old.store r.new.store holds;
+      quiet = λ same. refl;
+      tick = λ other. absurd (other r.same);
+      served = r.served;
+    };
+    fault = λ old holds sound. tt;
+    later = omega arith;
+    told = λ tells. tells;
+    numbered = tt;
+    cause = record { later = omega arith; rose = tt; quiet = refl };
+    kept = linked.kept;
+    left = linked.left;
+    hears = linked.hears;
+    few = few;
+  }
+
+  module _ (change : Change) (reply : Reply) (few : moment_after now (Some reply) ≤ NUMBER_LIMIT)
+      (does : (old : Session) → Shown (on.seen disk) command updater old → Does now heard command (net.links links_old) (net.links links_new) change (tables_of updater) old reply)
+      (missed : Commanded on net now heard command updater disk links_old (Ok says.Memory) updater disk links_new) (updater_new : Updater) (disk_new : D) where
+    -- a change that was tried, whatever came of it
+    pub kept : {T : Type 0} (tried : Result T StepFault) (result : Result Reply Failed) → Keeps on change updater disk tried updater_new disk_new → IsAnswer reply tried result → Commanded on net now heard command updater disk links_old result updater_new disk_new links_new
+    kept (Ok done) result keeps is = subst (λ (r : Result Reply Failed). Commanded on net now heard command updater disk links_old r updater_new disk_new links_new) (sym is) (record {
+      answered = λ old holds sound. let s = shown old holds sound in let d = does old s in record {
+        new = d.new;
+        hears = heard_by old s;
+        step = d.step;
+        stored = keeps.stored old.store d.new.store d.leads holds;
+        stop = keeps.stop old.store d.new.store d.leads holds;
+        quiet = λ same. absurd (d.other same);
+        tick = λ other. keeps.tick;
+        served = d.served;
+      };
+      fault = λ old holds sound. tt;
+      later = keeps.later;
+      told = keeps.told;
+      numbered = tt;
+      cause = record { later = keeps.count; rose = tt; quiet = keeps.undisturbed (ok_no_fault done) };
+      kept = linked.kept;
+      left = linked.left;
+      hears = linked.hears;
+      few = few;
+    })
+    kept (Err Memory) result keeps is = let same = keeps.memory refl in rw (is, same.0, same.1) missed
+    kept (Err DiskFault) result keeps is = subst (λ (r : Result Reply Failed). Commanded on net now heard command updater disk links_old r updater_new disk_new links_new) (sym is) (record {
+      answered = λ old holds sound. tt;
+      fault = λ old holds sound. let s = shown old holds sound in let d = does old s in record {
+        new = d.new;
+        reply = reply;
+        hears = heard_by old s;
+        step = d.step;
+        stop = keeps.stop old.store d.new.store d.leads holds;
+        served = d.served;
+      };
+      later = keeps.later;
+      told = keeps.told;
+      numbered = keeps.numbered refl;
+      cause = record { later = keeps.count; rose = keeps.cause refl; quiet = tt };
+      kept = linked.kept;
+      left = linked.left;
+      hears = linked.hears;
+      few = tt;
+    })
+
+-- ---- where nothing was asked
+
+module _ {D L : Type 0} (on : Ghosts D) (net : LinksGhosts L) (now : ℕ) (command : Command) (updater : Updater) (disk : D) (links : L)
+    (seen_left : on.left_at disk (on.moment disk) (on.seen disk)) (moment : now ≤ NUMBER_LIMIT) (plain : IsPlain command) where
+  asked_none : Linked net [] command updater links links
+  asked_none = unlinked net command updater links
+
+  served_none : (old : Store) (reply : Reply) (new : Store) → Serves command [] (net.links links) (net.links links) old reply new
+  served_none old reply new = nothing_served command [] (net.links links) (net.links links) old reply new plain
+
+  -- the tables give a refusal, which changes nothing
+  pub refused : (reply : Reply) → moment_after now (Some reply) ≤ NUMBER_LIMIT → ((blocks : ℕ) (old : Session) → Refuses (refusals now [] (table_shape blocks (tables_of updater)) command) old reply old)
+      → Commanded on net now [] command updater disk links (Ok reply) updater disk links
+  refused reply few refuses = rested on net now [] command updater disk links links seen_left moment asked_none reply few (λ old s. record {
+    new = old;
+    step = refused_answers now [] (room_of updater) (tables_of updater) old s.shape command reply old (refuses (room_of updater) old);
+    same = refl;
+    served = served_none old.store reply old.store;
+  })
+
+  -- no memory was found, at any place
+  pub memory_missed : Commanded on net now [] command updater disk links (Ok says.Memory) updater disk links
+  memory_missed = rested on net now [] command updater disk links links seen_left moment asked_none says.Memory moment (λ old s. record {
+    new = old;
+    step = inl (inl (refl, refl));
+    same = refl;
+    served = served_none old.store says.Memory old.store;
+  })
+
+-- the moment is shown
+moment_shown : {D L : Type 0} (on : Ghosts D) (net : LinksGhosts L) (now next : ℕ) (updater : Updater) (disk : D) (links : L)
+    → on.left_at disk (on.moment disk) (on.seen disk) → now ≤ NUMBER_LIMIT → next ≤ NUMBER_LIMIT
+    → Commanded on net now [] (At next) updater disk links (Ok (says.At next)) updater disk links
+moment_shown on net now next updater disk links seen_left moment few =
+    rested on net now [] (At next) updater disk links links seen_left moment (unlinked net (At next) updater links) (says.At next) few (λ old s. record {
+      new = old;
+      step = inr ((tt, tt), (refl, refl));
+      same = refl;
+      served = tt;
+    })
+
+pub moment_told : {D L : Type 0} (on : Ghosts D) (net : LinksGhosts L) (now next : ℕ) (heard : List (List ℕ)) (command : Command) (updater : Updater) (disk : D) (links : L)
+    → on.left_at disk (on.moment disk) (on.seen disk) → now ≤ NUMBER_LIMIT → IsCommand command → command ≡ At next → heard ≡ []
+    → Commanded on net now heard command updater disk links (Ok (says.At next)) updater disk links
+moment_told on net now next heard command updater disk links seen_left moment words is none =
+    subst (λ (c : Command). Commanded on net now heard c updater disk links (Ok (says.At next)) updater disk links) (sym is)
+    (subst (λ (texts : List (List ℕ)). Commanded on net now texts (At next) updater disk links (Ok (says.At next)) updater disk links) (sym none)
+    (moment_shown on net now next updater disk links seen_left moment (subst IsCommand is words)))

@@ -1,0 +1,196 @@
+-- Changes that fit have an encoding.
+use Rattle.std.proofs.Common.{◌≡◌, ◌≤◌, ◌<◌, ◌^◌, ◌/◌, ◌==◌, ◌||◌, not, cond, true, false, ℕ, Bool, List, [], length, Option, Some, None, All, Contains, ◌⊎◌, inl, inr, Ok, Err, Result, refl, sym, ap, subst, ◌∙◌, arith, IsUtf8}
+use Rattle.std.specs.Prelude.{Any, IfSome, filter}
+use Rattle.std.proofs.lemmas.Bool.{cases_lt, lt-ltb}
+use Rattle.std.proofs.lemmas.List.Elements.{All-contains, All-filter, All-nil}
+use Rattle.small_types.specs.declared.limits.TheConstants.{FILE_COUNT_LIMIT, IDENTITY_PART_LIMIT, NAME_LIMIT, NUMBER_LIMIT, URL_LIMIT}
+use Rattle.small_types.specs.declared.target.Target.{Target}
+use Rattle.addresses.specs.declared.fault.UrlFault.{UrlFault}
+use Rattle.addresses.specs.declared.fault.UrlFault.TheVariants.{BadUrl}
+use Rattle.addresses.specs.Address.{target_of_text, target_of_url, url_of}
+use Rattle.small_types.specs.Reading.{◌>>=◌}
+use Rattle.url.specs.Parser.{parse_url}
+use Rattle.std.specs.Prelude.{nat_lt}
+use Rattle.std.specs.Str.{is_utf8}
+use Rattle.identity.specs.declared.identity.Identity.{Identity}
+use Rattle.identity.specs.Version.{IsVersion}
+use Rattle.digest_list.specs.declared.digest.Digest.{Digest}
+use Rattle.digest_list.specs.Count.{IsCount}
+use Rattle.digest_list.specs.Digest.{IsSized}
+use Rattle.manifests.specs.declared.ages.AgeUnit.{AgeUnit}
+use Rattle.manifests.specs.declared.ages.AgeUnit.TheVariants.{Hours, Days, Weeks}
+use Rattle.manifests.specs.declared.facts.Application.{Application}
+use Rattle.manifests.specs.declared.facts.Deployment.{Deployment}
+use Rattle.manifests.specs.declared.facts.FileEntry.{FileEntry}
+use Rattle.manifests.specs.declared.facts.Rule.{Rule}
+use Rattle.manifests.specs.declared.facts.Rule.TheVariants.{Never, Before, Age}
+use Rattle.manifests.specs.Ages.{largest_unit, seconds_in}
+use Rattle.manifests.specs.Applications.{size_limit}
+use Rattle.manifests.specs.Facts as facts
+use Rattle.machine.specs.Fields as fields
+use Rattle.machine.specs.Fields.{HasEntry, HasIdentity, IsShort}
+use Rattle.machine.specs.Views.{ContentKey, content_key, standing_entries}
+use Rattle.machine.proofs.Contents.{content_decides}
+use Rattle.machine.proofs.Shortness.{short_key}
+use Rattle.store_state.specs.declared.change.Change.{Change}
+use Rattle.store_state.specs.declared.change.Change.TheVariants.{Boot, Require, Install}
+use Rattle.store_state.specs.declared.view.Content.{Content}
+use Rattle.store_state.specs.declared.view.LocalFile.{LocalFile}
+use Rattle.store_state.specs.declared.view.View.{View}
+use Rattle.store_state.specs.Change.{Fits, FitsInstall}
+use Rattle.store_state.specs.Contents.{is_content_of}
+use Rattle.store_state.specs.Tables.{Tables}
+use Rattle.record_codec.specs.Codec.{IsChange}
+use Rattle.record_codec.specs.Values.{AreDigests, IsApplication, IsContent, IsDeployment, IsEntry, IsIdentity, IsInstall, IsLocal, IsRule, IsView}
+use Rattle.install_plan.specs.Ready.{HasFew}
+
+-- ---- texts and identities
+
+short_value : {least most : ℕ} {text : List ℕ} → facts.IsValue least most text → IsUtf8 text → IsShort most text
+short_value value utf8 = record { within = value.few; utf8 = utf8 }
+
+identity_encodes : (i : Identity) → facts.IsIdentity i → HasIdentity i → IsIdentity i
+identity_encodes i facts has = record { key = short_key has.key; version = has.version; kind = short_value facts.kind has.kind }
+
+short_group : (group : Option (List ℕ)) → IfSome group (facts.IsValue 1 NAME_LIMIT) → IfSome group IsUtf8 → IfSome group (IsShort NAME_LIMIT)
+short_group None value utf8 = tt
+short_group (Some group) value utf8 = short_value value utf8
+
+-- ---- deployments
+
+apart : {X Y : Type 0} {e : X} {y : Y} → ◌≡◌ {A = Result Y X} (Err e) (Ok y) → ⊥
+apart e = cc
+
+-- a text above the limit of an address is none
+none_long : (long other : Bool) (read : Result Target UrlFault) (target : Target) → cond (long || other) (Err BadUrl) read ≡ Ok target → long ≡ true → ⊥
+none_long true other read target is e = apart is
+none_long false other read target is e = absurd (let clash : false ≡ true = e in cc)
+
+long_is_none : (text : List ℕ) (target : Target) → target_of_text text ≡ Ok target → URL_LIMIT < length text → ⊥
+unfolding target_of_text
+long_is_none text target is long =
+    none_long (nat_lt URL_LIMIT (length text)) (not (is_utf8 text)) (url_of (parse_url None text) >>= target_of_url) target is (lt-ltb URL_LIMIT (length text) long)
+
+short_provider : (provider : Option (List ℕ)) → IfSome provider facts.IsProvider → IfSome provider IsUtf8 → IfSome provider (IsShort URL_LIMIT)
+short_provider None is utf8 = tt
+short_provider (Some text) is utf8 = record { within = by (cases_lt URL_LIMIT (length text)); utf8 = utf8 }
+  where
+    by : (URL_LIMIT < length text) ⊎ (length text ≤ URL_LIMIT) → length text ≤ URL_LIMIT
+    by (inl long) = absurd (long_is_none text is.target is.address long)
+    by (inr short) = short
+
+few_seconds : (unit : AgeUnit) (seconds : ℕ) → seconds / seconds_in unit ≤ 999999999 → seconds < 2 ^ 64
+few_seconds Hours seconds few = omega arith
+few_seconds Days seconds few = omega arith
+few_seconds Weeks seconds few = omega arith
+
+rule_encodes : (rule : Rule) → facts.IsRule rule → IsRule rule
+rule_encodes Never is = tt
+rule_encodes Before is = tt
+rule_encodes (Age seconds) is = few_seconds (largest_unit seconds) seconds is.few
+
+deployment_encodes : (d : Deployment) → fields.IsDeployment d → IsDeployment d
+deployment_encodes d is = record {
+  identity = identity_encodes d.identity is.facts.identity is.identity;
+  minimum = is.minimum;
+  rule = rule_encodes d.rule is.facts.rule;
+  provider = short_provider d.provider is.facts.provider is.provider;
+  codebase = short_value is.facts.codebase is.codebase;
+  app = identity_encodes d.app is.facts.app is.app;
+  app_size = let few = is.facts.app_size in omega arith;
+  app_list = record { count = is.app_list; sized = is.facts.app_list };
+}
+
+-- ---- applications
+
+few_bytes : (local : Bool) (size : ℕ) → size ≤ size_limit local → size < 2 ^ 32
+few_bytes true size few = omega arith
+few_bytes false size few = omega arith
+
+entry_encodes : (e : FileEntry) → facts.IsFile e → HasEntry e → IsEntry e
+entry_encodes e file has = record {
+  name = has.name;
+  size = let few = few_bytes e.local e.size file.size in omega arith;
+  list = record { count = has.list; sized = file.list };
+  group = short_group e.group file.group has.group;
+}
+
+entries_encode : (entries : List FileEntry) → All facts.IsFile entries → All HasEntry entries → All IsEntry entries
+entries_encode entries files has = λ k d within. entry_encodes _ (files k d within) (has k d within)
+
+application_encodes : (a : Application) → fields.IsApplication a → IsApplication a
+application_encodes a is = record {
+  identity = identity_encodes a.identity is.facts.identity is.identity;
+  entry = short_value is.facts.entry is.entry;
+  parameters = short_value is.facts.parameters is.parameters;
+  few = is.facts.files.few;
+  files = entries_encode a.files is.facts.each is.files;
+}
+
+-- ---- contents
+
+-- what is known of a content is what is known of a file that it is of
+pub record IsFew (entry : FileEntry) : Type 0 where
+  pub size : entry.size < 2 ^ 32
+  pub list : AreDigests entry.list
+
+few_entry : (e : FileEntry) → facts.IsFile e → HasEntry e → IsFew e
+few_entry e file has = record { size = few_bytes e.local e.size file.size; list = record { count = has.list; sized = file.list } }
+
+few_entries : (entries : List FileEntry) → All facts.IsFile entries → All HasEntry entries → All IsFew entries
+few_entries entries files has = λ k d within. few_entry _ (files k d within) (has k d within)
+
+content_encodes : (e : FileEntry) (c : Content) → is_content_of e c ≡ true → IsFew e → length c.bytes ≡ c.size → IsContent c
+content_encodes e c is few measured =
+    let key : content_key e ≡ content_key (record e { size = c.size; list = c.list }) = (content_decides e (record e { size = c.size; list = c.list })).0 is in
+    let size : e.size ≡ c.size = ap (λ (k : ContentKey). k.size) key in
+    let list : e.list ≡ c.list = ap (λ (k : ContentKey). k.list) key in
+    let below = few.size in
+    record {
+      size = omega arith;
+      list = subst AreDigests list few.list;
+      bytes = omega arith;
+    }
+
+content_among : (entries : List FileEntry) (c : Content) → All IsFew entries → Any (λ entry. is_content_of entry c ≡ true) entries → length c.bytes ≡ c.size → IsContent c
+content_among entries c few any measured = content_encodes any.1 c any.4 (All-contains IsFew entries any.1 few (any.0, any.2, any.3)) measured
+
+-- ---- installs
+
+no_locals : (locals : List LocalFile) → locals ≡ [] → All IsLocal locals
+no_locals locals none = subst (All IsLocal) (sym none) (All-nil IsLocal)
+
+no_groups : (groups : List (List ℕ)) → groups ≡ [] → All (IsShort NAME_LIMIT) groups
+no_groups groups none = subst (All (IsShort NAME_LIMIT)) (sym none) (All-nil (IsShort NAME_LIMIT))
+
+few_none : {X : Type 0} (xs : List X) → xs ≡ [] → length xs ≤ FILE_COUNT_LIMIT
+few_none xs none = let long : length xs ≡ 0 = ap length none in omega arith
+
+install_encodes : (tables : Tables) (view : View) (contents : List Content) (provider : Target) (now : ℕ) → FitsInstall tables view contents provider now → view.locals ≡ [] → length contents ≤ FILE_COUNT_LIMIT → IsInstall view contents provider now
+install_encodes tables view contents provider now fits none few =
+    let number = fits.number in
+    let next = fits.next in
+    let moment = fits.moment in
+    let standing : All IsFew (standing_entries view.groups view.application) =
+    All-filter _ IsFew view.application.files (few_entries view.application.files fits.row.application.facts.each fits.row.application.files) in
+    record {
+      view = record {
+        number = omega arith;
+        deployment = deployment_encodes view.deployment fits.row.deployment;
+        application = application_encodes view.application fits.row.application;
+        base = fits.row.base;
+        few_groups = few_none view.groups fits.groups;
+        groups = no_groups view.groups fits.groups;
+        few_locals = few_none view.locals none;
+        locals = no_locals view.locals none;
+      };
+      few = few;
+      contents = λ k d within. content_among (standing_entries view.groups view.application) _ standing (fits.brings.only k d within) (fits.brings.measured k d within);
+      provider = fits.has_provider;
+      now = omega arith;
+    }
+
+pub encodes : (tables : Tables) (change : Change) → Fits tables change → HasFew change → IsChange change
+encodes tables (Boot boot) fits few = absurd few
+encodes tables (Require key version) fits few = absurd few
+encodes tables (Install view contents provider now) fits few = install_encodes tables view contents provider now fits few.0 few.1

@@ -1,0 +1,239 @@
+-- How an opening ends, from what reading the store found and from what became of the boot number.
+use Rattle.std.proofs.Common.{◌≡◌, ◌≢◌, ◌+◌, ◌≤◌, ◌==◌, ℕ, List, [], Bool, true, false, cond, Result, Ok, Err, inl, inr, refl, sym, ap, subst, ◌∙◌, arith}
+use Rattle.std.proofs.lemmas.Bool.{eq-eqb}
+use Rattle.std.specs.Prelude.{IfOk, OnOk}
+use Rattle.small_types.specs.declared.limits.TheConstants.{NUMBER_LIMIT}
+use Rattle.outside.specs.Streams.{Rose}
+use Rattle.disks.specs.declared.disk.Disk.{Ghosts}
+use Rattle.machine.specs.Store.{Store, booted}
+use Rattle.store_state.specs.declared.change.Change.TheVariants.{Boot}
+use Rattle.updater.specs.declared.fault.RecoverFault.{RecoverFault}
+use Rattle.updater.specs.declared.fault.RecoverFault.TheVariants.{NotAStore, DiskFault, Memory}
+use Rattle.updater.specs.declared.fault.StepFault.{StepFault}
+use Rattle.updater.specs.declared.fault.StepFault.TheVariants as step
+use Rattle.updater.specs.declared.updater.Updater.{Updater}
+use Rattle.updater.specs.Keeps.{Keeps, Leads}
+use Rattle.updater.specs.Loaded.{Loaded, IsLoaded}
+use Rattle.updater.specs.Moments.{LeavesSince}
+use Rattle.updater.specs.Opened.{Opened}
+use Rattle.updater.specs.Stands.{Stands, StandsForEither}
+use Rattle.updater.specs.Updater.{Holds, tables_of}
+use Rattle.updater.proofs.Changing.{boot_shown, booted_leads}
+use Rattle.updater.proofs.Standing.{one_stands}
+
+-- a boot of the number that is kept leaves the store as it was
+booted_by : (kept : Bool) (old : Store) (boot : ℕ) → boot ≡ old.boot → kept ≡ true → record old { boot = boot; leases = cond kept old.leases [] } ≡ old
+booted_by kept old boot same is =
+    ap (λ (b : Bool). record old { boot = boot; leases = cond b old.leases [] }) is ∙ ap (λ (n : ℕ). record old { boot = n }) same
+
+pub booted_same : (old : Store) (boot : ℕ) → old.boot ≡ boot → booted boot old ≡ old
+booted_same old boot same = booted_by (old.boot == boot) old boot (sym same) (eq-eqb old.boot boot same)
+
+-- ---- results that differ
+
+ok_fault : {X : Type 0} (x : X) → ◌≢◌ {A = Result X RecoverFault} (Ok x) (Err DiskFault)
+ok_fault x e = cc
+
+ok_memory : {X : Type 0} (x : X) → ◌≢◌ {A = Result X RecoverFault} (Ok x) (Err Memory)
+ok_memory x e = cc
+
+ok_none : {X : Type 0} (x : X) → ◌≢◌ {A = Result X RecoverFault} (Ok x) (Err NotAStore)
+ok_none x e = cc
+
+memory_fault : {X : Type 0} → ◌≢◌ {A = Result X RecoverFault} (Err Memory) (Err DiskFault)
+memory_fault e = cc
+
+memory_none : {X : Type 0} → ◌≢◌ {A = Result X RecoverFault} (Err Memory) (Err NotAStore)
+memory_none e = cc
+
+fault_none : {X : Type 0} → ◌≢◌ {A = Result X RecoverFault} (Err DiskFault) (Err NotAStore)
+fault_none e = cc
+
+fault_memory : {X : Type 0} → ◌≢◌ {A = Result X RecoverFault} (Err DiskFault) (Err Memory)
+fault_memory e = cc
+
+step_ok : {T : Type 0} (x : T) → ◌≢◌ {A = Result T StepFault} (Ok x) (Err step.DiskFault)
+step_ok x e = cc
+
+false_true : ◌≢◌ {A = Bool} false true
+false_true e = cc
+
+true_false : ◌≢◌ {A = Bool} true false
+true_false e = cc
+
+module _ {D : Type 0} (on : Ghosts D) (boot : ℕ) (disk_old : D) (read : Result Updater RecoverFault) (mid : D) (loaded : Loaded on disk_old read mid) where
+  -- from the sync on a stop leaves what was read
+  read_stands : read ≢ Err DiskFault → (old : Store) → Stands (on.seen disk_old) old → LeavesSince on (on.moment disk_old + 1) mid (λ image. Stands image old)
+  read_stands other old stands t image from to left =
+      let now : t ≡ on.moment mid = omega (arith, loaded.tick other) in
+      let is : image ≡ on.seen disk_old = loaded.durable other image (subst (λ (n : ℕ). on.left_at mid n image) now left) in
+      subst (λ (bytes : List ℕ). Stands bytes old) (sym is) stands
+
+  -- no store was read
+  pub unread : (fault : RecoverFault) → read ≡ Err fault → Opened on boot disk_old (Err fault) mid
+  unread fault is = record {
+    found = λ told. tt;
+    stored = λ told old stands. tt;
+    same_boot = λ told old stands. tt;
+    other_boot = λ told old stands. tt;
+    not_a_store = λ told e. loaded.not_a_store told (is ∙ ap Err (err_is e));
+    past = loaded.stop.past;
+    stop = λ told old stands other t image from to left. inl (read_stands (fine other) old stands t image from to left);
+    stop_fault = λ told old stands t image from to left. inr (omega (arith, loaded.within), loaded.stop.each t image (omega arith) to left);
+    stop_memory = λ old stands e t image from to left. read_stands (fine (λ f. memory_fault {X = Updater × Bool} (sym e ∙ f))) old stands t image from to left;
+    seen = λ other. loaded.seen;
+    within = λ other. loaded.within;
+    unwritten = λ e. loaded.written;
+    synced = tt;
+    quiet = tt;
+    tick = tt;
+    later = loaded.stop.later;
+    told = loaded.told;
+    count = loaded.count;
+    cause = λ e. loaded.cause (is ∙ ap Err (err_is e));
+    undisturbed = λ other. loaded.undisturbed (fine other);
+  }
+    where
+      err_is : {other : RecoverFault} → ◌≡◌ {A = Result (Updater × Bool) RecoverFault} (Err fault) (Err other) → fault ≡ other
+      err_is e = cc
+
+      fine : ◌≢◌ {A = Result (Updater × Bool) RecoverFault} (Err fault) (Err DiskFault) → read ≢ Err DiskFault
+      fine other e = other (ap Err (err_of (sym is ∙ e)))
+        where
+          err_of : ◌≡◌ {A = Result Updater RecoverFault} (Err fault) (Err DiskFault) → fault ≡ DiskFault
+          err_of e = cc
+
+  module _ (updater : Updater) (is : read ≡ Ok updater) (seen_left : on.left_at mid (on.moment mid) (on.seen mid)) where
+    fine : read ≢ Err DiskFault
+    fine e = ok_fault updater (sym is ∙ e)
+
+    got : on.tells mid → IsLoaded on disk_old updater mid
+    got told = subst (λ (r : Result Updater RecoverFault). IfOk r (λ u. IsLoaded on disk_old u mid)) is (loaded.found told)
+
+    held : on.tells mid → (old : Store) → Stands (on.seen disk_old) old → Holds on updater mid old
+    held told old stands = let l = got told in subst (λ (s : Store). Holds on updater mid s) (one_stands (on.seen disk_old) l.store old l.stands stands) l.holds
+
+    kept_boot : on.tells mid → (old : Store) → Stands (on.seen disk_old) old → old.boot ≡ (tables_of updater).boot
+    kept_boot told old stands = boot_shown ((held told old stands).shows (on.seen mid) seen_left)
+
+    -- the boot number is the kept one
+    pub same : (tables_of updater).boot ≡ boot → Opened on boot disk_old (Ok (updater, false)) mid
+    same at = record {
+      found = λ told. let l = got told in (l.store, l.stands);
+      stored = λ told old stands. subst (λ (s : Store). Holds on updater mid s) (sym (booted_same old boot (kept_boot told old stands ∙ at))) (held told old stands);
+      same_boot = λ told old stands answer. kept_boot told old stands ∙ at;
+      other_boot = λ told old stands answer. absurd (false_true answer);
+      not_a_store = λ told e. absurd (ok_none (updater, false) e);
+      past = loaded.stop.past;
+      stop = λ told old stands other t image from to left. inl (read_stands fine old stands t image from to left);
+      stop_fault = λ told old stands t image from to left. inl (inl (read_stands fine old stands t image from to left));
+      stop_memory = λ old stands e. absurd (ok_memory (updater, false) e);
+      seen = tt;
+      within = tt;
+      unwritten = λ e. loaded.written;
+      synced = omega (arith, loaded.tick fine);
+      quiet = λ answer. loaded.tick fine;
+      tick = λ answer. absurd (false_true answer);
+      later = loaded.stop.later;
+      told = loaded.told;
+      count = loaded.count;
+      cause = λ e. absurd (ok_fault (updater, false) e);
+      undisturbed = λ other. loaded.undisturbed fine;
+    }
+
+    -- there was no memory for the boot number
+    missed : Opened on boot disk_old (Err Memory) mid
+    missed = record {
+      found = λ told. tt;
+      stored = λ told old stands. tt;
+      same_boot = λ told old stands. tt;
+      other_boot = λ told old stands. tt;
+      not_a_store = λ told e. absurd (memory_none e);
+      past = loaded.stop.past;
+      stop = λ told old stands other t image from to left. inl (read_stands fine old stands t image from to left);
+      stop_fault = λ told old stands t image from to left. inl (inl (read_stands fine old stands t image from to left));
+      stop_memory = λ old stands e t image from to left. read_stands fine old stands t image from to left;
+      seen = λ other. loaded.seen;
+      within = λ other. loaded.within;
+      unwritten = λ e. loaded.written;
+      synced = tt;
+      quiet = tt;
+      tick = tt;
+      later = loaded.stop.later;
+      told = loaded.told;
+      count = loaded.count;
+      cause = λ e. absurd (memory_fault e);
+      undisturbed = λ other. loaded.undisturbed fine;
+    }
+
+    module _ (few : boot ≤ NUMBER_LIMIT) {T : Type 0} (tried : Result T StepFault) (updater_new : Updater) (disk_new : D) (keeps : Keeps on (Boot boot) updater mid tried updater_new disk_new) where
+      leads : on.tells mid → (old : Store) → Stands (on.seen disk_old) old → Leads (Boot boot) (tables_of updater) old (booted boot old)
+      leads told old stands = let holds = held told old stands in booted_leads old.blocks (tables_of updater) (on.seen mid) old boot (holds.shows (on.seen mid) seen_left) few holds.valid
+
+      since : on.tells mid → (old : Store) → Stands (on.seen disk_old) old → LeavesSince on (on.moment disk_old + 1) disk_new (StandsForEither old (booted boot old))
+      since told old stands t image from to left =
+          (keeps.stop old (booted boot old) (leads told old stands) (held told old stands)).each t image (omega (arith, loaded.tick fine)) to left
+
+      before : (t : ℕ) (image : List ℕ) → t ≤ on.moment disk_old → on.left_at disk_new t image → on.left_at disk_old t image
+      before t image le left = loaded.stop.past t image le (keeps.past t image (omega (arith, loaded.stop.later)) left)
+
+      -- it was made durable
+      pub other : (done : T) → tried ≡ Ok done → (tables_of updater).boot ≢ boot → Opened on boot disk_old (Ok (updater_new, true)) disk_new
+      other done ok differs =
+          let ticks : on.moment disk_new ≡ on.moment mid + 4 = subst (λ (r : Result T StepFault). OnOk r (on.moment disk_new ≡ on.moment mid + 4)) ok keeps.tick in
+          record {
+            found = λ told. let l = got (keeps.told told) in (l.store, l.stands);
+            stored = λ told old stands. subst (λ (r : Result T StepFault). OnOk r (Holds on updater_new disk_new (booted boot old))) ok
+                (keeps.stored old (booted boot old) (leads (keeps.told told) old stands) (held (keeps.told told) old stands));
+            same_boot = λ told old stands answer. absurd (true_false answer);
+            other_boot = λ told old stands answer e. differs (sym (kept_boot (keeps.told told) old stands) ∙ e);
+            not_a_store = λ told e. absurd (ok_none (updater_new, true) e);
+            past = before;
+            stop = λ told old stands fault. since (keeps.told told) old stands;
+            stop_fault = λ told old stands t image from to left. inl (since (keeps.told told) old stands t image from to left);
+            stop_memory = λ old stands e. absurd (ok_memory (updater_new, true) e);
+            seen = tt;
+            within = tt;
+            unwritten = λ e. absurd (ok_none (updater_new, true) e);
+            synced = omega (arith, ticks, loaded.tick fine);
+            quiet = λ answer. absurd (true_false answer);
+            tick = λ answer. omega (arith, ticks, loaded.tick fine);
+            later = omega (arith, ticks, loaded.tick fine);
+            told = λ told. loaded.told (keeps.told told);
+            count = omega (arith, keeps.count, loaded.count);
+            cause = λ e. absurd (ok_fault (updater_new, true) e);
+            undisturbed = λ fault. keeps.undisturbed (λ e. step_ok done (sym ok ∙ e)) ∙ loaded.undisturbed fine;
+          }
+
+      -- there was no memory for it
+      pub memory : tried ≡ Err step.Memory → Opened on boot disk_old (Err Memory) disk_new
+      memory is = subst (λ (d : D). Opened on boot disk_old (Err Memory) d) (sym (keeps.memory is).1) missed
+
+      -- the disk failed
+      pub fault : tried ≡ Err step.DiskFault → Opened on boot disk_old (Err DiskFault) disk_new
+      fault is = record {
+        found = λ told. tt;
+        stored = λ told old stands. tt;
+        same_boot = λ told old stands. tt;
+        other_boot = λ told old stands. tt;
+        not_a_store = λ told e. absurd (fault_none e);
+        past = before;
+        stop = λ told old stands other. absurd (other refl);
+        stop_fault = λ told old stands t image from to left. inl (since (keeps.told told) old stands t image from to left);
+        stop_memory = λ old stands e. absurd (fault_memory e);
+        seen = λ other. absurd (other refl);
+        within = λ other. absurd (other refl);
+        unwritten = λ e. absurd (fault_none e);
+        synced = tt;
+        quiet = tt;
+        tick = tt;
+        later = omega (arith, keeps.later, loaded.tick fine);
+        told = λ told. loaded.told (keeps.told told);
+        count = omega (arith, keeps.count, loaded.count);
+        cause = λ e. rose (keeps.cause is);
+        undisturbed = λ other. absurd (other refl);
+      }
+        where
+          rose : Rose (on.count mid) (on.count disk_new) → Rose (on.count disk_old) (on.count disk_new)
+          rose (inl less) = inl (omega (arith, loaded.count))
+          rose (inr full) = inr (omega (arith, loaded.undisturbed fine))

@@ -1,0 +1,103 @@
+-- What a command does, in one record.
+use Rattle.std.specs.Prelude.{◌≡◌, ◌≢◌, ◌+◌, ◌≤◌, ℕ, List, ◌∷◌, [], ◌++◌, Some, Result, IfOk, OnErr}
+use Rattle.outside.specs.declared.failed.Failed.{Failed}
+use Rattle.outside.specs.Streams.{Causes}
+use Rattle.small_types.specs.declared.limits.TheConstants.{NUMBER_LIMIT}
+use Rattle.disks.specs.declared.disk.Disk.{Ghosts}
+use Rattle.disks.specs.Moments.{LeavesOnly}
+use Rattle.links.specs.declared.links.Links.{Ghosts as LinksGhosts}
+use Rattle.links.specs.Links.{LinksState}
+use Rattle.fetcher.specs.Fetched.{Kept}
+use Rattle.install_plan.specs.Brought.{IsBrought}
+use Rattle.install_plan.specs.Hearing.{Served}
+use Rattle.machine.specs.declared.command.Command.{Command}
+use Rattle.machine.specs.declared.command.Command.TheVariants.{At, Require, Install}
+use Rattle.machine.specs.declared.reply.Reply.{Reply}
+use Rattle.machine.specs.Machine.{Answers, Hears, moment_after}
+use Rattle.machine.specs.Shape.{shape_of}
+use Rattle.machine.specs.Sound.{Sound}
+use Rattle.machine.specs.Store.{Session, Store}
+use Rattle.machine.specs.Views.{View}
+use Rattle.store_state.specs.Tables.{table_shape}
+use Rattle.updater.specs.declared.updater.Updater.{Updater}
+use Rattle.updater.specs.Stands.{StandsForEither}
+use Rattle.updater.specs.Updater.{Holds, TakesNumber, room_of, tables_of}
+
+-- ---- by the command
+
+-- The store before the command. An install takes over the files of kept views, so it is to be sound.
+abbrev pub SoundFor : Command → Store → Type 0
+SoundFor (At next) store = Unit {0}
+SoundFor (Require key version) store = Unit {0}
+SoundFor (Install url) store = Sound store
+
+-- a command that is no install leaves the links alone
+abbrev pub LeavesLinks : {L : Type 0} → Command → L → L → Type 0
+LeavesLinks (At next) old new = new ≡ old
+LeavesLinks (Require key version) old new = new ≡ old
+LeavesLinks (Install url) old new = Unit {0}
+
+-- What the links did for a step from one store to another. An install asked them for what it heard,
+-- and for each file of the new view whose content no kept view has.
+abbrev pub Serves :
+    Command → List (List ℕ) → LinksState → LinksState → Store → Reply → Store → Type 0
+Serves (At next) heard before after old reply new = Unit {0}
+Serves (Require key version) heard before after old reply new = Unit {0}
+Serves (Install url) heard before after old reply new =
+    Served (shape_of old) url heard before after reply
+    × ((view : View) → new.views ≡ old.views ++ view ∷ []
+    → IsBrought (shape_of old) before after view)
+
+-- ---- what it did
+
+-- It answered: a step of the machine, whose store is held from now on. A stop at any moment of the
+-- call leaves the store before it or that after it. Where the store stays as it was the disk is not
+-- touched, else it makes four calls.
+pub record Answered {D L : Type 0} (on : Ghosts D) (net : LinksGhosts L) (now : ℕ)
+    (heard : List (List ℕ)) (command : Command) (disk_old : D) (links_old : L) (old : Session)
+    (reply : Reply) (updater_new : Updater) (disk_new : D) (links_new : L) : Type 0 where
+  pub new : Session
+  pub hears : Hears (shape_of old.store) command heard
+  pub step : Answers now heard old command reply new
+  pub stored : Holds on updater_new disk_new new.store
+  pub stop : LeavesOnly on disk_old disk_new (StandsForEither old.store new.store)
+  pub quiet : new.store ≡ old.store → disk_new ≡ disk_old
+  pub tick : new.store ≢ old.store → on.moment disk_new ≡ on.moment disk_old + 4
+  pub served : Serves command heard (net.links links_old) (net.links links_new)
+      old.store reply new.store
+
+-- The disk failed: a stop leaves the store before some step of the command or that after it.
+pub record Faulted {D L : Type 0} (on : Ghosts D) (net : LinksGhosts L) (now : ℕ)
+    (heard : List (List ℕ)) (command : Command) (disk_old : D) (links_old : L) (old : Session)
+    (disk_new : D) (links_new : L) : Type 0 where
+  pub new : Session
+  pub reply : Reply
+  pub hears : Hears (shape_of old.store) command heard
+  pub step : Answers now heard old command reply new
+  pub stop : LeavesOnly on disk_old disk_new (StandsForEither old.store new.store)
+  pub served : Serves command heard (net.links links_old) (net.links links_new)
+      old.store reply new.store
+
+-- What a command does, for each session whose store is held, and is sound where the command asks it.
+-- What the disk tells afterwards it told before. A failed call is counted, save where the disk had
+-- no number left. The count of faults rises exactly where the disk failed. The links and their sites
+-- stay. What it heard, its tables let it hear; and the moment of the next command is within its limit.
+pub record Commanded {D L : Type 0} (on : Ghosts D) (net : LinksGhosts L) (now : ℕ)
+    (heard : List (List ℕ)) (command : Command) (updater_old : Updater) (disk_old : D)
+    (links_old : L) (result : Result Reply Failed) (updater_new : Updater) (disk_new : D)
+    (links_new : L) : Type 0 where
+  pub answered : (old : Session) → Holds on updater_old disk_old old.store
+      → SoundFor command old.store
+      → IfOk result (λ reply. Answered on net now heard command disk_old links_old old reply
+      updater_new disk_new links_new)
+  pub fault : (old : Session) → Holds on updater_old disk_old old.store
+      → SoundFor command old.store
+      → OnErr result (Faulted on net now heard command disk_old links_old old disk_new links_new)
+  pub later : on.moment disk_old ≤ on.moment disk_new
+  pub told : on.tells disk_new → on.tells disk_old
+  pub numbered : OnErr result (TakesNumber on disk_old disk_new)
+  pub cause : Causes (on.count disk_old) (on.count disk_new) result
+  pub kept : Kept (net.links links_old) (net.links links_new)
+  pub left : LeavesLinks command links_old links_new
+  pub hears : Hears (table_shape (room_of updater_old) (tables_of updater_old)) command heard
+  pub few : IfOk result (λ reply. moment_after now (Some reply) ≤ NUMBER_LIMIT)

@@ -1,0 +1,49 @@
+-- What opening a store does, in one record.
+use Rattle.std.specs.Prelude.{◌≡◌, ◌≢◌, ◌+◌, ◌≤◌, ℕ, List, Bool, true, false, Result, Err, IfOk, IfErr, OnOk}
+use Rattle.outside.specs.Streams.{Rose}
+use Rattle.disks.specs.declared.disk.Disk.{Ghosts}
+use Rattle.machine.specs.Store.{Store, booted}
+use Rattle.updater.specs.declared.fault.RecoverFault.{RecoverFault}
+use Rattle.updater.specs.declared.fault.RecoverFault.TheVariants.{NotAStore, DiskFault, Memory}
+use Rattle.updater.specs.declared.updater.Updater.{Updater}
+use Rattle.updater.specs.Moments.{LeavesSince, LeavesSinceOrNot}
+use Rattle.updater.specs.Stands.{Stands, StandsForNone, StandsForEither}
+use Rattle.updater.specs.Updater.{Holds}
+
+pub record Opened {D : Type 0} (on : Ghosts D) (boot : ℕ) (disk_old : D)
+    (result : Result (Updater × Bool) RecoverFault) (disk_new : D) : Type 0 where
+  -- Where the disk tells, the store is the one that reads stand for, after a boot of that number where its number was
+  -- another. The answer is true exactly there.
+  pub found : on.tells disk_new → OnOk result ((old : Store) × Stands (on.seen disk_old) old)
+  pub stored : on.tells disk_new → (old : Store) → Stands (on.seen disk_old) old
+      → IfOk result (λ r. Holds on r.0 disk_new (booted boot old))
+  pub same_boot : on.tells disk_new → (old : Store) → Stands (on.seen disk_old) old
+      → IfOk result (λ r. r.1 ≡ false → old.boot ≡ boot)
+  pub other_boot : on.tells disk_new → (old : Store) → Stands (on.seen disk_old) old
+      → IfOk result (λ r. r.1 ≡ true → old.boot ≢ boot)
+  pub not_a_store : on.tells disk_new → result ≡ Err NotAStore → StandsForNone (on.seen disk_old)
+  -- From its first sync on a stop leaves the store as it was or with the given boot number. Where that sync fails a
+  -- stop leaves what it could leave before.
+  pub past : (t : ℕ) (image : List ℕ) → t ≤ on.moment disk_old
+      → on.left_at disk_new t image → on.left_at disk_old t image
+  pub stop : on.tells disk_new → (old : Store) → Stands (on.seen disk_old) old → result ≢ Err DiskFault
+      → LeavesSince on (on.moment disk_old + 1) disk_new (StandsForEither old (booted boot old))
+  pub stop_fault : on.tells disk_new → (old : Store) → Stands (on.seen disk_old) old
+      → LeavesSinceOrNot on disk_old disk_new (StandsForEither old (booted boot old))
+  pub stop_memory : (old : Store) → Stands (on.seen disk_old) old → result ≡ Err Memory
+      → LeavesSince on (on.moment disk_old + 1) disk_new (λ image. Stands image old)
+  -- Without a fault of the disk a refusal wrote nothing.
+  pub seen : IfErr result (λ fault. fault ≢ DiskFault → on.seen disk_new ≡ on.seen disk_old)
+  pub within : IfErr result (λ fault. fault ≢ DiskFault
+      → on.moment disk_new ≤ on.moment disk_old + 1)
+  pub unwritten : result ≡ Err NotAStore → on.total disk_new ≡ on.total disk_old
+  -- It makes one call where the boot number is the kept one, and five where it is another.
+  pub synced : OnOk result (on.moment disk_old + 1 ≤ on.moment disk_new)
+  pub quiet : IfOk result (λ r. r.1 ≡ false → on.moment disk_new ≡ on.moment disk_old + 1)
+  pub tick : IfOk result (λ r. r.1 ≡ true → on.moment disk_new ≡ on.moment disk_old + 5)
+  pub later : on.moment disk_old ≤ on.moment disk_new
+  -- What the disk tells afterwards it told before. Its count of faults rises exactly where it failed.
+  pub told : on.tells disk_new → on.tells disk_old
+  pub count : on.count disk_old ≤ on.count disk_new
+  pub cause : result ≡ Err DiskFault → Rose (on.count disk_old) (on.count disk_new)
+  pub undisturbed : result ≢ Err DiskFault → on.count disk_new ≡ on.count disk_old

@@ -1,0 +1,33 @@
+// The refusals of commands, as the tables give them.
+ghost use Rattle.std.specs.Prelude.{◌≡◌, ℕ, List, [], None, Some, IfSome};
+ghost use Rattle.identity.specs.declared.version.Version.{Version};
+ghost use Rattle.machine.specs.declared.command.Command.TheVariants as command;
+ghost use Rattle.machine.specs.Machine.{moment_after, refusals};
+ghost use Rattle.machine.specs.Rows.{PassesAll, Refuses};
+ghost use Rattle.machine.specs.Store.{Session};
+ghost use Rattle.store_state.specs.Tables.{table_shape};
+
+use identity::Key;
+use machine::Reply;
+use small_types::Limit;
+use small_types::limits::APPLICATION_LIMIT;
+use store_state::StoreState;
+
+/// The refusal of `require` that the tables give, whatever their number of blocks.
+pub(crate) fn require_refusal(state: &StoreState, key: &Key) -> Option<Reply>
+    ensures none { result ≡ None → (now blocks : ℕ) (version : Version)
+        → PassesAll (refusals now [] (table_shape blocks state.now) (command.Require key.now version)) }
+    ensures some { (now blocks : ℕ) (version : Version) (old : Session)
+        → IfSome result (λ reply. Refuses (refusals now [] (table_shape blocks state.now)
+        (command.Require key.now version)) old reply old) }
+    ensures still { (now : ℕ) → IfSome result (λ reply. moment_after now (Some reply) ≡ now) }
+{
+    let count = state.count();
+    if count >= APPLICATION_LIMIT && state.entry(key).is_none() {
+        return Some(Reply::TooMany {
+            what: Limit::Applications,
+            limit: APPLICATION_LIMIT as u64,
+        });
+    }
+    None
+}
