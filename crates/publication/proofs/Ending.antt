@@ -63,4 +63,3 @@ folder_quiet tells taken old new result ends.WriteFault a b ended counted read w
 folder_quiet tells taken old new result ends.SinkFault a b ended counted read write =
     quiet_result result a b (lined (end_of result) ends.ReadFault ended.0 refl) (lined (end_of result) ends.WriteFault ended.0 refl) counted
 folder_quiet tells taken old new result ends.Memory a b ended counted read write = quiet_result result a b ended.0 ended.1 counted
-folder_quiet tells taken old new result ends.Words a b ended counted read write = absurd ended

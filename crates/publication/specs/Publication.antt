@@ -1,5 +1,5 @@
--- What publishing by words does.
-use Rattle.std.specs.Prelude.{◌≡◌, ◌≢◌, ℕ, true, List, Option, Some, None, Result}
+-- What publishing by options does, with its line.
+use Rattle.std.specs.Prelude.{◌≡◌, ◌≢◌, ℕ, true, List, Result}
 use Rattle.outside.specs.Streams.{Appends, AppendsPart}
 use Rattle.folders.specs.declared.folder.Held.{Held}
 use Rattle.publish_plan.specs.declared.options.Options.{Options}
@@ -13,7 +13,6 @@ use Rattle.publication.specs.Lines.{end_of, has_line, line_of}
 -- the exit status
 abbrev pub code_of : End → ℕ
 code_of ends.Done = 0
-code_of ends.Words = 1
 code_of ends.ReadFault = 2
 code_of ends.WriteFault = 3
 code_of ends.SinkFault = 3
@@ -39,7 +38,6 @@ EndsWith tells taken old new result ends.SinkFault =
 -- memory ran out, for the publish or for its line, and the folder did not fail
 EndsWith tells taken old new result ends.Memory =
     (end_of result ≢ ends.ReadFault) × (end_of result ≢ ends.WriteFault) × (new ≡ old)
-EndsWith tells taken old new result ends.Words = ⊥
 
 -- A publish by the options was made, and the call ends by what came of it.
 pub record Publication {F K : Type 0} (folder_tells : Type 0) (held : F → List Held)
@@ -48,8 +46,3 @@ pub record Publication {F K : Type 0} (folder_tells : Type 0) (held : F → List
   pub result : Result Published PublishFault
   pub published : IsPublish folder_tells held count o folder_old folder_new result
   pub ended : EndsWith sink_tells taken sink_old sink_new result end
-
--- a fact of each publish that the words ask for
-abbrev pub ForPublish : Option Options → (Options → Type 0) → Type 0
-ForPublish None P = Unit {0}
-ForPublish (Some o) P = P o

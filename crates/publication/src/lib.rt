@@ -9,6 +9,6 @@ mod values;
 mod words;
 
 pub use forms::are_readable;
-pub use publication::{End, publish_words};
+pub use publication::{End, publish_options};
 pub use values::WordFault;
 pub use words::read_options;

@@ -5,11 +5,10 @@ ghost use Rattle.manifest_text.specs.Lines as text;
 ghost use Rattle.publication.specs.Lines.{published_line, cause_text, refusal_line, line_of, end_of, end_of_fault};
 
 use crate::publication::End;
-use identity::PrintFault;
 use itoa::Buffer;
 use manifest_text::{about, line, two};
 use publisher::{PublishFault, Published};
-use small_types::Bytes;
+use small_types::{Bytes, PrintFault};
 use std::alloc::Global;
 
 // The line of what was published.

@@ -1,28 +1,22 @@
-// Publishing by words.
-ghost use Rattle.std.specs.Prelude.{◌≡◌, ◌≢◌, ◌⊎◌, ◌≤◌, ◌↔◌, None};
+// Publishing by options, with the line that says what came of it.
+ghost use Rattle.std.specs.Prelude.{◌≡◌, ◌≢◌, ◌≤◌};
 ghost use Rattle.outside.specs.Streams.{Rose};
 ghost use Rattle.publisher.specs.Options.{IsPublishable};
 ghost use Rattle.publication.specs.declared.publication.End.TheVariants as ends;
 ghost use Rattle.publication.specs.Lines.{has_line};
-ghost use Rattle.publication.specs.Publication.{code_of as status_of, EndsWith, ForPublish, Publication};
-ghost use Rattle.publication.specs.Words.{options_of};
+ghost use Rattle.publication.specs.Publication.{code_of as status_of, EndsWith, Publication};
 
 use crate::lines::{end_of, line_of};
-use crate::values::WordFault;
-use crate::words::read_options;
 use folders::Folder;
 use outside::{Sink, write_all};
 use publisher::{Options, PublishFault, Published, publish};
-use small_types::Word;
 use std::alloc::Global;
 
-/// How publishing by words ends.
+/// How such a publish ends.
 #[derive(Clone, Copy, Debug, PartialEq, Eq)]
 pub enum End {
     /// The release was written, and so was the line that says so.
     Done,
-    /// The words are others.
-    Words,
     /// The folder failed at a listing or a reading.
     ReadFault,
     /// The folder failed at a writing.
@@ -36,14 +30,13 @@ pub enum End {
 }
 
 impl End {
-    /// The exit status: 0 done, 1 other words, 2 the folder failed at a reading, 3 at a writing or
-    /// the sink failed, 6 no memory, 7 refused.
+    /// The exit status: 0 done, 2 the folder failed at a reading, 3 at a writing or the sink failed,
+    /// 6 no memory, 7 refused.
     pub fn code(self) -> u8
         ensures { result ≡ status_of self }
     {
         match self {
             End::Done => 0,
-            End::Words => 1,
             End::ReadFault => 2,
             End::WriteFault | End::SinkFault => 3,
             End::Memory => 6,
@@ -79,8 +72,10 @@ fn say_done<K: Sink>(alloc: Global, done: &Result<Published, PublishFault>, sink
     end
 }
 
-// Publishes by the options, and writes the line of what came of it.
-fn publish_options<F: Folder, K: Sink>(
+/// Publishes by the options, and writes one line that says what was published, or why it was
+/// refused. Where the folder fails, or memory runs out, no line is written. Memory may also run out
+/// for the line, once the release is written.
+pub fn publish_options<F: Folder, K: Sink>(
     alloc: Global,
     options: &Options,
     folder: &mut F,
@@ -89,37 +84,6 @@ fn publish_options<F: Folder, K: Sink>(
     requires { IsPublishable options.now }
     ensures done { Publication F.tells F.held F.count K.tells K.taken
         options.now folder.old folder.new sink.old sink.new result }
-    ensures folder_count { F.count folder.old ≤ F.count folder.new }
-    ensures sink_count { K.count sink.old ≤ K.count sink.new }
-    ensures read_cause { result ≡ ends.ReadFault
-        → Rose (F.count folder.old) (F.count folder.new) }
-    ensures write_cause { result ≡ ends.WriteFault
-        → Rose (F.count folder.old) (F.count folder.new) }
-    ensures sink_cause { result ≡ ends.SinkFault → Rose (K.count sink.old) (K.count sink.new) }
-    ensures folder_quiet { result ≢ ends.ReadFault → result ≢ ends.WriteFault
-        → F.count folder.new ≡ F.count folder.old }
-    ensures sink_quiet { result ≢ ends.SinkFault → K.count sink.new ≡ K.count sink.old }
-{
-    let done = publish(alloc, options, folder);
-    say_done(alloc, &done, sink)
-}
-
-/// Publishes as the words behind `publish` ask for, and writes one line that says what was
-/// published, or why it was refused. Where the words are others, nothing is done. Where the folder
-/// fails, or memory runs out, no line is written. Memory may also run out for the line, once the
-/// release is written.
-pub fn publish_words<F: Folder, K: Sink>(
-    alloc: Global,
-    words: &[Word],
-    folder: &mut F,
-    sink: &mut K,
-) -> End
-    ensures words { (result ≡ ends.Words) ↔ (options_of words.now ≡ None) }
-    ensures nothing { result ≡ ends.Words → (folder.new ≡ folder.old) × (sink.new ≡ sink.old) }
-    ensures done { ForPublish (options_of words.now) (λ o.
-        Publication F.tells F.held F.count K.tells K.taken
-        o folder.old folder.new sink.old sink.new result
-        ⊎ ((result ≡ ends.Memory) × (folder.new ≡ folder.old) × (sink.new ≡ sink.old))) }
 
     // The counts of faults never fall. An end says which device failed, and any other end leaves
     // that device's count.
@@ -134,9 +98,6 @@ pub fn publish_words<F: Folder, K: Sink>(
         → F.count folder.new ≡ F.count folder.old }
     ensures sink_quiet { result ≢ ends.SinkFault → K.count sink.new ≡ K.count sink.old }
 {
-    match read_options(alloc, words) {
-        Ok(options) => publish_options(alloc, &options, folder, sink),
-        Err(WordFault::Unreadable) => End::Words,
-        Err(WordFault::Memory) => End::Memory,
-    }
+    let done = publish(alloc, options, folder);
+    say_done(alloc, &done, sink)
 }

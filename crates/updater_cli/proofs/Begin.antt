@@ -1,91 +1,142 @@
 -- What stands once a session's store is opened.
-use Rattle.std.proofs.Common.{◌≡◌, ◌≢◌, ◌⊎◌, inl, inr, ℕ, ◌+◌, ◌<◌, ◌≤◌, List, [], ◌∷◌, ◌++◌, length, Option, Some, None, refl, sym, ◌∙◌, ap, subst, arith}
-use Rattle.store_state.specs.declared.event.Event.{Event}
-use Rattle.store_state.specs.declared.event.Event.TheVariants.{Boot}
-use Rattle.store_state.specs.declared.report.ReportLine.{ReportLine}
-use Rattle.store_state.specs.declared.reply.Reply.{Reply}
-use Rattle.store_state.specs.Store.{Session, Store, Valid}
-use Rattle.store_state.specs.Step.{Step}
+use Rattle.std.proofs.Common.{◌≡◌, ◌≢◌, ◌⊎◌, inl, inr, ℕ, ◌+◌, ◌<◌, ◌≤◌, true, List, [], ◌∷◌, Option, Some, None, refl, sym, ◌∙◌, ap, subst, arith}
+use Rattle.std.specs.Prelude.{◌==◌, if◌then◌else◌}
+use Rattle.std.proofs.lemmas.Bool.Decides.{nat_tests}
+use Rattle.small_types.specs.declared.limits.TheConstants.{NUMBER_LIMIT}
+use Rattle.machine.specs.declared.event.Event.{Event}
+use Rattle.machine.specs.declared.event.Event.TheVariants.{Boot}
+use Rattle.machine.specs.declared.lease.Lease.{Lease}
+use Rattle.machine.specs.declared.reply.Reply.{Reply}
+use Rattle.machine.specs.declared.report.ReportLine.{ReportLine}
+use Rattle.machine.specs.Machine.{Step}
+use Rattle.machine.specs.Sound.{Sound}
+use Rattle.machine.specs.Store.{Store, booted, session_over}
+use Rattle.machine.proofs.Sessions.{begins_sound}
 use Rattle.updater.specs.Stands.{Stands, StandsForEither}
+use Rattle.updater.specs.Updater.{Holds}
 use Rattle.updater.specs.Moments.{LeavesSince, LeavesSinceOrNot}
-use Rattle.updater_cli.specs.Report.{RunsTo, Counts, StandsForPrefix, marked_by}
-use Rattle.updater_cli.specs.Session.{At}
+use Rattle.updater.proofs.Standing.{stored_stands}
+use Rattle.disks.specs.declared.disk.Disk.{Ghosts}
+use Rattle.links.specs.declared.links.Links.{Ghosts as LinksGhosts}
+use Rattle.links.specs.Links.{failures_of}
+use Rattle.fetcher.proofs.Sequence.{kept_same}
+use Rattle.updater_cli.specs.declared.course.Course.{Course}
 use Rattle.updater_cli.specs.Opening.{Survives, IsUnopened}
-use Rattle.updater_cli.proofs.Runs.{runs_push, counts_push, counts, counts_early, counts_late, marked-push}
+use Rattle.updater_cli.specs.Report.{IsSettled, RunsTo, Counts, IsServed, StandsForPrefix, origin_over, report_of, marked_by}
+use Rattle.updater_cli.specs.Session.{Between, start_over}
+use Rattle.updater_cli.proofs.Runs.{step_settled, runs_push, counts_push, served_push, counts_early, counts_late}
 use Rattle.updater_cli.proofs.Prefix.{longer, all_lines, and_begun}
 
+settled_first : (store : Store) → Sound store → IsSettled (session_over store)
+settled_first store sound = record { sound = begins_sound store sound; jobs = refl }
+
 -- nothing was run
-pub runs_none : (s0 : Session) → Valid s0.store → RunsTo s0 [] s0
-runs_none s0 sound = record { steps = refl; sound = sound }
+pub runs_none : (now : ℕ) (store : Store) → Sound store → RunsTo (origin_over now store) [] (session_over store)
+runs_none now store sound = record { steps = refl; settled = settled_first store sound }
 
-abbrev pub booted : Session → ℕ → Session
-booted s0 boot = record s0 { store = record s0.store { boot = boot } }
+-- a boot asks the links for nothing
+pub boot_served : {L : Type 0} (net : LinksGhosts L) (links : L) (boot : ℕ) (event : Event) (reply : Option Reply) (old new : Store) → event ≡ Boot boot → IsServed net event reply links links old new
+boot_served net links boot event reply old new is =
+    subst (λ (e : Event). IsServed net e reply links links old new) (sym is) (record { kept = kept_same (net.links links); left = refl; serves = tt })
 
-module _ {D : Type 0} (moment : D → ℕ) (left_at : D → ℕ → List ℕ → Type 0) (old new : D) (boot : ℕ) (s0 s : Session) (sound0 : Valid s0.store) (sound : Valid s.store) (is : s.store ≡ record s0.store { boot = boot })
-    (since : LeavesSince moment left_at (moment old + 1) new (StandsForEither s0.store (record s0.store { boot = boot }))) (started : moment old + 1 ≤ moment new)
-    (now : (image : List ℕ) → left_at new (moment new) image → Stands image s.store) (past : (t : ℕ) (image : List ℕ) → t ≤ moment old → left_at new t image → left_at old t image) where
-  is_booted : s ≡ booted s0 boot
-  is_booted = ap (λ (store : Store). let made : Session = record { store = store } in made) is
+-- a boot of the kept number changes nothing
+kept_leases : (a b : ℕ) (leases : List Lease) → a ≡ b → (if a == b then leases else []) ≡ leases
+kept_leases a b leases same = let yes : (a == b) ≡ true = grind (arith, nat_tests) in grind (arith, yes)
+
+booted_same : (store : Store) (boot : ℕ) → store.boot ≡ boot → booted boot store ≡ store
+booted_same store boot same =
+    ap (λ (leases : List Lease). let made : Store = record store { boot = boot; leases = leases } in made) (kept_leases store.boot boot store.leases same)
+    ∙ ap (λ (b : ℕ). let made : Store = record store { boot = b } in made) (sym same)
+
+module _ {D L : Type 0} (on : Ghosts D) (net : LinksGhosts L) (links : L) (old new : D) (boot now : ℕ) (store : Store) (sound : Sound store) (course : Course)
+    (is_now : course.now ≡ now) (stored : Holds on course.updater new (booted boot store))
+    (stop : LeavesSince on (on.moment old + 1) new (StandsForEither store (booted boot store))) (started : on.moment old + 1 ≤ on.moment new)
+    (past : (t : ℕ) (image : List ℕ) → t ≤ on.moment old → on.left_at new t image → on.left_at old t image) where
+  none : RunsTo (origin_over now store) [] (session_over store)
+  none = runs_none now store sound
 
   -- the boot number is the kept one
-  pub same : s0.store.boot ≡ boot → moment new ≡ moment old + 1 → At moment left_at old s0 [] s new
-  same kept once = record {
-    runs = record { steps = is_booted ∙ ap (booted s0) (sym kept); sound = sound };
-    counts = (is_booted ∙ ap (booted s0) (sym kept), once);
-    past = past;
-    since = λ t image from to left. all_lines s0 s0 [] None 0 image (runs_none s0 sound0) (inl refl) (of image (since t image from to left));
+  pub same : course.lines.items ≡ [] → store.boot ≡ boot → on.moment new ≡ on.moment old + 1 → Between on net (start_over now old links store) course new links
+  same no_lines kept once = record {
+    session = session_over store;
+    stored = subst (λ (s : Store). Holds on course.updater new s) (booted_same store boot kept) stored;
+    runs = rw no_lines none;
+    moment = rw no_lines is_now;
+    counts = rw no_lines (refl, once);
+    served = rw no_lines (refl, refl);
+    marks = rw no_lines tt;
     started = started;
-    marks = tt;
-    now = now;
+    past = past;
+    since = rw no_lines (λ t image first to left. all_lines (origin_over now store) (session_over store) [] None 0 image none.steps (inl refl) (of image (stop t image first to left)));
   }
     where
-      of : (image : List ℕ) → StandsForEither s0.store (record s0.store { boot = boot }) image → Stands image s0.store
+      of : (image : List ℕ) → StandsForEither store (booted boot store) image → Stands image store
       of image (inl stands) = stands
-      of image (inr stands) = subst (λ (b : ℕ). Stands image (record s0.store { boot = b })) (sym kept) stands
+      of image (inr stands) = subst (λ (s : Store). Stands image s) (booted_same store boot kept) stands
 
   -- it is another, which was made durable
-  pub other : (l : ReportLine) → l.event ≡ Boot boot → l.reply ≡ None → l.mark ≡ moment new → s0.store.boot ≢ boot → moment new ≡ moment old + 5 → At moment left_at old s0 (l ∷ []) s new
-  other l is_event is_reply is_mark differs calls = record {
-    runs = runs;
-    counts =
-        subst (λ (m : ℕ). Counts s0 (moment old + 1) (l ∷ []) s m) is_mark
-        (counts_push s0 (moment old + 1) [] s0 s (moment old + 1) l (refl, refl)
-        (subst (λ (e : Event). Step s0 e l.reply s) (sym is_event) (subst (λ (r : Option Reply). Step s0 (Boot boot) r s) (sym is_reply) is_booted))
-        (record { same = λ equal. absurd (differs (ap (λ (x : Session). x.store.boot) (sym equal) ∙ ap (λ (store : Store). store.boot) is)); other = λ not. omega (arith, is_mark, calls) }));
-    past = past;
-    since = λ t image from to left. at t image from to left (split t to);
-    started = started;
-    marks = (omega (arith, is_mark), tt);
-    now = now;
-  }
-    where
-      runs : RunsTo s0 (l ∷ []) s
-      runs = runs_push s0 s0 s [] l (Boot boot) None is_event is_reply (runs_none s0 sound0) is_booted sound
+  module _ (l : ReportLine) (lines : course.lines.items ≡ l ∷ []) (is_event : l.event ≡ Boot boot) (is_reply : l.reply ≡ None) (is_mark : l.mark ≡ on.moment new) (is_failures : l.failures ≡ failures_of (net.links links))
+      (small : boot ≤ NUMBER_LIMIT) (differs : store.boot ≢ boot) (calls : on.moment new ≡ on.moment old + 5) where
+    boots : Step now (session_over store) l.event l.reply (session_over (booted boot store))
+    boots = rw is_event (is_reply, refl)
 
-      split : (t : ℕ) → t ≤ moment new → (t < moment new) ⊎ (t ≡ moment new)
-      split t le = grind arith
+    settled_on : IsSettled (session_over (booted boot store))
+    settled_on = step_settled now (session_over store) (Boot boot) None (session_over (booted boot store)) small (refl, refl) (settled_first store sound)
 
-      of : (k : ℕ) (image : List ℕ) → k ≡ 0 → StandsForEither s0.store (record s0.store { boot = boot }) image → StandsForPrefix s0 (l ∷ []) None k image
-      of k image none (inl stands) = longer s0 [] l None k image (all_lines s0 s0 [] None k image (runs_none s0 sound0) (inl (sym none)) stands)
-      of k image none (inr stands) = all_lines s0 s (l ∷ []) None k image runs (inr (omega (arith, none))) (subst (λ (store : Store). Stands image store) (sym is) stands)
+    run : RunsTo (origin_over now store) (l ∷ []) (session_over (booted boot store))
+    run = runs_push (origin_over now store) (session_over store) (session_over (booted boot store)) [] l none boots settled_on
 
-      at : (t : ℕ) (image : List ℕ) → moment old + 1 ≤ t → t ≤ moment new → left_at new t image → (t < moment new) ⊎ (t ≡ moment new) → StandsForPrefix s0 (l ∷ []) None (marked_by (l ∷ []) t) image
-      at t image from to left (inl early) = of (marked_by (l ∷ []) t) image (omega (arith, counts_early l t (omega (arith, is_mark)))) (since t image from to left)
-      at t image from to left (inr end) =
-          all_lines s0 s (l ∷ []) None (marked_by (l ∷ []) t) image runs (inl (omega (arith, counts_late l t (omega (arith, is_mark, end))))) (now image (subst (λ (m : ℕ). left_at new m image) end left))
+    split_at : (m t : ℕ) → t ≤ m → (t < m) ⊎ (t ≡ m)
+    split_at m t le = grind arith
 
-module _ {D : Type 0} (moment : D → ℕ) (left_at : D → ℕ → List ℕ → Type 0) (old new : D) (boot : ℕ) (s0 : Session) (sound0 : Valid s0.store)
-    (past : (t : ℕ) (image : List ℕ) → t ≤ moment old → left_at new t image → left_at old t image) where
+    of : (k : ℕ) (image : List ℕ) → k ≡ 0 → StandsForEither store (booted boot store) image → StandsForPrefix (origin_over now store) (report_of (l ∷ []) None) k image
+    of k image zero (inl stands) = longer (origin_over now store) [] l None k image (all_lines (origin_over now store) (session_over store) [] None k image none.steps (inl (sym zero)) stands)
+    of k image zero (inr stands) = all_lines (origin_over now store) (session_over (booted boot store)) (l ∷ []) None k image run.steps (inr (omega (arith, zero))) stands
+
+    at : (t : ℕ) (image : List ℕ) → on.moment old + 1 ≤ t → t ≤ on.moment new → on.left_at new t image → (t < on.moment new) ⊎ (t ≡ on.moment new)
+        → StandsForPrefix (origin_over now store) (report_of (l ∷ []) None) (marked_by (l ∷ []) t) image
+    at t image first to left (inl early) = of (marked_by (l ∷ []) t) image (omega (arith, counts_early l t (omega (arith, is_mark)))) (stop t image first to left)
+    at t image first to left (inr end) =
+        all_lines (origin_over now store) (session_over (booted boot store)) (l ∷ []) None (marked_by (l ∷ []) t) image run.steps (inl (omega (arith, counts_late l t (omega (arith, is_mark, end)))))
+        (stored_stands on course.updater new (booted boot store) stored image (subst (λ (m : ℕ). on.left_at new m image) end left))
+
+    pub other : Between on net (start_over now old links store) course new links
+    other = record {
+      session = session_over (booted boot store);
+      stored = stored;
+      runs = rw lines run;
+      moment = rw (lines, is_reply) is_now;
+      counts =
+          rw lines (subst (λ (m : ℕ). Counts (origin_over now store) (on.moment old + 1) (l ∷ []) (session_over (booted boot store)) m) is_mark
+          (counts_push (origin_over now store) (on.moment old + 1) [] (session_over store) (session_over (booted boot store)) (on.moment old + 1) l (refl, refl) boots
+          (record { same = λ equal. absurd (differs (ap (λ (s : Store). s.boot) (sym equal))); other = λ not. omega (arith, is_mark, calls) })));
+      served =
+          rw lines (served_push net (origin_over now store) links [] (session_over store) (session_over (booted boot store)) links links l (refl, refl) boots
+          (boot_served net links boot l.event l.reply store (booted boot store) is_event) is_failures);
+      marks = rw lines (omega (arith, is_mark), tt);
+      started = started;
+      past = past;
+      since = rw lines (λ t image first to left. at t image first to left (split_at (on.moment new) t to));
+    }
+
+module _ {D : Type 0} (on : Ghosts D) (old new : D) (boot now : ℕ) (store : Store)
+    (past : (t : ℕ) (image : List ℕ) → t ≤ on.moment old → on.left_at new t image → on.left_at old t image) where
   -- the disk failed in the opening
-  pub survives_fault : LeavesSinceOrNot moment left_at old new (StandsForEither s0.store (record s0.store { boot = boot })) → Survives moment left_at old new s0 4 [] (Some (Boot boot))
-  survives_fault since = record { past = past; since = λ t image from to left. at image (since t image from to left); synced = inr (refl, inl refl) }
+  pub survives_fault : LeavesSinceOrNot on old new (StandsForEither store (booted boot store))
+      → Survives on old new (origin_over now store) 4 (report_of [] (Some (Boot boot)))
+  survives_fault since = record { past = past; since = λ t image first to left. at image (since t image first to left); synced = inr (refl, inl refl) }
     where
-      at : (image : List ℕ) → StandsForEither s0.store (record s0.store { boot = boot }) image ⊎ ((moment new ≡ moment old + 1) × left_at old (moment old) image)
-          → StandsForPrefix s0 [] (Some (Boot boot)) 0 image ⊎ IsUnopened moment left_at old new 4 [] (Some (Boot boot)) image
-      at image (inl (inl stands)) = inl (all_lines s0 s0 [] (Some (Boot boot)) 0 image (runs_none s0 sound0) (inl refl) stands)
-      at image (inl (inr stands)) = inl (and_begun s0 s0 (booted s0 boot) [] (Boot boot) None 0 image (runs_none s0 sound0) refl (inr refl) stands)
+      at : (image : List ℕ) → StandsForEither store (booted boot store) image ⊎ ((on.moment new ≡ on.moment old + 1) × on.left_at old (on.moment old) image)
+          → StandsForPrefix (origin_over now store) (report_of [] (Some (Boot boot))) 0 image ⊎ IsUnopened on old new 4 (report_of [] (Some (Boot boot))) image
+      at image (inl (inl stands)) = inl (all_lines (origin_over now store) (session_over store) [] (Some (Boot boot)) 0 image refl (inl refl) stands)
+      at image (inl (inr stands)) = inl (and_begun (origin_over now store) (session_over store) (session_over (booted boot store)) [] (Boot boot) None 0 image refl (refl, refl) (inr refl) stands)
       at image (inr failed) = inr (record { fault = refl; none = refl; boot = tt; once = failed.0; left = failed.1 })
 
   -- there was no memory
-  pub survives_memory : LeavesSince moment left_at (moment old + 1) new (λ image. Stands image s0.store) → Survives moment left_at old new s0 6 [] None
-  survives_memory since = record { past = past; since = λ t image from to left. inl (all_lines s0 s0 [] None 0 image (runs_none s0 sound0) (inl refl) (since t image from to left)); synced = inr (refl, inr refl) }
+  pub survives_memory : LeavesSince on (on.moment old + 1) new (λ image. Stands image store)
+      → Survives on old new (origin_over now store) 6 (report_of [] None)
+  survives_memory since = record {
+    past = past;
+    since = λ t image first to left. inl (all_lines (origin_over now store) (session_over store) [] None 0 image refl (inl refl) (since t image first to left));
+    synced = inr (refl, inr refl);
+  }

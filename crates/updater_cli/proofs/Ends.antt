@@ -1,83 +1,117 @@
 -- What a whole session leaves in its report.
-use Rattle.std.proofs.Common.{◌≡◌, ◌≢◌, ◌⊎◌, inl, inr, ℕ, ◌+◌, ◌-◌, ◌<◌, ◌≤◌, List, [], ◌∷◌, ◌++◌, length, take, map, Option, Some, None, Result, Ok, Err, refl, sym, ◌∙◌, ap, subst, arith, append_assoc, length-append}
-use Rattle.std.proofs.lemmas.List.{append-nil, take_at, take_all, take-append-le, length-map, map-append}
-use Rattle.std.specs.Prelude.{◌==◌, count_by, option_to_list}
+use Rattle.std.proofs.Common.{◌≡◌, ◌≢◌, ◌⊎◌, inl, inr, ℕ, ◌+◌, ◌≤◌, List, [], ◌∷◌, ◌++◌, length, take, Option, Some, None, Ok, Err, refl, sym, ◌∙◌, ap, subst, arith, length-append}
+use Rattle.std.proofs.lemmas.List.{append-nil, take_all, take-append-le}
+use Rattle.std.specs.Prelude.{option_to_list, IfSome, IfErr, OnOk}
 use Rattle.std.specs.Str.Lines.{lines}
-use Rattle.store_state.specs.declared.command.Command.{Command}
-use Rattle.store_state.specs.declared.command.LineFault.{LineFault}
-use Rattle.store_state.specs.declared.event.Event.{Event}
-use Rattle.store_state.specs.declared.event.Event.TheVariants.{Boot, Line, Unread}
-use Rattle.store_state.specs.declared.reply.Reply.{Reply}
-use Rattle.store_state.specs.declared.report.Report.{Report}
-use Rattle.store_state.specs.declared.report.ReportLine.{ReportLine}
-use Rattle.store_state.specs.Store.{Session}
-use Rattle.command_text.specs.Lines.{AreEvents, IsEvent, event_of, command_of, texts_of}
+use Rattle.outside.specs.declared.source.Source.{Ghosts as SourceGhosts}
+use Rattle.outside.specs.declared.sink.Sink.{Ghosts as SinkGhosts}
+use Rattle.disks.specs.declared.disk.Disk.{Ghosts}
+use Rattle.links.specs.declared.links.Links.{Ghosts as LinksGhosts}
+use Rattle.links.specs.Links.{failures_of}
+use Rattle.fetcher.proofs.Sequence.{kept_same}
+use Rattle.machine.specs.declared.event.Event.{Event}
+use Rattle.machine.specs.declared.event.Event.TheVariants.{Boot, Line, Unread}
+use Rattle.machine.specs.declared.reply.Reply.{Reply}
+use Rattle.machine.specs.declared.report.Report.{Report}
+use Rattle.machine.specs.declared.report.ReportLine.{ReportLine}
+use Rattle.machine.specs.Store.{Store, booted, session_over}
+use Rattle.command_text.specs.Lines.{AreEvents, IsEvent, texts_of}
 use Rattle.command_text.proofs.InputLemmas.{length_events}
 use Rattle.updater.specs.Stands.{Stands, StandsForNone}
+use Rattle.updater.specs.Updater.{IsSpent, TakesNumber}
 use Rattle.updater_cli.specs.declared.status.Status.{Status}
 use Rattle.updater_cli.specs.declared.status.Status.TheVariants.{Done, Words, SourceFault, SinkFault, DiskFault, NotAStore, Memory, TooMuchInput}
-use Rattle.updater_cli.specs.Status.{code_of, IsBegun, IsSessionEnd}
-use Rattle.updater_cli.specs.Report.{events_of, replies_of, MarksRise, Writes, Trace}
-use Rattle.updater_cli.specs.Session.{AreInputs}
-use Rattle.updater_cli.specs.Opening.{IsBootFirst, IsNoBoot, IsNoBootFirst, BootsFirst, HasBootLine, IsOpeningEnd}
-use Rattle.updater_cli.specs.Headline.{after_boot, IsNext, ReadsLines, IsNotOpened, BeginsOnFault, MadeCalls, HeadlineLines, HeadlineRun}
-use Rattle.updater_cli.proofs.Runs.{rise_on}
+use Rattle.updater_cli.specs.Devices.{devices_of}
+use Rattle.updater_cli.specs.Headline.{after_boot, ReadsLines, BeginsOnFault, MadeCalls, HeadlineLines, HeadlineRun}
+use Rattle.updater_cli.specs.Lines.{IsReady, Place, AreInputs, InputAnswered}
+use Rattle.updater_cli.specs.Opening.{Begun, IsNoBoot, IsNoBootFirst, IsLineOrNone, BootsFirst, HasBootLine, IsOpeningEnd, begun_by}
+use Rattle.updater_cli.specs.Report.{report_of, events_of, replies_of, moment_behind, IsRunAt, AreRunFrom, KeepsMoments, MarksRise, FailuresRise, IsBegunServed, Writes}
+use Rattle.updater_cli.specs.Status.{Outcome, code_of, end_of, IsSessionEnd}
+use Rattle.updater_cli.proofs.Begin.{boot_served, runs_none}
+use Rattle.updater_cli.proofs.Runs.{rise_on, failures_on, run_from_append, moment-append}
 use Rattle.updater_cli.proofs.Traces.{writes_on}
 
--- events of lines are no boot events
-of_read : (now : ℕ) (event : Event) (read : Result Command LineFault) → event ≡ event_of now read → IsNoBoot event
-of_read now event (Ok command) is = subst IsNoBoot (sym is) tt
-of_read now event (Err fault) is = subst IsNoBoot (sym is) tt
+-- ---- no boot event among lines
 
-no_boot : (now : ℕ) (line : List ℕ) (event : Event) → IsEvent now line event → IsNoBoot event
-no_boot now line event (inl is) = of_read now event (command_of line) is
-no_boot now line event (inr is) = subst IsNoBoot (sym is) tt
+-- events of lines are no boot events
+no_boot : (line : List ℕ) (event : Event) → IsEvent line event → IsNoBoot event
+no_boot line (Boot boot) is = is
+no_boot line (Line command now heard) is = tt
+no_boot line (Unread fault) is = tt
 
 keeps_first : (event : Event) (events : List Event) → IsNoBoot event → after_boot (event ∷ events) ≡ event ∷ events
 keeps_first (Boot boot) events none = absurd none
 keeps_first (Line command now heard) events none = refl
 keeps_first (Unread fault) events none = refl
 
-after_events : (now : ℕ) (inputs : List (List ℕ)) (events extra : List Event) → AreEvents now inputs (events ++ extra) → after_boot events ≡ events
-after_events now inputs [] extra are = refl
-after_events now [] (event ∷ events) extra are = absurd are
-after_events now (line ∷ inputs) (event ∷ events) extra are = keeps_first event events (no_boot now line event are.0)
+after_events : (inputs : List (List ℕ)) (events extra : List Event) → AreEvents inputs (events ++ extra) → after_boot events ≡ events
+after_events inputs [] extra are = refl
+after_events [] (event ∷ events) extra are = absurd are
+after_events (line ∷ inputs) (event ∷ events) extra are = keeps_first event events (no_boot line event are.0)
 
-no_boot_first : (now : ℕ) (inputs : List (List ℕ)) (more : List ReportLine) (extra : List Event) → AreEvents now inputs (events_of more ++ extra) → IsNoBootFirst more
-no_boot_first now inputs [] extra are = tt
-no_boot_first now [] (l ∷ more) extra are = absurd are
-no_boot_first now (line ∷ inputs) (l ∷ more) extra are = no_boot now line l.event are.0
+no_boot_first : (inputs : List (List ℕ)) (more : List ReportLine) (extra : List Event) → AreEvents inputs (events_of more ++ extra) → IsNoBootFirst more
+no_boot_first inputs [] extra are = tt
+no_boot_first [] (l ∷ more) extra are = absurd are
+no_boot_first (line ∷ inputs) (l ∷ more) extra are = no_boot line l.event are.0
+
+-- the event that was begun is a line's
+line_or_none : (inputs : List (List ℕ)) (events : List Event) (begun : Option Event) → AreEvents inputs (events ++ option_to_list begun) → IsLineOrNone begun
+line_or_none inputs events None are = tt
+line_or_none [] [] (Some event) are = absurd are
+line_or_none (line ∷ inputs) [] (Some event) are = no_boot line event are.0
+line_or_none [] (e ∷ events) (Some event) are = absurd are
+line_or_none (line ∷ inputs) (e ∷ events) (Some event) are = line_or_none inputs events (Some event) are.1
 
 -- a first part of the events is that of a first part of the lines
-first_events : (now : ℕ) (inputs : List (List ℕ)) (events extra : List Event) → AreEvents now inputs (events ++ extra) → AreEvents now (take (length events) inputs) events
-first_events now inputs [] extra are = subst (λ (l : List (List ℕ)). AreEvents now l []) (sym (take-none inputs)) tt
-  where
-    take-none : (l : List (List ℕ)) → take 0 l ≡ []
-    take-none [] = refl
-    take-none (x ∷ l) = refl
-first_events now [] (event ∷ events) extra are = absurd are
-first_events now (line ∷ inputs) (event ∷ events) extra are = (are.0, first_events now inputs events extra are.1)
+take-none : (l : List (List ℕ)) → take 0 l ≡ []
+take-none [] = refl
+take-none (x ∷ l) = refl
 
--- before the lines there is the boot event, or nothing
-no_texts : (boot from mid : ℕ) (first : List ReportLine) → HasBootLine boot from mid first → texts_of (replies_of first) ≡ []
-no_texts boot from mid [] has = refl
-no_texts boot from mid (l ∷ []) has = ap (λ (r : Option Reply). texts_of (r ∷ [])) has.1
-no_texts boot from mid (l ∷ m ∷ lines) has = absurd has
+first_events : (inputs : List (List ℕ)) (events extra : List Event) → AreEvents inputs (events ++ extra) → AreEvents (take (length events) inputs) events
+first_events inputs [] extra are = subst (λ (l : List (List ℕ)). AreEvents l []) (sym (take-none inputs)) tt
+first_events [] (event ∷ events) extra are = absurd are
+first_events (line ∷ inputs) (event ∷ events) extra are = (are.0, first_events inputs events extra are.1)
 
-first_marks : (boot from mid : ℕ) (first : List ReportLine) → from ≤ mid → HasBootLine boot from mid first → MarksRise from first mid
-first_marks boot from mid [] le has = le
-first_marks boot from mid (l ∷ []) le has = (has.3, has.2, has.4)
-first_marks boot from mid (l ∷ m ∷ lines) le has = absurd has
+-- ---- before the lines there is the boot event, or nothing
 
-after_first : (boot from mid now : ℕ) (first more : List ReportLine) (inputs : List (List ℕ)) (extra : List Event) → HasBootLine boot from mid first → AreEvents now inputs (events_of more ++ extra) → after_boot (events_of (first ++ more)) ≡ events_of more
-after_first boot from mid now [] more inputs extra has are = after_events now inputs (events_of more) extra are
-after_first boot from mid now (l ∷ []) more inputs extra has are = ap (λ (e : Event). after_boot (e ∷ events_of more)) has.0
-after_first boot from mid now (l ∷ m ∷ lines) more inputs extra has are = absurd has
+module _ (boot failures from mid : ℕ) where
+  no_texts : (first : List ReportLine) → HasBootLine boot failures from mid first → texts_of (replies_of first) ≡ []
+  no_texts [] has = refl
+  no_texts (l ∷ []) has = ap (λ (r : Option Reply). texts_of (r ∷ [])) has.1
+  no_texts (l ∷ m ∷ lines) has = absurd has
 
-boots_on : (boot kept from mid now : ℕ) (first more : List ReportLine) (inputs : List (List ℕ)) (extra : List Event) → HasBootLine boot from mid first → AreEvents now inputs (events_of more ++ extra) → BootsFirst boot kept first → BootsFirst boot kept (first ++ more)
-boots_on boot kept from mid now [] more inputs extra has are boots = record { other = λ differs. absurd (boots.other differs); same = λ is. no_boot_first now inputs more extra are }
-boots_on boot kept from mid now (l ∷ []) more inputs extra has are boots = record { other = boots.other; same = boots.same }
-boots_on boot kept from mid now (l ∷ m ∷ lines) more inputs extra has are boots = absurd has
+  first_marks : (first : List ReportLine) → from ≤ mid → HasBootLine boot failures from mid first → MarksRise from first mid
+  first_marks [] le has = le
+  first_marks (l ∷ []) le has = (has.3, has.4)
+  first_marks (l ∷ m ∷ lines) le has = absurd has
+
+  first_failures : (first : List ReportLine) → HasBootLine boot failures from mid first → FailuresRise failures first failures
+  first_failures [] has = omega arith
+  first_failures (l ∷ []) has = (omega (arith, has.2), omega (arith, has.2))
+  first_failures (l ∷ m ∷ lines) has = absurd has
+
+  -- the moment is the first one
+  first_moment : (now : ℕ) (first : List ReportLine) → HasBootLine boot failures from mid first → moment_behind now first ≡ now
+  first_moment now [] has = refl
+  first_moment now (l ∷ []) has = rw has.1 refl
+  first_moment now (l ∷ m ∷ lines) has = absurd has
+
+  first_run : (now : ℕ) (first : List ReportLine) → HasBootLine boot failures from mid first → AreRunFrom now first
+  first_run now [] has = tt
+  first_run now (l ∷ []) has = (rw has.0 tt, tt)
+  first_run now (l ∷ m ∷ lines) has = absurd has
+
+  after_first : (first more : List ReportLine) (inputs : List (List ℕ)) (extra : List Event) → HasBootLine boot failures from mid first → AreEvents inputs (events_of more ++ extra) → after_boot (events_of (first ++ more)) ≡ events_of more
+  after_first [] more inputs extra has are = after_events inputs (events_of more) extra are
+  after_first (l ∷ []) more inputs extra has are = ap (λ (e : Event). after_boot (e ∷ events_of more)) has.0
+  after_first (l ∷ m ∷ lines) more inputs extra has are = absurd has
+
+  boots_on : (kept : ℕ) (first more : List ReportLine) (inputs : List (List ℕ)) (extra : List Event) → HasBootLine boot failures from mid first → AreEvents inputs (events_of more ++ extra) → BootsFirst boot kept first → BootsFirst boot kept (first ++ more)
+  boots_on kept [] more inputs extra has are boots = record { other = λ differs. absurd (boots.other differs); same = λ is. no_boot_first inputs more extra are }
+  boots_on kept (l ∷ []) more inputs extra has are boots = record { other = boots.other; same = boots.same }
+  boots_on kept (l ∷ m ∷ lines) more inputs extra has are boots = absurd has
+
+-- ---- statuses
 
 begins_on_fault : (status : Status) (begun : Option Event) → IsSessionEnd status begun → BeginsOnFault (code_of status) begun
 begins_on_fault Done begun end = record { none = λ other. end; some = λ four. absurd (omega arith) }
@@ -89,136 +123,245 @@ begins_on_fault DiskFault begun end = record { none = λ other. absurd (other re
 begins_on_fault Words begun end = absurd end
 begins_on_fault NotAStore begun end = absurd end
 
+-- no session that was opened ends with status 5, and status 4 is that of the disk
+not_five : (status : Status) (begun : Option Event) → IsSessionEnd status begun → code_of status ≢ 5
+not_five Done begun end same = omega (arith, same)
+not_five Memory begun end same = omega (arith, same)
+not_five SourceFault begun end same = omega (arith, same)
+not_five SinkFault begun end same = omega (arith, same)
+not_five TooMuchInput begun end same = omega (arith, same)
+not_five DiskFault begun end same = omega (arith, same)
+not_five Words begun end same = end
+not_five NotAStore begun end same = end
+
+is_disk_fault : (status : Status) → code_of status ≡ 4 → status ≡ DiskFault
+is_disk_fault DiskFault four = refl
+is_disk_fault Done four = absurd (omega arith)
+is_disk_fault Words four = absurd (omega arith)
+is_disk_fault SourceFault four = absurd (omega arith)
+is_disk_fault SinkFault four = absurd (omega arith)
+is_disk_fault NotAStore four = absurd (omega arith)
+is_disk_fault Memory four = absurd (omega arith)
+is_disk_fault TooMuchInput four = absurd (omega arith)
+
+-- how the whole input ended
+session_end : (outcome : Outcome) (begun : Option Event) → OnOk outcome (begun ≡ None) → IfErr outcome (λ status. IsSessionEnd status begun) → IsSessionEnd (end_of outcome) begun
+session_end (Ok done) begun none end = none
+session_end (Err status) begun none end = end
+
+-- ---- the lines of a session that was opened
+
 -- the events are those of the first lines of the input
-reads_lines : (boot now status : ℕ) (input left : List ℕ) (report : Report) (events : List Event) (inputs : List (List ℕ)) → AreEvents now inputs (events ++ option_to_list report.begun) → AreInputs status input left inputs
-    → (status ≢ 4 → report.begun ≡ None) → ReadsLines boot now status input left report events
-reads_lines boot now status input left report events inputs are is none = record {
-  each = subst (λ (l : List (List ℕ)). AreEvents now l events) (sym (same (length events) (omega (arith, size, length-append events (option_to_list report.begun))))) (first_events now inputs events (option_to_list report.begun) are);
+reads_lines : (boot status : ℕ) (input left : List ℕ) (report : Report) (events : List Event) (inputs : List (List ℕ)) → AreEvents inputs (events ++ option_to_list report.begun) → AreInputs status input left inputs
+    → (status ≢ 4 → report.begun ≡ None) → ReadsLines boot status input left report events
+reads_lines boot status input left report events inputs are is none = record {
+  each = subst (λ (l : List (List ℕ)). AreEvents l events) (sym (same (length events) (omega (arith, size, length-append events (option_to_list report.begun))))) (first_events inputs events (option_to_list report.begun) are);
   next = λ event begun.
-      let all : AreEvents now inputs (events ++ event ∷ []) = subst (λ (o : Option Event). AreEvents now inputs (events ++ option_to_list o)) begun are in
-      let long : length inputs ≡ length events + 1 = sym (length_events now inputs (events ++ event ∷ []) all) ∙ length-append events (event ∷ []) in
-      inl (subst (λ (l : List (List ℕ)). AreEvents now l (events ++ event ∷ [])) (sym (same (length events + 1) (omega (arith, long)) ∙ take_all (length events + 1) inputs (omega (arith, long)))) all);
+      let all : AreEvents inputs (events ++ event ∷ []) = subst (λ (o : Option Event). AreEvents inputs (events ++ option_to_list o)) begun are in
+      let long : length inputs ≡ length events + 1 = sym (length_events inputs (events ++ event ∷ []) all) ∙ length-append events (event ∷ []) in
+      inl (subst (λ (l : List (List ℕ)). AreEvents l (events ++ event ∷ [])) (sym (same (length events + 1) (omega (arith, long)) ∙ take_all (length events + 1) inputs (omega (arith, long)))) all);
   done = λ zero.
       let all = is.all zero in
-      let whole : AreEvents now inputs events = alone (none (λ four. omega (arith, zero, four))) in
-      (subst (λ (l : List (List ℕ)). AreEvents now l events) all.0 whole, all.1, all.2);
-  ended = λ which. length_events now inputs events (alone (none (not_four which))) ∙ is.ended which;
+      let whole : AreEvents inputs events = alone (none (λ four. omega (arith, zero, four))) in
+      (subst (λ (l : List (List ℕ)). AreEvents l events) all.0 whole, all.1, all.2);
+  ended = λ which. length_events inputs events (alone (none (not_four which))) ∙ is.ended which;
   limit = is.limit;
+  beyond = is.beyond;
 }
   where
     size : length (events ++ option_to_list report.begun) ≡ length inputs
-    size = length_events now inputs (events ++ option_to_list report.begun) are
+    size = length_events inputs (events ++ option_to_list report.begun) are
 
     same : (n : ℕ) → n ≤ length inputs → take n (lines input) ≡ take n inputs
     same n le = ap (take n) is.first ∙ take-append-le n inputs is.more le
 
-    alone : report.begun ≡ None → AreEvents now inputs events
-    alone no_event = subst (λ (l : List Event). AreEvents now inputs l) (ap (λ (o : Option Event). events ++ option_to_list o) no_event ∙ append-nil events) are
+    alone : report.begun ≡ None → AreEvents inputs events
+    alone no_event = subst (λ (l : List Event). AreEvents inputs l) (ap (λ (o : Option Event). events ++ option_to_list o) no_event ∙ append-nil events) are
 
     not_four : (status ≡ 2) ⊎ (status ≡ 8) → status ≢ 4
     not_four (inl two) four = omega (arith, two, four)
     not_four (inr eight) four = omega (arith, eight, four)
 
-module _ (boot now : ℕ) (first : List ReportLine) (from mid to : ℕ) (le : from ≤ mid) (has : HasBootLine boot from mid first) (status : Status) (all : List ReportLine) (begun : Option Event) (end : IsSessionEnd status begun)
-    (inputs : List (List ℕ)) (told : Type 0) (a b : List ℕ) (trace : Trace (code_of status) now inputs told a b mid to first all begun) where
-  -- the lines of an opened session
-  pub opened_lines : {D : Type 0} (source_tells disk_tells : Type 0) (seen : D → List ℕ) (moment : D → ℕ) (input left : List ℕ) (old new : D) → moment old ≡ from → moment new ≡ to
-      → (source_tells → AreInputs (code_of status) input left inputs) → (disk_tells → (s0 : Session) → Stands (seen old) s0.store → BootsFirst boot s0.store.boot first)
-      → HeadlineLines source_tells disk_tells seen moment boot now (code_of status) input left old new (record { lines = all; begun = begun })
-  opened_lines source_tells disk_tells seen moment input left old new is_from is_to are boots = record {
-    reads = λ told.
-        let report : Report = record { lines = all; begun = begun } in
-        let same : after_boot (events_of all) ≡ events_of trace.more = ap (λ (ls : List ReportLine). after_boot (events_of ls)) trace.grown ∙ after_first boot from mid now first trace.more inputs (option_to_list begun) has trace.events in
-        subst (λ (es : List Event). ReadsLines boot now (code_of status) input left report es) (sym same)
-        (reads_lines boot now (code_of status) input left report (events_of trace.more) inputs trace.events (are told) (begins_on_fault status begun end).none);
-    begun = begins_on_fault status begun end;
-    marks =
-        subst (λ (m : ℕ). MarksRise m all (moment new)) (sym is_from) (subst (λ (m : ℕ). MarksRise from all m) (sym is_to)
-        (subst (λ (ls : List ReportLine). MarksRise from ls to) (sym trace.grown) (rise_on from mid to first trace.more (first_marks boot from mid first le has) trace.marks)));
-    boots = λ told s0 stands. inl (subst (λ (ls : List ReportLine). BootsFirst boot s0.store.boot ls) (sym trace.grown) (boots_on boot s0.store.boot from mid now first trace.more inputs (option_to_list begun) has trace.events (boots told s0 stands)));
+module _ {S K D L : Type 0} (source : SourceGhosts S) (to : SinkGhosts K) (on : Ghosts D) (net : LinksGhosts L) (boot now : ℕ) (disk : D) (source_old source_new : S) (old new : Place K D L) (outcome : Outcome)
+    (begun : Begun on boot now (failures_of (net.links old.links)) disk old.course old.disk) (answered : InputAnswered source to on net source_old old outcome source_new new) where
+  first : List ReportLine
+  first = old.course.lines.items
+
+  more : List ReportLine
+  more = answered.trace.more
+
+  report : Report
+  report = report_of new.course.lines.items new.course.begun
+
+  goes_on_begun : (outcome : Outcome) → OnOk outcome (IsReady net new.course new.links) → OnOk outcome (new.course.begun ≡ None)
+  goes_on_begun (Ok done) ready = ready.begun
+  goes_on_begun (Err status) ready = tt
+
+  ending : IsSessionEnd (end_of outcome) new.course.begun
+  ending = session_end outcome new.course.begun (goes_on_begun outcome answered.keeps.goes_on) answered.ends
+
+  le : on.moment disk ≤ on.moment old.disk
+  le = omega (arith, begun.synced)
+
+  now_is : old.course.now ≡ moment_behind now old.course.lines.items
+  now_is = begun.moment ∙ sym (first_moment boot (failures_of (net.links old.links)) (on.moment disk) (on.moment old.disk) now old.course.lines.items begun.lines)
+
+  now_behind : new.course.now ≡ moment_behind now new.course.lines.items
+  now_behind =
+      answered.trace.moment ∙ ap (λ (n : ℕ). moment_behind n answered.trace.more) now_is
+      ∙ sym (moment-append now old.course.lines.items answered.trace.more) ∙ ap (λ (ls : List ReportLine). moment_behind now ls) (sym answered.trace.grown)
+
+  moments : KeepsMoments now (report_of new.course.lines.items new.course.begun)
+  moments = record {
+    lines =
+        subst (λ (ls : List ReportLine). AreRunFrom now ls) (sym answered.trace.grown)
+        (run_from_append now old.course.lines.items answered.trace.more (first_run boot (failures_of (net.links old.links)) (on.moment disk) (on.moment old.disk) now old.course.lines.items begun.lines)
+        (subst (λ (n : ℕ). AreRunFrom n answered.trace.more) now_is answered.trace.at));
+    begun = subst (λ (n : ℕ). IfSome new.course.begun (IsRunAt n)) now_behind answered.trace.begun_at;
   }
 
-  pub opened_output : told → Writes (code_of status) a b all
-  opened_output is_told =
-      subst (λ (ls : List ReportLine). Writes (code_of status) a b ls) (sym trace.grown)
-      (writes_on (code_of status) a a b first trace.more (sym (ap (λ (l : List ℕ). a ++ l) (no_texts boot from mid first has) ∙ append-nil a)) (trace.output is_told))
+  called : TakesNumber on old.disk new.disk → (on.moment disk + 2 ≤ on.moment new.disk) ⊎ IsSpent on new.disk
+  called (inl counted) = inl (omega (arith, begun.synced, counted))
+  called (inr spent) = inr spent
 
--- the lines of a session that was not opened
-take-zero : (l : List (List ℕ)) → take 0 l ≡ []
-take-zero [] = refl
-take-zero (x ∷ l) = refl
+  err_is : (outcome : Outcome) → end_of outcome ≡ DiskFault → outcome ≡ Err DiskFault
+  err_is (Ok done) is = absurd (cc (is))
+  err_is (Err status) is = ap Err is
 
-module _ {D : Type 0} (source_tells disk_tells : Type 0) (seen : D → List ℕ) (moment : D → ℕ) (boot now : ℕ) (input : List ℕ) (old new : D) (le : moment old ≤ moment new) where
-  none_lines : (status : ℕ) (begun : Option Event) → status ≢ 0 → status ≢ 2 → status ≢ 8 → ((event : Event) → begun ≡ Some event → event ≡ Boot boot) → BeginsOnFault status begun
-      → (disk_tells → (s0 : Session) → Stands (seen old) s0.store → (status ≡ 6) ⊎ ((status ≡ 4) × (begun ≡ Some (Boot boot))))
-      → HeadlineLines source_tells disk_tells seen moment boot now status input input old new (record { lines = []; begun = begun })
-  none_lines status begun not_zero not_two not_eight next fault opened = record {
+  -- the lines
+  pub opened_lines : (on.tells new.disk → (store : Store) → Stands (on.seen disk) store → BootsFirst boot store.boot old.course.lines.items)
+      → HeadlineLines source on net boot now (code_of (end_of outcome)) (devices_of source_old old.sink disk old.links) (devices_of source_new new.sink new.disk new.links)
+      (report_of new.course.lines.items new.course.begun)
+  opened_lines boots = record {
+    reads = λ told.
+        let same : after_boot (events_of new.course.lines.items) ≡ events_of answered.trace.more =
+        ap (λ (ls : List ReportLine). after_boot (events_of ls)) answered.trace.grown
+        ∙ after_first boot (failures_of (net.links old.links)) (on.moment disk) (on.moment old.disk) old.course.lines.items answered.trace.more answered.inputs (option_to_list new.course.begun) begun.lines answered.trace.events in
+        subst (λ (es : List Event). ReadsLines boot (code_of (end_of outcome)) (source.left source_old) (source.left source_new) (report_of new.course.lines.items new.course.begun) es) (sym same)
+        (reads_lines boot (code_of (end_of outcome)) (source.left source_old) (source.left source_new) (report_of new.course.lines.items new.course.begun) (events_of answered.trace.more) answered.inputs answered.trace.events
+        (answered.given told) (begins_on_fault (end_of outcome) new.course.begun ending).none);
+    moments = moments;
+    begun = begins_on_fault (end_of outcome) new.course.begun ending;
+    marks =
+        subst (λ (ls : List ReportLine). MarksRise (on.moment disk) ls (on.moment new.disk)) (sym answered.trace.grown)
+        (rise_on (on.moment disk) (on.moment old.disk) (on.moment new.disk) old.course.lines.items answered.trace.more
+        (first_marks boot (failures_of (net.links old.links)) (on.moment disk) (on.moment old.disk) old.course.lines.items le begun.lines) answered.trace.marks);
+    failures =
+        subst (λ (ls : List ReportLine). FailuresRise (failures_of (net.links old.links)) ls (failures_of (net.links new.links))) (sym answered.trace.grown)
+        (failures_on (failures_of (net.links old.links)) (failures_of (net.links old.links)) (failures_of (net.links new.links)) old.course.lines.items answered.trace.more
+        (first_failures boot (failures_of (net.links old.links)) (on.moment disk) (on.moment old.disk) old.course.lines.items begun.lines) answered.trace.failures);
+    links = answered.keeps.kept;
+    opening = inr (record {
+      store = not_five (end_of outcome) new.course.begun ending;
+      synced = omega (arith, begun.synced, answered.keeps.asks.later);
+      boots = λ told store stands.
+          subst (λ (ls : List ReportLine). BootsFirst boot store.boot ls) (sym answered.trace.grown)
+          (boots_on boot (failures_of (net.links old.links)) (on.moment disk) (on.moment old.disk) store.boot old.course.lines.items answered.trace.more answered.inputs (option_to_list new.course.begun) begun.lines answered.trace.events (boots told store stands));
+      begun = line_or_none answered.inputs (events_of answered.trace.more) new.course.begun answered.trace.events;
+      called = λ four. called (answered.keeps.numbered (err_is outcome (is_disk_fault (end_of outcome) four)));
+    });
+  }
+
+  -- what was written
+  pub opened_output : to.tells → Writes (code_of (end_of outcome)) (to.taken old.sink) (to.taken new.sink) new.course.lines.items
+  opened_output told =
+      subst (λ (ls : List ReportLine). Writes (code_of (end_of outcome)) (to.taken old.sink) (to.taken new.sink) ls) (sym answered.trace.grown)
+      (writes_on (code_of (end_of outcome)) (to.taken old.sink) (to.taken old.sink) (to.taken new.sink) old.course.lines.items answered.trace.more
+      (sym (ap (λ (l : List ℕ). to.taken old.sink ++ l) (no_texts boot (failures_of (net.links old.links)) (on.moment disk) (on.moment old.disk) old.course.lines.items begun.lines) ∙ append-nil (to.taken old.sink)))
+      (answered.trace.output told))
+
+-- ---- a session that was not opened
+
+module _ {S K D L : Type 0} (source : SourceGhosts S) (on : Ghosts D) (net : LinksGhosts L) (boot now : ℕ) (s : S) (k : K) (l : L) (old new : D) (le : on.moment old ≤ on.moment new) where
+  none_lines : (status : ℕ) (begun : Option Event) → status ≢ 0 → status ≢ 2 → status ≢ 8 → ((event : Event) → begun ≡ Some event → event ≡ Boot boot)
+      → IfSome begun (IsRunAt now) → BeginsOnFault status begun
+      → ((status ≡ 4) × (begun ≡ Some (Boot boot))) ⊎ (((status ≡ 5) ⊎ (status ≡ 6)) × (begun ≡ None))
+      → HeadlineLines source on net boot now status (devices_of s k old l) (devices_of s k new l) (report_of [] begun)
+  none_lines status begun not_zero not_two not_eight next at fault ends = record {
     reads = λ told. record {
-      each = subst (λ (l : List (List ℕ)). AreEvents now l []) (sym (take-zero (lines input))) tt;
+      each = subst (λ (l : List (List ℕ)). AreEvents l []) (sym (take-none (lines (source.left s)))) tt;
       next = λ event is. inr (refl, next event is, refl);
       done = λ zero. absurd (not_zero zero);
       ended = λ which. absurd (neither which);
       limit = λ eight. absurd (not_eight eight);
+      beyond = λ more. absurd (omega arith);
     };
+    moments = record { lines = tt; begun = at };
     begun = fault;
     marks = le;
-    boots = λ told s0 stands. inr (refl, opened told s0 stands);
+    failures = omega arith;
+    links = kept_same (net.links l);
+    opening = inl (record { lines = refl; begun = ends; unread = refl; unwritten = refl; unasked = refl });
   }
     where
       neither : (status ≡ 2) ⊎ (status ≡ 8) → ⊥
       neither (inl two) = not_two two
       neither (inr eight) = not_eight eight
 
-  unopened : (status : Status) (begun : Option Event) → IsOpeningEnd boot status begun → (disk_tells → status ≡ NotAStore → StandsForNone (seen old))
-      → HeadlineLines source_tells disk_tells seen moment boot now (code_of status) input input old new (record { lines = []; begun = begun })
-  unopened Memory begun end no_store =
-      none_lines 6 begun (λ same. omega (arith, same)) (λ same. omega (arith, same)) (λ same. omega (arith, same)) (λ event is. let clash : None ≡ Some event = sym end ∙ is in cc (clash))
-      (record { none = λ other. end; some = λ four. absurd (omega arith) }) (λ told s0 stands. inl refl)
-  unopened NotAStore begun end no_store =
-      none_lines 5 begun (λ same. omega (arith, same)) (λ same. omega (arith, same)) (λ same. omega (arith, same)) (λ event is. let clash : None ≡ Some event = sym end ∙ is in cc (clash))
-      (record { none = λ other. end; some = λ four. absurd (omega arith) }) (λ told s0 stands. absurd (no_store told refl s0.store stands))
-  unopened DiskFault begun end no_store =
-      none_lines 4 begun (λ same. omega (arith, same)) (λ same. omega (arith, same)) (λ same. omega (arith, same)) (λ event is. let same : Some (Boot boot) ≡ Some event = sym end ∙ is in cc (same))
-      (record { none = λ other. absurd (other refl); some = λ four. subst IsBegun (sym end) tt }) (λ told s0 stands. inr (refl, end))
-  unopened Done begun end no_store = absurd end
-  unopened Words begun end no_store = absurd end
-  unopened SourceFault begun end no_store = absurd end
-  unopened SinkFault begun end no_store = absurd end
-  unopened TooMuchInput begun end no_store = absurd end
-
-  pub unopened_lines : (status : Status) (all : List ReportLine) (begun : Option Event) → all ≡ [] → IsOpeningEnd boot status begun → (disk_tells → status ≡ NotAStore → StandsForNone (seen old))
-      → HeadlineLines source_tells disk_tells seen moment boot now (code_of status) input input old new (record { lines = all; begun = begun })
-  unopened_lines status all begun none end no_store =
-      subst (λ (ls : List ReportLine). HeadlineLines source_tells disk_tells seen moment boot now (code_of status) input input old new (record { lines = ls; begun = begun })) (sym none) (unopened status begun end no_store)
+  pub unopened_lines : (status : Status) → IsOpeningEnd status
+      → HeadlineLines source on net boot now (code_of status) (devices_of s k old l) (devices_of s k new l) (report_of [] (begun_by boot status))
+  unopened_lines Memory end =
+      none_lines 6 None (λ same. omega (arith, same)) (λ same. omega (arith, same)) (λ same. omega (arith, same)) (λ event is. cc (is)) tt
+      (record { none = λ other. refl; some = λ four. absurd (omega arith) }) (inr (inr refl, refl))
+  unopened_lines NotAStore end =
+      none_lines 5 None (λ same. omega (arith, same)) (λ same. omega (arith, same)) (λ same. omega (arith, same)) (λ event is. cc (is)) tt
+      (record { none = λ other. refl; some = λ four. absurd (omega arith) }) (inr (inl refl, refl))
+  unopened_lines DiskFault end =
+      none_lines 4 (Some (Boot boot)) (λ same. omega (arith, same)) (λ same. omega (arith, same)) (λ same. omega (arith, same)) (λ event is. cc (is)) tt
+      (record { none = λ other. absurd (other refl); some = λ four. tt }) (inl (refl, refl))
+  unopened_lines Done end = absurd end
+  unopened_lines Words end = absurd end
+  unopened_lines SourceFault end = absurd end
+  unopened_lines SinkFault end = absurd end
+  unopened_lines TooMuchInput end = absurd end
 
 -- and its run
-pub unopened_run : {D : Type 0} (sink_tells disk_tells : Type 0) (seen : D → List ℕ) (moment : D → ℕ) (boot : ℕ) (taken : List ℕ) (old new : D) (status : Status) (all : List ReportLine) (begun : Option Event) → all ≡ [] → IsOpeningEnd boot status begun
-    → (disk_tells → status ≡ NotAStore → StandsForNone (seen old)) → (status ≢ DiskFault → moment new ≤ moment old + 1) → (disk_tells → (s0 : Session) → Stands (seen old) s0.store → status ≢ DiskFault → Stands (seen new) s0.store)
-    → HeadlineRun sink_tells disk_tells seen moment (code_of status) taken taken old new (record { lines = all; begun = begun })
-unopened_run sink_tells disk_tells seen moment boot taken old new status all begun none end no_store within reads =
-    subst (λ (ls : List ReportLine). HeadlineRun sink_tells disk_tells seen moment (code_of status) taken taken old new (record { lines = ls; begun = begun })) (sym none) (record {
-      steps = λ told s0 stands. (s0, record { steps = refl; sound = stands.valid }, λ other. reads told s0 stands (λ same. other (ap code_of same)));
-      calls = λ told s0 stands. (s0, moment old + 1, (refl, refl), made status begun end told s0 stands no_store within);
-      output = λ told. record { whole = λ other. sym (append-nil taken); part = λ three. absurd (not_three status begun end three) };
-    })
+pub unopened_run : {S K D L : Type 0} (to : SinkGhosts K) (on : Ghosts D) (net : LinksGhosts L) (boot now : ℕ) (s : S) (k : K) (l : L) (old new : D) (status : Status) → IsOpeningEnd status
+    → (on.tells new → status ≡ NotAStore → StandsForNone (on.seen old)) → (status ≢ DiskFault → on.moment new ≤ on.moment old + 1) → (status ≢ DiskFault → on.seen new ≡ on.seen old)
+    → HeadlineRun to on net now (code_of status) (devices_of s k old l) (devices_of s k new l) (report_of [] (begun_by boot status))
+unopened_run to on net boot now s k l old new status end no_store within reads = record {
+  leads = λ told store stands. record {
+    session = session_over store;
+    runs = runs_none now store stands.sound;
+    reads = λ other. subst (λ (image : List ℕ). Stands image store) (sym (reads (λ same. other (ap code_of same)))) stands.stands;
+    last = on.moment old + 1;
+    counts = (refl, refl);
+    calls = made status end (λ is. no_store told is store stands.stands) within;
+    behind = l;
+    served = (refl, refl);
+    begun = begun status end store;
+    sites = λ tell. refl;
+  };
+  output = λ told. record { whole = λ other. sym (append-nil (to.taken k)); part = λ three. absurd (not_three status end three) };
+}
   where
-    not_three : (status : Status) (begun : Option Event) → IsOpeningEnd boot status begun → code_of status ≡ 3 → ⊥
-    not_three Memory begun end three = omega arith
-    not_three NotAStore begun end three = omega arith
-    not_three DiskFault begun end three = omega arith
-    not_three Done begun end three = end
-    not_three Words begun end three = end
-    not_three SourceFault begun end three = end
-    not_three SinkFault begun end three = end
-    not_three TooMuchInput begun end three = end
+    not_three : (status : Status) → IsOpeningEnd status → code_of status ≡ 3 → ⊥
+    not_three Memory end three = omega arith
+    not_three NotAStore end three = omega arith
+    not_three DiskFault end three = omega arith
+    not_three Done end three = end
+    not_three Words end three = end
+    not_three SourceFault end three = end
+    not_three SinkFault end three = end
+    not_three TooMuchInput end three = end
 
-    made : (status : Status) (begun : Option Event) → IsOpeningEnd boot status begun → disk_tells → (s0 : Session) → Stands (seen old) s0.store → (disk_tells → status ≡ NotAStore → StandsForNone (seen old)) → (status ≢ DiskFault → moment new ≤ moment old + 1)
-        → MadeCalls (code_of status) (moment old) (moment new) [] (moment old + 1)
-    made Memory begun end told s0 stands no_store within = λ other. inr (refl, refl, within (λ same. cc (same)))
-    made NotAStore begun end told s0 stands no_store within = absurd (no_store told refl s0.store stands)
-    made DiskFault begun end told s0 stands no_store within = λ other. absurd (other refl)
-    made Done begun end told s0 stands no_store within = absurd end
-    made Words begun end told s0 stands no_store within = absurd end
-    made SourceFault begun end told s0 stands no_store within = absurd end
-    made SinkFault begun end told s0 stands no_store within = absurd end
-    made TooMuchInput begun end told s0 stands no_store within = absurd end
+    begun : (status : Status) → IsOpeningEnd status → (store : Store) → IsBegunServed net now (session_over store) l (begun_by boot status) l
+    begun Memory end store = refl
+    begun NotAStore end store = refl
+    begun DiskFault end store = (session_over (booted boot store), None, (refl, refl), boot_served net l boot (Boot boot) None store (booted boot store) refl)
+    begun Done end store = absurd end
+    begun Words end store = absurd end
+    begun SourceFault end store = absurd end
+    begun SinkFault end store = absurd end
+    begun TooMuchInput end store = absurd end
+
+    made : (status : Status) → IsOpeningEnd status → (status ≡ NotAStore → ⊥) → (status ≢ DiskFault → on.moment new ≤ on.moment old + 1)
+        → MadeCalls (code_of status) (on.moment old) (on.moment new) [] (on.moment old + 1)
+    made Memory end never within = λ other. inr (refl, refl, within (λ same. cc (same)))
+    made NotAStore end never within = absurd (never refl)
+    made DiskFault end never within = λ other. absurd (other refl)
+    made Done end never within = absurd end
+    made Words end never within = absurd end
+    made SourceFault end never within = absurd end
+    made SinkFault end never within = absurd end
+    made TooMuchInput end never within = absurd end

@@ -1,42 +1,100 @@
--- One line more in a report: its run and its marks.
-use Rattle.std.proofs.Common.{◌≡◌, ◌⊎◌, inl, inr, ℕ, ◌+◌, ◌-◌, ◌<◌, ◌≤◌, List, [], ◌∷◌, ◌++◌, length, take, map, Option, Some, None, refl, sym, ◌∙◌, ap, subst, arith, length-append}
-use Rattle.std.proofs.lemmas.List.{map-append, take_all, take_at, take-append-le}
+-- One line more in a report: its run, its moments and its marks.
+use Rattle.std.proofs.Common.{◌≡◌, ℕ, ◌+◌, ◌-◌, ◌<◌, ◌≤◌, List, [], ◌∷◌, ◌++◌, length, Option, refl, sym, subst, arith, ◌∙◌, length-append}
+use Rattle.std.proofs.lemmas.List.{map-append, take_at}
 use Rattle.std.proofs.lemmas.Bool.Decides.{nat_tests}
-use Rattle.std.specs.Prelude.{if◌then◌else◌, nat_le, ◌==◌}
-use Rattle.store_state.specs.declared.event.Event.{Event}
-use Rattle.store_state.specs.declared.reply.Reply.{Reply}
-use Rattle.store_state.specs.declared.report.ReportLine.{ReportLine}
-use Rattle.store_state.specs.Store.{Session, Valid}
-use Rattle.store_state.specs.Step.{Step, Run}
-use Rattle.updater_cli.specs.Report.{events_of, replies_of, marked_by, answered, RunsTo, IsCounted, Counts, MarksRise}
-use Rattle.updater_cli.specs.Session.{AreMarkedBy}
+use Rattle.std.specs.Prelude.{if◌then◌else◌, nat_le}
+use Rattle.machine.specs.declared.event.Event.{Event}
+use Rattle.machine.specs.declared.reply.Reply.{Reply}
+use Rattle.machine.specs.declared.report.ReportLine.{ReportLine}
+use Rattle.machine.specs.Machine.{Step, Run, moment_after}
+use Rattle.machine.specs.declared.command.Command.TheVariants.{At, Require, Install}
+use Rattle.machine.specs.declared.event.Event.TheVariants.{Boot, Line, Unread}
+use Rattle.machine.specs.Laws.{InstallsWithoutJobs}
+use Rattle.machine.specs.Words.{IsEvent}
+use Rattle.machine.proofs.Sessions.{step_jobs, step_session}
+use Rattle.machine.specs.Store.{Session}
+use Rattle.links.specs.declared.links.Links.{Ghosts as LinksGhosts}
+use Rattle.links.specs.Links.{failures_of}
+use Rattle.updater_cli.specs.Report.{Origin, origin_after, events_of, replies_of, marked_by, moment_behind, AreRunFrom, answered, IsSettled, RunsTo, IsCounted, Counts, IsServed, AreServed, MarksRise, FailuresRise, AreMarkedBy}
 
-pub run_push : (old mid new : Session) (events : List Event) (replies : List (Option Reply)) (e : Event) (r : Option Reply) → Run old events replies mid → Step mid e r new → Run old (events ++ e ∷ []) (replies ++ r ∷ []) new
-run_push old mid new [] [] e r run step = (new, subst (λ (s : Session). Step s e r new) run step, refl)
-run_push old mid new [] (x ∷ replies) e r run step = absurd run
-run_push old mid new (x ∷ events) [] e r run step = absurd run
-run_push old mid new (x ∷ events) (y ∷ replies) e r run step = (run.0, run.1, run_push run.0 mid new events replies e r run.2 step)
+-- ---- a step
 
-pub events-push : (lines : List ReportLine) (l : ReportLine) → events_of (lines ++ l ∷ []) ≡ events_of lines ++ l.event ∷ []
-events-push lines l = map-append (λ (x : ReportLine). x.event) lines (l ∷ [])
+without_jobs : (event : Event) (old : Session) → old.jobs ≡ [] → InstallsWithoutJobs event old
+without_jobs (Boot boot) old none = tt
+without_jobs (Line (At next) now heard) old none = tt
+without_jobs (Line (Require key version) now heard) old none = tt
+without_jobs (Line (Install url) now heard) old none = none
+without_jobs (Unread fault) old none = tt
 
-pub replies-push : (lines : List ReportLine) (l : ReportLine) → replies_of (lines ++ l ∷ []) ≡ replies_of lines ++ l.reply ∷ []
-replies-push lines l = map-append (λ (x : ReportLine). x.reply) lines (l ∷ [])
-
-pub runs_push : (s0 s s' : Session) (lines : List ReportLine) (l : ReportLine) (e : Event) (r : Option Reply) → l.event ≡ e → l.reply ≡ r → RunsTo s0 lines s → Step s e r s' → Valid s'.store → RunsTo s0 (lines ++ l ∷ []) s'
-runs_push s0 s s' lines l e r is_e is_r runs step sound = record {
-  steps =
-      let pushed = run_push s0 s s' (events_of lines) (replies_of lines) e r runs.steps step in
-      let events : events_of lines ++ e ∷ [] ≡ events_of (lines ++ l ∷ []) = ap (λ (x : Event). events_of lines ++ x ∷ []) (sym is_e) ∙ sym (events-push lines l) in
-      let replies : replies_of lines ++ r ∷ [] ≡ replies_of (lines ++ l ∷ []) = ap (λ (x : Option Reply). replies_of lines ++ x ∷ []) (sym is_r) ∙ sym (replies-push lines l) in
-      subst (λ (es : List Event). Run s0 es (replies_of (lines ++ l ∷ [])) s') events (subst (λ (rs : List (Option Reply)). Run s0 (events_of lines ++ e ∷ []) rs s') replies pushed);
-  sound = sound;
+pub step_settled : (now : ℕ) (old : Session) (event : Event) (reply : Option Reply) (new : Session) → IsEvent event → Step now old event reply new → IsSettled old → IsSettled new
+step_settled now old event reply new is step settled = record {
+  sound = step_session now old event reply new is step (without_jobs event old settled.jobs) settled.sound;
+  jobs = step_jobs now old event reply new step ∙ settled.jobs;
 }
 
-pub counts_push : (s0 : Session) (from : ℕ) (lines : List ReportLine) (s s' : Session) (last : ℕ) (l : ReportLine) → Counts s0 from lines s last → Step s l.event l.reply s' → IsCounted s s' last l.mark → Counts s0 from (lines ++ l ∷ []) s' l.mark
-counts_push s0 from [] s s' last l so_far step counted =
-    (s', subst (λ (x : Session). Step x l.event l.reply s') so_far.0 step, subst (λ (x : Session). IsCounted x s' from l.mark) so_far.0 (subst (λ (n : ℕ). IsCounted s s' n l.mark) so_far.1 counted), (refl, refl))
-counts_push s0 from (x ∷ lines) s s' last l so_far step counted = (so_far.0, so_far.1, so_far.2, counts_push so_far.0 x.mark lines s s' last l so_far.3 step counted)
+-- ---- the run
+
+run_push : (now : ℕ) (old mid new : Session) (lines : List ReportLine) (e : Event) (r : Option Reply)
+    → Run now old (events_of lines) (replies_of lines) mid → Step (moment_behind now lines) mid e r new
+    → Run now old (events_of lines ++ e ∷ []) (replies_of lines ++ r ∷ []) new
+run_push now old mid new [] e r run step = (new, subst (λ (s : Session). Step now s e r new) run step, refl)
+run_push now old mid new (x ∷ lines) e r run step =
+    (run.0, run.1, run_push (moment_after now x.reply) run.0 mid new lines e r run.2 step)
+
+events-push : (lines : List ReportLine) (l : ReportLine) → events_of (lines ++ l ∷ []) ≡ events_of lines ++ l.event ∷ []
+events-push lines l = map-append (λ (x : ReportLine). x.event) lines (l ∷ [])
+
+replies-push : (lines : List ReportLine) (l : ReportLine) → replies_of (lines ++ l ∷ []) ≡ replies_of lines ++ l.reply ∷ []
+replies-push lines l = map-append (λ (x : ReportLine). x.reply) lines (l ∷ [])
+
+pub runs_push : (from : Origin) (s new : Session) (lines : List ReportLine) (l : ReportLine) → RunsTo from lines s
+    → Step (moment_behind from.now lines) s l.event l.reply new → IsSettled new → RunsTo from (lines ++ l ∷ []) new
+runs_push from s new lines l runs step settled = record {
+  steps =
+      let pushed = run_push from.now from.session s new lines l.event l.reply runs.steps step in
+      subst (λ (es : List Event). Run from.now from.session es (replies_of (lines ++ l ∷ [])) new) (sym (events-push lines l))
+      (subst (λ (rs : List (Option Reply)). Run from.now from.session (events_of lines ++ l.event ∷ []) rs new) (sym (replies-push lines l)) pushed);
+  settled = settled;
+}
+
+pub counts_push : (from : Origin) (mark : ℕ) (lines : List ReportLine) (s new : Session) (last : ℕ) (l : ReportLine)
+    → Counts from mark lines s last → Step (moment_behind from.now lines) s l.event l.reply new → IsCounted s new last l.mark
+    → Counts from mark (lines ++ l ∷ []) new l.mark
+counts_push from mark [] s new last l so_far step counted = (
+  new,
+  subst (λ (x : Session). Step from.now x l.event l.reply new) so_far.0 step,
+  subst (λ (x : Session). IsCounted x new mark l.mark) so_far.0 (subst (λ (n : ℕ). IsCounted s new n l.mark) so_far.1 counted),
+  (refl, refl),
+)
+counts_push from mark (x ∷ lines) s new last l so_far step counted =
+    (so_far.0, so_far.1, so_far.2, counts_push (origin_after from x.reply so_far.0) x.mark lines s new last l so_far.3 step counted)
+
+-- and what the links did for it
+pub served_push : {L : Type 0} (net : LinksGhosts L) (from : Origin) (first : L) (lines : List ReportLine) (s new : Session) (last after : L) (l : ReportLine)
+    → AreServed net from first lines s last → Step (moment_behind from.now lines) s l.event l.reply new → IsServed net l.event l.reply last after s.store new.store
+    → l.failures ≡ failures_of (net.links after) → AreServed net from first (lines ++ l ∷ []) new after
+served_push {L} net from first [] s new last after l so_far step served shown = (
+  new,
+  after,
+  subst (λ (x : Session). Step from.now x l.event l.reply new) so_far.0 step,
+  subst (λ (x : Session). IsServed net l.event l.reply first after x.store new.store) so_far.0 (subst (λ (x : L). IsServed net l.event l.reply x after s.store new.store) so_far.1 served),
+  shown,
+  (refl, refl),
+)
+served_push net from first (x ∷ lines) s new last after l so_far step served shown =
+    (so_far.0, so_far.1, so_far.2, so_far.3, so_far.4, served_push net (origin_after from x.reply so_far.0) so_far.1 lines s new last after l so_far.5 step served shown)
+
+-- ---- moments of lines
+
+pub moment-append : (now : ℕ) (xs ys : List ReportLine) → moment_behind now (xs ++ ys) ≡ moment_behind (moment_behind now xs) ys
+moment-append now [] ys = refl
+moment-append now (x ∷ xs) ys = moment-append (moment_after now x.reply) xs ys
+
+pub run_from_append : (now : ℕ) (xs ys : List ReportLine) → AreRunFrom now xs → AreRunFrom (moment_behind now xs) ys → AreRunFrom now (xs ++ ys)
+run_from_append now [] ys first second = second
+run_from_append now (x ∷ xs) ys first second = (first.0, run_from_append (moment_after now x.reply) xs ys first.1 second)
+
+-- ---- marks
 
 -- how much a line counts at a moment
 abbrev pub counts : ReportLine → ℕ → ℕ
@@ -68,19 +126,12 @@ marked_push (x ∷ lines) l m marks le = (marks.0, marked_push lines l m marks.1
 pub answered_cut : (lines : List ReportLine) (l : ReportLine) → answered 3 (lines ++ l ∷ []) ≡ lines
 answered_cut lines l = take_at lines (l ∷ []) (length (lines ++ l ∷ []) - 1) (omega (arith, length-append lines (l ∷ [])))
 
-pub rise_push : (a b c : ℕ) (lines : List ReportLine) (l : ReportLine) → MarksRise a lines b → b ≤ l.mark → l.failures ≡ 0 → l.mark ≤ c → MarksRise a (lines ++ l ∷ []) c
-rise_push a b c [] l rise le none to = (omega arith, none, to)
-rise_push a b c (x ∷ lines) l rise le none to = (rise.0, rise.1, rise_push x.mark b c lines l rise.2 le none to)
-
 pub rise_on : (a b c : ℕ) (xs ys : List ReportLine) → MarksRise a xs b → MarksRise b ys c → MarksRise a (xs ++ ys) c
 rise_on a b c [] [] first second = omega arith
-rise_on a b c [] (y ∷ ys) first second = (omega (arith, second.0), second.1, second.2)
-rise_on a b c (x ∷ xs) ys first second = (first.0, first.1, rise_on x.mark b c xs ys first.2 second)
+rise_on a b c [] (y ∷ ys) first second = (omega (arith, second.0), second.1)
+rise_on a b c (x ∷ xs) ys first second = (first.0, rise_on x.mark b c xs ys first.1 second)
 
-pub rise_le : (a b : ℕ) (xs : List ReportLine) → MarksRise a xs b → a ≤ b
-rise_le a b [] rise = rise
-rise_le a b (x ∷ xs) rise = omega (arith, rise.0, rise_le x.mark b xs rise.2)
-
-pub rise_later : (a b c : ℕ) (xs : List ReportLine) → MarksRise a xs b → b ≤ c → MarksRise a xs c
-rise_later a b c [] rise le = omega arith
-rise_later a b c (x ∷ xs) rise le = (rise.0, rise.1, rise_later x.mark b c xs rise.2 le)
+pub failures_on : (a b c : ℕ) (xs ys : List ReportLine) → FailuresRise a xs b → FailuresRise b ys c → FailuresRise a (xs ++ ys) c
+failures_on a b c [] [] first second = omega arith
+failures_on a b c [] (y ∷ ys) first second = (omega (arith, second.0), second.1)
+failures_on a b c (x ∷ xs) ys first second = (first.0, failures_on x.failures b c xs ys first.1 second)

@@ -1,16 +1,27 @@
 -- What a whole session does.
 use Rattle.std.specs.Prelude.{◌≡◌, ◌≢◌, ◌⊎◌, ◌==◌, ℕ, ◌+◌, ◌-◌, ◌<◌, ◌≤◌, List, [], ◌∷◌, ◌++◌, length, take, count_by, Option, Some, None}
 use Rattle.std.specs.Str.Lines.{lines}
-use Rattle.store_state.specs.declared.event.Event.{Event}
-use Rattle.store_state.specs.declared.event.Event.TheVariants.{Boot, Line, Unread}
-use Rattle.store_state.specs.declared.report.Report.{Report}
-use Rattle.store_state.specs.declared.report.ReportLine.{ReportLine}
-use Rattle.store_state.specs.Store.{Session}
+use Rattle.outside.specs.declared.source.Source.{Ghosts as SourceGhosts}
+use Rattle.outside.specs.declared.sink.Sink.{Ghosts as SinkGhosts}
+use Rattle.disks.specs.declared.disk.Disk.{Ghosts}
+use Rattle.links.specs.declared.links.Links.{Ghosts as LinksGhosts}
+use Rattle.links.specs.Links.{failures_of}
+use Rattle.fetcher.specs.Fetched.{AllTell, Kept}
+use Rattle.machine.specs.declared.event.Event.{Event}
+use Rattle.machine.specs.declared.event.Event.TheVariants.{Boot, Line, Unread}
+use Rattle.machine.specs.declared.report.Report.{Report}
+use Rattle.machine.specs.declared.report.ReportLine.{ReportLine}
+use Rattle.machine.specs.Store.{Session, Store}
 use Rattle.command_text.specs.Lines.{AreEvents}
 use Rattle.updater.specs.Stands.{Stands}
-use Rattle.updater_cli.specs.Report.{events_of, MarksRise, RunsTo, Counts, Writes}
-use Rattle.updater_cli.specs.Opening.{BootsFirst, Survives}
+use Rattle.updater.specs.Updater.{IsSpent}
+use Rattle.updater_cli.specs.Devices.{Devices}
+use Rattle.updater_cli.specs.Opening.{BootsFirst, IsLineOrNone, Survives}
+use Rattle.updater_cli.specs.Report.{origin_over, events_of, moment_behind, AreServed, Counts, FailuresRise, IsBegunServed, KeepsMoments, MarksRise, RunsTo, StandsSound, Writes}
+use Rattle.updater_cli.specs.Sites.{AreOfSites}
 use Rattle.updater_cli.specs.Status.{IsBegun}
+
+-- ---- the lines
 
 -- the events of lines: all but a boot event that stands first
 abbrev pub after_boot : List Event → List Event
@@ -19,54 +30,134 @@ after_boot (Boot boot ∷ events) = events
 after_boot (Line command now heard ∷ events) = Line command now heard ∷ events
 after_boot (Unread fault ∷ events) = Unread fault ∷ events
 
--- The event that was begun is that of the next line. Or it is the boot event, the store was not opened and nothing was
--- read.
-abbrev pub IsNext : ℕ → ℕ → List (List ℕ) → List ℕ → List ℕ → List ReportLine → List Event → Event → Type 0
-IsNext boot now inputs input left lines events event =
-    AreEvents now (take (length events + 1) inputs) (events ++ event ∷ []) ⊎ ((lines ≡ []) × (event ≡ Boot boot) × (left ≡ input))
+-- The event that was begun is that of the next line. Or it is the boot event, the store was not
+-- opened and nothing was read.
+abbrev pub IsNext : ℕ → List ℕ → List ℕ → List ReportLine → List Event → Event → Type 0
+IsNext boot input left lines_so_far events event =
+    AreEvents (take (length events + 1) (lines input)) (events ++ event ∷ [])
+    ⊎ ((lines_so_far ≡ []) × (event ≡ Boot boot) × (left ≡ input))
 
--- The events are those of the first lines of the input. With status 0 they are those of all, and nothing is left.
--- With status 2 or 8 they are those of every line that a line feed ends, of the bytes that were taken, up to the limit.
-pub record ReadsLines (boot now status : ℕ) (input left : List ℕ) (report : Report) (events : List Event) : Type 0 where
-  pub each : AreEvents now (take (length events) (lines input)) events
-  pub next : (event : Event) → report.begun ≡ Some event → IsNext boot now (lines input) input left report.lines events event
-  pub done : status ≡ 0 → AreEvents now (lines input) events × (left ≡ []) × (length input ≤ 65536)
-  pub ended : (status ≡ 2) ⊎ (status ≡ 8) → length events ≡ count_by (λ b. b == 10) (take 65536 (take (length input - length left) input))
+-- The events are those of the first lines of the input. With status 0 they are those of all, and
+-- nothing is left. With status 2 or 8 they are those of every line that a line feed ends, of the
+-- bytes that were taken, up to the limit. The status is 8 exactly where more bytes than the limit
+-- were taken.
+pub record ReadsLines (boot status : ℕ) (input left : List ℕ) (report : Report)
+    (events : List Event) : Type 0 where
+  pub each : AreEvents (take (length events) (lines input)) events
+  pub next : (event : Event) → report.begun ≡ Some event
+      → IsNext boot input left report.lines events event
+  pub done : status ≡ 0 → AreEvents (lines input) events × (left ≡ []) × (length input ≤ 65536)
+  pub ended : (status ≡ 2) ⊎ (status ≡ 8)
+      → length events ≡ count_by (λ b. b == 10)
+      (take 65536 (take (length input - length left) input))
   pub limit : status ≡ 8 → 65536 + length left < length input
-
--- the store was not opened: there was no memory, or the disk failed and the boot event was begun
-abbrev pub IsNotOpened : ℕ → ℕ → Report → Type 0
-IsNotOpened boot status report = (report.lines ≡ []) × ((status ≡ 6) ⊎ ((status ≡ 4) × (report.begun ≡ Some (Boot boot))))
+  pub beyond : 65536 + length left < length input → status ≡ 8
 
 -- an event that touches the disk was begun exactly where the disk failed, which is status 4
 pub record BeginsOnFault (status : ℕ) (begun : Option Event) : Type 0 where
   pub none : status ≢ 4 → begun ≡ None
   pub some : status ≡ 4 → IsBegun begun
 
--- The report's lines are those of the input, one event after another.
-pub record HeadlineLines {D : Type 0} (source_tells disk_tells : Type 0) (seen : D → List ℕ) (moment : D → ℕ) (boot now status : ℕ) (input left : List ℕ) (old new : D) (report : Report) : Type 0 where
-  pub reads : source_tells → ReadsLines boot now status input left report (after_boot (events_of report.lines))
+-- The store was not opened, and so nothing was read, written or asked: the disk failed, and the
+-- boot event was begun; or it holds no store; or there was no memory.
+pub record IsNotOpened {S K D L : Type 0} (boot status : ℕ) (old new : Devices S K D L)
+    (report : Report) : Type 0 where
+  pub lines : report.lines ≡ []
+  pub begun : ((status ≡ 4) × (report.begun ≡ Some (Boot boot)))
+      ⊎ (((status ≡ 5) ⊎ (status ≡ 6)) × (report.begun ≡ None))
+  pub unread : new.source ≡ old.source
+  pub unwritten : new.sink ≡ old.sink
+  pub unasked : new.links ≡ old.links
+
+-- The store was opened, which took a call of the disk. A boot event stands first exactly where the
+-- kept number differs from the given one. An event that was begun is a line's, for which a further
+-- call was made, save where the disk had no number left for one.
+pub record IsOpened {S K D L : Type 0} (on : Ghosts D) (boot status : ℕ)
+    (old new : Devices S K D L) (report : Report) : Type 0 where
+  pub store : status ≢ 5
+  pub synced : on.moment old.disk + 1 ≤ on.moment new.disk
+  pub boots : on.tells new.disk → (store : Store) → Stands (on.seen old.disk) store
+      → BootsFirst boot store.boot report.lines
+  pub begun : IsLineOrNone report.begun
+  pub called : status ≡ 4 → (on.moment old.disk + 2 ≤ on.moment new.disk) ⊎ IsSpent on new.disk
+
+-- The report's lines are those of the input, one event after another, each at the moment that the
+-- session has by then. Their marks never fall, nor do their numbers of failures, which lie between
+-- those of the links before and after. The links and their sites stay.
+pub record HeadlineLines {S K D L : Type 0} (source : SourceGhosts S) (on : Ghosts D)
+    (net : LinksGhosts L) (boot now status : ℕ) (old new : Devices S K D L)
+    (report : Report) : Type 0 where
+  pub reads : source.tells
+      → ReadsLines boot status (source.left old.source) (source.left new.source) report
+      (after_boot (events_of report.lines))
+  pub moments : KeepsMoments now report
   pub begun : BeginsOnFault status report.begun
-  pub marks : MarksRise (moment old) report.lines (moment new)
-  pub boots : disk_tells → (s0 : Session) → Stands (seen old) s0.store → BootsFirst boot s0.store.boot report.lines ⊎ IsNotOpened boot status report
+  pub marks : MarksRise (on.moment old.disk) report.lines (on.moment new.disk)
+  pub failures : FailuresRise (failures_of (net.links old.links)) report.lines
+      (failures_of (net.links new.links))
+  pub links : Kept (net.links old.links) (net.links new.links)
+  pub opening : IsNotOpened boot status old new report ⊎ IsOpened on boot status old new report
 
--- the calls that a session made, from the sync with which it begins: those of its lines, and no other
+-- ---- the run
+
+-- the calls that a session made, from the sync with which it begins: those of its lines, and no
+-- other
 abbrev pub MadeCalls : ℕ → ℕ → ℕ → List ReportLine → ℕ → Type 0
-MadeCalls status old new lines last = status ≢ 4 → (new ≡ last) ⊎ ((status ≡ 6) × (lines ≡ []) × (new ≤ last))
+MadeCalls status old new lines last =
+    status ≢ 4 → (new ≡ last) ⊎ ((status ≡ 6) × (lines ≡ []) × (new ≤ last))
 
--- The report's events and replies are a run from the store for which the reads stood, and the sink took the replies.
--- Unless the disk failed, which is status 4, the reads then stand for the store that the run leads to. Each line that
--- changes the store makes four calls of the disk, any other line none, and its mark is the disk's moment after them.
-pub record HeadlineRun {D : Type 0} (sink_tells disk_tells : Type 0) (seen : D → List ℕ) (moment : D → ℕ) (status : ℕ) (taken_old taken_new : List ℕ) (old new : D) (report : Report) : Type 0 where
-  pub steps : disk_tells → (s0 : Session) → Stands (seen old) s0.store → (s : Session) × RunsTo s0 report.lines s × (status ≢ 4 → Stands (seen new) s.store)
-  pub calls : disk_tells → (s0 : Session) → Stands (seen old) s0.store → (s : Session) × (last : ℕ) × Counts s0 (moment old + 1) report.lines s last × MadeCalls status (moment old) (moment new) report.lines last
-  pub output : sink_tells → Writes status taken_old taken_new report.lines
+-- The report's events and replies are a run from a new session over the store, and lead to this
+-- session, which is sound. Unless the disk failed, which is status 4, the reads then stand for its
+-- store. Each line that changes the store makes four calls of the disk, any other line none, and its
+-- mark is the disk's moment after them. For each line the links did what is said of it, one line
+-- after another: what it asked for, what they gave, and why they gave nothing. Where they tell, each
+-- text that was heard and each file that was brought is of one link's site at its address.
+pub record LeadsTo {S K D L : Type 0} (on : Ghosts D) (net : LinksGhosts L) (now status : ℕ)
+    (old new : Devices S K D L) (report : Report) (store : Store) : Type 0 where
+  pub session : Session
+  pub runs : RunsTo (origin_over now store) report.lines session
+  pub reads : status ≢ 4 → Stands (on.seen new.disk) session.store
+  pub last : ℕ
+  pub counts : Counts (origin_over now store) (on.moment old.disk + 1) report.lines session last
+  pub calls : MadeCalls status (on.moment old.disk) (on.moment new.disk) report.lines last
+  pub behind : L
+  pub served : AreServed net (origin_over now store) old.links report.lines session behind
+  pub begun : IsBegunServed net (moment_behind now report.lines) session behind
+      report.begun new.links
+  pub sites : AllTell (net.links old.links)
+      → AreOfSites (net.links old.links) (origin_over now store) report.lines session
 
--- Whenever the machine stops, what it leaves stands for the store after some first events of the report, all that were
--- acknowledged among them.
-abbrev pub HeadlineStop : {D : Type 0} → (D → ℕ) → (D → ℕ → List ℕ → Type 0) → (D → List ℕ) → ℕ → D → D → Report → Type 0
-HeadlineStop moment left_at seen status old new report = (s0 : Session) → Stands (seen old) s0.store → Survives moment left_at old new s0 status report.lines report.begun
+-- the lines are a run from the sound store for which the reads stood, and the sink took the replies
+pub record HeadlineRun {S K D L : Type 0} (sink : SinkGhosts K) (on : Ghosts D)
+    (net : LinksGhosts L) (now status : ℕ) (old new : Devices S K D L)
+    (report : Report) : Type 0 where
+  pub leads : on.tells new.disk → (store : Store) → StandsSound (on.seen old.disk) store
+      → LeadsTo on net now status old new report store
+  pub output : sink.tells → Writes status (sink.taken old.sink) (sink.taken new.sink) report.lines
+
+-- ---- stops
+
+-- Whenever the machine stops, what it leaves stands for the store after some first events of the
+-- report, all that were acknowledged among them.
+abbrev pub HeadlineStop : {D : Type 0} → Ghosts D → ℕ → ℕ → D → D → Report → Type 0
+HeadlineStop on now status old new report =
+    (store : Store) → StandsSound (on.seen old) store
+    → Survives on old new (origin_over now store) status report
+
+-- ---- the whole
 
 -- a report of nothing
 abbrev pub IsNothing : Report → Type 0
 IsNothing report = (report.lines ≡ []) × (report.begun ≡ None)
+
+-- a session of lines
+pub record Headline {S K D L : Type 0} (source : SourceGhosts S) (sink : SinkGhosts K)
+    (on : Ghosts D) (net : LinksGhosts L) (boot now status : ℕ) (old new : Devices S K D L)
+    (report : Report) : Type 0 where
+  -- the lines of the session are those of the input, one event after another
+  pub lines : HeadlineLines source on net boot now status old new report
+  -- they are a run from the store that stood, the sink took their replies, the disk holds what they
+  -- lead to, and the links gave what they heard and brought
+  pub run : HeadlineRun sink on net now status old new report
+  -- a stop at any moment leaves a store that holds every acknowledged line
+  pub stop : on.tells new.disk → HeadlineStop on now status old.disk new.disk report

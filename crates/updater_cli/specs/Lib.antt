@@ -1,7 +1,11 @@
+pub mod Devices
 pub mod Format
 pub mod Headline
+pub mod Lines
 pub mod Opening
 pub mod Report
+pub mod Requests
 pub mod Session
+pub mod Sites
 pub mod Status
 pub mod Words

@@ -1,12 +1,22 @@
 -- What a report says of a session.
-use Rattle.std.specs.Prelude.{◌≡◌, ◌≢◌, ◌⊎◌, ◌==◌, ℕ, ◌+◌, ◌-◌, ◌≤◌, nat_le, if◌then◌else◌, List, [], ◌∷◌, ◌++◌, length, take, map, Option, Some, None, option_to_list}
+use Rattle.std.specs.Prelude.{◌≡◌, ◌≢◌, ◌⊎◌, ◌==◌, ℕ, ◌+◌, ◌-◌, ◌≤◌, nat_le, if◌then◌else◌, List, [], ◌∷◌, ◌++◌, length, take, map, Option, Some, None, IfSome}
 use Rattle.outside.specs.Streams.{AppendsPart}
-use Rattle.store_state.specs.declared.event.Event.{Event}
-use Rattle.store_state.specs.declared.reply.Reply.{Reply}
-use Rattle.store_state.specs.declared.report.ReportLine.{ReportLine}
-use Rattle.store_state.specs.Store.{Session, Valid}
-use Rattle.store_state.specs.Step.{Step, Run}
-use Rattle.command_text.specs.Lines.{AreEvents, texts_of}
+use Rattle.links.specs.declared.links.Links.{Ghosts as LinksGhosts}
+use Rattle.links.specs.Links.{LinksState, failures_of}
+use Rattle.fetcher.specs.Fetched.{Kept}
+use Rattle.machine.specs.declared.command.Command.{Command}
+use Rattle.machine.specs.declared.event.Event.{Event}
+use Rattle.machine.specs.declared.event.Event.TheVariants.{Boot, Line, Unread}
+use Rattle.machine.specs.declared.reply.Reply.{Reply}
+use Rattle.machine.specs.declared.report.Report.{Report}
+use Rattle.machine.specs.declared.report.ReportLine.{ReportLine}
+use Rattle.machine.specs.Machine.{Hears, Step, Run, moment_after}
+use Rattle.machine.specs.Shape.{Shape}
+use Rattle.machine.specs.Sound.{Sound}
+use Rattle.machine.specs.SoundSession.{SoundSession}
+use Rattle.machine.specs.Store.{Session, Store, session_over}
+use Rattle.command_text.specs.Lines.{texts_of}
+use Rattle.updater.specs.Commanded.{LeavesLinks, Serves}
 use Rattle.updater.specs.Stands.{Stands}
 
 abbrev pub events_of : List ReportLine → List Event
@@ -14,6 +24,9 @@ events_of lines = map (λ l. l.event) lines
 
 abbrev pub replies_of : List ReportLine → List (Option Reply)
 replies_of lines = map (λ l. l.reply) lines
+
+abbrev pub report_of : List ReportLine → Option Event → Report
+report_of lines begun = record { lines = lines; begun = begun }
 
 -- how many of the lines are marked at that moment or before
 abbrev pub marked_by : List ReportLine → ℕ → ℕ
@@ -24,43 +37,161 @@ marked_by (l ∷ lines) t = (if nat_le l.mark t then 1 else 0) + marked_by lines
 abbrev pub answered : ℕ → List ReportLine → List ReportLine
 answered status lines = if status == 3 then take (length lines - 1) lines else lines
 
--- the lines lead from s0 to s, which is a sound session
-pub record RunsTo (s0 : Session) (lines : List ReportLine) (s : Session) : Type 0 where
-  pub steps : Run s0 (events_of lines) (replies_of lines) s
-  pub sound : Valid s.store
+-- ---- moments of lines
 
--- A line that changes the session makes four calls of the disk, and any other line none.
+-- the session's moment once these lines were answered
+abbrev pub moment_behind : ℕ → List ReportLine → ℕ
+moment_behind now [] = now
+moment_behind now (l ∷ lines) = moment_behind (moment_after now l.reply) lines
+
+-- the texts that a command may have heard, whatever store is held: none, save of an install
+abbrev pub MayHear : Command → List (List ℕ) → Type 0
+MayHear command texts = (shape : Shape) × Hears shape command texts
+
+-- a command is run at that moment, and has the texts that it heard
+abbrev pub IsRunAt : ℕ → Event → Type 0
+IsRunAt now (Boot boot) = Unit {0}
+IsRunAt now (Line command at heard) = (at ≡ now) × MayHear command heard.texts
+IsRunAt now (Unread fault) = Unit {0}
+
+-- each line is run at the moment that the replies before it have set
+abbrev pub AreRunFrom : ℕ → List ReportLine → Type 0
+AreRunFrom now [] = Unit {0}
+AreRunFrom now (l ∷ lines) = IsRunAt now l.event × AreRunFrom (moment_after now l.reply) lines
+
+-- the lines are run so, and the event that was begun
+pub record KeepsMoments (now : ℕ) (report : Report) : Type 0 where
+  pub lines : AreRunFrom now report.lines
+  pub begun : IfSome report.begun (IsRunAt (moment_behind now report.lines))
+
+-- ---- what the lines lead to
+
+-- the bytes stand for a sound store, as `format` and every session leave them
+pub record StandsSound (image : List ℕ) (store : Store) : Type 0 where
+  pub stands : Stands image store
+  pub sound : Sound store
+
+-- where a run begins: a session at a moment
+pub record Origin : Type 0 where
+  pub now : ℕ
+  pub session : Session
+
+-- a new session over a store
+abbrev pub origin_over : ℕ → Store → Origin
+origin_over now store = record { now = now; session = session_over store }
+
+-- behind a line with this reply, which led to this session
+abbrev pub origin_after : Origin → Option Reply → Session → Origin
+origin_after from reply session = record { now = moment_after from.now reply; session = session }
+
+-- a sound session without a job, since no command opens one
+pub record IsSettled (s : Session) : Type 0 where
+  pub sound : SoundSession s
+  pub jobs : s.jobs ≡ []
+
+-- the lines lead to this session, which is sound
+pub record RunsTo (from : Origin) (lines : List ReportLine) (s : Session) : Type 0 where
+  pub steps : Run from.now from.session (events_of lines) (replies_of lines) s
+  pub settled : IsSettled s
+
+-- a line that changes the store makes four calls of the disk, and any other line none
 pub record IsCounted (old new : Session) (from mark : ℕ) : Type 0 where
-  pub same : new ≡ old → mark ≡ from
-  pub other : new ≢ old → mark ≡ from + 4
+  pub same : new.store ≡ old.store → mark ≡ from
+  pub other : new.store ≢ old.store → mark ≡ from + 4
 
--- The lines lead from s to new, and from one moment of the disk to the last. Each is marked after its own calls.
-abbrev pub Counts : Session → ℕ → List ReportLine → Session → ℕ → Type 0
-Counts s from [] new last = (new ≡ s) × (last ≡ from)
-Counts s from (l ∷ lines) new last = (mid : Session) × Step s l.event l.reply mid × IsCounted s mid from l.mark × Counts mid l.mark lines new last
+-- The lines lead to this session, and from one moment of the disk to the last. Each is marked after
+-- its own calls.
+abbrev pub Counts : Origin → ℕ → List ReportLine → Session → ℕ → Type 0
+Counts from mark [] new last = (new ≡ from.session) × (last ≡ mark)
+Counts from mark (l ∷ lines) new last =
+    (mid : Session) × Step from.now from.session l.event l.reply mid
+    × IsCounted from.session mid mark l.mark
+    × Counts (origin_after from l.reply mid) l.mark lines new last
 
 -- the lines, and then the event that was begun, may lead to s
-abbrev pub Begins : Session → List ReportLine → Option Event → Session → Type 0
-Begins s0 lines None s = ⊥
-Begins s0 lines (Some event) s = (mid : Session) × (reply : Option Reply) × Run s0 (events_of lines) (replies_of lines) mid × Step mid event reply s
+abbrev pub Begins : Origin → List ReportLine → Option Event → Session → Type 0
+Begins from lines None s = ⊥
+Begins from lines (Some event) s =
+    (mid : Session) × (reply : Option Reply)
+    × Run from.now from.session (events_of lines) (replies_of lines) mid
+    × Step (moment_behind from.now lines) mid event reply s
 
 -- the first n events of the report, the one that was begun included, may lead to s
-abbrev pub Reaches : Session → List ReportLine → Option Event → ℕ → Session → Type 0
-Reaches s0 lines begun n s =
-    ((n ≤ length lines) × Run s0 (events_of (take n lines)) (replies_of (take n lines)) s) ⊎ ((n ≡ length lines + 1) × Begins s0 lines begun s)
+abbrev pub Reaches : Origin → Report → ℕ → Session → Type 0
+Reaches from report n s =
+    ((n ≤ length report.lines)
+    × Run from.now from.session (events_of (take n report.lines))
+    (replies_of (take n report.lines)) s)
+    ⊎ ((n ≡ length report.lines + 1) × Begins from report.lines report.begun s)
 
--- the image stands for the store after some first events: all that were acknowledged, and one more at most
-pub record StandsForPrefix (s0 : Session) (lines : List ReportLine) (begun : Option Event) (acknowledged : ℕ) (image : List ℕ) : Type 0 where
+-- the image stands for the store after some first events: all that were acknowledged, and one more
+-- at most
+pub record StandsForPrefix (from : Origin) (report : Report) (acknowledged : ℕ)
+    (image : List ℕ) : Type 0 where
   pub n : ℕ
   pub holds : (n ≡ acknowledged) ⊎ (n ≡ acknowledged + 1)
   pub session : Session
-  pub reached : Reaches s0 lines begun n session
+  pub reached : Reaches from report n session
   pub stands : Stands image session.store
 
--- marks never fall from the first moment to the last, and no link failed
+-- ---- what the links gave
+
+-- only a line that installs asks the links
+abbrev pub LeavesAsked : {L : Type 0} → Event → L → L → Type 0
+LeavesAsked (Boot boot) old new = new ≡ old
+LeavesAsked (Line command at heard) old new = LeavesLinks command old new
+LeavesAsked (Unread fault) old new = new ≡ old
+
+-- what a line asked of them, heard and brought, from the store before it to the one after it
+abbrev pub ServesLine :
+    Event → Option Reply → LinksState → LinksState → Store → Store → Type 0
+ServesLine (Boot boot) reply before after old new = Unit {0}
+ServesLine (Line command at heard) reply before after old new =
+    IfSome reply (λ answer. Serves command heard.texts before after old answer new)
+ServesLine (Unread fault) reply before after old new = Unit {0}
+
+-- what the links did for a line; they and their sites stay
+pub record IsServed {L : Type 0} (net : LinksGhosts L) (event : Event) (reply : Option Reply)
+    (before after : L) (old new : Store) : Type 0 where
+  pub kept : Kept (net.links before) (net.links after)
+  pub left : LeavesAsked event before after
+  pub serves : ServesLine event reply (net.links before) (net.links after) old new
+
+-- The lines lead to this session, and took the links from the first to the last. Each shows how often
+-- links had failed by then.
+abbrev pub AreServed :
+    {L : Type 0} → LinksGhosts L → Origin → L → List ReportLine → Session → L → Type 0
+AreServed net from first [] new last = (new ≡ from.session) × (last ≡ first)
+AreServed {L = L} net from first (l ∷ lines) new last =
+    (mid : Session) × (after : L) × Step from.now from.session l.event l.reply mid
+    × IsServed net l.event l.reply first after from.session.store mid.store
+    × (l.failures ≡ failures_of (net.links after))
+    × AreServed net (origin_after from l.reply mid) after lines new last
+
+-- and the event that was begun behind them, if one was
+abbrev pub IsBegunServed :
+    {L : Type 0} → LinksGhosts L → ℕ → Session → L → Option Event → L → Type 0
+IsBegunServed net now s first None last = last ≡ first
+IsBegunServed net now s first (Some event) last =
+    (new : Session) × (reply : Option Reply) × Step now s event reply new
+    × IsServed net event reply first last s.store new.store
+
+-- ---- marks, failures, and what was written
+
+-- marks never fall from the first moment to the last
 abbrev pub MarksRise : ℕ → List ReportLine → ℕ → Type 0
 MarksRise from [] to = from ≤ to
-MarksRise from (l ∷ lines) to = (from ≤ l.mark) × (l.failures ≡ 0) × MarksRise l.mark lines to
+MarksRise from (l ∷ lines) to = (from ≤ l.mark) × MarksRise l.mark lines to
+
+-- nor does the number of the links' failures
+abbrev pub FailuresRise : ℕ → List ReportLine → ℕ → Type 0
+FailuresRise from [] to = from ≤ to
+FailuresRise from (l ∷ lines) to = (from ≤ l.failures) × FailuresRise l.failures lines to
+
+-- no line is marked later than that moment
+abbrev pub AreMarkedBy : List ReportLine → ℕ → Type 0
+AreMarkedBy [] t = Unit {0}
+AreMarkedBy (l ∷ lines) t = (l.mark ≤ t) × AreMarkedBy lines t
 
 -- of the last line's reply a first part was taken, and of all before it the whole
 pub record CutsLast (old new : List ℕ) (lines : List ReportLine) : Type 0 where
@@ -69,15 +200,8 @@ pub record CutsLast (old new : List ℕ) (lines : List ReportLine) : Type 0 wher
   pub split : lines ≡ before ++ last ∷ []
   pub part : AppendsPart (old ++ texts_of (replies_of before)) new (texts_of (last.reply ∷ []))
 
--- the sink took the texts of the replies in order; where it failed, which is status 3, a first part of the last
+-- the sink took the texts of the replies in order; where it failed, which is status 3, a first part
+-- of the last
 pub record Writes (status : ℕ) (old new : List ℕ) (lines : List ReportLine) : Type 0 where
   pub whole : status ≢ 3 → new ≡ old ++ texts_of (replies_of lines)
   pub part : status ≡ 3 → CutsLast old new lines
-
--- What was added to a report: one line for each input, and one event begun where the disk failed.
-pub record Trace (status now : ℕ) (inputs : List (List ℕ)) (told : Type 0) (taken_old taken_new : List ℕ) (moment_old moment_new : ℕ) (old new : List ReportLine) (begun : Option Event) : Type 0 where
-  pub more : List ReportLine
-  pub grown : new ≡ old ++ more
-  pub events : AreEvents now inputs (events_of more ++ option_to_list begun)
-  pub marks : MarksRise moment_old more moment_new
-  pub output : told → Writes status taken_old taken_new more

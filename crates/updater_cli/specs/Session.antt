@@ -1,62 +1,62 @@
 -- Where a session stands between two lines, and where it ends.
-use Rattle.std.specs.Prelude.{◌≡◌, ◌≢◌, ◌⊎◌, ◌==◌, ℕ, ◌+◌, ◌-◌, ◌<◌, ◌≤◌, List, [], ◌∷◌, ◌++◌, length, take, map, count_by, Option, None}
-use Rattle.std.specs.Str.Lines.{lines, strip_carriage_return}
-use Rattle.command_text.specs.Input.{Cut}
-use Rattle.store_state.specs.declared.event.Event.{Event}
-use Rattle.store_state.specs.declared.report.ReportLine.{ReportLine}
-use Rattle.store_state.specs.Store.{Session}
+use Rattle.std.specs.Prelude.{◌≡◌, ◌≢◌, ℕ, ◌+◌, ◌≤◌, List, None}
+use Rattle.disks.specs.declared.disk.Disk.{Ghosts}
+use Rattle.links.specs.declared.links.Links.{Ghosts as LinksGhosts}
+use Rattle.machine.specs.declared.report.Report.{Report}
+use Rattle.machine.specs.Store.{Session, Store}
 use Rattle.updater.specs.Stands.{Stands}
-use Rattle.updater.specs.Moments.{LeavesSince}
-use Rattle.updater_cli.specs.Report.{RunsTo, Counts, StandsForPrefix, Trace, marked_by, answered}
+use Rattle.updater.specs.Updater.{Holds}
+use Rattle.updater_cli.specs.declared.course.Course.{Course}
+use Rattle.updater_cli.specs.Report.{Origin, origin_over, RunsTo, AreServed, Counts, IsBegunServed, StandsForPrefix, AreMarkedBy, report_of, moment_behind, marked_by, answered}
 
--- no line is marked later than that moment
-abbrev pub AreMarkedBy : List ReportLine → ℕ → Type 0
-AreMarkedBy [] t = Unit {0}
-AreMarkedBy (l ∷ lines) t = (l.mark ≤ t) × AreMarkedBy lines t
+-- what a session began with: its disk before the first call and its links, and the session over
+-- the store that stood there
+pub record Start (D L : Type 0) : Type 0 where
+  pub disk : D
+  pub links : L
+  pub from : Origin
 
--- Between two lines: the lines so far lead to s, and each was answered. From the first call after the base on each
--- image stands for a prefix of them, and now for s.
-pub record At {D : Type 0} (moment : D → ℕ) (left_at : D → ℕ → List ℕ → Type 0) (base : D) (s0 : Session) (lines : List ReportLine) (s : Session) (disk : D) : Type 0 where
-  pub runs : RunsTo s0 lines s
-  pub counts : Counts s0 (moment base + 1) lines s (moment disk)
-  pub past : (t : ℕ) (image : List ℕ) → t ≤ moment base → left_at disk t image → left_at base t image
-  pub since : (t : ℕ) (image : List ℕ) → moment base + 1 ≤ t → t ≤ moment disk → left_at disk t image → StandsForPrefix s0 lines None (marked_by lines t) image
-  pub started : moment base + 1 ≤ moment disk
-  pub marks : AreMarkedBy lines (moment disk)
-  pub now : (image : List ℕ) → left_at disk (moment disk) image → Stands image s.store
+-- a session that begins over a store
+abbrev pub start_over : {D L : Type 0} → ℕ → D → L → Store → Start D L
+start_over now disk links store =
+    record { disk = disk; links = links; from = origin_over now store }
 
--- At the end: from the first call after the base on each image stands for a prefix of the lines and of the event that was begun. Where the
--- disk did not fail, which is status 4, reads stand for the session that the lines lead to.
-pub record Ended {D : Type 0} (moment : D → ℕ) (left_at : D → ℕ → List ℕ → Type 0) (seen : D → List ℕ) (base : D) (s0 : Session) (status : ℕ) (lines : List ReportLine) (begun : Option Event) (disk : D) : Type 0 where
+-- Between two lines. The lines so far lead to a session whose store the updater holds, and each was
+-- answered. From the first call on each image that a stop may leave stands for a prefix of them.
+pub record Between {D L : Type 0} (on : Ghosts D) (net : LinksGhosts L) (start : Start D L)
+    (course : Course) (disk : D) (links : L) : Type 0 where
   pub session : Session
-  pub runs : RunsTo s0 lines session
+  pub stored : Holds on course.updater disk session.store
+  pub runs : RunsTo start.from course.lines.items session
+  pub moment : course.now ≡ moment_behind start.from.now course.lines.items
+  pub counts : Counts start.from (on.moment start.disk + 1) course.lines.items session (on.moment disk)
+  pub served : AreServed net start.from start.links course.lines.items session links
+  pub marks : AreMarkedBy course.lines.items (on.moment disk)
+  pub started : on.moment start.disk + 1 ≤ on.moment disk
+  pub past : (t : ℕ) (image : List ℕ) → t ≤ on.moment start.disk
+      → on.left_at disk t image → on.left_at start.disk t image
+  pub since : (t : ℕ) (image : List ℕ) → on.moment start.disk + 1 ≤ t → t ≤ on.moment disk
+      → on.left_at disk t image
+      → StandsForPrefix start.from (report_of course.lines.items None)
+      (marked_by course.lines.items t) image
+
+-- At the end. From the first call on each image stands for a prefix of the lines and of the event
+-- that was begun. Where the disk did not fail, which is status 4, reads stand for the session that
+-- the lines lead to.
+pub record Ended {D L : Type 0} (on : Ghosts D) (net : LinksGhosts L) (start : Start D L)
+    (status : ℕ) (report : Report) (disk : D) (links : L) : Type 0 where
+  pub session : Session
+  pub runs : RunsTo start.from report.lines session
   pub last : ℕ
-  pub counts : Counts s0 (moment base + 1) lines session last
-  pub calls : status ≢ 4 → moment disk ≡ last
-  pub past : (t : ℕ) (image : List ℕ) → t ≤ moment base → left_at disk t image → left_at base t image
-  pub since : (t : ℕ) (image : List ℕ) → moment base + 1 ≤ t → t ≤ moment disk → left_at disk t image → StandsForPrefix s0 lines begun (marked_by (answered status lines) t) image
-  pub reads : status ≢ 4 → Stands (seen disk) session.store
-
--- The inputs are the first lines of what the source had, as many as the status tells.
-pub record AreInputs (status : ℕ) (input left : List ℕ) (inputs : List (List ℕ)) : Type 0 where
-  pub more : List (List ℕ)
-  pub first : lines input ≡ inputs ++ more
-  pub all : status ≡ 0 → (inputs ≡ lines input) × (left ≡ []) × (length input ≤ 65536)
-  pub ended : (status ≡ 2) ⊎ (status ≡ 8) → length inputs ≡ count_by (λ b. b == 10) (take 65536 (take (length input - length left) input))
-  pub limit : status ≡ 8 → 65536 + length left < length input
-
--- what a session has read and answered: the bytes are whole lines, one for each line of the trace, and the pending rest
-pub record Progress (now : ℕ) (bytes pending : List ℕ) (told : Type 0) (taken_old taken_new : List ℕ) (moment_old moment_new : ℕ) (old new : List ReportLine) : Type 0 where
-  pub raw : List (List ℕ)
-  pub cut : Cut bytes raw pending
-  pub trace : Trace 0 now (map strip_carriage_return raw) told taken_old taken_new moment_old moment_new old new None
-
--- the same of a first part of the bytes, where the session stopped with a status
-pub record Stopped (status now : ℕ) (bytes : List ℕ) (told : Type 0) (taken_old taken_new : List ℕ) (moment_old moment_new : ℕ) (old new : List ReportLine) (begun : Option Event) : Type 0 where
-  pub before : List ℕ
-  pub after : List ℕ
-  pub split : bytes ≡ before ++ after
-  pub raw : List (List ℕ)
-  pub rest : List ℕ
-  pub cut : Cut before raw rest
-  pub trace : Trace status now (map strip_carriage_return raw) told taken_old taken_new moment_old moment_new old new begun
+  pub counts : Counts start.from (on.moment start.disk + 1) report.lines session last
+  pub calls : status ≢ 4 → on.moment disk ≡ last
+  pub behind : L
+  pub served : AreServed net start.from start.links report.lines session behind
+  pub begun : IsBegunServed net (moment_behind start.from.now report.lines) session behind
+      report.begun links
+  pub past : (t : ℕ) (image : List ℕ) → t ≤ on.moment start.disk
+      → on.left_at disk t image → on.left_at start.disk t image
+  pub since : (t : ℕ) (image : List ℕ) → on.moment start.disk + 1 ≤ t → t ≤ on.moment disk
+      → on.left_at disk t image
+      → StandsForPrefix start.from report (marked_by (answered status report.lines) t) image
+  pub reads : status ≢ 4 → Stands (on.seen disk) session.store

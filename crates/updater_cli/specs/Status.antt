@@ -1,6 +1,7 @@
-use Rattle.std.specs.Prelude.{◌≡◌, ℕ, Option, Some, None}
-use Rattle.store_state.specs.declared.event.Event.{Event}
-use Rattle.store_state.specs.declared.event.Event.TheVariants.{Boot, Line, Unread}
+-- How a call ends.
+use Rattle.std.specs.Prelude.{◌≡◌, ℕ, Option, Some, None, Result, Ok, Err}
+use Rattle.machine.specs.declared.event.Event.{Event}
+use Rattle.machine.specs.declared.event.Event.TheVariants.{Boot, Line, Unread}
 use Rattle.updater_cli.specs.declared.status.Status.{Status}
 use Rattle.updater_cli.specs.declared.status.Status.TheVariants.{Done, Words, SourceFault, SinkFault, DiskFault, NotAStore, Memory, TooMuchInput}
 
@@ -22,7 +23,8 @@ IsBegun (Some (Boot boot)) = Unit {0}
 IsBegun (Some (Line command now heard)) = Unit {0}
 IsBegun (Some (Unread fault)) = ⊥
 
--- How a line may end a session: for want of memory, by the sink, or by the disk, and then the line was begun.
+-- How a line may end a session: for want of memory, by the sink, or by the disk, and then the line
+-- was begun.
 abbrev pub IsLineEnd : Status → Option Event → Type 0
 IsLineEnd Memory begun = begun ≡ None
 IsLineEnd SinkFault begun = begun ≡ None
@@ -43,3 +45,12 @@ IsSessionEnd TooMuchInput begun = begun ≡ None
 IsSessionEnd DiskFault begun = IsBegun begun
 IsSessionEnd Words begun = ⊥
 IsSessionEnd NotAStore begun = ⊥
+
+-- what a part of a session ends with: it goes on, or it stops
+abbrev pub Outcome : Type 0
+Outcome = Result (Unit {0}) Status
+
+-- the status with which a session ends
+abbrev pub end_of : Outcome → Status
+end_of (Ok _) = Done
+end_of (Err status) = status

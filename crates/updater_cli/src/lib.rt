@@ -1,7 +1,7 @@
 //! The top call of the client's program: new stores, and sessions of lines over a store.
 #![tactic(auto)]
 
-mod history;
+mod course;
 mod line;
 mod opening;
 mod session;
@@ -9,5 +9,6 @@ mod status;
 mod top;
 mod words;
 
-pub use store_state::{Report, ReportLine};
+pub use machine::{Report, ReportLine};
 pub use top::run;
+pub use words::Request;

@@ -1,38 +1,38 @@
 // The top call.
-ghost use Rattle.std.specs.Prelude.{◌≡◌, ◌≢◌, ◌⊎◌, ◌↔◌, ◌+◌, ◌<◌, ◌≤◌, ℕ, List, [], None, Some, drop};
+ghost use Rattle.std.specs.Prelude.{◌≡◌, ◌≢◌, ◌⊎◌, ◌↔◌, ◌≤◌, ℕ, None, Some};
+ghost use Rattle.small_types.specs.declared.limits.TheConstants.{BLOCK_LIMIT};
 ghost use Rattle.outside.specs.Streams.{Rose};
+ghost use Rattle.inspection.specs.declared.manifest.Kind.{Kind};
+ghost use Rattle.publish_plan.specs.declared.options.Options.{Options};
 ghost use Rattle.updater.specs.Stands.{StandsForNone};
 ghost use Rattle.updater_cli.specs.declared.status.Status.TheVariants as exit;
-ghost use Rattle.updater_cli.specs.Format.{Renews, IsNew};
-ghost use Rattle.updater_cli.specs.Headline.{HeadlineLines, HeadlineRun, HeadlineStop, IsNothing};
-ghost use Rattle.publication.specs.declared.publication.End.{End};
-ghost use Rattle.publication.specs.declared.publication.End.TheVariants as publish_end;
-ghost use Rattle.publication.specs.Publication.{code_of as end_code, Publication, ForPublish};
-ghost use Rattle.updater_cli.specs.Words.{options_asked, request_of, ForSession, ForFormat, ForInspect};
-ghost use Rattle.inspection.specs.Inspection.{Inspects};
+ghost use Rattle.updater_cli.specs.declared.words.Request.TheVariants as asked;
+ghost use Rattle.updater_cli.specs.Devices.{Asks, devices_of};
+ghost use Rattle.updater_cli.specs.Format.{MakesStore};
+ghost use Rattle.updater_cli.specs.Headline.{Headline, IsNothing};
+ghost use Rattle.updater_cli.specs.Requests.{InspectsInput, PublishesBy};
+ghost use Rattle.updater_cli.specs.Status.{code_of};
+ghost use Rattle.updater_cli.specs.Words.{AsksForSession, AsksToPublish, request_of};
 
 use crate::opening::session;
 use crate::status::Status;
-use crate::words::{Request, is_publish, read_words};
+use crate::words::{Request, read_words};
 use disks::Disk;
 use folders::Folder;
 use inspection::inspect;
+use links::Links;
+use machine::Report;
 use outside::{Sink, Source};
-use publication::publish_words;
+use publication::{WordFault, publish_options};
 use small_types::Word;
 use std::alloc::Global;
 use store_log::{Log, LogFault};
-use store_state::Report;
 
 // A new store of so many blocks.
 fn format<D: Disk>(alloc: Global, disk: &mut D, blocks: u64) -> Status
-    requires { (1 ≤ blocks) × (blocks ≤ 65536) }
-    ensures done { D.tells → result ≡ exit.Done → IsNew D.moment D.left_at D.seen blocks disk.new }
-    ensures stop { D.tells → Renews D.moment D.left_at disk.old disk.new blocks }
-    ensures calls { result ≡ exit.Done → (D.moment disk.new ≡ D.moment disk.old + 6) × (D.total disk.new ≡ D.total disk.old + 4098) }
-    ensures memory { result ≡ exit.Memory → disk.new ≡ disk.old }
-    ensures statuses { (result ≡ exit.Done) ⊎ ((result ≡ exit.DiskFault) ⊎ (result ≡ exit.Memory)) }
-    ensures cause { result ≡ exit.DiskFault → Rose (D.count disk.old) (D.count disk.new) }
+    requires { (1 ≤ blocks) × (blocks ≤ BLOCK_LIMIT) }
+    ensures makes { MakesStore D.Disk blocks (code_of result) disk.old disk.new }
+    ensures asks { Asks D.Disk (result ≡ exit.DiskFault) disk.old disk.new }
 {
     match Log::format(alloc, disk, blocks, 0, &[]) {
         Ok(()) => Status::Done,
@@ -44,8 +44,8 @@ fn format<D: Disk>(alloc: Global, disk: &mut D, blocks: u64) -> Status
 /// Does what the words ask for and answers the exit status.
 ///
 /// `format --blocks N` makes a new store of N blocks, 1 to 65,536, on the disk. `session --boot N --now N` answers
-/// the lines of the source on the sink over the store on the disk; the numbers are at most 2^62, and `now` is in
-/// seconds. The report then has what the session did. `inspect deployment` and `inspect application` read a manifest
+/// the lines of the source on the sink over the store on the disk, and fetches what they install from the link; the
+/// numbers are at most 2^62, and `now` is in seconds. The report then has what the session did. `inspect deployment` and `inspect application` read a manifest
 /// from the source, at most 4,194,305 bytes, and write what it says, or why it is refused, to the sink.
 /// `publish --name N --release V --entry E --from F --to T`, and then marks `data:FILE` and `group:GROUP:FILE`, publishes
 /// the files below F in the folder, and writes to the sink what was published, or why it is refused.
@@ -54,71 +54,88 @@ fn format<D: Disk>(alloc: Global, disk: &mut D, blocks: u64) -> Status
 /// 4 the disk, 5 where the disk holds no store, 6 where there was no memory, 7 where a manifest or a publish is refused,
 /// and 8 where a session's input has more than 65,536 bytes. For `publish` it is 2 where the folder failed at a reading,
 /// and 3 also where it failed at a writing.
-pub fn run<S: Source, K: Sink, D: Disk, F: Folder>(
+pub fn run<S: Source, K: Sink, D: Disk, F: Folder, L: Links>(
     alloc: Global,
     words: &[Word],
     source: &mut S,
     sink: &mut K,
     disk: &mut D,
     folder: &mut F,
+    links: &mut L,
     report: &mut Report,
 ) -> u8
-    // The lines of a session are those of the input, one event after another.
-    ensures headline_lines { ForSession (request_of words.now) (λ boot now. HeadlineLines S.tells D.tells D.seen D.moment boot now result (S.left source.old) (S.left source.new) disk.old disk.new report.new) }
+    // There is one link.
+    requires { (L.links links.old).sources ≡ 1 }
 
-    // They are a run from the store that stood, the sink took their replies, and the disk holds what they lead to.
-    ensures headline_run { ForSession (request_of words.now) (λ boot now. HeadlineRun K.tells D.tells D.seen D.moment result (K.taken sink.old) (K.taken sink.new) disk.old disk.new report.new) }
-
-    // A stop at any moment leaves a store that holds every acknowledged line.
-    ensures headline_stop { ForSession (request_of words.now) (λ boot now. D.tells → HeadlineStop D.moment D.left_at D.seen result disk.old disk.new report.new) }
+    // A session: its lines, their run, and what a stop at any moment leaves.
+    ensures headline { (boot now : ℕ) → request_of words.now ≡ Some (asked.Session boot now)
+        → Headline S.Source K.Sink D.Disk L.Links boot now result
+        (devices_of source.old sink.old disk.old links.old)
+        (devices_of source.new sink.new disk.new links.new) report.new }
 
     // A new store stands, and a stop while it is made leaves what is said of it.
-    ensures format { ForFormat (request_of words.now) (λ blocks. D.tells → result ≡ 0 → IsNew D.moment D.left_at D.seen blocks disk.new) }
-    ensures format_stop { ForFormat (request_of words.now) (λ blocks. D.tells → Renews D.moment D.left_at disk.old disk.new blocks) }
-    ensures format_calls { ForFormat (request_of words.now) (λ blocks. result ≡ 0 → (D.moment disk.new ≡ D.moment disk.old + 6) × (D.total disk.new ≡ D.total disk.old + 4098)) }
-    ensures format_memory { ForFormat (request_of words.now) (λ blocks. result ≡ 6 → disk.new ≡ disk.old) }
-    ensures format_others { ForFormat (request_of words.now) (λ blocks. (source.new ≡ source.old) × (sink.new ≡ sink.old) × (report.new ≡ report.old)) }
+    ensures format { (blocks : ℕ) → request_of words.now ≡ Some (asked.Format blocks)
+        → MakesStore D.Disk blocks result disk.old disk.new }
+    ensures format_others { (blocks : ℕ) → request_of words.now ≡ Some (asked.Format blocks)
+        → (source.new ≡ source.old) × (sink.new ≡ sink.old) × (report.new ≡ report.old) }
 
     // What a manifest says was written, or why it is refused.
-    ensures inspect { ForInspect (request_of words.now) (λ kind. Inspects kind S.tells K.tells (S.left source.old) (K.taken sink.old) (K.taken sink.new) result) }
-    ensures inspect_left { ForInspect (request_of words.now) (λ kind. S.tells → (result ≡ 0) ⊎ ((result ≡ 7) ⊎ (result ≡ 3)) → S.left source.new ≡ drop 4194305 (S.left source.old)) }
-    ensures inspect_nothing { ForInspect (request_of words.now) (λ kind. (result ≡ 2) ⊎ (result ≡ 6) → sink.new ≡ sink.old) }
-    ensures inspect_others { ForInspect (request_of words.now) (λ kind. (disk.new ≡ disk.old) × (report.new ≡ report.old)) }
-    ensures inspect_statuses { ForInspect (request_of words.now) (λ kind. (result ≡ 0) ⊎ ((result ≡ 7) ⊎ ((result ≡ 2) ⊎ ((result ≡ 3) ⊎ (result ≡ 6))))) }
+    ensures inspect { (kind : Kind) → request_of words.now ≡ Some (asked.Inspect kind)
+        → InspectsInput S.Source K.Sink kind result source.old source.new sink.old sink.new }
+    ensures inspect_others { (kind : Kind) → request_of words.now ≡ Some (asked.Inspect kind)
+        → (disk.new ≡ disk.old) × (report.new ≡ report.old) }
 
     // A release was published, or the publish was refused, and a line says which.
-    ensures publish { ForPublish (options_asked words.now) (λ o. (end : End) × (result ≡ end_code end)
-        × (end ≡ publish_end.SinkFault → Rose (K.count sink.old) (K.count sink.new))
-        × (Publication F.tells F.held F.count K.tells K.taken o folder.old folder.new sink.old sink.new end ⊎ ((end ≡ publish_end.Memory) × (folder.new ≡ folder.old) × (sink.new ≡ sink.old)))) }
-    ensures publish_others { ForPublish (options_asked words.now) (λ o. (source.new ≡ source.old) × (disk.new ≡ disk.old) × (report.new ≡ report.old)) }
-    ensures publish_statuses { ForPublish (options_asked words.now) (λ o. (result ≡ 0) ⊎ ((result ≡ 7) ⊎ ((result ≡ 2) ⊎ ((result ≡ 3) ⊎ (result ≡ 6))))) }
-    ensures publish_read { ForPublish (options_asked words.now) (λ o. result ≡ 2 → Rose (F.count folder.old) (F.count folder.new)) }
-    ensures publish_fault { ForPublish (options_asked words.now) (λ o. result ≡ 3 → Rose (F.count folder.old) (F.count folder.new) ⊎ Rose (K.count sink.old) (K.count sink.new)) }
-    ensures folder_kept { options_asked words.now ≡ None → folder.new ≡ folder.old }
+    ensures publish { (options : Options) → request_of words.now ≡ Some (asked.Publish options)
+        → PublishesBy F.Folder K.Sink options result folder.old folder.new sink.old sink.new }
+    ensures publish_others { (options : Options)
+        → request_of words.now ≡ Some (asked.Publish options) → (source.new ≡ source.old)
+        × (disk.new ≡ disk.old) × (report.new ≡ report.old) }
+    ensures folder_kept { ¬ AsksToPublish (request_of words.now) → folder.new ≡ folder.old }
+
+    // Only a session asks the link.
+    ensures links_kept { ¬ AsksForSession (request_of words.now) → links.new ≡ links.old }
 
     // When each status comes.
     ensures statuses { result ≤ 8 }
-    ensures session_statuses { ForSession (request_of words.now) (λ boot now. result ≢ 7) }
-    ensures format_statuses { ForFormat (request_of words.now) (λ blocks. (result ≡ 0) ⊎ ((result ≡ 4) ⊎ (result ≡ 6))) }
-    ensures words { (result ≡ 1) ↔ ((request_of words.now ≡ None) × (options_asked words.now ≡ None)) }
-    ensures nothing { result ≡ 1 → (source.new ≡ source.old) × (sink.new ≡ sink.old) × (disk.new ≡ disk.old) × (folder.new ≡ folder.old) × (report.new ≡ report.old) }
-    ensures source_fault { options_asked words.now ≡ None → result ≡ 2 → Rose (S.count source.old) (S.count source.new) }
-    ensures sink_fault { options_asked words.now ≡ None → result ≡ 3 → Rose (K.count sink.old) (K.count sink.new) }
+    ensures session_statuses { (boot now : ℕ)
+        → request_of words.now ≡ Some (asked.Session boot now) → result ≢ 7 }
+    ensures words { (result ≡ 1) ↔ (request_of words.now ≡ None) }
+    ensures nothing { result ≡ 1 → (source.new ≡ source.old) × (sink.new ≡ sink.old)
+        × (disk.new ≡ disk.old) × (folder.new ≡ folder.old) × (links.new ≡ links.old)
+        × (report.new ≡ report.old) }
+    ensures source_fault { ¬ AsksToPublish (request_of words.now) → result ≡ 2
+        → Rose (S.count source.old) (S.count source.new) }
+    ensures sink_fault { ¬ AsksToPublish (request_of words.now) → result ≡ 3
+        → Rose (K.count sink.old) (K.count sink.new) }
     ensures disk_fault { result ≡ 4 → Rose (D.count disk.old) (D.count disk.new) }
-    ensures not_a_store { D.tells → result ≡ 5 → StandsForNone (D.seen disk.old) }
-    ensures unopened { result ≡ 5 → (source.new ≡ source.old) × (sink.new ≡ sink.old) × (D.total disk.new ≡ D.total disk.old) × IsNothing report.new }
-    ensures unopened_reads { D.tells → result ≡ 5 → D.seen disk.new ≡ D.seen disk.old }
-    ensures no_store { ForSession (request_of words.now) (λ boot now. D.tells → StandsForNone (D.seen disk.old) → (result ≡ 5) ⊎ ((result ≡ 4) ⊎ (result ≡ 6))) }
+
+    // A status passes over no fault: each count rises with its own status alone.
+    ensures source_quiet { result ≢ 2 → S.count source.new ≡ S.count source.old }
+    ensures sink_quiet { result ≢ 3 → K.count sink.new ≡ K.count sink.old }
+    ensures disk_quiet { result ≢ 4 → D.count disk.new ≡ D.count disk.old }
+    ensures folder_quiet { result ≢ 2 → result ≢ 3 → F.count folder.new ≡ F.count folder.old }
+
+    // What the disk tells afterwards it told before.
+    ensures told { D.tells disk.new → D.tells disk.old }
+
+    // Where there is no store.
+    ensures not_a_store { D.tells disk.new → result ≡ 5 → StandsForNone (D.seen disk.old) }
+    ensures no_store { (boot now : ℕ) → request_of words.now ≡ Some (asked.Session boot now)
+        → D.tells disk.new → StandsForNone (D.seen disk.old) → (result ≡ 5)
+        ⊎ ((result ≡ 4) ⊎ (result ≡ 6)) }
+    ensures unopened { result ≡ 5 → (source.new ≡ source.old) × (sink.new ≡ sink.old)
+        × (links.new ≡ links.old) × (D.total disk.new ≡ D.total disk.old) × IsNothing report.new }
+    ensures unopened_reads { result ≡ 5 → D.seen disk.new ≡ D.seen disk.old }
 {
-    if is_publish(words) {
-        return publish_words(alloc, &words[1..], folder, sink).code();
-    }
-    match read_words(words) {
-        None => Status::Words.code(),
-        Some(Request::Format { blocks }) => format(alloc, disk, blocks).code(),
-        Some(Request::Session { boot, now }) => {
-            session(alloc, boot, now, source, sink, disk, report).code()
+    match read_words(alloc, words) {
+        Err(WordFault::Unreadable) => Status::Words.code(),
+        Err(WordFault::Memory) => Status::Memory.code(),
+        Ok(Request::Format { blocks }) => format(alloc, disk, blocks).code(),
+        Ok(Request::Session { boot, now }) => {
+            session(alloc, boot, now, source, sink, disk, links, report).code()
         }
-        Some(Request::Inspect { kind }) => inspect(alloc, kind, source, sink).code(),
+        Ok(Request::Inspect { kind }) => inspect(alloc, kind, source, sink).code(),
+        Ok(Request::Publish { options }) => publish_options(alloc, &options, folder, sink).code(),
     }
 }

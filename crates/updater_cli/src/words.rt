@@ -1,23 +1,30 @@
 // The words of the command line.
-ghost use Rattle.std.specs.Prelude.{◌≡◌, length, true, None, IfSome};
+ghost use Rattle.std.specs.Prelude.{◌≡◌, drop, length, None, Some, IfOk, IfSome};
 ghost use Rattle.std.specs.Str.{bytes_eq};
-ghost use Rattle.updater_cli.specs.Words.{is_publish as asks_to_publish, request_of, format_of, session_of, kind_of, IsRequest};
 ghost use Rattle.command_text.specs.Numbers.{number_of};
+ghost use Rattle.publication.specs.Words.{options_of};
+ghost use Rattle.publication.specs.declared.values.WordFault.TheVariants as fault;
+ghost use Rattle.updater_cli.specs.Words.{AsksToPublish, IsRequest, format_of, is_publish as asks_to_publish, kind_of, other_of, publish_of, request_of, session_of};
 
 use command_text::read_number;
 use inspection::Kind;
+use publication::{WordFault, read_options};
+use publisher::Options;
 use small_types::Word;
 use small_types::limits::BLOCK_LIMIT;
+use std::alloc::Global;
 
 /// What the words ask for.
-#[derive(Clone, Copy, Debug, PartialEq, Eq)]
-pub(crate) enum Request {
+#[derive(Drop)]
+pub enum Request {
     /// A new store of so many blocks.
     Format { blocks: u64 },
     /// A session with this boot number, which begins at this moment in seconds.
     Session { boot: u64, now: u64 },
     /// What a manifest of this kind says.
     Inspect { kind: Kind },
+    /// A release with these options.
+    Publish { options: Options },
 }
 
 // A format of so many blocks.
@@ -70,7 +77,7 @@ fn read_kind(word: &Word) -> Option<Request>
 // Two words.
 fn read_two(words: &[Word]) -> Option<Request>
     requires { length words.now ≡ 2 }
-    ensures request { result ≡ request_of words.now }
+    ensures request { result ≡ other_of words.now }
     ensures small { IfSome result IsRequest }
 {
     if !is_word(&words[0], b"inspect") {
@@ -82,7 +89,7 @@ fn read_two(words: &[Word]) -> Option<Request>
 // Three words.
 fn read_three(words: &[Word]) -> Option<Request>
     requires { length words.now ≡ 3 }
-    ensures request { result ≡ request_of words.now }
+    ensures request { result ≡ other_of words.now }
     ensures small { IfSome result IsRequest }
 {
     if !is_word(&words[0], b"format") {
@@ -97,7 +104,7 @@ fn read_three(words: &[Word]) -> Option<Request>
 // Five words.
 fn read_five(words: &[Word]) -> Option<Request>
     requires { length words.now ≡ 5 }
-    ensures request { result ≡ request_of words.now }
+    ensures request { result ≡ other_of words.now }
     ensures small { IfSome result IsRequest }
 {
     if !is_word(&words[0], b"session") {
@@ -112,10 +119,20 @@ fn read_five(words: &[Word]) -> Option<Request>
     read_session(words[2].as_slice(), words[4].as_slice())
 }
 
-/// What the words ask for: `format --blocks N` with N from 1 to 65,536, `session --boot N --now N`,
-/// `inspect deployment` or `inspect application`.
-pub(crate) fn read_words(words: &[Word]) -> Option<Request>
-    ensures request { result ≡ request_of words.now }
+// The words behind `publish`.
+fn read_publish(alloc: Global, words: &[Word]) -> Result<Request, WordFault>
+    ensures request { IfOk result (λ request. publish_of (options_of words.now) ≡ Some request) }
+    ensures small { IfOk result IsRequest }
+    ensures none { result ≡ Err fault.Unreadable → publish_of (options_of words.now) ≡ None }
+    ensures memory { result ≡ Err fault.Memory → AsksToPublish (publish_of (options_of words.now)) }
+{
+    let options = read_options(alloc, words)?;
+    Ok(Request::Publish { options })
+}
+
+// Any words but those of `publish`.
+fn read_others(words: &[Word]) -> Option<Request>
+    ensures request { result ≡ other_of words.now }
     ensures small { IfSome result IsRequest }
 {
     if words.len() == 2 {
@@ -130,14 +147,27 @@ pub(crate) fn read_words(words: &[Word]) -> Option<Request>
     None
 }
 
-/// Whether the words ask to publish. Then they ask for nothing else.
-#[tactic(auto, using(crate::proofs::Publishing::publish_alone))]
-pub(crate) fn is_publish(words: &[Word]) -> bool
-    ensures asks { result ≡ asks_to_publish words.now }
-    ensures other { result ≡ true → request_of words.now ≡ None }
+// Whether the words ask to publish.
+fn is_publish(words: &[Word]) -> bool
+    ensures { result ≡ asks_to_publish words.now }
 {
     match words.first() {
         Some(word) => is_word(word, b"publish"),
         None => false,
     }
+}
+
+/// What the words ask for: `format --blocks N` with N from 1 to 65,536, `session --boot N --now N`,
+/// `inspect deployment` or `inspect application`, or `publish` and its words. `Unreadable` comes exactly where they ask
+/// for nothing, and `Memory` only where they ask to publish.
+pub(crate) fn read_words(alloc: Global, words: &[Word]) -> Result<Request, WordFault>
+    ensures request { IfOk result (λ request. request_of words.now ≡ Some request) }
+    ensures small { IfOk result IsRequest }
+    ensures none { result ≡ Err fault.Unreadable → request_of words.now ≡ None }
+    ensures memory { result ≡ Err fault.Memory → AsksToPublish (request_of words.now) }
+{
+    if is_publish(words) {
+        return read_publish(alloc, &words[1..]);
+    }
+    read_others(words).ok_or(WordFault::Unreadable)
 }

@@ -1,0 +1,107 @@
+-- What running a line does.
+use Rattle.std.proofs.Common.{◌≤◌, ℕ, List, Some, Ok, Err, refl, ap}
+use Rattle.outside.specs.declared.failed.Failed.{Failed}
+use Rattle.disks.specs.declared.disk.Disk.{Ghosts}
+use Rattle.links.specs.declared.links.Links.{Ghosts as LinksGhosts}
+use Rattle.fetcher.proofs.Sequence.{kept_same}
+use Rattle.small_types.specs.declared.limits.TheConstants.{NUMBER_LIMIT}
+use Rattle.machine.specs.declared.command.Command.{Command}
+use Rattle.machine.specs.declared.command.Command.TheVariants.{At, Require, Install}
+use Rattle.machine.specs.declared.command.LineFault.{LineFault}
+use Rattle.machine.specs.declared.event.Event.TheVariants.{Line, Unread}
+use Rattle.machine.specs.declared.event.Heard.{Heard}
+use Rattle.machine.specs.declared.reply.Reply.{Reply}
+use Rattle.machine.specs.declared.reply.Reply.TheVariants as says
+use Rattle.machine.specs.Machine.{Step}
+use Rattle.machine.specs.Words.{IsCommand}
+use Rattle.machine.specs.Sound.{Sound}
+use Rattle.machine.specs.Store.{Store}
+use Rattle.command_text.specs.Lines.{Gives, command_of}
+use Rattle.command_text.proofs.InputLemmas.{command_event, unread_event}
+use Rattle.store_state.specs.Tables.{table_shape}
+use Rattle.updater.specs.declared.updater.Updater.{Updater}
+use Rattle.updater.specs.Commanded.{Answered, Commanded, Faulted, SoundFor}
+use Rattle.updater.specs.Updater.{room_of, tables_of}
+use Rattle.updater.proofs.Standing.{still_stands}
+use Rattle.updater_cli.specs.Lines.{LineRun}
+use Rattle.updater_cli.proofs.Asking.{asks_none, asks_call}
+use Rattle.updater_cli.proofs.Runs.{step_settled}
+
+-- a sound store is one for each command
+sound_for : (command : Command) (store : Store) → Sound store → SoundFor command store
+sound_for (At next) store sound = tt
+sound_for (Require key version) store sound = tt
+sound_for (Install url) store sound = sound
+
+module _ {D L : Type 0} (on : Ghosts D) (net : LinksGhosts L) (now : ℕ) (few : now ≤ NUMBER_LIMIT) (line : List ℕ) (updater : Updater) (disk : D) (links : L) where
+  -- the line is no command
+  pub unread : (fault : LineFault) → Gives (Err fault) (command_of line) → LineRun on net now line updater disk links (Ok (Unread fault, says.Line fault)) updater disk links
+  unread fault gives = record {
+    event = unread_event line fault gives;
+    at = tt;
+    begun = tt;
+    few = few;
+    ran = λ old settled holds. record {
+      new = old;
+      step = (refl, refl);
+      stored = holds;
+      stop = still_stands on updater disk old.store old.store holds;
+      counted = record { same = λ _. refl; other = λ differs. absurd (differs refl) };
+      settled = settled;
+      served = record { kept = kept_same (net.links links); left = refl; serves = tt };
+    };
+    fault = λ old settled holds. tt;
+    asks = asks_none on _ disk (λ is. cc (is));
+    numbered = tt;
+    kept = kept_same (net.links links);
+  }
+
+  module _ (command : Command) (heard : Heard) (gives : Gives (Ok command) (command_of line)) (is : IsCommand command) (updater_new : Updater) (disk_new : D) (links_new : L) where
+    -- the command was answered
+    pub answered : (reply : Reply) → Commanded on net now heard.texts command updater disk links (Ok reply) updater_new disk_new links_new
+        → LineRun on net now line updater disk links (Ok (Line command now heard, reply)) updater_new disk_new links_new
+    answered reply commanded = record {
+      event = command_event now heard line command gives;
+      at = (refl, (table_shape (room_of updater) (tables_of updater), commanded.hears));
+      begun = tt;
+      few = commanded.few;
+      ran = λ old settled holds.
+          let done : Answered on net now heard.texts command disk links old reply updater_new disk_new links_new = commanded.answered old holds (sound_for command old.store settled.sound.store) in
+          let step : Step now old (Line command now heard) (Some reply) done.new = record { moment = refl; hears = done.hears; answer = reply; replied = refl; answers = done.step } in
+          record {
+            new = done.new;
+            step = step;
+            stored = done.stored;
+            stop = done.stop;
+            counted = record { same = λ same. ap on.moment (done.quiet same); other = done.tick };
+            settled = step_settled now old (Line command now heard) (Some reply) done.new (is, few) step settled;
+            served = record { kept = commanded.kept; left = commanded.left; serves = done.served };
+          };
+      fault = λ old settled holds. tt;
+      asks = asks_call on disk disk_new _ commanded.told commanded.later commanded.cause;
+      numbered = tt;
+      kept = commanded.kept;
+    }
+
+    -- the disk failed in it
+    pub faulted : (e : Failed) → Commanded on net now heard.texts command updater disk links (Err e) updater_new disk_new links_new
+        → LineRun on net now line updater disk links (Err (Line command now heard)) updater_new disk_new links_new
+    faulted e commanded = record {
+      event = command_event now heard line command gives;
+      at = (refl, (table_shape (room_of updater) (tables_of updater), commanded.hears));
+      begun = tt;
+      few = tt;
+      ran = λ old settled holds. tt;
+      fault = λ old settled holds.
+          let broke : Faulted on net now heard.texts command disk links old disk_new links_new = commanded.fault old holds (sound_for command old.store settled.sound.store) in
+          record {
+            new = broke.new;
+            reply = broke.reply;
+            step = record { moment = refl; hears = broke.hears; answer = broke.reply; replied = refl; answers = broke.step };
+            stop = broke.stop;
+            served = record { kept = commanded.kept; left = commanded.left; serves = broke.served };
+          };
+      asks = asks_call on disk disk_new _ commanded.told commanded.later commanded.cause;
+      numbered = commanded.numbered;
+      kept = commanded.kept;
+    }

@@ -1,0 +1,58 @@
+-- What a session's lines heard and brought, over links that tell: bytes of their sites.
+use Rattle.std.specs.Prelude.{◌≡◌, ◌⊎◌, ℕ, List, [], ◌∷◌, ◌++◌, true, All, Any, IfSome, Ok, slice_get}
+use Rattle.small_types.specs.declared.target.Target.{Target}
+use Rattle.addresses.specs.Address.{target_of_text}
+use Rattle.addresses.specs.Join.{file_target_of}
+use Rattle.links.specs.Links.{LinksState}
+use Rattle.fetcher.specs.Given.{IsOfSite}
+use Rattle.machine.specs.declared.command.Command.TheVariants.{Install}
+use Rattle.machine.specs.declared.event.Event.{Event}
+use Rattle.machine.specs.declared.event.Event.TheVariants.{Line}
+use Rattle.machine.specs.declared.report.ReportLine.{ReportLine}
+use Rattle.machine.specs.Blocks.{standing_files}
+use Rattle.machine.specs.InstallRow.{OfDeployment, base_of}
+use Rattle.machine.specs.Machine.{Step}
+use Rattle.machine.specs.Shape.{Shape, shape_of}
+use Rattle.machine.specs.Store.{Session, Store}
+use Rattle.machine.specs.Views.{ListedFile, View, same_content}
+use Rattle.machine.specs.Wanted.{is_held, wanted}
+use Rattle.updater_cli.specs.Report.{Origin, origin_after}
+
+-- the deployment manifest is of a site at the given address, the application manifest at the one
+-- that the deployment lists
+pub record HeardOfSites (links : LinksState) (url : List ℕ) (texts : List (List ℕ)) : Type 0 where
+  pub deployment : IfSome (slice_get texts 0) (λ text.
+      (target : Target) × (target_of_text url ≡ Ok target) × IsOfSite links target text)
+  pub application : IfSome (slice_get texts 1) (λ text.
+      OfDeployment texts (λ d. (base : Target) × (base_of url d ≡ Ok base)
+      × IsOfSite links base text))
+
+-- a kept view has the file's content, or it is of a site at the address of a wanted file of that
+-- content
+abbrev pub IsHeldOrOfSite : LinksState → Shape → View → ListedFile → Type 0
+IsHeldOrOfSite links shape view file =
+    (is_held (standing_files shape.views) file.entry ≡ true)
+    ⊎ Any (λ entry. (target : Target)
+    × (file_target_of view.base view.deployment.mapped entry.name ≡ Ok target)
+    × (same_content entry file.entry ≡ true) × IsOfSite links target file.bytes)
+    (wanted shape.views view.application)
+
+-- what an install heard, and the files of the view that it brought, if it brought one
+pub record IsOfSites (links : LinksState) (url : List ℕ) (texts : List (List ℕ)) (old new : Store)
+    : Type 0 where
+  pub heard : HeardOfSites links url texts
+  pub brought : (view : View) → new.views ≡ old.views ++ view ∷ []
+      → All (IsHeldOrOfSite links (shape_of old) view) view.program_files
+
+-- no other line hears or brings anything
+abbrev pub IsLineOfSites : LinksState → Event → Store → Store → Type 0
+IsLineOfSites links (Line (Install url) now heard) old new = IsOfSites links url heard.texts old new
+IsLineOfSites links _ old new = Unit {0}
+
+-- The lines lead to this session, and what each heard and brought is of the sites of these links.
+abbrev pub AreOfSites : LinksState → Origin → List ReportLine → Session → Type 0
+AreOfSites links from [] new = new ≡ from.session
+AreOfSites links from (l ∷ lines) new =
+    (mid : Session) × Step from.now from.session l.event l.reply mid
+    × IsLineOfSites links l.event from.session.store mid.store
+    × AreOfSites links (origin_after from l.reply mid) lines new
