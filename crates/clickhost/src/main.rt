@@ -1,12 +1,16 @@
 //! The host's program: `clickhost FOLDER PORT COUNT`, over the files of a folder.
 #![tactic(auto)]
 
+mod other_words;
+
+use crate::other_words::{Misread, what_is_wrong};
 use host_cli::{host_run, read_port};
 use outside::{Failed, Sink, write_all};
-use outside_real::{RealFolder, StdSink, TcpDoor};
+use outside_real::{Failure, RealFolder, Reason, StdSink, TcpDoor};
 use small_types::Word;
 use std::alloc::AllocError;
 use std::env;
+use std::fmt::Display;
 use std::io::ErrorKind;
 use std::process::ExitCode;
 
@@ -17,8 +21,10 @@ addresses: one request on each of COUNT connections, at most 1000000, one after
 the other.
 
 Status: 0 done, 1 other words, 2 no connection was accepted, 3 output failed,
-6 no memory.
+6 no memory. Where it is not 0, one line on the standard error says why.
 ";
+
+const NO_MEMORY: &str = "no memory";
 
 const VERSION: &[u8] = b"clickhost 0.1.0\n";
 
@@ -29,7 +35,7 @@ enum Start {
     // A text to print.
     Print(&'static [u8]),
     // Other words.
-    Words,
+    Words(Misread<'static>),
     // There was no memory for the words.
     Memory,
 }
@@ -38,11 +44,11 @@ fn read_args(rt: &HostRuntime) -> Start {
     let args = match env::args(rt) {
         Ok(args) => args,
         Err(error) if error.kind() == ErrorKind::OutOfMemory => return Start::Memory,
-        Err(_) => return Start::Words,
+        Err(_) => return Start::Words(Misread::NoText),
     };
     let mut args = args.skip(1);
     let Some(folder) = args.next() else {
-        return Start::Words;
+        return Start::Words(Misread::Number);
     };
     let mut words = Vec::new(rt.alloc());
     for arg in args {
@@ -54,7 +60,7 @@ fn read_args(rt: &HostRuntime) -> Start {
         return match folder.as_str() {
             "--help" => Start::Print(HELP),
             "--version" => Start::Print(VERSION),
-            _ => Start::Words,
+            _ => Start::Words(Misread::Number),
         };
     }
     Start::Run { folder, words }
@@ -68,28 +74,65 @@ fn port_in(words: &[Word]) -> u16 {
     }
 }
 
-fn print(rt: HostRuntime, text: &[u8]) -> u8 {
-    let mut sink = StdSink::new(rt);
-    match write_all(&mut sink, text) {
-        Ok(()) => 0,
-        Err(Failed) => 3,
-    }
+// Says why the program ends. Where that fails nothing more can be said.
+fn say<D: Display + Drop>(rt: &HostRuntime, why: D) {
+    let _ = eprintln!(rt; "clickhost: {why}");
 }
 
-fn run_args(rt: HostRuntime) -> Result<u8, AllocError> {
-    match read_args(&rt) {
-        Start::Words => Ok(1),
-        Start::Memory => Ok(6),
-        Start::Print(text) => Ok(print(rt, text)),
-        Start::Run { folder, words } => {
-            let alloc = rt.alloc();
-            let mut folder = RealFolder::new(rt.clone()?, folder);
-            let mut door = TcpDoor::new(rt, port_in(&words));
-            Ok(host_run(alloc, &words, &mut folder, &mut door))
+fn print(rt: &HostRuntime, text: &[u8]) -> Result<u8, AllocError> {
+    let mut sink = StdSink::new(rt.clone()?);
+    match write_all(&mut sink, text) {
+        Ok(()) => Ok(0),
+        Err(Failed) => {
+            say(rt, Failure::new("standard output", sink.why()));
+            Ok(3)
         }
     }
 }
 
+// Says why a run of these words ended with this status, if it was not done.
+fn explain(rt: &HostRuntime, status: u8, words: &[Word], why: Option<&Reason>) {
+    match status {
+        1 => say(rt, what_is_wrong(words)),
+        2 => {
+            let port = port_in(words);
+            match why {
+                Some(reason) => say(rt, format_args!("port {port}: {reason}")),
+                None => say(rt, format_args!("port {port}: failed")),
+            }
+        }
+        6 => say(rt, NO_MEMORY),
+        _ => {}
+    }
+}
+
+fn run_words(rt: &HostRuntime, folder: String, words: &[Word]) -> Result<u8, AllocError> {
+    let alloc = rt.alloc();
+    let mut folder = RealFolder::new(rt.clone()?, folder);
+    let mut door = TcpDoor::new(rt.clone()?, port_in(words));
+    let status = host_run(alloc, words, &mut folder, &mut door);
+    explain(rt, status, words, door.why());
+    Ok(status)
+}
+
+fn run_args(rt: &HostRuntime) -> Result<u8, AllocError> {
+    match read_args(rt) {
+        Start::Words(why) => {
+            say(rt, why);
+            Ok(1)
+        }
+        Start::Memory => Err(AllocError),
+        Start::Print(text) => print(rt, text),
+        Start::Run { folder, words } => run_words(rt, folder, &words),
+    }
+}
+
 fn main(rt: HostRuntime) -> ExitCode {
-    ExitCode::from(run_args(rt).unwrap_or(6))
+    match run_args(&rt) {
+        Ok(status) => ExitCode::from(status),
+        Err(AllocError) => {
+            say(&rt, NO_MEMORY);
+            ExitCode::from(6)
+        }
+    }
 }

@@ -1,21 +1,32 @@
 //! The client's program: `clickstore STORE FOLDER COMMAND`, over a store in a file.
 #![tactic(auto)]
 
+mod other_words;
+mod shipped;
+
+use crate::other_words::{Misread, what_is_wrong};
+use crate::shipped::{OneFolder, run_over_file};
+use disks::{Start, Unknown};
+use fetcher::FolderLink;
+use links::Single;
 use outside::{Failed, Sink, write_all};
-use outside_real::{FileDisk, RealFolder, StdSink, StdSource};
+use outside_real::{Failure, FileDisk, RealFolder, StdSink, StdSource};
 use small_types::{List, Word};
 use std::alloc::AllocError;
 use std::env;
+use std::fmt::Display;
 use std::io::ErrorKind;
 use std::process::ExitCode;
-use updater_cli::{Report, run};
+use updater_cli::Report;
 
 const HELP: &[u8] = b"usage: clickstore STORE FOLDER COMMAND
 
-STORE is the file of the store, and FOLDER a folder of published files.
+STORE is the file of the store, and FOLDER a folder of published files, the
+site of each URL.
 
   format --blocks N            makes an empty store of N blocks, 1 to 65536
-  session --boot N --now N     answers the lines of the input: `require KEY V`
+  session --boot N --now N     answers the lines of the input: `require KEY V`,
+                               `install URL` and `at N`
   inspect deployment           says what the deployment manifest in the input says
   inspect application          the same for an application manifest
   publish --name N --release V --entry E --from F --to T MARK..
@@ -25,13 +36,21 @@ STORE is the file of the store, and FOLDER a folder of published files.
 
 Status: 0 done, 1 other words, 2 input failed, 3 output failed, 4 disk failed,
 5 no store, 6 no memory, 7 refused manifest or publish, 8 more input than a
-session takes. For publish, 2 and 3 also where the folder failed.
+session takes. For publish, 2 and 3 also where the folder failed. Where the
+status is neither 0 nor 7, one line on the standard error says why.
 ";
+
+// What the standard input and output are called.
+const INPUT: &str = "standard input";
+
+const OUTPUT: &str = "standard output";
+
+const NO_MEMORY: &str = "no memory";
 
 const VERSION: &[u8] = b"clickstore 0.1.0\n";
 
 // How the command line is read.
-enum Start {
+enum Asked {
     // The paths of the store and the folder, and the words behind them.
     Run {
         store: String,
@@ -41,81 +60,153 @@ enum Start {
     // A text to print.
     Print(&'static [u8]),
     // Other words.
-    Words,
+    Words(Misread<'static>),
     // There was no memory for the words.
     Memory,
 }
 
-fn read_args(rt: &HostRuntime) -> Start {
+fn read_args(rt: &HostRuntime) -> Asked {
     let args = match env::args(rt) {
         Ok(args) => args,
-        Err(error) if error.kind() == ErrorKind::OutOfMemory => return Start::Memory,
-        Err(_) => return Start::Words,
+        Err(error) if error.kind() == ErrorKind::OutOfMemory => return Asked::Memory,
+        Err(_) => return Asked::Words(Misread::NoText),
     };
     let mut args = args.skip(1);
     let Some(store) = args.next() else {
-        return Start::Words;
+        return Asked::Words(Misread::NoCommand);
     };
     let Some(folder) = args.next() else {
         return match store.as_str() {
-            "--help" => Start::Print(HELP),
-            "--version" => Start::Print(VERSION),
-            _ => Start::Words,
+            "--help" => Asked::Print(HELP),
+            "--version" => Asked::Print(VERSION),
+            _ => Asked::Words(Misread::NoCommand),
         };
     };
     let mut words = Vec::new(rt.alloc());
     for arg in args {
         if words.push(Word::from_vec(arg.into_bytes())).is_err() {
-            return Start::Memory;
+            return Asked::Memory;
         }
     }
-    Start::Run {
+    Asked::Run {
         store,
         folder,
         words,
     }
 }
 
-fn print(rt: HostRuntime, text: &[u8]) -> u8 {
-    let mut sink = StdSink::new(rt);
-    match write_all(&mut sink, text) {
-        Ok(()) => 0,
-        Err(Failed) => 3,
-    }
+// Says why the program ends. Where that fails nothing more can be said.
+fn say<D: Display + Drop>(rt: &HostRuntime, why: D) {
+    let _ = eprintln!(rt; "clickstore: {why}");
 }
 
-fn run_args(rt: HostRuntime) -> Result<u8, AllocError> {
-    match read_args(&rt) {
-        Start::Words => Ok(1),
-        Start::Memory => Ok(6),
-        Start::Print(text) => Ok(print(rt, text)),
-        Start::Run {
-            store,
-            folder,
-            words,
-        } => {
-            let alloc = rt.alloc();
-            let mut source = StdSource::new(rt.clone()?);
-            let mut sink = StdSink::new(rt.clone()?);
-            let mut disk = FileDisk::new(rt.clone()?, store);
-            let mut folder = RealFolder::new(rt, folder);
-            let mut report = Report {
-                lines: List::from_vec(Vec::new(alloc)),
-                begun: None,
-            };
-            Ok(run(
-                alloc,
-                &words,
-                &mut source,
-                &mut sink,
-                &mut disk,
-                &mut folder,
-                &mut report,
-            ))
+fn print(rt: &HostRuntime, text: &[u8]) -> Result<u8, AllocError> {
+    let mut sink = StdSink::new(rt.clone()?);
+    match write_all(&mut sink, text) {
+        Ok(()) => Ok(0),
+        Err(Failed) => {
+            say(rt, Failure::new(OUTPUT, sink.why()));
+            Ok(3)
         }
     }
 }
 
+// The devices of a run by their names, and why they failed, if they did.
+#[derive(Drop)]
+struct Failures<'a> {
+    source: Failure<'a>,
+    sink: Failure<'a>,
+    disk: Failure<'a>,
+    folder: Failure<'a>,
+}
+
+// Says why a run of these words ended with this status, if it was not done.
+fn explain(rt: &HostRuntime, status: u8, words: &[Word], failures: &Failures) {
+    match status {
+        1 => say(rt, what_is_wrong(words)),
+        2 => say(rt, failures.source.or(failures.folder)),
+        3 => say(rt, failures.sink.or(failures.folder)),
+        4 => say(rt, failures.disk),
+        5 => {
+            let path = failures.disk.name();
+            say(rt, format_args!("{path}: no store; 'format' makes one"));
+        }
+        6 => say(rt, NO_MEMORY),
+        8 => say(rt, "more input than a session takes"),
+        _ => {}
+    }
+}
+
+// A link to the folder at this path.
+fn link_to(rt: &HostRuntime, path: String) -> Result<OneFolder, AllocError> {
+    let alloc = rt.alloc();
+    let folder = RealFolder::new(rt.clone()?, path);
+    Ok(Single {
+        link: FolderLink::new(alloc, folder),
+        asked: List::from_vec(Vec::new(alloc)),
+    })
+}
+
+// Runs the words over the store and the folder at these paths, at any start of the store's file.
+fn run_words<S: Start>(
+    rt: &HostRuntime,
+    store: String,
+    start: S,
+    folder: String,
+    words: &[Word],
+) -> Result<u8, AllocError> {
+    let alloc = rt.alloc();
+    let mut source = StdSource::new(rt.clone()?);
+    let mut sink = StdSink::new(rt.clone()?);
+    let mut disk = FileDisk::new(rt.clone()?, store, start);
+    let mut links = link_to(rt, folder.clone()?)?;
+    let mut folder = RealFolder::new(rt.clone()?, folder);
+    let mut report = Report {
+        lines: List::from_vec(Vec::new(alloc)),
+        begun: None,
+    };
+    let status = run_over_file(
+        alloc,
+        words,
+        &mut source,
+        &mut sink,
+        &mut disk,
+        &mut folder,
+        &mut links,
+        &mut report,
+    );
+    let failures = Failures {
+        source: Failure::new(INPUT, source.why()),
+        sink: Failure::new(OUTPUT, sink.why()),
+        disk: Failure::new(disk.path(), disk.why()),
+        folder: Failure::new(folder.path(), folder.why()),
+    };
+    explain(rt, status, words, &failures);
+    Ok(status)
+}
+
+fn run_args(rt: &HostRuntime) -> Result<u8, AllocError> {
+    match read_args(rt) {
+        Asked::Words(why) => {
+            say(rt, why);
+            Ok(1)
+        }
+        Asked::Memory => Err(AllocError),
+        Asked::Print(text) => print(rt, text),
+        Asked::Run {
+            store,
+            folder,
+            words,
+        } => run_words(rt, store, Unknown, folder, &words),
+    }
+}
+
 fn main(rt: HostRuntime) -> ExitCode {
-    ExitCode::from(run_args(rt).unwrap_or(6))
+    match run_args(&rt) {
+        Ok(status) => ExitCode::from(status),
+        Err(AllocError) => {
+            say(&rt, NO_MEMORY);
+            ExitCode::from(6)
+        }
+    }
 }

@@ -1,0 +1,53 @@
+// The top call over the devices of the program.
+ghost use Rattle.std.specs.Prelude.{◌≡◌, ℕ, Some};
+ghost use Rattle.updater_cli.specs.declared.words.Request.TheVariants as asked;
+ghost use Rattle.updater_cli.specs.Devices.{devices_of};
+ghost use Rattle.updater_cli.specs.Format.{MakesStore};
+ghost use Rattle.updater_cli.specs.Headline.{Headline, HeadlineStop};
+ghost use Rattle.updater_cli.specs.Words.{request_of};
+ghost use Rattle.outside_real.specs.FileDisk.{DiskIsHonest};
+
+use disks::{Disk, Start};
+use fetcher::FolderLink;
+use links::{Links, Single};
+use outside::{Sink, Source};
+use outside_real::{FileDisk, RealFolder, StdSink, StdSource};
+use small_types::Word;
+use std::alloc::Global;
+use updater_cli::{Report, run};
+
+/// The one link of the program: a folder of published files. It tells nothing, as the folder does.
+pub(crate) type OneFolder = Single<FolderLink<RealFolder<HostRuntime>>>;
+
+/// Does what the words ask for over a store in a file, the standard input and output, a folder and a link to one, and
+/// answers the exit status. The start says what the file held when it was opened. What holds where the file's answers are honest
+/// (`DiskIsHonest`) holds at each start, since no code can read one.
+pub(crate) fn run_over_file<S: Start>(
+    alloc: Global,
+    words: &[Word],
+    source: &mut StdSource<HostRuntime>,
+    sink: &mut StdSink<HostRuntime>,
+    disk: &mut FileDisk<HostRuntime, S>,
+    folder: &mut RealFolder<HostRuntime>,
+    links: &mut OneFolder,
+    report: &mut Report,
+) -> u8
+    // A session: its lines, their run, what its link did, and what a stop at any moment leaves.
+    ensures headline { (boot now : ℕ) → request_of words.now ≡ Some (asked.Session boot now)
+        → Headline ⟦<StdSource<HostRuntime> as Source>⟧ ⟦<StdSink<HostRuntime> as Sink>⟧
+        ⟦<FileDisk<HostRuntime, S> as Disk>⟧
+        ⟦<Single<FolderLink<RealFolder<HostRuntime>>> as Links>⟧ boot now result
+        (devices_of source.old sink.old disk.old links.old)
+        (devices_of source.new sink.new disk.new links.new) report.new }
+
+    // Where the file's answers are honest, a stop at any moment leaves a store that holds every acknowledged line.
+    ensures headline_stop { (boot now : ℕ) → request_of words.now ≡ Some (asked.Session boot now)
+        → DiskIsHonest S.Start disk.new
+        → HeadlineStop ⟦<FileDisk<HostRuntime, S> as Disk>⟧ now result disk.old disk.new report.new }
+
+    // A new store stands, and a stop while it is made leaves what is said of it.
+    ensures format { (blocks : ℕ) → request_of words.now ≡ Some (asked.Format blocks)
+        → MakesStore ⟦<FileDisk<HostRuntime, S> as Disk>⟧ blocks result disk.old disk.new }
+{
+    run(alloc, words, source, sink, disk, folder, links, report)
+}
