@@ -1,6 +1,7 @@
 // Runs of the top call with the words of `inspect`.
 use disks::MemDisk;
 use folders::MemFolder;
+use links::{MemLink, Single};
 use outside::{MemSink, MemSource};
 use small_types::{Bytes, List, Word};
 use std::alloc::{AllocError, Global};
@@ -37,6 +38,11 @@ fn run_over(
     let mut disk = MemDisk::new(alloc, empty, failing(alloc, 1)?);
     let no_files = List::from_vec(Vec::new(alloc));
     let mut folder = MemFolder::new(alloc, no_files, failing(alloc, 1)?);
+    let no_pages = List::from_vec(Vec::new(alloc));
+    let mut links = Single {
+        link: MemLink::new(alloc, no_pages, failing(alloc, 1)?),
+        asked: List::from_vec(Vec::new(alloc)),
+    };
     let mut report = Report {
         lines: List::from_vec(Vec::new(alloc)),
         begun: None,
@@ -48,6 +54,7 @@ fn run_over(
         &mut sink,
         &mut disk,
         &mut folder,
+        &mut links,
         &mut report,
     );
     Ok((status, sink.taken().to_vec(alloc)?))

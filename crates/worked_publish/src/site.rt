@@ -1,6 +1,7 @@
 // A site in memory: a folder, and runs of the top call over it.
 use disks::MemDisk;
 use folders::{Folder, Held, MemFolder, are_distinct};
+use links::{MemLink, Single};
 use outside::{MemSink, MemSource};
 use small_types::{Bytes, List, Name, Word};
 use std::alloc::Global;
@@ -42,6 +43,15 @@ pub fn folder_of(alloc: Global, files: &[(&str, &[u8])], call: u64) -> io::Resul
     Ok(MemFolder::new(alloc, List::from_vec(made), failing(alloc, call)?))
 }
 
+// One link, whose site has nothing.
+fn no_site(alloc: Global) -> io::Result<Single<MemLink>> {
+    let no_pages = List::from_vec(Vec::new(alloc));
+    Ok(Single {
+        link: MemLink::new(alloc, no_pages, failing(alloc, 0)?),
+        asked: List::from_vec(Vec::new(alloc)),
+    })
+}
+
 fn print(rt: &HostRuntime, status: u8, output: &[u8]) -> io::Result<()> {
     println!(rt; "status {status}")?;
     match std::str::from_utf8(output) {
@@ -70,6 +80,7 @@ fn run_over<F: Folder>(
     let mut sink = MemSink::new(alloc, nothing, failing(alloc, sink_fails)?);
     let empty = Bytes::from_vec(Vec::new(alloc));
     let mut disk = MemDisk::new(alloc, empty, failing(alloc, 1)?);
+    let mut links = no_site(alloc)?;
     let mut report = Report {
         lines: List::from_vec(Vec::new(alloc)),
         begun: None,
@@ -81,6 +92,7 @@ fn run_over<F: Folder>(
         &mut sink,
         &mut disk,
         folder,
+        &mut links,
         &mut report,
     );
     print(rt, status, sink.taken())

@@ -2,10 +2,10 @@
 //! it must print.
 #![tactic(auto)]
 
-mod machine;
+mod started;
 
 use disks::{Disk, MemDisk, Pick};
-use machine::{disk_of, run_words};
+use started::{disk_of, run_words};
 use std::alloc::AllocError;
 use std::io;
 
@@ -80,6 +80,27 @@ fn lines(rt: &HostRuntime) -> io::Result<()> {
     row(rt, &mut disk, SESSION, b"require a,b,c,d 1.0.0.0\r\n\nfrob")
 }
 
+// The moment of a session, which takes no call of the disk.
+fn moments(rt: &HostRuntime) -> io::Result<()> {
+    let mut disk = new_store(rt)?;
+    row(rt, &mut disk, SESSION, b"at 5")?;
+    let start = disk.calls();
+    row(
+        rt,
+        &mut disk,
+        SESSION,
+        b"at 5\nat 4\r\nat x\nat\nat 4611686018427387904\n",
+    )?;
+    let made = disk.calls().saturating_sub(start);
+    println!(rt; "{made} calls")?;
+    row(
+        rt,
+        &mut disk,
+        SESSION,
+        b"at 5\nrequire a,b,c,d 1.0.0.0\nat 7\nrequire a,b,c,d 2.0.0.0",
+    )
+}
+
 // Words and disks of each status.
 fn statuses(rt: &HostRuntime) -> io::Result<()> {
     let mut zeros = disk_of(rt.alloc(), &[0; 10], 0)?;
@@ -109,7 +130,7 @@ fn failures(rt: &HostRuntime) -> io::Result<()> {
     let input = b"require a,b,c,d 1.0.0.0\nrequire a,b,c,d 2.0.0.0\n";
     let mut disk = new_store(rt)?;
     failing_row(rt, &mut disk, input, 1, 0)?;
-    failing_row(rt, &mut disk, input, 0, 2)?;
+    failing_row(rt, &mut disk, input, 0, 4)?;
     // The line whose reply was cut off is durable.
     row(rt, &mut disk, SESSION, b"require a,b,c,d 0.0.0.0")?;
     let mut failing = disk_of(rt.alloc(), disk.bytes(), 4)?;
@@ -206,6 +227,7 @@ fn stops_in_openings(rt: &HostRuntime) -> io::Result<()> {
 fn main(rt: HostRuntime) -> io::Result<()> {
     minimums(&rt)?;
     lines(&rt)?;
+    moments(&rt)?;
     statuses(&rt)?;
     failures(&rt)?;
     too_many(&rt)?;

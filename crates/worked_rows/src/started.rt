@@ -1,6 +1,7 @@
 // A machine in memory: a disk, and runs of the top call over it.
 use disks::MemDisk;
 use folders::MemFolder;
+use links::{MemLink, Single};
 use outside::{MemSink, MemSource};
 use small_types::{Bytes, List, Word};
 use std::alloc::{AllocError, Global};
@@ -41,6 +42,15 @@ pub fn disk_of(alloc: Global, bytes: &[u8], call: u64) -> Result<MemDisk, AllocE
     Ok(MemDisk::new(alloc, bytes, failing(alloc, call)?))
 }
 
+// One link, whose site has nothing.
+fn no_site(alloc: Global) -> Result<Single<MemLink>, AllocError> {
+    let no_pages = List::from_vec(Vec::new(alloc));
+    Ok(Single {
+        link: MemLink::new(alloc, no_pages, failing(alloc, 0)?),
+        asked: List::from_vec(Vec::new(alloc)),
+    })
+}
+
 // The words of a text, between spaces.
 fn words_of(alloc: Global, text: &str) -> Result<Vec<Word>, AllocError> {
     let mut words = Vec::new(alloc);
@@ -66,6 +76,7 @@ pub fn run_words(
     let mut sink = MemSink::new(alloc, nothing, failing(alloc, sink_fails)?);
     let no_files = List::from_vec(Vec::new(alloc));
     let mut folder = MemFolder::new(alloc, no_files, failing(alloc, 1)?);
+    let mut links = no_site(alloc)?;
     let mut report = Report {
         lines: List::from_vec(Vec::new(alloc)),
         begun: None,
@@ -77,6 +88,7 @@ pub fn run_words(
         &mut sink,
         disk,
         &mut folder,
+        &mut links,
         &mut report,
     );
     Ok(Ran {
