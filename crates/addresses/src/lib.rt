@@ -5,8 +5,6 @@ mod address;
 mod fault;
 mod join;
 mod laws;
-#[cfg(test)]
-mod tests;
 
 pub use address::target_of;
 pub use fault::UrlFault;

@@ -51,7 +51,8 @@ fn start<H: Hash>(wanted: bool) -> Option<H>
 // Adds bytes to the message, where there is a hasher.
 fn feed<H: Hash>(hasher: &mut Option<H>, bytes: &[u8])
     ensures present { is_some hasher.new ≡ is_some hasher.old }
-    ensures fed { (m : List ℕ) → IfSome hasher.old (λ h. H.holds h m) → IfSome hasher.new (λ h. H.holds h (m ++ bytes.now)) }
+    ensures fed { (m : List ℕ) → IfSome hasher.old (λ h. H.holds h m)
+        → IfSome hasher.new (λ h. H.holds h (m ++ bytes.now)) }
 {
     if let Some(hasher) = hasher {
         hasher.update(bytes);

@@ -9,8 +9,6 @@ mod hashers;
 mod list;
 mod matching;
 mod room;
-#[cfg(test)]
-mod tests;
 
 pub use algorithm::Algorithm;
 pub use checker::{CheckFault, Checker};

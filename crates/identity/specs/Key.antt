@@ -33,7 +33,8 @@ part_text bytes = escaped is_unreserved bytes
 
 -- the text of a key: its parts with commas between them
 unfoldable pub key_text : Key → List ℕ
-key_text key = join_with_byte comma (part_text key.name ∷ part_text key.token ∷ part_text key.language ∷ part_text key.architecture ∷ [])
+key_text key = join_with_byte comma (part_text key.name ∷ part_text key.token
+    ∷ part_text key.language ∷ part_text key.architecture ∷ [])
 
 -- a part has a byte or more, at most so many, and is UTF-8
 pub record IsPart (limit : ℕ) (text : List ℕ) : Type 0 where

@@ -55,7 +55,8 @@ IsBelow v w =
 -- the order by the four numbers, from the left
 abbrev pub version_cmp : Version → Version → Ordering
 version_cmp v w =
-    ordering_then (nat_cmp v.a w.a) (ordering_then (nat_cmp v.b w.b) (ordering_then (nat_cmp v.c w.c) (nat_cmp v.d w.d)))
+    ordering_then (nat_cmp v.a w.a)
+    (ordering_then (nat_cmp v.b w.b) (ordering_then (nat_cmp v.c w.c) (nat_cmp v.d w.d)))
 
 -- the new version where the old one is below it, and else the old one
 abbrev pub greater_of : Version → Version → Version

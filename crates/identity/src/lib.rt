@@ -6,8 +6,6 @@ mod identity;
 mod key;
 mod parts;
 mod printed;
-#[cfg(test)]
-mod tests;
 mod version;
 
 pub use identity::Identity;

@@ -73,7 +73,9 @@ fn read_number(part: u8, bytes: &[u8]) -> Result<u16, VersionFault>
 // The version of the four parts.
 #[tactic(auto, unfolding(crate::specs::Version::version_of_parts))]
 fn read_parts(parts: &FourParts) -> Result<Version, VersionFault>
-    ensures { result ≡ version_of_parts (parts.now.first.now ∷ parts.now.second.now ∷ parts.now.third.now ∷ parts.now.fourth.now ∷ []) }
+    ensures { result
+        ≡ version_of_parts (parts.now.first.now ∷ parts.now.second.now ∷ parts.now.third.now
+        ∷ parts.now.fourth.now ∷ []) }
 {
     let a = read_number(1, parts.first)?;
     let b = read_number(2, parts.second)?;

@@ -28,7 +28,8 @@ code_of ends.SinkFault = 3
 code_of ends.Memory = 6
 
 -- the lines are those of the facts of the bytes, and the status is 0
-pub record IsFacts {A : Type 0} (facts : Tree → Read A) (text : A → List ℕ) (bytes lines : List ℕ) (status : ℕ) : Type 0 where
+pub record IsFacts {A : Type 0} (facts : Tree → Read A) (text : A
+    → List ℕ) (bytes lines : List ℕ) (status : ℕ) : Type 0 where
   pub value : A
   pub told : Answers facts bytes (Ok value)
   pub lines_are : lines ≡ text value
@@ -65,6 +66,7 @@ pub record CutOff (kind : Kind) (source_tells sink_tells : Type 0) (input old ne
 
 -- What inspecting the input does. With status 0 the lines of its facts were written and with 7 its refusal; with 3 a
 -- first part of them.
-pub record Inspects (kind : Kind) (source_tells sink_tells : Type 0) (input old new : List ℕ) (status : ℕ) : Type 0 where
+pub record Inspects (kind : Kind) (source_tells sink_tells : Type 0) (input old new : List ℕ)
+    (status : ℕ) : Type 0 where
   pub whole : (status ≡ 0) ⊎ (status ≡ 7) → Written kind source_tells sink_tells input old new status
   pub part : status ≡ 3 → CutOff kind source_tells sink_tells input old new

@@ -13,7 +13,8 @@ use std::alloc::Global;
 
 // The line of a refusal, or none where memory ran out.
 fn refused(alloc: Global, fault: &ManifestFault) -> Option<(Bytes, End)>
-    ensures { IfSome result (λ x. (fault.now ≢ ManifestFault.Memory) × (x.0 ≡ refusal_text fault.now) × (code_of x.1 ≡ 7)) }
+    ensures { IfSome result (λ x. (fault.now ≢ ManifestFault.Memory)
+        × (x.0 ≡ refusal_text fault.now) × (code_of x.1 ≡ 7)) }
 {
     if let ManifestFault::Memory = fault {
         return None;

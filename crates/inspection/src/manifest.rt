@@ -53,8 +53,11 @@ const MOST: usize = MANIFEST_LIMIT + 1;
 /// why it is refused. Where the source fails, or memory runs out, nothing is written. A fault of the source or of the
 /// sink is told as such: any other answer leaves its count of faults.
 pub fn inspect<S: Source, K: Sink>(alloc: Global, kind: Kind, source: &mut S, sink: &mut K) -> End
-    ensures says { Inspects kind S.tells K.tells (S.left source.old) (K.taken sink.old) (K.taken sink.new) (status_of result) }
-    ensures left { S.tells → (result ≡ ends.Done) ⊎ ((result ≡ ends.Refused) ⊎ (result ≡ ends.SinkFault)) → S.left source.new ≡ drop most (S.left source.old) }
+    ensures says { Inspects kind S.tells K.tells (S.left source.old) (K.taken sink.old)
+        (K.taken sink.new) (status_of result) }
+    ensures left { S.tells
+        → (result ≡ ends.Done) ⊎ ((result ≡ ends.Refused) ⊎ (result ≡ ends.SinkFault))
+        → S.left source.new ≡ drop most (S.left source.old) }
     ensures nothing { (result ≡ ends.SourceFault) ⊎ (result ≡ ends.Memory) → sink.new ≡ sink.old }
     ensures source_count { S.count source.old ≤ S.count source.new }
     ensures sink_count { K.count sink.old ≤ K.count sink.new }

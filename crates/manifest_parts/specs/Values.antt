@@ -25,7 +25,8 @@ valid what (Some x) = Ok x
 
 -- a value of one byte or more and at most so many
 unfoldable pub filled : ℕ → List ℕ → List ℕ → Read (List ℕ)
-filled limit what value = if nat_le 1 (length value) && nat_le (length value) limit then Ok value else Err (BadValue what)
+filled limit what value =
+    if nat_le 1 (length value) && nat_le (length value) limit then Ok value else Err (BadValue what)
 
 -- a value of at most so many bytes; absent it is empty
 unfoldable pub within : ℕ → List ℕ → Option (List ℕ) → Read (List ℕ)
@@ -54,7 +55,8 @@ truth what default (Some value) = valid what (truth_of value)
 -- a number of one to so many decimal digits that is at most the limit
 unfoldable pub number_in : ℕ → ℕ → List ℕ → Option ℕ
 number_in digits limit text =
-    if nat_le 1 (length text) && nat_le (length text) digits && list_all is_ascii_digit text && nat_le (digits_value 10 text) limit
+    if nat_le 1 (length text) && nat_le (length text)
+    digits && list_all is_ascii_digit text && nat_le (digits_value 10 text) limit
     then Some (digits_value 10 text) else None
 
 abbrev pub number_of : ℕ → ℕ → List ℕ → List ℕ → Read ℕ

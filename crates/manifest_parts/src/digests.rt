@@ -180,11 +180,12 @@ fn some_digest(alloc: Global, file: &str, digests: Vec<Digest>) -> Result<Digest
     }
 }
 
-/// The digests of known algorithms that the element's children `hash` say, in order; the file is what `NoDigest` names. In
-/// this order: `TooMany` where there are more than eight hashes; for each hash `BadValue` of `Algorithm` where a transform
-/// is not the one that leaves the bytes as they are, `Missing` or `Twice` of `DigestMethod` and of `DigestValue`, and
-/// `BadValue` of `DigestValue` where the algorithm is known and the text is no digest of it; `NoDigest` where no algorithm
-/// is known.
+/// The digests of known algorithms that the element's children `hash` say, in order; the file is
+/// what `NoDigest` names. In this order: `TooMany` where there are more than eight hashes; for each
+/// hash `BadValue` of `Algorithm` where a transform is not the one that leaves the bytes as they
+/// are, `Missing` or `Twice` of `DigestMethod` and of `DigestValue`, and `BadValue` of
+/// `DigestValue` where the algorithm is known and the text is no digest of it; `NoDigest` where no
+/// algorithm is known.
 #[tactic(auto, unfolding(crate::specs::Parts::digests_of))]
 pub fn digests_of(alloc: Global, file: &str, node: &Node) -> Result<DigestList, ManifestFault>
     ensures { Gives (λ l. l) result (digests_read file.now (tree_of node.now)) }

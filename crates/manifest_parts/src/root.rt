@@ -38,8 +38,9 @@ fn manifest_root(alloc: Global, root: Node) -> Result<Node, ManifestFault>
     Ok(root)
 }
 
-/// The root of the manifest that the bytes spell. `Tree` exactly where they spell no tree; else `Signed` where an element
-/// `Signature` stands anywhere in it, and else `Missing` where the root is no `assembly`.
+/// The root of the manifest that the bytes spell. `Tree` exactly where they spell no tree; else
+/// `Signed` where an element `Signature` stands anywhere in it, and else `Missing` where the root
+/// is no `assembly`.
 pub fn read_root(alloc: Global, bytes: &[u8]) -> Result<Node, ManifestFault>
     // What is answered is spelled.
     ensures spelled { IfOk result (λ node. Spells bytes.now node) }

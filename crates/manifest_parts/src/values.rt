@@ -140,8 +140,8 @@ pub fn number(
     valid(alloc, what, number_in(digits, limit, value.as_bytes()))
 }
 
-/// A size in bytes: one to nineteen decimal digits, and at most the limit. `Missing` where there is none, `BadValue` for
-/// any other text, both of `size`.
+/// A size in bytes: one to nineteen decimal digits, and at most the limit. `Missing` where there is
+/// none, `BadValue` for any other text, both of `size`.
 pub fn size(alloc: Global, limit: u64, value: Option<&Text>) -> Result<u64, ManifestFault>
     ensures { Gives (λ n. n) result (size_of limit (maybe_text value.entry)) }
 {

@@ -110,7 +110,8 @@ cause_text fault.Signed = codes "signed"
 cause_text (fault.NoDigest file) = two (codes "no-digest") (word_text file)
 cause_text (fault.BadName file) = two (codes "bad-name") (word_text file)
 cause_text (fault.TwiceNamed file) = two (codes "twice-named") (word_text file)
-cause_text (fault.MinimumAboveVersion minimum version) = two (codes "minimum-above") (two (version_text minimum) (version_text version))
+cause_text (fault.MinimumAboveVersion minimum version) =
+    two (codes "minimum-above") (two (version_text minimum) (version_text version))
 cause_text fault.OnlineOnly = codes "online-only"
 cause_text (fault.TooMany what) = two (codes "too-many") (limit_text what)
 cause_text fault.Memory = codes "memory"

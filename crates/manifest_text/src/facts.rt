@@ -48,7 +48,8 @@ fn rule_line(out: &mut Bytes, rule: Rule) -> Result<(), PrintFault>
 }
 
 fn provider_line(alloc: Global, out: &mut Bytes, provider: Option<&Text>) -> Result<(), PrintFault>
-    ensures { OnOk result (out.new ≡ out.old ++ spec.line (codes "provider") (spec.word_or_none (maybe_text provider.entry))) }
+    ensures { OnOk result (out.new
+        ≡ out.old ++ spec.line (codes "provider") (spec.word_or_none (maybe_text provider.entry))) }
 {
     match provider {
         None => line(out, b"provider", b"-"),

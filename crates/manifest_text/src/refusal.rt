@@ -45,7 +45,8 @@ pub fn about(alloc: Global, text: &[u8], what: &[u8]) -> Result<Bytes, PrintFaul
 }
 
 fn tree(alloc: Global, fault: TreeFault) -> Result<Bytes, PrintFault>
-    ensures { IfOk result (λ b. b ≡ spec.two (codes "tree") (spec.two (spec.kind_text fault.kind) (decimal fault.place))) }
+    ensures { IfOk result (λ b. b
+        ≡ spec.two (codes "tree") (spec.two (spec.kind_text fault.kind) (decimal fault.place))) }
 {
     let mut buffer = Buffer::new();
     let said = two(
@@ -57,7 +58,8 @@ fn tree(alloc: Global, fault: TreeFault) -> Result<Bytes, PrintFault>
 }
 
 fn minimum_above(alloc: Global, minimum: Version, version: Version) -> Result<Bytes, PrintFault>
-    ensures { IfOk result (λ b. b ≡ spec.two (codes "minimum-above") (spec.two (version_text minimum) (version_text version))) }
+    ensures { IfOk result (λ b. b
+        ≡ spec.two (codes "minimum-above") (spec.two (version_text minimum) (version_text version))) }
 {
     let minimum = minimum.print(alloc)?;
     let version = version.print(alloc)?;

@@ -1,4 +1,5 @@
--- What a text spells. In each relation the first list of bytes begins with the part, and the last is what stands behind it.
+-- What a text spells. In each relation the first list of bytes begins with the part, and the last
+-- is what stands behind it.
 use Rattle.std.specs.Prelude.{◌≡◌, ℕ, suc, ◌<◌, ◌≤◌, true, false, ◌==◌, List, [], ◌∷◌, ◌++◌, length, Some, Ok}
 use Rattle.std.specs.Str.{IsUtf8}
 use Rattle.small_types.specs.declared.limits.TheConstants.{LEVEL_LIMIT, MANIFEST_LIMIT}
@@ -16,10 +17,12 @@ pub data Misc : List ℕ → List ℕ → Type 0 where
 -- units of a value, none of which begins with its quote, and what they stand for together
 pub data Units (quote : ℕ) : List ℕ → List ℕ → List ℕ → Type 0 where
   no_unit : {rest : List ℕ} → Units quote rest [] rest
-  one_unit : {c : ℕ} {bytes after piece value whole rest : List ℕ} → (c == quote) ≡ false → unit_at true (c ∷ bytes) ≡ Ok (piece, after)
+  one_unit : {c : ℕ} {bytes after piece value whole rest : List ℕ} → (c == quote) ≡ false
+      → unit_at true (c ∷ bytes) ≡ Ok (piece, after)
       → Units quote after value rest → whole ≡ piece ++ value → Units quote (c ∷ bytes) whole rest
 
--- an attribute: white space, its name, `=` and a quote with white space before each or none, its value, and the same quote
+-- an attribute: white space, its name, `=` and a quote with white space before each or none, its
+-- value, and the same quote
 pub record IsAttribute (bytes : List ℕ) (a : Attribute) (rest : List ℕ) : Type 0 where
   pub spaced : (length (past white bytes) == length bytes) ≡ false
   pub named : has_name (past white bytes) ≡ true
@@ -33,7 +36,9 @@ pub record IsAttribute (bytes : List ℕ) (a : Attribute) (rest : List ℕ) : Ty
 pub data Attributes : List (List ℕ) → List ℕ → List Attribute → List ℕ → Type 0 where
   no_attribute : {names : List (List ℕ)} {rest : List ℕ} → Attributes names rest [] rest
   one_attribute : {names : List (List ℕ)} {bytes after rest : List ℕ} {a : Attribute} {others : List Attribute}
-      → IsAttribute bytes a after → is_among names a.name ≡ false → Attributes (names ++ a.name ∷ []) after others rest → Attributes names bytes (a ∷ others) rest
+      → IsAttribute bytes a after → is_among names a.name ≡ false
+      → Attributes (names ++ a.name ∷ []) after others rest
+      → Attributes names bytes (a ∷ others) rest
 
 -- a start tag behind its `<`, up to the white space before its end: its name and its attributes
 pub record IsStart (bytes : List ℕ) (name : List ℕ) (attributes : List Attribute) (rest : List ℕ) : Type 0 where
@@ -48,7 +53,8 @@ pub record IsEnd (bytes : List ℕ) (name : List ℕ) (rest : List ℕ) : Type 0
   pub ended : past white (past name_byte bytes) ≡ 62 ∷ rest
 
 mutual
-  -- an element at a level, the root's being 1: a tag that ends in `/>`, or a start tag, content and the end tag of the same name
+  -- an element at a level, the root's being 1: a tag that ends in `/>`, or a start tag, content and
+  -- the end tag of the same name
   pub data Element : ℕ → List ℕ → Tree → List ℕ → Type 0 where
     empty : {level : ℕ} {bytes name after rest : List ℕ} {attributes : List Attribute}
         → level ≤ LEVEL_LIMIT → IsStart bytes name attributes after → past white after ≡ 47 ∷ 62 ∷ rest
@@ -58,16 +64,19 @@ mutual
         → Content (suc level) inside children text (60 ∷ 47 ∷ end) → IsEnd end name rest
         → Element level (60 ∷ bytes) (tree name attributes children text) rest
 
-  -- what an element whose children are at the level holds: character data, comments and instructions, and child elements
+  -- what an element whose children are at the level holds: character data, comments and
+  -- instructions, and child elements
   pub data Content : ℕ → List ℕ → Trees → List ℕ → List ℕ → Type 0 where
     no_content : {level : ℕ} {rest : List ℕ} → Content level rest none [] rest
     data_unit : {level : ℕ} {bytes after piece text whole rest : List ℕ} {children : Trees}
         → unit_at false bytes ≡ Ok (piece, after) → Content level after children text rest → whole ≡ piece ++ text
         → Content level bytes children whole rest
     note_inside : {level : ℕ} {bytes after text rest : List ℕ} {children : Trees}
-        → aside bytes ≡ Ok (Some after) → Content level after children text rest → Content level (60 ∷ bytes) children text rest
+        → aside bytes ≡ Ok (Some after) → Content level after children text rest
+        → Content level (60 ∷ bytes) children text rest
     child : {level : ℕ} {bytes after text rest : List ℕ} {t : Tree} {children : Trees}
-        → Element level bytes t after → Content level after children text rest → Content level bytes (more t children) text rest
+        → Element level bytes t after → Content level after children text rest
+        → Content level bytes (more t children) text rest
 
 -- What the bytes spell: at most 4,194,304 bytes of UTF-8, that are a byte order mark and a declaration or none, then
 -- white space, comments and instructions, one element, and again white space, comments and instructions.

@@ -83,7 +83,8 @@ comment bytes = expect (33 ∷ 45 ∷ 45 ∷ []) bytes >>= upto (45 ∷ 45 ∷ 6
 unfoldable pub target : List ℕ → Read (List ℕ)
 target bytes =
     if has_name bytes then
-    (if bytes_eq (name_at bytes) (120 ∷ 109 ∷ 108 ∷ []) then Err (Syntax, length (past name_byte bytes)) else Ok (past name_byte bytes))
+    (if bytes_eq (name_at bytes) (120 ∷ 109 ∷ 108
+    ∷ []) then Err (Syntax, length (past name_byte bytes)) else Ok (past name_byte bytes))
     else Err (Syntax, length bytes)
 
 -- an instruction behind its `<`: `?`, its target, then anything up to the first `?>`
@@ -134,7 +135,8 @@ digits_on hexadecimal zero n [] = None
 digits_on hexadecimal zero n (c ∷ cs) = if c == 59 then Some (n, cs) else None
 digits_on hexadecimal (suc more) n [] = None
 digits_on hexadecimal (suc more) n (c ∷ cs) =
-    if c == 59 then Some (n, cs) else option_and_then (λ d. digits_on hexadecimal more (n * base_of hexadecimal + d) cs) (digit_of hexadecimal c)
+    if c == 59 then Some (n, cs) else option_and_then
+    (λ d. digits_on hexadecimal more (n * base_of hexadecimal + d) cs) (digit_of hexadecimal c)
 
 -- one to eight digits and then a `;`
 abbrev pub number_at : Bool → List ℕ → Option (ℕ × List ℕ)
@@ -151,7 +153,8 @@ character_of n = if is_character n then Some n else None
 -- one to eight digits and a `;`, where they stand for a character that a text may hold
 unfoldable pub numbered_at : Bool → List ℕ → Option (ℕ × List ℕ)
 numbered_at hexadecimal bytes =
-    option_and_then (λ found. option_and_then (λ c. Some (c, found.1)) (character_of found.0)) (number_at hexadecimal bytes)
+    option_and_then (λ found. option_and_then (λ c. Some (c, found.1)) (character_of found.0))
+    (number_at hexadecimal bytes)
 
 -- the five characters that have names
 unfoldable pub named_at : List ℕ → Option (ℕ × List ℕ)
@@ -199,7 +202,8 @@ abbrev pub quote_in : List ℕ → Read (ℕ × List ℕ)
 quote_in [] = Err (Syntax, 0)
 quote_in (c ∷ cs) = if c == 34 || c == 39 then Ok (c, cs) else Err (Syntax, length (c ∷ cs))
 
--- behind an attribute's name: `=` and a quote, white space before each being optional. It gives the quote, and what follows.
+-- behind an attribute's name: `=` and a quote, white space before each being optional. It gives the
+-- quote, and what follows.
 unfoldable pub quote_at : List ℕ → Read (ℕ × List ℕ)
 quote_at bytes = expect (61 ∷ []) (past white bytes) >>= λ rest. quote_in (past white rest)
 
@@ -236,5 +240,6 @@ tag_turn names bytes = turn_at names (length (past white bytes) == length bytes)
 unfoldable pub end_at : List ℕ → ℕ → List ℕ → Read (List ℕ)
 end_at name left bytes =
     if has_name bytes then
-    (if bytes_eq (name_at bytes) name then expect (62 ∷ []) (past white (past name_byte bytes)) else Err (TagMismatch, left))
+    (if bytes_eq (name_at bytes) name then expect (62
+    ∷ []) (past white (past name_byte bytes)) else Err (TagMismatch, left))
     else Err (Syntax, length bytes)

@@ -1,5 +1,6 @@
--- Texts taken loosely: without regard to their length, to UTF-8, to levels, to which names attributes and end tags have,
--- and to references. In each relation the first list of bytes begins with the part, and the last is what stands behind it.
+-- Texts taken loosely: without regard to their length, to UTF-8, to levels, to which names
+-- attributes and end tags have, and to references. In each relation the first list of bytes begins
+-- with the part, and the last is what stands behind it.
 use Rattle.std.specs.Prelude.{◌≡◌, ℕ, Bool, true, false, ◌&&◌, not, ◌==◌, List, [], ◌∷◌, ◌++◌, length, Some, Ok}
 use Rattle.manifest_tree.specs.Lexis.{white, allowed, name_byte, past, has_name, aside, begin, quote_at}
 use Rattle.manifest_tree.specs.Grammar.{Misc}
@@ -23,7 +24,8 @@ pub record LooseAttribute (bytes rest : List ℕ) : Type 0 where
 
 pub data LooseAttributes : List ℕ → List ℕ → Type 0 where
   no_loose : {rest : List ℕ} → LooseAttributes rest rest
-  one_loose : {bytes after rest : List ℕ} → LooseAttribute bytes after → LooseAttributes after rest → LooseAttributes bytes rest
+  one_loose : {bytes after rest : List ℕ} → LooseAttribute bytes after → LooseAttributes after rest
+      → LooseAttributes bytes rest
 
 -- a start tag behind its `<`, up to the white space before its end
 pub record LooseStart (bytes rest : List ℕ) : Type 0 where
@@ -38,16 +40,21 @@ pub record LooseEnd (bytes rest : List ℕ) : Type 0 where
 mutual
   -- a tag that ends in `/>`, or a start tag, content and an end tag
   pub data LooseElement : List ℕ → List ℕ → Type 0 where
-    loose_empty : {bytes after rest : List ℕ} → LooseStart bytes after → past white after ≡ 47 ∷ 62 ∷ rest → LooseElement (60 ∷ bytes) rest
-    loose_full : {bytes after inside end rest : List ℕ} → LooseStart bytes after → past white after ≡ 62 ∷ inside → LooseContent inside (60 ∷ 47 ∷ end) → LooseEnd end rest
+    loose_empty : {bytes after rest : List ℕ} → LooseStart bytes after
+        → past white after ≡ 47 ∷ 62 ∷ rest → LooseElement (60 ∷ bytes) rest
+    loose_full : {bytes after inside end rest : List ℕ} → LooseStart bytes after
+        → past white after ≡ 62 ∷ inside → LooseContent inside (60 ∷ 47 ∷ end) → LooseEnd end rest
         → LooseElement (60 ∷ bytes) rest
 
   -- character data, comments, instructions and elements
   pub data LooseContent : List ℕ → List ℕ → Type 0 where
     loose_nothing : {rest : List ℕ} → LooseContent rest rest
-    loose_byte : {c : ℕ} {bytes rest : List ℕ} → data_byte c ≡ true → LooseContent bytes rest → LooseContent (c ∷ bytes) rest
-    loose_note : {bytes after rest : List ℕ} → aside bytes ≡ Ok (Some after) → LooseContent after rest → LooseContent (60 ∷ bytes) rest
-    loose_child : {bytes after rest : List ℕ} → LooseElement bytes after → LooseContent after rest → LooseContent bytes rest
+    loose_byte : {c : ℕ} {bytes rest : List ℕ} → data_byte c ≡ true → LooseContent bytes rest
+        → LooseContent (c ∷ bytes) rest
+    loose_note : {bytes after rest : List ℕ} → aside bytes ≡ Ok (Some after)
+        → LooseContent after rest → LooseContent (60 ∷ bytes) rest
+    loose_child : {bytes after rest : List ℕ} → LooseElement bytes after → LooseContent after rest
+        → LooseContent bytes rest
 
 -- a byte order mark and a declaration or none, white space, comments and instructions, one element, and again those
 pub record LooseText (bytes : List ℕ) : Type 0 where
@@ -66,6 +73,7 @@ pub record Begins (bytes : List ℕ) : Type 0 where
 
 -- The place of the first byte with which the bytes so far begin no text; or the end, where all of them do and are none.
 pub data IsLost (bytes : List ℕ) : ℕ → Type 0 where
-  at_byte : (before : List ℕ) (c : ℕ) (after : List ℕ) {place : ℕ} → bytes ≡ before ++ c ∷ after → Begins before → (Begins (before ++ c ∷ []) → ⊥)
+  at_byte : (before : List ℕ) (c : ℕ) (after : List ℕ) {place : ℕ} → bytes ≡ before ++ c ∷ after
+      → Begins before → (Begins (before ++ c ∷ []) → ⊥)
       → place ≡ length before → IsLost bytes place
   at_end : {place : ℕ} → Begins bytes → (LooseText bytes → ⊥) → place ≡ length bytes → IsLost bytes place

@@ -45,7 +45,8 @@ TextsAt start rest = Unit {0}
 TextsAt before rest = Unit {0}
 TextsAt (inside top around) rest = (tail : List ℕ) → rest ≡ 60 ∷ tail → IsUtf8 top.text
 TextsAt (in_tag name attributes around) rest = IsUtf8 name
-TextsAt (in_value name attributes of quote value around) rest = IsUtf8 of × ((tail : List ℕ) → rest ≡ quote ∷ tail → IsUtf8 value)
+TextsAt (in_value name attributes of quote value around) rest =
+    IsUtf8 of × ((tail : List ℕ) → rest ≡ quote ∷ tail → IsUtf8 value)
 TextsAt (behind t) rest = Unit {0}
 
 -- Steps lead to where that is not so.

@@ -39,7 +39,13 @@ turn_and_rest found = (turn_in found.0, found.1.now)
 
 -- an open element
 abbrev pub open_tree : Opened → OpenTree
-open_tree o = record { name = o.name; attributes = o.attributes.items; children = trees (map tree_of o.children.items); text = o.text.items }
+open_tree o = record {
+  name = o.name;
+  attributes = o.attributes.items;
+  children =
+      trees (map tree_of o.children.items);
+  text = o.text.items;
+}
 
 -- those around the innermost, from it to the root
 abbrev pub opens_of : List Opened → List OpenTree
@@ -66,4 +72,6 @@ HasLate late attributes = (name : List ℕ) → has_late late name ≡ is_among 
 
 -- where a start tag leads
 abbrev pub tag_spot : Tag → List OpenTree → Spot
-tag_spot tag around = if tag.closed then placed (tree tag.name tag.attributes.items none []) around else inside (opened tag.name tag.attributes.items) around
+tag_spot tag around =
+    if tag.closed then placed (tree tag.name tag.attributes.items none []) around else inside
+    (opened tag.name tag.attributes.items) around

@@ -33,7 +33,8 @@ pub data Spot : Type 0 where
   before : Spot
   inside : (top : OpenTree) (around : List OpenTree) → Spot
   in_tag : (name : List ℕ) (attributes : List Attribute) (around : List OpenTree) → Spot
-  in_value : (name : List ℕ) (attributes : List Attribute) (of : List ℕ) (quote : ℕ) (value : List ℕ) (around : List OpenTree) → Spot
+  in_value : (name : List ℕ) (attributes : List Attribute) (of : List ℕ) (quote : ℕ)
+      (value : List ℕ) (around : List OpenTree) → Spot
   behind : Tree → Spot
 
 -- what the next step does
@@ -53,7 +54,9 @@ placed t (o ∷ around) = inside (with_child o t) around
 
 abbrev pub root_step : List ℕ → Option (List ℕ) → Next
 root_step bytes (Some rest) = go before rest
-root_step bytes None = if has_name bytes then go (in_tag (name_at bytes) [] []) (past name_byte bytes) else stop (Syntax, length bytes)
+root_step bytes None =
+    if has_name bytes then go (in_tag (name_at bytes) [] []) (past name_byte bytes) else stop
+    (Syntax, length bytes)
 
 unfoldable pub before_step : List ℕ → Next
 before_step [] = stop (Syntax, 0)
@@ -66,7 +69,8 @@ markup_step o around [] = stop (Syntax, 0)
 markup_step o around (c ∷ cs) =
     if c == 47 then onward (end_at o.name (length (60 ∷ c ∷ cs)) cs) (λ rest. go (placed (finished o) around) rest) else
     if has_name (c ∷ cs) then
-    (if nat_lt (length around) 63 then go (in_tag (name_at (c ∷ cs)) [] (o ∷ around)) (past name_byte (c ∷ cs)) else stop (TooDeep, length (60 ∷ c ∷ cs)))
+    (if nat_lt (length around) 63 then go (in_tag (name_at (c ∷ cs)) [] (o
+    ∷ around)) (past name_byte (c ∷ cs)) else stop (TooDeep, length (60 ∷ c ∷ cs)))
     else stop (Syntax, length (c ∷ cs))
 
 abbrev pub apart_step : OpenTree → List OpenTree → List ℕ → Option (List ℕ) → Next
@@ -114,7 +118,8 @@ next (behind t) bytes = behind_step t bytes
 -- from a spot and bytes, some steps lead to another spot and what is left of the bytes
 pub data Reads : Spot → List ℕ → Spot → List ℕ → Type 0 where
   here : {s : Spot} {bytes : List ℕ} → Reads s bytes s bytes
-  step : {s t u : Spot} {bytes after rest : List ℕ} → next s bytes ≡ go t after → Reads t after u rest → Reads s bytes u rest
+  step : {s t u : Spot} {bytes after rest : List ℕ} → next s bytes ≡ go t after
+      → Reads t after u rest → Reads s bytes u rest
 
 -- some steps lead to a fault
 pub record Stops (s : Spot) (bytes : List ℕ) (fault : Fault) : Type 0 where

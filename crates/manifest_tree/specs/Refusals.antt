@@ -20,7 +20,8 @@ module _ (whole : List ℕ) where
   pub data Stands : List OpenTree → List ℕ → Type 0 where
     outside : {b rest : List ℕ} → begin whole ≡ Ok b → Misc b rest → Stands [] rest
     within : {around : List OpenTree} {b name after inner text rest : List ℕ} {attributes : List Attribute} {children : Trees}
-        → Stands around (60 ∷ b) → suc (length around) ≤ LEVEL_LIMIT → IsStart b name attributes after → past white after ≡ 62 ∷ inner
+        → Stands around (60 ∷ b) → suc (length around) ≤ LEVEL_LIMIT
+        → IsStart b name attributes after → past white after ≡ 62 ∷ inner
         → Content (suc (suc (length around))) inner children text rest
         → Stands (record { name = name; attributes = attributes; children = children; text = text } ∷ around) rest
 
@@ -32,7 +33,8 @@ module _ (whole : List ℕ) where
     pub start_is : IsStart tag name attributes rest
 
   -- reading stands in the value of this attribute of a tag
-  pub record InValue (name : List ℕ) (attributes : List Attribute) (of : List ℕ) (quote : ℕ) (value : List ℕ) (around : List OpenTree) (rest : List ℕ) : Type 0 where
+  pub record InValue (name : List ℕ) (attributes : List Attribute) (of : List ℕ) (quote : ℕ)
+      (value : List ℕ) (around : List OpenTree) (rest : List ℕ) : Type 0 where
     pub from : List ℕ
     pub in_tag_there : InTag name attributes around from
     pub spaced : (length (past white from) == length from) ≡ false
@@ -51,32 +53,45 @@ module _ (whole : List ℕ) where
     pub element : Element 1 root t end
     pub after : Misc end rest
 
-  -- A fault that is no fault of form, and the bytes from its place on. All before it is without fault; a tag need not be
-  -- finished, its name is enough.
+  -- A fault that is no fault of form, and the bytes from its place on. All before it is without
+  -- fault; a tag need not be finished, its name is enough.
   pub data IsFault : TreeKind → List ℕ → Type 0 where
     -- in character data an `&` begins no reference
-    entity : {top : OpenTree} {around : List OpenTree} {rest : List ℕ} → Stands (top ∷ around) (38 ∷ rest) → reference_at rest ≡ None → IsFault Entity (38 ∷ rest)
+    entity : {top : OpenTree} {around : List OpenTree} {rest : List ℕ}
+        → Stands (top ∷ around) (38 ∷ rest) → reference_at rest ≡ None → IsFault Entity (38 ∷ rest)
     -- so in a value
     entity_in_value : {name of value rest : List ℕ} {attributes : List Attribute} {quote : ℕ} {around : List OpenTree}
-        → InValue name attributes of quote value around (38 ∷ rest) → (38 == quote) ≡ false → reference_at rest ≡ None → IsFault Entity (38 ∷ rest)
+        → InValue name attributes of quote value around (38 ∷ rest) → (38 == quote) ≡ false
+        → reference_at rest ≡ None → IsFault Entity (38 ∷ rest)
     -- an end tag has another name than the open element
-    mismatch : {top : OpenTree} {around : List OpenTree} {rest : List ℕ} → Stands (top ∷ around) (60 ∷ 47 ∷ rest) → has_name rest ≡ true → bytes_eq (name_at rest) top.name ≡ false
+    mismatch : {top : OpenTree} {around : List OpenTree} {rest : List ℕ}
+        → Stands (top ∷ around) (60 ∷ 47 ∷ rest) → has_name rest ≡ true
+        → bytes_eq (name_at rest) top.name ≡ false
         → IsFault TagMismatch (60 ∷ 47 ∷ rest)
     -- behind white space in a tag comes a name that the tag had before
-    twice : {name rest : List ℕ} {attributes : List Attribute} {around : List OpenTree} → InTag name attributes around rest → (length (past white rest) == length rest) ≡ false
-        → has_name (past white rest) ≡ true → is_among (names_of attributes) (name_at (past white rest)) ≡ true → IsFault AttributeTwice (past white rest)
+    twice : {name rest : List ℕ} {attributes : List Attribute} {around : List OpenTree}
+        → InTag name attributes around rest → (length (past white rest) == length rest) ≡ false
+        → has_name (past white rest) ≡ true
+        → is_among (names_of attributes) (name_at (past white rest)) ≡ true
+        → IsFault AttributeTwice (past white rest)
     -- a start tag comes where 64 elements are open
-    deep : {around : List OpenTree} {rest : List ℕ} → Stands around (60 ∷ rest) → has_name rest ≡ true → LEVEL_LIMIT ≤ length around → IsFault TooDeep (60 ∷ rest)
+    deep : {around : List OpenTree} {rest : List ℕ} → Stands around (60 ∷ rest)
+        → has_name rest ≡ true → LEVEL_LIMIT ≤ length around → IsFault TooDeep (60 ∷ rest)
 
 -- The refusal of a text: its kind and its place, which counts bytes from 0.
 pub data IsRefusal (bytes : List ℕ) : TreeKind → ℕ → Type 0 where
   too_long : MANIFEST_LIMIT < length bytes → IsRefusal bytes TooLong MANIFEST_LIMIT
   -- the place is that of the first byte that is no UTF-8
-  not_utf8 : {place : ℕ} → length bytes ≤ MANIFEST_LIMIT → (IsUtf8 bytes → ⊥) → IsValidUpTo bytes place → IsRefusal bytes NotUtf8 place
-  other : {kind : TreeKind} {rest : List ℕ} {place : ℕ} → length bytes ≤ MANIFEST_LIMIT → IsUtf8 bytes → IsFault bytes kind rest → place ≡ length bytes - length rest → IsRefusal bytes kind place
-  -- the place is that of the first byte with which the bytes so far begin no text, or the end, and no other fault stands
-  -- there or before it
-  syntax : {place : ℕ} → length bytes ≤ MANIFEST_LIMIT → IsUtf8 bytes → IsLost bytes place → ((kind : TreeKind) (rest : List ℕ) → IsFault bytes kind rest → place < length bytes - length rest)
+  not_utf8 : {place : ℕ} → length bytes ≤ MANIFEST_LIMIT → (IsUtf8 bytes → ⊥)
+      → IsValidUpTo bytes place → IsRefusal bytes NotUtf8 place
+  other : {kind : TreeKind} {rest : List ℕ} {place : ℕ} → length bytes ≤ MANIFEST_LIMIT
+      → IsUtf8 bytes → IsFault bytes kind rest → place ≡ length bytes - length rest
+      → IsRefusal bytes kind place
+  -- the place is that of the first byte with which the bytes so far begin no text, or the end, and
+  -- no other fault stands there or before it
+  syntax : {place : ℕ} → length bytes ≤ MANIFEST_LIMIT → IsUtf8 bytes → IsLost bytes place
+      → ((kind : TreeKind) (rest : List ℕ) → IsFault bytes kind rest
+      → place < length bytes - length rest)
       → IsRefusal bytes Syntax place
 
 abbrev pub Refuses : List ℕ → TreeError → Type 0

@@ -51,7 +51,9 @@ abbrev mutual
   -- an element that is bare ends in `/>`; else its text follows its start tag, then its children, then its end tag
   pub element_text : Tree → List ℕ
   element_text (tree name attributes children text) =
-      start_text name attributes ++ (if is_bare children text then codes "/>" else ((62 ∷ escaped text) ++ (elements_text children ++ end_text name)))
+      start_text name attributes
+      ++ (if is_bare children text then codes "/>" else ((62 ∷ escaped text)
+      ++ (elements_text children ++ end_text name)))
 
   pub elements_text : Trees → List ℕ
   elements_text none = []
@@ -86,7 +88,9 @@ abbrev mutual
   -- an element at a level, the root's being 1, at most 64
   pub is_element : ℕ → Tree → Bool
   is_element level (tree name attributes children text) =
-      nat_le level LEVEL_LIMIT && (is_name name && (are_attributes [] attributes && (is_content text && are_elements (suc level) children)))
+      nat_le level LEVEL_LIMIT &&
+      (is_name name &&
+      (are_attributes [] attributes && (is_content text && are_elements (suc level) children)))
 
   pub are_elements : ℕ → Trees → Bool
   are_elements level none = true

@@ -17,7 +17,8 @@ use std::alloc::Global;
 fn read_element(alloc: Global, stack: Stack, bytes: &[u8]) -> Result<(Position, &[u8]), Stop>
     requires small { length bytes.now < 2 ^ 32 }
     requires no_aside { aside_at bytes.now ≡ Ok None }
-    ensures leads { Leads (λ x. (spot_of x.0, x.1.now)) (inside (open_tree stack.top) (below_of stack)) (60 ∷ bytes.now) result }
+    ensures leads { Leads (λ x. (spot_of x.0, x.1.now))
+        (inside (open_tree stack.top) (below_of stack)) (60 ∷ bytes.now) result }
     ensures shorter { IfOk result (λ x. length x.1.now < length bytes.now) }
 {
     let Some((first, tail)) = bytes.split_first() else {
@@ -45,7 +46,8 @@ fn read_element(alloc: Global, stack: Stack, bytes: &[u8]) -> Result<(Position, 
 // One markup behind its `<`.
 fn read_markup(alloc: Global, stack: Stack, bytes: &[u8]) -> Result<(Position, &[u8]), Stop>
     requires { length bytes.now < 2 ^ 32 }
-    ensures leads { Leads (λ x. (spot_of x.0, x.1.now)) (inside (open_tree stack.top) (below_of stack)) (60 ∷ bytes.now) result }
+    ensures leads { Leads (λ x. (spot_of x.0, x.1.now))
+        (inside (open_tree stack.top) (below_of stack)) (60 ∷ bytes.now) result }
     ensures shorter { IfOk result (λ x. length x.1.now ≤ length bytes.now) }
 {
     match aside(bytes)? {
@@ -61,7 +63,8 @@ pub(crate) fn read_turn(
     bytes: &[u8],
 ) -> Result<(Position, &[u8]), Stop>
     requires { length bytes.now < 2 ^ 32 }
-    ensures leads { Leads (λ x. (spot_of x.0, x.1.now)) (inside (open_tree stack.top) (below_of stack)) bytes.now result }
+    ensures leads { Leads (λ x. (spot_of x.0, x.1.now))
+        (inside (open_tree stack.top) (below_of stack)) bytes.now result }
     ensures shorter { IfOk result (λ x. length x.1.now < length bytes.now) }
 {
     let (run, markup) = read_data(alloc, bytes)?;

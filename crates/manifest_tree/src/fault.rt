@@ -73,8 +73,8 @@ impl fmt::Display for TreeError {
 
 impl Error for TreeError {}
 
-// Why reading stopped: a fault, with how many bytes stand from its place on; a part that is no UTF-8, which no UTF-8 text has;
-// or want of memory.
+// Why reading stopped: a fault, with how many bytes stand from its place on; a part that is no
+// UTF-8, which no UTF-8 text has; or want of memory.
 #[derive(Clone, Copy, Debug, PartialEq, Eq)]
 pub(crate) enum Stop {
     Fault { kind: TreeKind, left: usize },

@@ -177,7 +177,8 @@ pub(crate) fn start(alloc: Global, around: Option<Stack>, tag: Tag) -> Result<Po
 
 // Behind the end tag of the innermost element.
 pub(crate) fn close(stack: Stack) -> Result<Position, Stop>
-    ensures { GivesText stack.top.text.items spot_of result (Ok (placed (finished (open_tree stack.top)) (below_of stack))) }
+    ensures { GivesText stack.top.text.items spot_of result
+        (Ok (placed (finished (open_tree stack.top)) (below_of stack))) }
 {
     let Stack { top, mut below } = stack;
     let element = finish(top)?;

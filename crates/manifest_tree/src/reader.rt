@@ -71,7 +71,8 @@ fn end_of(bytes: &[u8]) -> Result<(), Stop>
 // The root, whose name begins here, and what follows it.
 fn read_root(alloc: Global, bytes: &[u8]) -> Result<(Node, &[u8]), Stop>
     requires { length bytes.now < 2 ^ 32 }
-    ensures { Leads (λ x. (behind (tree_of x.0), x.1.now)) (in_tag (name_at bytes.now) [] []) (past name_byte bytes.now) result }
+    ensures { Leads (λ x. (behind (tree_of x.0), x.1.now)) (in_tag (name_at bytes.now) [] [])
+        (past name_byte bytes.now) result }
 {
     let (tag, after) = read_tag(alloc, bytes)?;
     let position = start(alloc, None, tag)?;
@@ -157,6 +158,3 @@ pub fn read_tree(alloc: Global, bytes: &[u8]) -> Result<Node, TreeError>
         Err(error) => Err(refusal(TreeKind::NotUtf8, error.valid_up_to())),
     }
 }
-
-#[cfg(test)]
-mod tests;

@@ -59,7 +59,10 @@ fn is_taken(seen: &[Attribute], late: &BTreeMap<&[u8], ()>, name: &[u8]) -> bool
 
 // The map with the name too, if it stands behind the first few.
 fn keep<'a>(late: &mut BTreeMap<&'a [u8], ()>, place: usize, name: &'a [u8]) -> Result<(), Stop>
-    ensures kept { IfOk result (λ _. (q : List ℕ) → has_late late.new q ≡ (if nat_lt place 8 then has_late late.old q else (bytes_eq name.now q || has_late late.old q))) }
+    ensures kept { IfOk result (λ _. (q : List ℕ)
+        → has_late late.new q
+        ≡ (if nat_lt place 8 then has_late late.old q else
+        (bytes_eq name.now q || has_late late.old q))) }
     ensures only_memory { IfErr result (λ e. e ≡ Stop.Memory) }
 {
     if place < FEW {

@@ -68,13 +68,13 @@ fn text_of(alloc: Global, node: &Node, length: u64) -> Result<Bytes, AllocError>
     Ok(text)
 }
 
-/// The text of a tree of names and characters that a text may have, of at most 64 levels, in which no element has two
-/// attributes of one name: `is_writable` tells. Reading the text gives the node.
+/// The text of a tree of names and characters that a text may have, of at most 64 levels, in which
+/// no element has two attributes of one name: `is_writable` tells. Reading the text gives the node.
 ///
 /// # Errors
 ///
-/// `TooLong` has the text's length where that is above 4,194,304 bytes. `Memory` says that memory ran out; it is answered
-/// too where the text has 2^64 bytes or more.
+/// `TooLong` has the text's length where that is above 4,194,304 bytes. `Memory` says that memory
+/// ran out; it is answered too where the text has 2^64 bytes or more.
 pub fn write_tree(alloc: Global, node: &Node) -> Result<Bytes, WriteFault>
     requires { IsTrue (can_be_written (tree_of node.now)) }
     ensures text { IfOk result (λ text. text ≡ written (tree_of node.now)) }
@@ -95,6 +95,3 @@ pub fn write_tree(alloc: Global, node: &Node) -> Result<Bytes, WriteFault>
     }
     Ok(text_of(alloc, node, length)?)
 }
-
-#[cfg(test)]
-mod tests;

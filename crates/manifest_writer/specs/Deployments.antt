@@ -14,7 +14,8 @@ use Rattle.manifest_writer.specs.Elements.{named, element, leaf, root_tree, iden
 -- whose the application is, and what it is called
 abbrev pub description_tree : List ℕ → List ℕ → Tree
 description_tree publisher product =
-    leaf (codes "asmv1:description") (named (codes "asmv2:publisher") publisher ∷ named (codes "asmv2:product") product ∷ [])
+    leaf (codes "asmv1:description") (named (codes "asmv2:publisher") publisher
+    ∷ named (codes "asmv2:product") product ∷ [])
 
 -- ---- the terms
 
@@ -38,7 +39,9 @@ age_attributes count unit = named (codes "maximumAge") count ∷ named (codes "u
 
 -- an age, in the largest unit of which it is a multiple
 unfoldable pub age_tree : ℕ → Tree
-age_tree seconds = leaf (codes "expiration") (age_attributes (decimal (count_of seconds)) (unit_word (largest_unit seconds)))
+age_tree seconds =
+    leaf (codes "expiration")
+    (age_attributes (decimal (count_of seconds)) (unit_word (largest_unit seconds)))
 
 -- before each start
 abbrev pub before_tree : Tree
@@ -67,7 +70,8 @@ terms_tree d = element (codes "deployment") (terms_attributes d) (rule_trees d.r
 
 abbrev pub assembly_attributes : List ℕ → List ℕ → List Attribute
 assembly_attributes codebase size =
-    named (codes "dependencyType") (codes "install") ∷ named (codes "codebase") codebase ∷ named (codes "size") size ∷ []
+    named (codes "dependencyType") (codes "install") ∷ named (codes "codebase") codebase
+    ∷ named (codes "size") size ∷ []
 
 abbrev pub assembly_tree : Deployment → Tree
 assembly_tree d =
@@ -81,7 +85,8 @@ dependency_tree d = element (codes "dependency") [] (assembly_tree d ∷ [])
 
 unfoldable pub deployment_tree : Deployment → List ℕ → List ℕ → Tree
 deployment_tree d publisher product =
-    root_tree (own_identity_tree d.identity ∷ description_tree publisher product ∷ terms_tree d ∷ dependency_tree d ∷ [])
+    root_tree (own_identity_tree d.identity ∷ description_tree publisher product ∷ terms_tree d
+    ∷ dependency_tree d ∷ [])
 
 abbrev pub deployment_text : Deployment → List ℕ → List ℕ → List ℕ
 deployment_text d publisher product = written (deployment_tree d publisher product)

@@ -59,7 +59,8 @@ key_attributes key version =
     ∷ []
 
 abbrev pub identity_attributes : Identity → List Attribute
-identity_attributes identity = key_attributes identity.key (version_text identity.version) ++ kind_attributes identity.kind
+identity_attributes identity =
+    key_attributes identity.key (version_text identity.version) ++ kind_attributes identity.kind
 
 -- an identity under a name, which is `assemblyIdentity` with a prefix or without
 unfoldable pub identity_tree : List ℕ → Identity → Tree
@@ -75,7 +76,9 @@ own_identity_tree identity = identity_tree (codes "asmv1:assemblyIdentity") iden
 abbrev pub transforms_tree : Tree
 transforms_tree =
     element (codes "dsig:Transforms") []
-    (leaf (codes "dsig:Transform") (named (codes "Algorithm") (codes "urn:schemas-microsoft-com:HashTransforms.Identity") ∷ []) ∷ [])
+    (leaf (codes "dsig:Transform")
+    (named (codes "Algorithm") (codes "urn:schemas-microsoft-com:HashTransforms.Identity") ∷ [])
+    ∷ [])
 
 abbrev pub method_tree : Digest → Tree
 method_tree digest = leaf (codes "dsig:DigestMethod") (named (codes "Algorithm") (uri_of digest.algorithm) ∷ [])

@@ -49,23 +49,25 @@ fn application_node(alloc: Global, a: &Application) -> Result<Node, NoMemory>
     Ok(root(alloc, children)?)
 }
 
-/// The text of the application manifest that says this. What it says is what reading can give: key parts of 1 to 240 and
-/// 1 to 64 bytes, an entry of 1 to 240 bytes and parameters of at most 2,048, and at most 16,384 files, among them at most
-/// 256 data files, of names that differ. No file is below `.pre`; a file has at most 67,108,864 bytes, and digests of the
-/// lengths of their algorithms; a group has 1 to 240 bytes; a data file is in no group, and its name has at most 235 bytes.
-/// No byte of a text is below 32 but tab, line feed and carriage return.
+/// The text of the application manifest that says this. What it says is what reading can give: key
+/// parts of 1 to 240 and 1 to 64 bytes, an entry of 1 to 240 bytes and parameters of at most 2,048,
+/// and at most 16,384 files, among them at most 256 data files, of names that differ. No file is
+/// below `.pre`; a file has at most 67,108,864 bytes, and digests of the lengths of their
+/// algorithms; a group has 1 to 240 bytes; a data file is in no group, and its name has at most 235
+/// bytes. No byte of a text is below 32 but tab, line feed and carriage return.
 ///
 /// # Errors
 ///
-/// `TooLong` has the text's length in bytes where that is above 4,194,304. `Memory` says that memory ran out; it is answered
-/// too where the text has 2^64 bytes or more.
+/// `TooLong` has the text's length in bytes where that is above 4,194,304. `Memory` says that
+/// memory ran out; it is answered too where the text has 2^64 bytes or more.
 pub fn write_application(alloc: Global, a: &Application) -> Result<Bytes, WriteFault>
     requires { AreApplicationFacts a.now }
     ensures text { IfOk result (λ text. text ≡ application_text a.now) }
     // Reading the text gives what it says.
     ensures facts { IfOk result (λ text. Tells application_of text (Ok a.now)) }
     // A text that is too long is not written.
-    ensures too_long { let count = length (application_text a.now) in MANIFEST_LIMIT < count → count < 2 ^ 64 → OnOk result ⊥ }
+    ensures too_long { let count =
+        length (application_text a.now) in MANIFEST_LIMIT < count → count < 2 ^ 64 → OnOk result ⊥ }
     // The fault is that the text is too long, and says how long; or memory ran out.
     ensures fault { IfErr result (IsUnwritten (application_text a.now)) }
 {

@@ -98,16 +98,17 @@ fn deployment_node(
     Ok(root(alloc, children)?)
 }
 
-/// The text of the deployment manifest that says this, with the names of the publisher and of the product. What it says is
-/// what reading can give: key parts of 1 to 240 and 1 to 64 bytes, an application that is installed, a minimum that is not
-/// above the version, an age of whole hours in at most nine digits of its unit, a provider that is an address, a codebase of
-/// 1 to 2,048 bytes, a size of at most 4,194,304 bytes, and digests of the lengths of their algorithms. No byte of a text is
-/// below 32 but tab, line feed and carriage return.
+/// The text of the deployment manifest that says this, with the names of the publisher and of the
+/// product. What it says is what reading can give: key parts of 1 to 240 and 1 to 64 bytes, an
+/// application that is installed, a minimum that is not above the version, an age of whole hours in
+/// at most nine digits of its unit, a provider that is an address, a codebase of 1 to 2,048 bytes,
+/// a size of at most 4,194,304 bytes, and digests of the lengths of their algorithms. No byte of a
+/// text is below 32 but tab, line feed and carriage return.
 ///
 /// # Errors
 ///
-/// `TooLong` has the text's length in bytes where that is above 4,194,304. `Memory` says that memory ran out; it is answered
-/// too where the text has 2^64 bytes or more.
+/// `TooLong` has the text's length in bytes where that is above 4,194,304. `Memory` says that
+/// memory ran out; it is answered too where the text has 2^64 bytes or more.
 pub fn write_deployment(
     alloc: Global,
     d: &Deployment,

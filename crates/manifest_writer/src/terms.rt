@@ -68,7 +68,8 @@ fn before_node(alloc: Global) -> Result<Node, NoMemory>
 
 // Adds when a new version is looked for.
 fn add_subscription(alloc: Global, children: &mut Vec<Node>, time: Node) -> Result<(), NoMemory>
-    ensures { OnOk result (map tree_of children.new.items ≡ map tree_of children.old.items ++ subscription_tree (tree_of time) ∷ []) }
+    ensures { OnOk result (map tree_of children.new.items
+        ≡ map tree_of children.old.items ++ subscription_tree (tree_of time) ∷ []) }
 {
     let update = element_around(alloc, "update", time)?;
     add_child(children, element_around(alloc, "subscription", update)?)?;
@@ -107,7 +108,8 @@ fn add_provider(
     children: &mut Vec<Node>,
     provider: &Option<Text>,
 ) -> Result<(), NoMemory>
-    ensures { OnOk result (map tree_of children.new.items ≡ map tree_of children.old.items ++ provider_trees provider.now) }
+    ensures { OnOk result (map tree_of children.new.items
+        ≡ map tree_of children.old.items ++ provider_trees provider.now) }
 {
     let Some(address) = provider else {
         return Ok(());

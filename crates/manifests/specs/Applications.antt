@@ -19,8 +19,8 @@ use Rattle.manifests.specs.Types.{installed_type}
 
 -- ---- what lists a file
 
--- An element that lists a file: the name of the attribute that names the file, that attribute and the others, the element
--- that has the hashes, and whether it is a data file.
+-- An element that lists a file: the name of the attribute that names the file, that attribute and
+-- the others, the element that has the hashes, and whether it is a data file.
 pub record Listing : Type 0 where
   pub what : List ℕ
   pub name : Option (List ℕ)

@@ -26,7 +26,9 @@ use Rattle.manifests.specs.declared.deployment_entry.Entry.{Entry}
 
 -- a minimum may not be above the version
 abbrev pub not_above : Version → Version → Read (Option Version)
-not_above version minimum = if is_lt (version_cmp version minimum) then Err (MinimumAboveVersion minimum version) else Ok (Some minimum)
+not_above version minimum =
+    if is_lt (version_cmp version minimum) then Err (MinimumAboveVersion minimum version) else Ok
+    (Some minimum)
 
 abbrev pub minimum_of : Version → Option (List ℕ) → Read (Option Version)
 minimum_of version None = Ok None
@@ -58,7 +60,8 @@ expiring (Some expiration) = age_of expiration
 abbrev pub update_rule : Option Tree → Read Rule
 update_rule None = Ok Never
 update_rule (Some update) =
-    if is_some (first_called (codes "beforeApplicationStartup") update) then Ok Before else expiring (first_called (codes "expiration") update)
+    if is_some (first_called (codes "beforeApplicationStartup") update) then Ok Before else expiring
+    (first_called (codes "expiration") update)
 
 abbrev pub subscription_rule : Option Tree → Read Rule
 subscription_rule None = Ok Never

@@ -70,8 +70,8 @@ pub record AreDeploymentFacts (d : Deployment) : Type 0 where
 
 -- ---- applications
 
--- A file that may be installed: none below `.pre`; a data file has limits of its own for its name and its size, and is in
--- no group.
+-- A file that may be installed: none below `.pre`; a data file has limits of its own for its name
+-- and its size, and is in no group.
 pub record IsFile (e : FileEntry) : Type 0 where
   pub above : ¬ IsBelowPre e.name
   pub short : e.local ≡ true → length e.name ≤ LOCAL_NAME_LIMIT
@@ -96,4 +96,5 @@ ReadDeploymentsAreFacts = (bytes : List ℕ) (d : Deployment) → Tells deployme
 
 -- so is what the bytes of an application manifest say
 abbrev pub ReadApplicationsAreFacts : Type 0
-ReadApplicationsAreFacts = (bytes : List ℕ) (a : Application) → Tells application_of bytes (Ok a) → AreApplicationFacts a
+ReadApplicationsAreFacts =
+    (bytes : List ℕ) (a : Application) → Tells application_of bytes (Ok a) → AreApplicationFacts a

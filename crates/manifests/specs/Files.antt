@@ -5,6 +5,7 @@ use Rattle.manifests.specs.declared.facts.FileEntry.{FileEntry}
 use Rattle.manifests.specs.Applications.{is_taken, locals}
 
 -- a set of texts that has exactly the names of the files, and the number of data files
-pub record AreKnown {A : Type 0} (entries : List FileEntry) (names : BTreeSet (String A)) (data_files : ℕ) : Type 0 where
+pub record AreKnown {A : Type 0} (entries : List FileEntry) (names : BTreeSet (String A))
+    (data_files : ℕ) : Type 0 where
   pub names_are : (name : List ℕ) → contains_text names name ≡ is_taken entries name
   pub data_is : data_files ≡ locals entries

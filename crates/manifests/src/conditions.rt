@@ -34,8 +34,8 @@ fn are_allowed(bytes: &[u8]) -> bool
     bytes.iter().all(|byte| is_allowed(*byte))
 }
 
-/// Whether a manifest may hold the text as a value of `least` to `most` bytes: each byte is a tab, a line feed, a carriage
-/// return or at least 32.
+/// Whether a manifest may hold the text as a value of `least` to `most` bytes: each byte is a tab,
+/// a line feed, a carriage return or at least 32.
 pub fn is_value(text: &Text, least: usize, most: usize) -> bool
     ensures { IsTrue result ↔ IsValue least most text.now }
 {
@@ -43,8 +43,8 @@ pub fn is_value(text: &Text, least: usize, most: usize) -> bool
     least <= bytes.len() && bytes.len() <= most && are_allowed(bytes)
 }
 
-/// Whether a manifest can say the identity: its name is a value of 1 to 240 bytes, the other parts of its key are ones of
-/// 1 to 64, and its kind is one of at most 64.
+/// Whether a manifest can say the identity: its name is a value of 1 to 240 bytes, the other parts
+/// of its key are ones of 1 to 64, and its kind is one of at most 64.
 pub fn is_identity(identity: &Identity) -> bool
     ensures { IsTrue result ↔ IsIdentity identity.now }
 {
@@ -103,8 +103,8 @@ fn is_address(alloc: Global, text: &Text) -> Result<bool, CopyFault>
     }
 }
 
-/// Whether a manifest can say the provider, if there is one: `target_of` reads it, and each byte is one that a manifest may
-/// hold. It fails only for want of memory, which reading a URL takes.
+/// Whether a manifest can say the provider, if there is one: `target_of` reads it, and each byte is
+/// one that a manifest may hold. It fails only for want of memory, which reading a URL takes.
 pub fn is_provider(alloc: Global, provider: &Option<Text>) -> Result<bool, CopyFault>
     ensures { IfOk result (λ answer. IsTrue answer ↔ IfSome provider.now IsProvider) }
 {
@@ -125,9 +125,10 @@ fn is_assembly(d: &Deployment) -> bool
         && are_sized(&d.app_list)
 }
 
-/// Whether a manifest can say the deployment: its parts are within their limits and of bytes that a manifest may hold, it
-/// is installed, its minimum is not above its version, its age is of whole hours, and its provider is an address. It fails
-/// only for want of memory, which the test of the provider takes.
+/// Whether a manifest can say the deployment: its parts are within their limits and of bytes that a
+/// manifest may hold, it is installed, its minimum is not above its version, its age is of whole
+/// hours, and its provider is an address. It fails only for want of memory, which the test of the
+/// provider takes.
 pub fn are_deployment_facts(alloc: Global, d: &Deployment) -> Result<bool, CopyFault>
     ensures { IfOk result (λ answer. IsTrue answer ↔ AreDeploymentFacts d.now) }
 {
@@ -161,9 +162,10 @@ fn is_use(entry: &FileEntry) -> bool
     !entry.local || (entry.name.as_bytes().len() <= LOCAL_NAME_LIMIT && entry.group.is_none())
 }
 
-/// Whether a manifest can say the file: it is not below `.pre`, has at most 67,108,864 bytes and digests of the lengths of
-/// their algorithms, and its group, if there is one, is a value of 1 to 240 bytes. A data file has at most 1,048,576 bytes
-/// and a name of at most 235, and is in no group.
+/// Whether a manifest can say the file: it is not below `.pre`, has at most 67,108,864 bytes and
+/// digests of the lengths of their algorithms, and its group, if there is one, is a value of 1 to
+/// 240 bytes. A data file has at most 1,048,576 bytes and a name of at most 235, and is in no
+/// group.
 pub fn is_file(entry: &FileEntry) -> bool
     ensures { IsTrue result ↔ IsFile entry.now }
 {
@@ -181,9 +183,9 @@ fn are_each_files(files: &[FileEntry]) -> bool
     files.iter().all(|entry| is_file(entry))
 }
 
-/// Whether a manifest can say the application: its parts are within their limits and of bytes that a manifest may hold, and
-/// its files are ones that a manifest can say, few enough, and of names that differ. It fails only for want of memory,
-/// which the comparison of the names takes.
+/// Whether a manifest can say the application: its parts are within their limits and of bytes that
+/// a manifest may hold, and its files are ones that a manifest can say, few enough, and of names
+/// that differ. It fails only for want of memory, which the comparison of the names takes.
 pub fn are_application_facts(alloc: Global, a: &Application) -> Result<bool, CopyFault>
     ensures { IfOk result (λ answer. IsTrue answer ↔ AreApplicationFacts a.now) }
 {

@@ -33,11 +33,13 @@ fn facts_of(alloc: Global, root: &Node) -> Result<Deployment, ManifestFault>
     })
 }
 
-/// What the deployment manifest says. It is refused by the first of these: `Tree` exactly where the bytes spell no tree;
-/// `Signed` for an element `Signature` anywhere; `Missing` for another root than `assembly`; then the refusals of its
-/// identity; of the element `deployment`, whose `install` is true (`OnlineOnly`) and whose minimum is not above the
-/// version (`MinimumAboveVersion`); and of the one assembly that is to be installed, where `NoDigest` has the codebase.
-/// `Missing`, `Twice` and `BadValue` have the local name of the element or the attribute. `Memory` may come at any bytes.
+/// What the deployment manifest says. It is refused by the first of these: `Tree` exactly where the
+/// bytes spell no tree; `Signed` for an element `Signature` anywhere; `Missing` for another root
+/// than `assembly`; then the refusals of its identity; of the element `deployment`, whose `install`
+/// is true (`OnlineOnly`) and whose minimum is not above the version (`MinimumAboveVersion`); and
+/// of the one assembly that is to be installed, where `NoDigest` has the codebase. `Missing`,
+/// `Twice` and `BadValue` have the local name of the element or the attribute. `Memory` may come at
+/// any bytes.
 pub fn read_deployment(alloc: Global, bytes: &[u8]) -> Result<Deployment, ManifestFault>
     // The answer is what a tree says that the bytes spell.
     ensures answers { Answers deployment_of bytes.now result }

@@ -50,8 +50,10 @@ impl<'a> Found<'a> {
 
     // What is found with the assembly, where it is to be installed.
     fn with_judged(self, alloc: Global, assembly: &'a Node) -> Result<Found<'a>, ManifestFault>
-        ensures found { IfOk result (λ found. (ts : List Tree) → one_with found ts ≡ one_with self.entry (tree_at assembly.entry ∷ ts)) }
-        ensures refused { IfErr result (λ e. (ts : List Tree) → Fails e (one_with self.entry (tree_at assembly.entry ∷ ts))) }
+        ensures found { IfOk result (λ found. (ts : List Tree)
+            → one_with found ts ≡ one_with self.entry (tree_at assembly.entry ∷ ts)) }
+        ensures refused { IfErr result (λ e. (ts : List Tree)
+            → Fails e (one_with self.entry (tree_at assembly.entry ∷ ts))) }
     {
         let wanted = is_installed(alloc, assembly)?;
         if wanted {
@@ -62,8 +64,13 @@ impl<'a> Found<'a> {
 
     // What is found with those of a dependency.
     fn with_those_of(self, alloc: Global, dependency: &'a Node) -> Result<Found<'a>, ManifestFault>
-        ensures found { IfOk result (λ found. (ts : List Tree) → one_with found ts ≡ one_with self.entry (children_called (codes "dependentAssembly") (tree_at dependency.entry) ++ ts)) }
-        ensures refused { IfErr result (λ e. (ts : List Tree) → Fails e (one_with self.entry (children_called (codes "dependentAssembly") (tree_at dependency.entry) ++ ts))) }
+        ensures found { IfOk result (λ found. (ts : List Tree)
+            → one_with found ts
+            ≡ one_with self.entry
+            (children_called (codes "dependentAssembly") (tree_at dependency.entry) ++ ts)) }
+        ensures refused { IfErr result (λ e. (ts : List Tree)
+            → Fails e (one_with self.entry
+            (children_called (codes "dependentAssembly") (tree_at dependency.entry) ++ ts))) }
     {
         let mut found = self;
         let nodes = children(dependency);

@@ -29,7 +29,9 @@ fn minimum_of(
     offered: Version,
     deployment: &Node,
 ) -> Result<Option<Version>, ManifestFault>
-    ensures { Gives (λ m. m) result (minimum_in offered (attribute_of (codes "minimumRequiredVersion") (tree_of deployment.now))) }
+    ensures { Gives (λ m. m) result
+        (minimum_in offered
+        (attribute_of (codes "minimumRequiredVersion") (tree_of deployment.now))) }
 {
     let Some(text) = attribute(deployment, "minimumRequiredVersion") else {
         return Ok(None);

@@ -31,8 +31,9 @@ fn have_other_names(alloc: Global, files: &[FileEntry]) -> Result<bool, CopyFaul
     Ok(true)
 }
 
-/// Whether one application can have these files: they are at most 16,384 and their names differ, and among them are at most
-/// 256 data files. It fails only for want of memory, which the comparison of the names takes.
+/// Whether one application can have these files: they are at most 16,384 and their names differ,
+/// and among them are at most 256 data files. It fails only for want of memory, which the
+/// comparison of the names takes.
 pub fn are_files(alloc: Global, files: &[FileEntry]) -> Result<bool, CopyFault>
     ensures { IfOk result (λ answer. IsTrue answer ↔ AreFiles files.now) }
 {

@@ -79,7 +79,9 @@ fn of_assembly<'a>(dependency: &'a Node, assembly: &'a Node) -> Listing<'a>
 // What a dependency lists, of which the first assembly counts. A prerequisite, and a dependency without an assembly,
 // lists no file.
 fn of_dependency(alloc: Global, dependency: &Node) -> Result<Option<Listing<'_>>, ManifestFault>
-    ensures { Gives maybe_listing result (spec.dependency_listing (tree_of dependency.now) (spec.first_assembly (tree_of dependency.now))) }
+    ensures { Gives maybe_listing result
+        (spec.dependency_listing (tree_of dependency.now)
+        (spec.first_assembly (tree_of dependency.now))) }
 {
     let Some(assembly) = first_child(dependency, "dependentAssembly") else {
         return Ok(None);

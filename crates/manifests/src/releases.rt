@@ -80,7 +80,8 @@ fn check_identity(alloc: Global, d: &Deployment, a: &Application) -> Result<(), 
     ensures key { OnOk result (a.now.identity.key ≡ d.now.app.key) }
     ensures version { OnOk result (a.now.identity.version ≡ d.now.app.version) }
     ensures refused { IfErr result (RefusesIdentity d.now a.now) }
-    ensures accepted { a.now.identity.key ≡ d.now.app.key → a.now.identity.version ≡ d.now.app.version → IsOkUnless result Memory }
+    ensures accepted { a.now.identity.key ≡ d.now.app.key
+        → a.now.identity.version ≡ d.now.app.version → IsOkUnless result Memory }
 {
     if d.app.key != a.identity.key {
         return Err(ReleaseFault::IdentityDiffers {

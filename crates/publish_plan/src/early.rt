@@ -65,10 +65,11 @@ fn check_minimum(version: &Version, minimum: Option<Version>) -> Result<(), Plan
 ///
 /// # Errors
 ///
-/// In this order: `BadName` with the word `name` where the name is no 1 to 100 letters, digits, `.`, `_`, `-` and spaces;
-/// with `entry` where the same holds of the file that is started; with `to` where the two folders are one, or one lies
-/// below the other; with `entry` where the written name of the application manifest has more than 240 bytes;
-/// `MinimumAbove` where the minimum is above the version. `Memory` may come at any options.
+/// In this order: `BadName` with the word `name` where the name is no 1 to 100 letters, digits,
+/// `.`, `_`, `-` and spaces; with `entry` where the same holds of the file that is started; with
+/// `to` where the two folders are one, or one lies below the other; with `entry` where the written
+/// name of the application manifest has more than 240 bytes; `MinimumAbove` where the minimum is
+/// above the version. `Memory` may come at any options.
 pub fn check_options(alloc: Global, options: &Options) -> Result<(), PlanFault>
     ensures { Gives result (unless (spec.early_of options.now)) }
 {

@@ -8,8 +8,6 @@ mod laws;
 mod marked;
 mod options;
 mod places;
-#[cfg(test)]
-mod plan_tests;
 mod plans;
 mod written;
 

@@ -101,18 +101,19 @@ fn check_marks(marked: Marked) -> Result<(), PlanFault>
     }
 }
 
-/// What a publish with these options will write, over a folder with these names, or why nothing. The files are planned
-/// in the order of the names.
+/// What a publish with these options will write, over a folder with these names, or why nothing.
+/// The files are planned in the order of the names.
 ///
 /// # Errors
 ///
-/// In this order: `VersionExists` with the first of the names in the folder of the version; `EmptyInput` where no name is
-/// in the folder that is published; `BadInput` with the first file, by its name below that folder, whose first part is
-/// `.pre`, whose written name has more than 240 bytes, which a mark makes a data file though its name has more than 235
-/// bytes, or whose written name is that of the application manifest; `TooMany` with `Files` for more than 16,384 files,
-/// and then with `Locals` for more than 256 data files; `NoEntryPoint` where the file that is started is none of the
-/// files, or has a mark; `BadMark` with the file of the first mark that names none of the files, or one that an earlier
-/// mark named. `Memory` may come at any options and names.
+/// In this order: `VersionExists` with the first of the names in the folder of the version;
+/// `EmptyInput` where no name is in the folder that is published; `BadInput` with the first file,
+/// by its name below that folder, whose first part is `.pre`, whose written name has more than 240
+/// bytes, which a mark makes a data file though its name has more than 235 bytes, or whose written
+/// name is that of the application manifest; `TooMany` with `Files` for more than 16,384 files, and
+/// then with `Locals` for more than 256 data files; `NoEntryPoint` where the file that is started
+/// is none of the files, or has a mark; `BadMark` with the file of the first mark that names none
+/// of the files, or one that an earlier mark named. `Memory` may come at any options and names.
 pub fn plan(alloc: Global, options: &Options, names: &[Name]) -> Result<Plan, PlanFault>
     requires { early_of options.now ≡ None }
     ensures { Gives result (spec.plan_of options.now names.now) }

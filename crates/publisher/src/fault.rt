@@ -12,7 +12,8 @@ use std::alloc::{AllocError, AllocFailed};
 use std::error::Error;
 use std::fmt;
 
-/// Why a publish is refused, in the order in which the refusals are judged. Names of input files are those below `from`.
+/// Why a publish is refused, in the order in which the refusals are judged. Names of input files
+/// are those below `from`.
 #[derive(Drop, Debug, PartialEq, Eq)]
 pub enum PublishFault {
     /// The word is `name` or `entry` where that is empty, has more than 100 bytes or a byte that is no letter, digit,
@@ -21,8 +22,8 @@ pub enum PublishFault {
     BadName { word: Text },
     /// The minimum is above the version.
     MinimumAbove { minimum: Version },
-    /// The folder failed at a listing or a reading: its count rose. Over a folder that tells, some first part of the input
-    /// files may be written, but not all, and neither manifest.
+    /// The folder failed at a listing or a reading: its count rose. Over a folder that tells, some
+    /// first part of the input files may be written, but not all, and neither manifest.
     ReadFault,
     /// The version's folder has a file, of which this is the first.
     VersionExists { file: Name },
@@ -42,8 +43,8 @@ pub enum PublishFault {
     FileTooLong { file: Name, length: u64 },
     /// A manifest is longer than 4,194,304 bytes: its length.
     ManifestTooLong { length: u64 },
-    /// The folder failed at a writing: its count rose. Over a folder that tells, nothing else is refused, and some first
-    /// part of the files and the manifests may be written, but not all.
+    /// The folder failed at a writing: its count rose. Over a folder that tells, nothing else is
+    /// refused, and some first part of the files and the manifests may be written, but not all.
     WriteFault,
     /// The bytes of a file changed while it was published: how those that were read again differ
     /// from those that were read first. Over a folder that tells it does not come.

@@ -6,8 +6,6 @@ mod fault;
 mod listing;
 mod options;
 mod publishing;
-#[cfg(test)]
-mod publishing_tests;
 mod reading;
 mod release;
 

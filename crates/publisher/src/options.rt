@@ -26,9 +26,10 @@ fn are_kinds(marks: &[Mark]) -> bool
     marks.iter().all(|mark| is_kind(&mark.kind))
 }
 
-/// Whether `publish` takes the options: the publisher has at most 240 bytes and each group 1 to 240, no byte of a text is
-/// below 32 but tab, line feed and carriage return, an age is of whole hours and takes at most nine digits in its unit, and
-/// the provider is an address. It fails only for want of memory.
+/// Whether `publish` takes the options: the publisher has at most 240 bytes and each group 1 to
+/// 240, no byte of a text is below 32 but tab, line feed and carriage return, an age is of whole
+/// hours and takes at most nine digits in its unit, and the provider is an address. It fails only
+/// for want of memory.
 pub fn is_publishable(alloc: Global, options: &Options) -> Result<bool, CopyFault>
     ensures { IfOk result (λ answer. IsTrue answer ↔ IsPublishable options.now) }
 {

@@ -87,7 +87,9 @@ fn lengthen(held: &mut Vec<u8>, end: usize) -> Result<(), AllocError>
 // Writes over the bytes that stand at a place.
 fn overwrite(held: &mut Vec<u8>, place: usize, piece: &[u8])
     requires { place + length piece.now ≤ length held.old.items }
-    ensures { held.new.items ≡ take place held.old.items ++ (piece.now ++ drop (place + length piece.now) held.old.items) }
+    ensures { held.new.items
+        ≡ take place held.old.items
+        ++ (piece.now ++ drop (place + length piece.now) held.old.items) }
 {
     held[place..place + piece.len()].copy_from_slice(piece);
 }

@@ -19,7 +19,9 @@ pub fn are_digits(bytes: &[u8]) -> bool
 pub fn parse_digits(digits: &[u8]) -> Option<u64>
     requires digits { IsTrue (list_all is_ascii_digit digits.now) }
     requires some { 0 < length digits.now }
-    ensures { result ≡ (if nat_lt 0xffff_ffff_ffff_ffff (digits_value 10 digits.now) then None else Some (digits_value 10 digits.now)) }
+    ensures { result
+        ≡ (if nat_lt 0xffff_ffff_ffff_ffff (digits_value 10 digits.now) then None else Some
+        (digits_value 10 digits.now)) }
 {
     let Ok(text) = str::from_utf8(digits) else {
         unreachable!();

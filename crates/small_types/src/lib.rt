@@ -1,4 +1,5 @@
-//! Values that every layer speaks of: bytes, texts, lists, names, limits and decimal numbers. No device is needed for them.
+//! Values that every layer speaks of: bytes, texts, lists, names, limits and decimal numbers. No
+//! device is needed for them.
 #![tactic(auto)]
 
 mod bytes;
@@ -12,8 +13,6 @@ mod name;
 mod print_fault;
 mod slices;
 mod target;
-#[cfg(test)]
-mod tests;
 mod text;
 mod word;
 

@@ -86,18 +86,25 @@ pub record IsClosedNew (blocks : ℕ) (bytes : List ℕ) : Type 0 where
 pub record Formats {D : Type 0} (on : Ghosts D) (old new : D) (blocks : ℕ) : Type 0 where
   pub later : on.moment old ≤ on.moment new
   pub past : (t : ℕ) (bytes : List ℕ) → t ≤ on.moment old → on.left_at new t bytes → on.left_at old t bytes
-  pub first : (t : ℕ) (bytes : List ℕ) → on.moment old ≤ t → t ≤ on.moment new → t ≤ on.moment old + 2 → on.left_at new t bytes → IsCutOrOld (on.left_at old (on.moment old)) bytes
-  pub empty : (bytes : List ℕ) → on.moment old + 2 < on.moment new → on.left_at new (on.moment old + 2) bytes → bytes ≡ []
-  pub second : (t : ℕ) (bytes : List ℕ) → on.moment old + 2 < t → t ≤ on.moment new → t ≤ on.moment old + 4 → on.left_at new t bytes → Torn 0 4097 [] bytes
-  pub closed : (bytes : List ℕ) → on.moment old + 4 < on.moment new → on.left_at new (on.moment old + 4) bytes → IsClosedNew blocks bytes
-  pub third : (t : ℕ) (bytes : List ℕ) → on.moment old + 4 < t → t ≤ on.moment new → on.left_at new t bytes → IsNewOrNone blocks bytes
+  pub first : (t : ℕ) (bytes : List ℕ) → on.moment old ≤ t → t ≤ on.moment new
+      → t ≤ on.moment old + 2 → on.left_at new t bytes
+      → IsCutOrOld (on.left_at old (on.moment old)) bytes
+  pub empty : (bytes : List ℕ) → on.moment old + 2 < on.moment new
+      → on.left_at new (on.moment old + 2) bytes → bytes ≡ []
+  pub second : (t : ℕ) (bytes : List ℕ) → on.moment old + 2 < t → t ≤ on.moment new
+      → t ≤ on.moment old + 4 → on.left_at new t bytes → Torn 0 4097 [] bytes
+  pub closed : (bytes : List ℕ) → on.moment old + 4 < on.moment new
+      → on.left_at new (on.moment old + 4) bytes → IsClosedNew blocks bytes
+  pub third : (t : ℕ) (bytes : List ℕ) → on.moment old + 4 < t → t ≤ on.moment new
+      → on.left_at new t bytes → IsNewOrNone blocks bytes
 
 -- where the next entry of a log goes
 abbrev pub end_of : Log → ℕ
 end_of log = log.end
 
 -- The log ends behind these changes, which each stop now leaves behind this head.
-pub record IsOpen {D : Type 0} (on : Ghosts D) (log : Log) (head : List ℕ) (changes : List (List ℕ)) (disk : D) : Type 0 where
+pub record IsOpen {D : Type 0} (on : Ghosts D) (log : Log) (head : List ℕ) (changes : List (List ℕ))
+    (disk : D) : Type 0 where
   pub at : end_of log ≡ length (log_of head changes)
   pub each : Each on disk (IsLog head changes)
 

@@ -8,8 +8,6 @@ mod head;
 mod log;
 mod piece;
 mod read;
-#[cfg(test)]
-mod tests;
 
 pub use fault::LogFault;
 pub use log::{Log, Recovered};

@@ -159,7 +159,8 @@ impl Log {
             → LeavesOnly D.Disk disk.old disk.new (λ c. IsLog head changes c
             ⊎ IsLog head (changes ++ entry_in piece.old ∷ []) c) }
 
-        // Outside the piece's range nothing is written, also where the call fails: what stops leave, and what reads give.
+        // Outside the piece's range nothing is written, also where the call fails: what stops
+        // leave, and what reads give.
         ensures outside { LeavesOnly D.Disk disk.old disk.new (IsOldOutside (end_of self.old)
             (length piece.old) (D.left_at disk.old (D.moment disk.old))) }
         ensures reads_outside { AgreesOutside (end_of self.old) (length piece.old)

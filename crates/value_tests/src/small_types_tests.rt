@@ -1,5 +1,5 @@
 // What no clause says of values: that calls succeed, and worked values.
-use crate::{Duplicate, Name, NameFault, Target, Text, is_name, read_decimal};
+use small_types::{Duplicate, Name, NameFault, Target, Text, is_name, read_decimal};
 use std::process::Abort;
 use std::test::Fail;
 

@@ -1,7 +1,7 @@
 // Options that can be published, and others. What is published is compared by a program, `worked_publish`.
-use crate::{Options, is_publishable};
 use identity::Version;
 use manifests::Rule;
+use publisher::{Options, is_publishable};
 use small_types::{List, Name, Text};
 use std::alloc::Global;
 use std::test::Fail;

@@ -1,7 +1,7 @@
 // What is planned, and each refusal where a later one applies too.
-use crate::{Mark, MarkKind, Options, Plan, PlanFault, check_options, codebase_of, plan};
 use identity::Version;
 use manifests::Rule;
+use publish_plan::{Mark, MarkKind, Options, Plan, PlanFault, check_options, codebase_of, plan};
 use small_types::{Limit, List, Name, Text};
 use std::alloc::{AllocError, Global};
 use std::test::Fail;

@@ -1,7 +1,6 @@
-use super::*;
-use crate::node::Attribute;
-use crate::reader::read_tree;
-use small_types::{List, Text};
+use manifest_tree::{Attribute, Node, WriteFault, is_writable, read_tree, write_tree};
+use small_types::{Bytes, List, Text};
+use std::alloc::{AllocError, Global};
 use std::test::*;
 
 fn text(alloc: Global, held: &str) -> Result<Text, AllocError> {

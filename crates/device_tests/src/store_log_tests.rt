@@ -1,10 +1,10 @@
 ghost use Rattle.std.specs.Prelude.{◌≤◌};
 
-use crate::{Log, LogFault, Recovered};
 use disks::MemDisk;
 use small_types::{Bytes, List};
 use std::alloc::{AllocError, Global};
 use std::test::Fail;
+use store_log::{Log, LogFault, Recovered};
 
 // A disk of these bytes, whose call of the number `failing`, counted from 1, fails.
 fn disk_of(alloc: Global, bytes: &[u8], failing: u64) -> Result<MemDisk, AllocError> {

@@ -1,7 +1,9 @@
 ghost use Rattle.std.specs.Prelude.{◌≡◌, ◌+◌, ◌<◌, ◌^◌, length};
 ghost use Rattle.digest_list.specs.Checker.{count_of};
 
-use crate::{Algorithm, CheckFault, Checker, Difference, Digest, DigestFault, DigestList, matches};
+use digest_list::{
+    Algorithm, CheckFault, Checker, Difference, Digest, DigestFault, DigestList, matches,
+};
 use small_types::{Bytes, Duplicate, List};
 use std::alloc::Global;
 use std::process::Abort;

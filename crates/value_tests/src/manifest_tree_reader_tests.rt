@@ -1,4 +1,4 @@
-use super::*;
+use manifest_tree::{Node, TreeError, TreeFault, TreeKind, read_tree};
 use std::test::*;
 
 fn fault_of(rt: &impl AllocGlobal, text: &[u8]) -> Option<TreeFault> {

@@ -1,4 +1,4 @@
-use crate::{UrlFault, app_target, file_target, target_of};
+use addresses::{UrlFault, app_target, file_target, target_of};
 use small_types::{Name, Target, Text};
 use std::alloc::{AllocError, Global};
 use std::process::Abort;

@@ -1,4 +1,4 @@
-use crate::{Identity, Key, KeyFault, Version, VersionFault, word_escape};
+use identity::{Identity, Key, KeyFault, Version, VersionFault, word_escape};
 use small_types::{Duplicate, Text};
 use std::alloc::{AllocError, Global};
 use std::cmp::Ordering;

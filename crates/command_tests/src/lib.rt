@@ -1,0 +1,5 @@
+//! Tests of commands over a disk in memory.
+#![tactic(auto)]
+
+#[cfg(test)]
+mod updater_tests;

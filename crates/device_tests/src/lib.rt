@@ -1,0 +1,17 @@
+//! Tests of the devices in memory and of the log: that calls succeed and fail by their numbers.
+#![tactic(auto)]
+
+#[cfg(test)]
+mod connections_tests;
+#[cfg(test)]
+mod disks_tests;
+#[cfg(test)]
+mod folders_tests;
+#[cfg(test)]
+mod links_tests;
+#[cfg(test)]
+mod outside_reading_tests;
+#[cfg(test)]
+mod outside_tests;
+#[cfg(test)]
+mod store_log_tests;
