@@ -1,7 +1,7 @@
 // A host's connections.
-ghost use Rattle.std.specs.Prelude.{◌≡◌, ◌<◌, ℕ, List, length, take, IfOk, OnOk, OnErr};
+ghost use Rattle.std.specs.Prelude.{◌≡◌, ◌<◌, ◌≤◌, ℕ, List, length, take, IfOk, OnOk, OnErr};
 ghost use Rattle.connections.specs.Door.{Accepted, Accepts, ReceivesOnLast, SendsOnLast};
-ghost use Rattle.outside.specs.Streams.{Causes, ReadsAtMost, TakesSome};
+ghost use Rattle.outside.specs.Streams.{Causes, TakesSome};
 
 use outside::Failed;
 
@@ -31,7 +31,7 @@ pub trait Door {
     /// Zero is the end. Before the first connection it fails.
     fn receive(&mut self, buf: &mut [u8]) -> Result<usize, Failed>
         requires { 0 < length buf.old }
-        ensures within { IfOk result (λ n. ReadsAtMost n buf.old buf.new) }
+        ensures within { IfOk result (λ n. n ≤ length buf.old) }
         ensures bytes { tells
             → IfOk result (λ n. ReceivesOnLast (accepted self.old) (accepted self.new) buf.new n) }
         ensures kept { tells → OnErr result (accepted self.new ≡ accepted self.old) }

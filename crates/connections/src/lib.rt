@@ -1,8 +1,6 @@
 //! The connections of a client and of a host, and such connections in memory.
 #![tactic(auto)]
 
-#[cfg(test)]
-mod connection_tests;
 mod door;
 mod mem_door;
 mod mem_wire;

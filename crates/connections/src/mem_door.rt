@@ -3,7 +3,7 @@ ghost use Rattle.std.specs.Prelude.{◌≡◌, ◌≢◌, ◌+◌, ◌<◌, ◌�
 ghost use Rattle.std.specs.Bool.{OnTrue, OnFalse};
 ghost use Rattle.connections.specs.Door.{Accepts, ReceivesOnLast, SendsOnLast};
 ghost use Rattle.connections.specs.Receiving.{ReceivesAt};
-ghost use Rattle.outside.specs.Streams.{Causes, ReadsAtMost, TakesSome, total};
+ghost use Rattle.outside.specs.Streams.{Causes, TakesSome, total};
 ghost use Rattle.connections.specs.Wire.{SendsLast};
 
 use crate::Door;
@@ -52,7 +52,7 @@ fn open(alloc: Global, places: &mut Vec<usize>, sent: &mut List<Bytes>) -> bool
 fn receive_last(requests: &[Bytes], places: &mut Vec<usize>, buf: &mut [u8]) -> Option<usize>
     requires room { 0 < length buf.old }
     requires known { length places.old.items ≤ length requests.now }
-    ensures within { IfSome result (λ n. ReadsAtMost n buf.old buf.new) }
+    ensures within { IfSome result (λ n. n ≤ length buf.old) }
     ensures bytes { IfSome result (λ n.
         ReceivesAt requests.now places.old.items places.new.items buf.new n) }
     ensures none { IfNone result (places.old.items ≡ []) }
@@ -140,7 +140,7 @@ impl Door for MemDoor {
 
     fn receive(&mut self, buf: &mut [u8]) -> Result<usize, Failed>
         requires { 0 < length buf.old }
-        ensures within { IfOk result (λ n. ReadsAtMost n buf.old buf.new) }
+        ensures within { IfOk result (λ n. n ≤ length buf.old) }
         ensures bytes { IfOk result (λ n.
             ReceivesOnLast (door_accepted self.old) (door_accepted self.new) buf.new n) }
         ensures kept { OnErr result (door_accepted self.new ≡ door_accepted self.old) }

@@ -1,6 +1,6 @@
 // A client's connections in memory.
 ghost use Rattle.std.specs.Prelude.{◌≡◌, ◌≢◌, ◌+◌, ◌<◌, ◌≤◌, ℕ, List, [], ◌∷◌, ◌++◌, None, length, take, min, false, slice_index_or, option_to_list, IfOk, IsOk, IsErr, OnOk, OnErr, OnSome, IfSome, IfNone, IsTrue};
-ghost use Rattle.outside.specs.Streams.{Causes, ReadsAtMost, TakesSome, total};
+ghost use Rattle.outside.specs.Streams.{Causes, TakesSome, total};
 ghost use Rattle.connections.specs.Wire.{Connects, Receives, Sends, all_sent};
 ghost use Rattle.connections.specs.Present.{ReceivesHere};
 
@@ -70,7 +70,7 @@ fn next_connection(
 // Receives from the present connection, if there is one.
 fn receive_here(slot: &mut Option<Present>, buf: &mut [u8]) -> Option<usize>
     requires { 0 < length buf.old }
-    ensures within { IfSome result (λ n. ReadsAtMost n buf.old buf.new) }
+    ensures within { IfSome result (λ n. n ≤ length buf.old) }
     ensures bytes { IfSome result (λ n. ReceivesHere slot.old slot.new buf.new n) }
     ensures none { IfNone result (slot.old ≡ None) }
     ensures kept { IfNone result (slot.new ≡ None) }
@@ -162,7 +162,7 @@ impl Wire for MemWire {
 
     fn receive(&mut self, buf: &mut [u8]) -> Result<usize, Failed>
         requires { 0 < length buf.old }
-        ensures within { IfOk result (λ n. ReadsAtMost n buf.old buf.new) }
+        ensures within { IfOk result (λ n. n ≤ length buf.old) }
         ensures bytes { IfOk result (λ n.
             Receives (wire_present self.old) (wire_present self.new) buf.new n) }
         ensures kept { OnErr result (wire_present self.new ≡ wire_present self.old) }

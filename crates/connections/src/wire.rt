@@ -1,6 +1,6 @@
 // A client's connections.
-ghost use Rattle.std.specs.Prelude.{◌≡◌, ◌<◌, ℕ, List, Option, None, length, take, IfOk, OnOk, OnErr};
-ghost use Rattle.outside.specs.Streams.{Causes, ReadsAtMost, TakesSome};
+ghost use Rattle.std.specs.Prelude.{◌≡◌, ◌<◌, ◌≤◌, ℕ, List, Option, None, length, take, IfOk, OnOk, OnErr};
+ghost use Rattle.outside.specs.Streams.{Causes, TakesSome};
 ghost use Rattle.connections.specs.Wire.{Made, Connects, Receives, Sends, all_sent};
 
 use outside::Failed;
@@ -33,7 +33,7 @@ pub trait Wire {
     /// present connection it fails.
     fn receive(&mut self, buf: &mut [u8]) -> Result<usize, Failed>
         requires { 0 < length buf.old }
-        ensures within { IfOk result (λ n. ReadsAtMost n buf.old buf.new) }
+        ensures within { IfOk result (λ n. n ≤ length buf.old) }
         ensures bytes { tells
             → IfOk result (λ n. Receives (present self.old) (present self.new) buf.new n) }
         ensures kept { tells → OnErr result (present self.new ≡ present self.old) }

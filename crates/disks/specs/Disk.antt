@@ -30,7 +30,10 @@ pub record Ticks {T E : Type 0} (old new total_old total_new n : ℕ) (result : 
   pub later : old ≤ new
   pub once : new ≤ old + 1
   pub ok : OnOk result (new ≡ old + 1)
-  pub exact : ((new ≡ old + 1) × (total_new ≡ total_old + n) × (old < 0xffff_ffff_ffff_ffff) × (total_old + n ≤ 0xffff_ffff_ffff_ffff)) ⊎ ((new ≡ old) × (total_new ≡ total_old) × ((0xffff_ffff_ffff_ffff ≤ old) ⊎ (0xffff_ffff_ffff_ffff < total_old + n)))
+  pub exact : ((new ≡ old + 1) × (total_new ≡ total_old + n) × (old < 0xffff_ffff_ffff_ffff)
+      × (total_old + n ≤ 0xffff_ffff_ffff_ffff))
+      ⊎ ((new ≡ old) × (total_new ≡ total_old)
+      × ((0xffff_ffff_ffff_ffff ≤ old) ⊎ (0xffff_ffff_ffff_ffff < total_old + n)))
 
 pub record IsStill (moment_old moment_new total_old total_new : ℕ) : Type 0 where
   pub moment : moment_new ≡ moment_old
@@ -38,4 +41,6 @@ pub record IsStill (moment_old moment_new total_old total_new : ℕ) : Type 0 wh
 
 -- a read gave the n bytes that stand at a place, and left the rest of the buffer
 abbrev pub Gives : List ℕ → ℕ → List ℕ → List ℕ → ℕ → Type 0
-Gives bytes place buf_old buf_new n = (n ≡ min (length bytes - place) (length buf_old)) × (buf_new ≡ take n (drop place bytes) ++ drop n buf_old)
+Gives bytes place buf_old buf_new n =
+    (n ≡ min (length bytes - place) (length buf_old))
+    × (buf_new ≡ take n (drop place bytes) ++ drop n buf_old)

@@ -1,4 +1,5 @@
-use Rattle.std.specs.Prelude.{ℕ, List, Bool}
+use Rattle.std.specs.Prelude.{◌≡◌, ◌+◌, ℕ, min, List, Bool, Result, OnErr, OnOk}
+use Rattle.outside.specs.declared.failed.Failed.{Failed}
 use Rattle.outside.specs.FailingCalls.{fails_next}
 use Rattle.disks.specs.History.{first_of}
 use Rattle.disks.specs.Moves.{IsImage, picked_after, until}
@@ -36,3 +37,11 @@ left_of m t c = IsImage (first_of m.history) (first_of m.history) (until t m.his
 -- what a stop at that moment leaves with a pick
 abbrev pub picked_of : Pick → MemDisk → ℕ → List ℕ
 picked_of pick m t = picked_after pick (first_of m.history) (first_of m.history) (until t m.history.moves.items)
+
+-- A call took its turn, and the numbers of those that are to fail stay. The count of faults rises by
+-- one where it failed, and stays where it did not.
+pub record TakesTurn {T : Type 0} (old new : MemDisk) (result : Result T Failed) : Type 0 where
+  pub turns : turns_of new ≡ min (turns_of old + 1) 0xffff_ffff_ffff_ffff
+  pub failing : failing_of new ≡ failing_of old
+  pub quiet : OnOk result (faults_of new ≡ faults_of old)
+  pub raised : OnErr result (faults_of new ≡ min (faults_of old + 1) 0xffff_ffff_ffff_ffff)

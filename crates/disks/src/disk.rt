@@ -51,9 +51,11 @@ pub trait Disk {
         ensures fits { OnOk result (place + length bytes.now < 2 ^ 64) }
         ensures seen { Torn place (length bytes.now) (seen self.old) (seen self.new) }
         ensures written { OnOk result (seen self.new ≡ put place bytes.now (seen self.old)) }
-        ensures stop { Follows (Torn place (length bytes.now)) (left_at self.old (moment self.old)) (left_at self.new (moment self.new)) }
+        ensures stop { Follows (Torn place (length bytes.now)) (left_at self.old (moment self.old))
+            (left_at self.new (moment self.new)) }
         ensures none { moment self.new ≡ moment self.old → seen self.new ≡ seen self.old }
-        ensures tick { Ticks (moment self.old) (moment self.new) (total self.old) (total self.new) (length bytes.now) result }
+        ensures tick { Ticks (moment self.old) (moment self.new) (total self.old) (total self.new)
+            (length bytes.now) result }
         ensures time { Elapses (moment self.old) (left_at self.old) (left_at self.new) }
         ensures told { tells self.new → tells self.old }
         ensures cause { Causes (count self.old) (count self.new) result };

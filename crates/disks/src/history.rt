@@ -88,8 +88,18 @@ impl History {
     ) -> Result<(), Failed>
         ensures first { first_of self.new ≡ first_of self.old }
         ensures fits { OnOk result (place + length piece.now < 2 ^ 64) }
-        ensures ok { OnOk result ((self.new.moves.items ≡ self.old.moves.items ++ record { number = number; act = Write place piece.now true } ∷ []) × (self.new.bytes ≡ put place piece.now self.old.bytes)) }
-        ensures err { OnErr result (MayRecord (record { number = number; act = Write place piece.now false }) self.old.moves.items self.new.moves.items × (self.new.bytes ≡ self.old.bytes)) }
+        ensures ok { OnOk result ((self.new.moves.items ≡ self.old.moves.items ++ record {
+          number =
+              number;
+          act = Write place piece.now true;
+        } ∷ [])
+            × (self.new.bytes ≡ put place piece.now self.old.bytes)) }
+        ensures err { OnErr result (MayRecord (record {
+          number = number;
+          act =
+              Write place piece.now false;
+        }) self.old.moves.items self.new.moves.items
+            × (self.new.bytes ≡ self.old.bytes)) }
         ensures fails { fails ≡ true → IsErr result }
     {
         if (piece.len() as u64) > u64::MAX - place {
@@ -140,8 +150,17 @@ impl History {
         fails: bool,
     ) -> Result<(), Failed>
         ensures first { first_of self.new ≡ first_of self.old }
-        ensures ok { OnOk result ((self.new.moves.items ≡ self.old.moves.items ++ record { number = number; act = Cut length true } ∷ []) × (self.new.bytes ≡ take length self.old.bytes)) }
-        ensures err { OnErr result (MayRecord (record { number = number; act = Cut length false }) self.old.moves.items self.new.moves.items × (self.new.bytes ≡ self.old.bytes)) }
+        ensures ok { OnOk result ((self.new.moves.items ≡ self.old.moves.items ++ record {
+          number =
+              number;
+          act = Cut length true;
+        } ∷ []) × (self.new.bytes ≡ take length self.old.bytes)) }
+        ensures err { OnErr result (MayRecord (record {
+          number = number;
+          act =
+              Cut length false;
+        }) self.old.moves.items self.new.moves.items
+            × (self.new.bytes ≡ self.old.bytes)) }
         ensures fails { fails ≡ true → IsErr result }
     {
         prepare(
@@ -169,8 +188,16 @@ impl History {
     pub(crate) fn sync(&mut self, alloc: Global, number: u64, fails: bool) -> Result<(), Failed>
         ensures first { first_of self.new ≡ first_of self.old }
         ensures bytes { self.new.bytes ≡ self.old.bytes }
-        ensures ok { OnOk result (self.new.moves.items ≡ self.old.moves.items ++ record { number = number; act = Sync true } ∷ []) }
-        ensures err { OnErr result (MayRecord (record { number = number; act = Sync false }) self.old.moves.items self.new.moves.items) }
+        ensures ok { OnOk result (self.new.moves.items ≡ self.old.moves.items ++ record {
+          number =
+              number;
+          act = Sync true;
+        } ∷ []) }
+        ensures err { OnErr result (MayRecord (record {
+          number = number;
+          act =
+              Sync false;
+        }) self.old.moves.items self.new.moves.items) }
         ensures fails { fails ≡ true → IsErr result }
     {
         prepare(

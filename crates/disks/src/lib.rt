@@ -9,8 +9,6 @@ mod laws;
 mod mem_disk;
 mod start;
 mod stop;
-#[cfg(test)]
-mod tests;
 
 pub use answer::Answer;
 pub use call::{Call, Move, Pick};

@@ -56,7 +56,8 @@ impl MemDisk {
         ensures calls { IfOk result (λ disk. calls_of disk ≡ 0) }
         ensures failing { IfOk result (λ disk. failing_of disk ≡ []) }
         ensures turns { IfOk result (λ disk. turns_of disk ≡ 0) }
-        ensures later { IfErr result (λ e. e ≢ Memory → (e ≡ LaterThanNow (calls_of self.now)) × (calls_of self.now < moment)) }
+        ensures later { IfErr result (λ e. e ≢ Memory
+            → (e ≡ LaterThanNow (calls_of self.now)) × (calls_of self.now < moment)) }
         ensures too_late { calls_of self.now < moment → result ≡ Err (LaterThanNow (calls_of self.now)) }
     {
         if moment > self.calls {
@@ -82,8 +83,12 @@ impl MemDisk {
 
 /// Counts a call of so many bytes, if neither count ends, and answers whether it did. Else both stay.
 pub fn count_call(calls: &mut u64, written: &mut u64, count: u64) -> bool
-    ensures counted { result ≡ true → (calls.new ≡ calls.old + 1) × (written.new ≡ written.old + count) × (calls.old < 0xffff_ffff_ffff_ffff) × (written.old + count ≤ 0xffff_ffff_ffff_ffff) }
-    ensures full { result ≡ false → (calls.new ≡ calls.old) × (written.new ≡ written.old) × ((0xffff_ffff_ffff_ffff ≤ calls.old) ⊎ (0xffff_ffff_ffff_ffff < written.old + count)) }
+    ensures counted { result ≡ true
+        → (calls.new ≡ calls.old + 1) × (written.new ≡ written.old + count)
+        × (calls.old < 0xffff_ffff_ffff_ffff) × (written.old + count ≤ 0xffff_ffff_ffff_ffff) }
+    ensures full { result ≡ false
+        → (calls.new ≡ calls.old) × (written.new ≡ written.old)
+        × ((0xffff_ffff_ffff_ffff ≤ calls.old) ⊎ (0xffff_ffff_ffff_ffff < written.old + count)) }
 {
     if *calls == u64::MAX || count > u64::MAX - *written {
         return false;
@@ -95,7 +100,7 @@ pub fn count_call(calls: &mut u64, written: &mut u64, count: u64) -> bool
 
 impl Disk for MemDisk {
     ghost use Rattle.disks.specs.History.{first_of};
-    ghost use Rattle.disks.specs.MemDisk.{disk_bytes, calls_of, written_of, faults_of, failing_of, turns_of, disk_fails, left_of};
+    ghost use Rattle.disks.specs.MemDisk.{TakesTurn, disk_bytes, calls_of, written_of, faults_of, disk_fails, left_of};
     ghost use Rattle.disks.specs.Moves.{IsImage, until};
     ghost use Rattle.disks.specs.ReadsLeft.{reads_are_left};
 
@@ -111,7 +116,8 @@ impl Disk for MemDisk {
 
     ghost count = { λ m. m.failing.faults };
 
-    ghost seen_left = { λ m. reads_are_left (first_of m.history) m.history.moves.items m.calls m.history.bytes m.history.is_replay m.numbered };
+    ghost seen_left = { λ m. reads_are_left (first_of m.history)
+        m.history.moves.items m.calls m.history.bytes m.history.is_replay m.numbered };
 
     fn length(&mut self) -> Result<u64, Failed>
         ensures bytes { IfOk result (λ n. n ≡ length (disk_bytes self.old)) }
@@ -120,10 +126,7 @@ impl Disk for MemDisk {
         ensures time { Elapses (calls_of self.old) (left_of self.old) (left_of self.new) }
         ensures cause { Causes (faults_of self.old) (faults_of self.new) result }
         ensures fails { IsErr result ↔ IsTrue (disk_fails self.old) }
-        ensures turns { turns_of self.new ≡ min (turns_of self.old + 1) 0xffff_ffff_ffff_ffff }
-        ensures failing { failing_of self.new ≡ failing_of self.old }
-        ensures quiet { OnOk result (faults_of self.new ≡ faults_of self.old) }
-        ensures raised { OnErr result (faults_of self.new ≡ min (faults_of self.old + 1) 0xffff_ffff_ffff_ffff) }
+        ensures turn { TakesTurn self.old self.new result }
     {
         if self.failing.next() {
             self.failing.fail();
@@ -140,10 +143,7 @@ impl Disk for MemDisk {
         ensures time { Elapses (calls_of self.old) (left_of self.old) (left_of self.new) }
         ensures cause { Causes (faults_of self.old) (faults_of self.new) result }
         ensures fails { IsErr result ↔ IsTrue (disk_fails self.old) }
-        ensures turns { turns_of self.new ≡ min (turns_of self.old + 1) 0xffff_ffff_ffff_ffff }
-        ensures failing { failing_of self.new ≡ failing_of self.old }
-        ensures quiet { OnOk result (faults_of self.new ≡ faults_of self.old) }
-        ensures raised { OnErr result (faults_of self.new ≡ min (faults_of self.old + 1) 0xffff_ffff_ffff_ffff) }
+        ensures turn { TakesTurn self.old self.new result }
     {
         if self.failing.next() {
             self.failing.fail();
@@ -160,17 +160,16 @@ impl Disk for MemDisk {
         ensures fits { OnOk result (place + length bytes.now < 2 ^ 64) }
         ensures seen { Torn place (length bytes.now) (disk_bytes self.old) (disk_bytes self.new) }
         ensures written { OnOk result (disk_bytes self.new ≡ put place bytes.now (disk_bytes self.old)) }
-        ensures stop { Follows (Torn place (length bytes.now)) (left_of self.old (calls_of self.old)) (left_of self.new (calls_of self.new)) }
+        ensures stop { Follows (Torn place (length bytes.now))
+            (left_of self.old (calls_of self.old)) (left_of self.new (calls_of self.new)) }
         ensures none { calls_of self.new ≡ calls_of self.old → disk_bytes self.new ≡ disk_bytes self.old }
-        ensures tick { Ticks (calls_of self.old) (calls_of self.new) (written_of self.old) (written_of self.new) (length bytes.now) result }
+        ensures tick { Ticks (calls_of self.old) (calls_of self.new) (written_of self.old)
+            (written_of self.new) (length bytes.now) result }
         ensures time { Elapses (calls_of self.old) (left_of self.old) (left_of self.new) }
         ensures cause { Causes (faults_of self.old) (faults_of self.new) result }
         ensures kept { OnErr result (disk_bytes self.new ≡ disk_bytes self.old) }
         ensures fails { IsTrue (disk_fails self.old) → IsErr result }
-        ensures turns { turns_of self.new ≡ min (turns_of self.old + 1) 0xffff_ffff_ffff_ffff }
-        ensures failing { failing_of self.new ≡ failing_of self.old }
-        ensures quiet { OnOk result (faults_of self.new ≡ faults_of self.old) }
-        ensures raised { OnErr result (faults_of self.new ≡ min (faults_of self.old + 1) 0xffff_ffff_ffff_ffff) }
+        ensures turn { TakesTurn self.old self.new result }
     {
         let fails = self.failing.next();
         if !count_call(&mut self.calls, &mut self.written, bytes.len() as u64) {
@@ -193,17 +192,16 @@ impl Disk for MemDisk {
         requires { size ≤ length (disk_bytes self.old) }
         ensures seen { CutOff size (disk_bytes self.old) (disk_bytes self.new) }
         ensures written { OnOk result (disk_bytes self.new ≡ take size (disk_bytes self.old)) }
-        ensures stop { Follows (CutOff size) (left_of self.old (calls_of self.old)) (left_of self.new (calls_of self.new)) }
+        ensures stop { Follows (CutOff size) (left_of self.old (calls_of self.old))
+            (left_of self.new (calls_of self.new)) }
         ensures none { calls_of self.new ≡ calls_of self.old → disk_bytes self.new ≡ disk_bytes self.old }
-        ensures tick { Ticks (calls_of self.old) (calls_of self.new) (written_of self.old) (written_of self.new) 0 result }
+        ensures tick { Ticks (calls_of self.old) (calls_of self.new) (written_of self.old)
+            (written_of self.new) 0 result }
         ensures time { Elapses (calls_of self.old) (left_of self.old) (left_of self.new) }
         ensures cause { Causes (faults_of self.old) (faults_of self.new) result }
         ensures kept { OnErr result (disk_bytes self.new ≡ disk_bytes self.old) }
         ensures fails { IsTrue (disk_fails self.old) → IsErr result }
-        ensures turns { turns_of self.new ≡ min (turns_of self.old + 1) 0xffff_ffff_ffff_ffff }
-        ensures failing { failing_of self.new ≡ failing_of self.old }
-        ensures quiet { OnOk result (faults_of self.new ≡ faults_of self.old) }
-        ensures raised { OnErr result (faults_of self.new ≡ min (faults_of self.old + 1) 0xffff_ffff_ffff_ffff) }
+        ensures turn { TakesTurn self.old self.new result }
     {
         let fails = self.failing.next();
         if !count_call(&mut self.calls, &mut self.written, 0) {
@@ -224,14 +222,12 @@ impl Disk for MemDisk {
         ensures seen { disk_bytes self.new ≡ disk_bytes self.old }
         ensures stop { (c : List ℕ) → left_of self.new (calls_of self.new) c → left_of self.old (calls_of self.old) c }
         ensures none { calls_of self.new ≡ calls_of self.old → disk_bytes self.new ≡ disk_bytes self.old }
-        ensures tick { Ticks (calls_of self.old) (calls_of self.new) (written_of self.old) (written_of self.new) 0 result }
+        ensures tick { Ticks (calls_of self.old) (calls_of self.new) (written_of self.old)
+            (written_of self.new) 0 result }
         ensures time { Elapses (calls_of self.old) (left_of self.old) (left_of self.new) }
         ensures cause { Causes (faults_of self.old) (faults_of self.new) result }
         ensures fails { IsTrue (disk_fails self.old) → IsErr result }
-        ensures turns { turns_of self.new ≡ min (turns_of self.old + 1) 0xffff_ffff_ffff_ffff }
-        ensures failing { failing_of self.new ≡ failing_of self.old }
-        ensures quiet { OnOk result (faults_of self.new ≡ faults_of self.old) }
-        ensures raised { OnErr result (faults_of self.new ≡ min (faults_of self.old + 1) 0xffff_ffff_ffff_ffff) }
+        ensures turn { TakesTurn self.old self.new result }
     {
         let fails = self.failing.next();
         if !count_call(&mut self.calls, &mut self.written, 0) {

@@ -2,8 +2,6 @@
 #![tactic(auto)]
 
 mod folder;
-#[cfg(test)]
-mod folder_tests;
 mod laws;
 mod mem_folder;
 

@@ -1,6 +1,6 @@
 -- What a link is, and what its calls do.
 use Rattle.std.specs.Prelude.{◌≡◌, ◌↔◌, ◌⊎◌, ◌≤◌, ℕ, List, [], length, Option, Some, None, Result, Err, IfOk, OnOk, OnErr}
-use Rattle.outside.specs.Streams.{Consumes, ReadsAtMost, Rose}
+use Rattle.outside.specs.Streams.{Consumes, Rose}
 use Rattle.small_types.specs.declared.target.Target.{Target}
 use Rattle.links.specs.declared.link.LinkFault.{LinkFault}
 use Rattle.links.specs.declared.link.LinkFault.TheVariants.{Missing, Down, Memory}
@@ -54,7 +54,7 @@ pub record Asks (target : Target) (old new : LinkState) (result : Result ℕ Lin
 -- a piece of the rest was taken into the buffer
 pub record Takes (old new : LinkState) (before after : List ℕ) (result : Result ℕ LinkFault)
     : Type 0 where
-  pub within : IfOk result (λ n. ReadsAtMost n before after)
+  pub within : IfOk result (λ n. n ≤ length before)
   pub bytes : old.tells → IfOk result (Consumes old.rest new.rest after)
   pub down : OnErr result (result ≡ Err Down)
   pub closed : OnErr result (new.rest ≡ [])

@@ -4,8 +4,6 @@
 
 mod basket;
 mod link;
-#[cfg(test)]
-mod link_tests;
 mod links;
 mod mem_basket;
 mod mem_link;

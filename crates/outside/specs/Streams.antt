@@ -1,5 +1,5 @@
 -- What the calls of a source and a sink do.
-use Rattle.std.specs.Prelude.{◌≡◌, ◌⊎◌, ℕ, ◌+◌, ◌<◌, ◌≤◌, min, List, [], ◌++◌, length, take, drop, Result, OnOk, OnErr}
+use Rattle.std.specs.Prelude.{◌≡◌, ◌⊎◌, ℕ, ◌+◌, ◌<◌, ◌≤◌, min, List, [], ◌++◌, length, take, Result, OnOk, OnErr}
 
 -- a count of faults rose; at its type's end it stands still and counts as risen
 abbrev pub Rose : ℕ → ℕ → Type 0
@@ -14,11 +14,6 @@ pub record Causes {T E : Type 0} (old new : ℕ) (result : Result T E) : Type 0 
 -- the sum of two counts, which ends at the greatest number of its type
 abbrev pub total : ℕ → ℕ → ℕ
 total a b = min (a + b) 0xffff_ffff_ffff_ffff
-
--- a read of n bytes changes only the front of the buffer
-pub record ReadsAtMost (n : ℕ) (old new : List ℕ) : Type 0 where
-  pub fits : n ≤ length old
-  pub rest : drop n new ≡ drop n old
 
 -- the first n bytes that were left stand in the buffer, and zero is the end
 pub record Consumes (old new buf : List ℕ) (n : ℕ) : Type 0 where

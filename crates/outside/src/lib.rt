@@ -9,8 +9,6 @@ mod parts;
 mod reading;
 mod sink;
 mod source;
-#[cfg(test)]
-mod tests;
 
 pub use failed::Failed;
 pub use failing_calls::FailingCalls;

@@ -1,7 +1,7 @@
 // A source in memory.
 ghost use Rattle.std.specs.Prelude.{◌≡◌, ◌==◌, ◌<◌, ◌≤◌, ◌+◌, ◌↔◌, ℕ, List, [], ◌++◌, length, min, take, drop, IfOk, IsOk, IsErr, OnOk, OnErr, IsTrue};
 ghost use Rattle.std.specs.List.{list_any};
-ghost use Rattle.outside.specs.Streams.{Causes, Consumes, ReadsAtMost};
+ghost use Rattle.outside.specs.Streams.{Causes, Consumes};
 
 use crate::parts::copy_from;
 use crate::{Failed, FailingCalls, Source};
@@ -53,7 +53,7 @@ impl Source for MemSource {
 
     fn read(&mut self, buf: &mut [u8]) -> Result<usize, Failed>
         requires { 0 < length buf.old }
-        ensures within { IfOk result (λ n. ReadsAtMost n buf.old buf.new) }
+        ensures within { IfOk result (λ n. n ≤ length buf.old) }
         ensures bytes { IfOk result (λ n. Consumes (source_left self.old) (source_left self.new) buf.new n) }
         ensures kept { OnErr result (source_left self.new ≡ source_left self.old) }
         ensures cause { Causes (source_faults self.old) (source_faults self.new) result }
@@ -63,7 +63,8 @@ impl Source for MemSource {
         ensures calls { source_calls self.new ≡ min (source_calls self.old + 1) 0xffff_ffff_ffff_ffff }
         ensures failing { source_failing self.new ≡ source_failing self.old }
         ensures quiet { OnOk result (source_faults self.new ≡ source_faults self.old) }
-        ensures raised { OnErr result (source_faults self.new ≡ min (source_faults self.old + 1) 0xffff_ffff_ffff_ffff) }
+        ensures raised { OnErr result (source_faults self.new
+            ≡ min (source_faults self.old + 1) 0xffff_ffff_ffff_ffff) }
         ensures never { source_failing self.old ≡ [] → IsOk result }
     {
         if self.failing.next() {

@@ -1,6 +1,6 @@
 // Bytes that are received from a place on.
 ghost use Rattle.std.specs.Prelude.{◌<◌, ◌≤◌, length, drop};
-ghost use Rattle.outside.specs.Streams.{Consumes, ReadsAtMost};
+ghost use Rattle.outside.specs.Streams.{Consumes};
 
 use small_types::{copy_front, rest_from};
 
@@ -8,7 +8,7 @@ use small_types::{copy_front, rest_from};
 /// these are.
 pub fn copy_from(bytes: &[u8], place: &mut usize, buf: &mut [u8]) -> usize
     requires { 0 < length buf.old }
-    ensures within { ReadsAtMost result buf.old buf.new }
+    ensures within { result ≤ length buf.old }
     ensures bytes { Consumes (drop place.old bytes.now) (drop place.new bytes.now) buf.new result }
     ensures inside { place.new ≤ length bytes.now }
 {

@@ -61,6 +61,3 @@ pub fn read_all<S: Source>(
     }
     Ok(bytes)
 }
-
-#[cfg(test)]
-mod tests;
