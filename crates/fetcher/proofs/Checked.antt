@@ -40,10 +40,11 @@ site_poured : (size n : ℕ) (target : Target) (a b : LinkState) (bytes : List �
 site_poured size n target a b bytes opens same site taken t =
     (opens t).found ∙ ap (λ (l : List ℕ). Some l) (whole size b.rest bytes (sym same ∙ (opens t).sized) (taken (site.tells.0 t)))
 
-pub file_given : (list : List Digest) (size n : ℕ) (target : Target) (a b : LinkState) (old new : Checker) (tells : Type 0) (before after : List ℕ)
+pub file_given : (list : List Digest) (size n : ℕ) (target : Target) (a b c : LinkState) (old new : Checker) (tells : Type 0) (before after : List ℕ)
     → (a.tells → Opens target a b n) → n ≡ size → KeepsSite a b → Pours size b old new tells before after → (tells → before ≡ []) → IsFed old list size []
-    → ((bytes : List ℕ) → IsFed new list size bytes → Matches list size bytes) → IsFileOf list size target a tells after
-file_given list size n target a b old new tells before after opens same site pours empty fresh fits = record {
+    → ((bytes : List ℕ) → IsFed new list size bytes → Matches list size bytes) → c.count ≡ a.count → IsFileOf list size target a c tells after
+file_given list size n target a b c old new tells before after opens same site pours empty fresh fits sound = record {
+  sound = sound;
   bytes = pours.bytes;
   taken = λ t. pours.taken t ∙ ap (λ (l : List ℕ). l ++ pours.bytes) (empty t);
   matches = fits pours.bytes (pours.fed list size [] fresh);

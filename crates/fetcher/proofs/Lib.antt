@@ -1,6 +1,7 @@
 pub mod Checked
+pub mod Ending
+pub mod InOrder
 pub mod Moving
-pub mod OnlyLink
 pub mod Pouring
 pub mod Reasons
 pub mod Sequence

@@ -14,7 +14,10 @@ keeps_then a b c one two = record {
   same = λ told target. two.same (one.tells.0 told) target ∙ one.same told target;
 }
 
-stays_then : (a b c : LinkState) → Stays a b → Stays b c → Stays a c
+pub stays_same : (s : LinkState) → Stays s s
+stays_same s = record { site = keeps_same s; rest = refl; count = refl }
+
+pub stays_then : (a b c : LinkState) → Stays a b → Stays b c → Stays a c
 stays_then a b c one two = record {
   site = keeps_then a b c one.site two.site;
   rest = two.rest ∙ one.rest;

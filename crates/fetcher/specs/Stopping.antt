@@ -1,5 +1,5 @@
 -- What is done with one link.
-use Rattle.std.specs.Prelude.{◌≡◌, ◌≢◌, ◌≤◌, ℕ, List, ◌++◌, length, take, Some, Result, Err}
+use Rattle.std.specs.Prelude.{◌≡◌, ◌≢◌, ◌≤◌, ℕ, List, [], ◌∷◌, ◌++◌, length, take, Some, Result, Err}
 use Rattle.outside.specs.Streams.{Rose}
 use Rattle.small_types.specs.declared.target.Target.{Target}
 use Rattle.digest_list.specs.declared.checker.Checker.{Checker}
@@ -27,17 +27,20 @@ pub record Moves (place : ℕ) (old new : LinksState) : Type 0 where
   pub later : (old.link place).count ≤ (new.link place).count
 
 -- a text that one link gave
-pub record IsTextOf (limit : ℕ) (target : Target) (link : LinkState) (bytes : List ℕ) : Type 0 where
+pub record IsTextOf (limit : ℕ) (target : Target) (old new : LinkState) (bytes : List ℕ)
+    : Type 0 where
   pub within : length bytes ≤ limit
-  pub told : link.tells → link.site target ≡ Some bytes
+  pub told : old.tells → old.site target ≡ Some bytes
+  pub sound : new.count ≡ old.count
 
 -- a file that one link gave into a basket
-pub record IsFileOf (list : List Digest) (size : ℕ) (target : Target) (link : LinkState)
+pub record IsFileOf (list : List Digest) (size : ℕ) (target : Target) (old new : LinkState)
     (tells : Type 0) (held : List ℕ) : Type 0 where
   pub bytes : List ℕ
   pub taken : tells → held ≡ bytes
   pub matches : Matches list size bytes
-  pub told : link.tells → link.site target ≡ Some bytes
+  pub told : old.tells → old.site target ≡ Some bytes
+  pub sound : new.count ≡ old.count
 
 -- why one link gave no text
 abbrev pub IsTextStop : ℕ → Target → LinkState → LinkState → Stopped → Type 0
@@ -68,6 +71,19 @@ abbrev pub TellsCauses : Target → List Cause → FetchFault → Type 0
 TellsCauses target causes (AllLinks shown told) = (shown ≡ target) × (told ≡ causes)
 TellsCauses target causes BasketFailed = ⊥
 TellsCauses target causes OutOfMemory = Unit {0}
+
+-- the cause of the link was added to those before
+abbrev pub AddsCause : Stopped → List Cause → List Cause → Type 0
+AddsCause (By cause) old new = new ≡ old ++ cause ∷ []
+AddsCause Basket old new = ⊥
+AddsCause Memory old new = ⊥
+
+-- how a fetch ends that does not ask the next link: there was no memory to note the cause, or else what
+-- stopped it
+abbrev pub end_of : Stopped → FetchFault
+end_of (By cause) = OutOfMemory
+end_of Basket = BasketFailed
+end_of Memory = OutOfMemory
 
 -- why no more pieces came, by the counts of the link and of the basket
 abbrev pub IsPourStop : LinkState → LinkState → ℕ → ℕ → Stopped → Type 0

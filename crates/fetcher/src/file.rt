@@ -8,7 +8,7 @@ ghost use Rattle.fetcher.specs.Stopping.{IsFileOf, IsFileStop, IsPourStop, Keeps
 ghost use Rattle.fetcher.specs.declared.fault.FetchFault.TheVariants.{BasketFault};
 
 use crate::FetchFault;
-use crate::stopped::{PIECE, Stopped, only_link, stopped_basket, stopped_by};
+use crate::stopped::{PIECE, Stopped, add_cause, all_links, stopped_basket, stopped_by};
 use causes::Cause;
 use digest_list::{CheckFault, Checker, Difference, DigestList};
 use links::{Basket, Links};
@@ -67,6 +67,8 @@ fn pour<L: Links, B: Basket>(
         B.tells (B.taken basket.old) (B.taken basket.new)) }
     ensures stop { IfErr result (IsPourStop ((L.links links.old).link place) ((L.links links.new).link place)
         (B.count basket.old) (B.count basket.new)) }
+    ensures quiet { OnOk result
+        (((L.links links.new).link place).count ≡ ((L.links links.old).link place).count) }
     ensures moves { Moves place (L.links links.old) (L.links links.new) }
     ensures basket { KeepsBasket (B.count basket.old) (B.count basket.new) result }
 {
@@ -99,8 +101,8 @@ fn file_of<L: Links, B: Basket>(
     requires place { place < (L.links links.old).sources }
     requires wanted { IsLast target.now (L.links links.old).asked }
     requires below { size < 2 ^ 61 }
-    ensures file { OnOk result (IsFileOf list.now size target.now ((L.links links.old).link place)
-        B.tells (B.taken basket.new)) }
+    ensures file { OnOk result (IsFileOf list.now size target.now
+        ((L.links links.old).link place) ((L.links links.new).link place) B.tells (B.taken basket.new)) }
     ensures stop { IfErr result (IsFileStop list.now size target.now
         ((L.links links.old).link place) ((L.links links.new).link place)
         (B.count basket.old) (B.count basket.new)) }
@@ -131,10 +133,10 @@ fn file_of<L: Links, B: Basket>(
     }
 }
 
-/// Fetches the file at the target into the basket: the bytes of the first link that gives bytes of that size which match
-/// every digest of the list. Each link that does not serve has its cause: the sizes where it answers another length, and
-/// then no piece of it is taken. No more than `size` bytes are taken of a link, and each is hashed once. The target is
-/// asked for once. After a fault the basket may hold any bytes.
+/// Fetches the file at the target into the basket: the bytes of the first link that gives bytes of that size which
+/// match every digest of the list. Each link before it has its cause not to serve: the sizes where it answers another
+/// length, and then no piece of it is taken. No link behind it is asked. No more than `size` bytes are taken of a link,
+/// and each is hashed once. The target is asked for once. After a fault the basket may hold any bytes.
 pub fn fetch_file<L: Links, B: Basket>(
     alloc: Global,
     links: &mut L,
@@ -143,7 +145,6 @@ pub fn fetch_file<L: Links, B: Basket>(
     list: &DigestList,
     basket: &mut B,
 ) -> Result<(), FetchFault>
-    requires one { (L.links links.old).sources ≡ 1 }
     requires below { size < 2 ^ 61 }
     ensures file { OnOk result (IsFile list.now size target.now (L.links links.old) (L.links links.new)
         B.tells (B.taken basket.new)) }
@@ -156,10 +157,15 @@ pub fn fetch_file<L: Links, B: Basket>(
     let Ok(()) = links.want(alloc, target) else {
         return Err(FetchFault::Memory);
     };
-    match file_of(alloc, links, 0, target, size, list, basket) {
-        Ok(()) => Ok(()),
-        Err(Stopped::By(cause)) => Err(only_link(alloc, target, cause)),
-        Err(Stopped::Basket) => Err(FetchFault::BasketFault),
-        Err(Stopped::Memory) => Err(FetchFault::Memory),
+    let mut causes = Vec::new(alloc);
+    for place in 0..links.sources() {
+        let stop = match file_of(alloc, links, place, target, size, list, basket) {
+            Ok(()) => return Ok(()),
+            Err(stop) => stop,
+        };
+        if let Err(fault) = add_cause(&mut causes, stop) {
+            return Err(fault);
+        }
     }
+    Err(all_links(alloc, target, causes))
 }

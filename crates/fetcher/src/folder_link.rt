@@ -4,7 +4,7 @@ ghost use Rattle.links.specs.declared.link.LinkFault.TheVariants.{Missing, Down}
 ghost use Rattle.outside.specs.Streams.{Rose, total};
 ghost use Rattle.folders.specs.Folder.{FailsCounted};
 ghost use Rattle.http_plain.specs.Path.{name_in_path as name_at};
-ghost use Rattle.fetcher.specs.FolderSites.{file_named};
+ghost use Rattle.http_plain.specs.Sites.{file_named};
 
 use folders::{Folder, FolderFault};
 use http_plain::name_in_path;
@@ -95,7 +95,8 @@ impl<F: Folder> FolderLink<F> {
 impl<F: Folder + Drop> Link for FolderLink<F> {
     ghost use Rattle.std.specs.Prelude.{ℕ, List};
     ghost use Rattle.links.specs.Link.{LinkState, Asks, Takes};
-    ghost use Rattle.fetcher.specs.FolderSites.{folder_state, folder_unread, served};
+    ghost use Rattle.fetcher.specs.FolderSites.{folder_state, folder_unread};
+    ghost use Rattle.http_plain.specs.Sites.{served};
 
     ghost state = { λ l. record {
       tells = F.tells;

@@ -6,8 +6,6 @@ mod fault;
 mod file;
 mod folder_link;
 mod stopped;
-#[cfg(test)]
-mod tests;
 mod text;
 
 pub use fault::FetchFault;

@@ -1,6 +1,6 @@
 // How a fetch from one link ends without bytes.
-ghost use Rattle.std.specs.Prelude.{◌≡◌, ◌∷◌, []};
-ghost use Rattle.fetcher.specs.Stopping.{TellsCauses, basket_stop, stop_of};
+ghost use Rattle.std.specs.Prelude.{◌≡◌, IfErr, OnOk};
+ghost use Rattle.fetcher.specs.Stopping.{AddsCause, TellsCauses, basket_stop, end_of, stop_of};
 
 use crate::FetchFault;
 use causes::Cause;
@@ -43,17 +43,28 @@ pub(crate) fn stopped_basket(fault: BasketFault) -> Stopped
     }
 }
 
-/// That the only link did not serve.
-pub(crate) fn only_link(alloc: Global, target: &Target, cause: Cause) -> FetchFault
-    ensures { TellsCauses target.now (cause ∷ []) result }
+/// Adds the cause to those of the links before, or says how the fetch ends.
+pub(crate) fn add_cause(causes: &mut Vec<Cause>, stop: Stopped) -> Result<(), FetchFault>
+    ensures added { OnOk result (AddsCause stop causes.old.items causes.new.items) }
+    ensures ends { IfErr result (λ fault. fault ≡ end_of stop) }
+{
+    match stop {
+        Stopped::By(cause) => match causes.push(cause) {
+            Ok(()) => Ok(()),
+            Err(_) => Err(FetchFault::Memory),
+        },
+        Stopped::Basket => Err(FetchFault::BasketFault),
+        Stopped::Memory => Err(FetchFault::Memory),
+    }
+}
+
+/// That no link served, for these causes.
+pub(crate) fn all_links(alloc: Global, target: &Target, causes: Vec<Cause>) -> FetchFault
+    ensures { TellsCauses target.now causes.items result }
 {
     let Ok(target) = target.copy(alloc) else {
         return FetchFault::Memory;
     };
-    let mut causes = Vec::new(alloc);
-    if causes.push(cause).is_err() {
-        return FetchFault::Memory;
-    }
     FetchFault::AllLinks {
         target,
         causes: List::from_vec(causes),

@@ -7,7 +7,7 @@ ghost use Rattle.fetcher.specs.Fetched.{IsText, IsTextFault, Kept};
 ghost use Rattle.fetcher.specs.Stopping.{IsTextOf, IsTextStop, Moves};
 
 use crate::FetchFault;
-use crate::stopped::{PIECE, Stopped, only_link, stopped_by};
+use crate::stopped::{PIECE, Stopped, add_cause, all_links, stopped_by};
 use causes::Cause;
 use links::{LinkFault, Links};
 use small_types::{Bytes, Target};
@@ -56,8 +56,10 @@ fn text_of<L: Links>(
 ) -> Result<Bytes, Stopped>
     requires place { place < (L.links links.old).sources }
     requires wanted { IsLast target.now (L.links links.old).asked }
-    ensures text { IfOk result (IsTextOf limit target.now ((L.links links.old).link place)) }
-    ensures stop { IfErr result (IsTextStop limit target.now ((L.links links.old).link place) ((L.links links.new).link place)) }
+    ensures text { IfOk result (IsTextOf limit target.now
+        ((L.links links.old).link place) ((L.links links.new).link place)) }
+    ensures stop { IfErr result (IsTextStop limit target.now
+        ((L.links links.old).link place) ((L.links links.new).link place)) }
     ensures moves { Moves place (L.links links.old) (L.links links.new) }
 {
     let length = match links.ask(alloc, place, target) {
@@ -73,16 +75,15 @@ fn text_of<L: Links>(
     }
 }
 
-/// The text at the target: the bytes of the first link that gives at most `limit` of them. Each link that does not
-/// serve has its cause: `TooLong` where it answers a greater length, and then no piece of it is taken. The target is
-/// asked for once.
+/// The text at the target: the bytes of the first link that gives at most `limit` of them. Each link before it has its
+/// cause not to serve: `TooLong` where it answers a greater length, and then no piece of it is taken. No link behind it
+/// is asked. The target is asked for once.
 pub fn fetch_text<L: Links>(
     alloc: Global,
     links: &mut L,
     target: &Target,
     limit: u64,
 ) -> Result<Bytes, FetchFault>
-    requires { (L.links links.old).sources ≡ 1 }
     ensures text { IfOk result (IsText limit target.now (L.links links.old) (L.links links.new)) }
     ensures fault { IfErr result (IsTextFault limit target.now (L.links links.old) (L.links links.new)) }
     ensures kept { Kept (L.links links.old) (L.links links.new) }
@@ -90,10 +91,15 @@ pub fn fetch_text<L: Links>(
     let Ok(()) = links.want(alloc, target) else {
         return Err(FetchFault::Memory);
     };
-    match text_of(alloc, links, 0, target, limit) {
-        Ok(bytes) => Ok(bytes),
-        Err(Stopped::By(cause)) => Err(only_link(alloc, target, cause)),
-        Err(Stopped::Basket) => Err(FetchFault::BasketFault),
-        Err(Stopped::Memory) => Err(FetchFault::Memory),
+    let mut causes = Vec::new(alloc);
+    for place in 0..links.sources() {
+        let stop = match text_of(alloc, links, place, target, limit) {
+            Ok(bytes) => return Ok(bytes),
+            Err(stop) => stop,
+        };
+        if let Err(fault) = add_cause(&mut causes, stop) {
+            return Err(fault);
+        }
     }
+    Err(all_links(alloc, target, causes))
 }

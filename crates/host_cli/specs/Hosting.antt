@@ -20,8 +20,8 @@ pub record IsHeard (connection : Accepted) : Type 0 where
   pub few : length front ≤ HEAD_LIMIT
   pub near : IsNear REQUEST_PIECE front
 
--- what was sent on the connection is what a host of these files answers to its request, and no more; enough of the request
--- was received to know the answer
+-- what was sent on the connection is what a host of these files answers to its request, and no
+-- more; enough of the request was received to know the answer
 pub record IsServed (files : List Held) (connection : Accepted) : Type 0 where
   pub front : List ℕ
   pub heard : connection.request ≡ front ++ connection.left
@@ -29,8 +29,8 @@ pub record IsServed (files : List Held) (connection : Accepted) : Type 0 where
   pub code : Option ℕ
   pub serves : Serves files connection.request (record { code = code; bytes = connection.sent })
 
--- what was sent on the connection is a first part of what a host of these files answers to its request, of which enough was
--- received to know the answer
+-- what was sent on the connection is a first part of what a host of these files answers to its
+-- request, of which enough was received to know the answer
 pub record IsPart (files : List Held) (connection : Accepted) : Type 0 where
   pub front : List ℕ
   pub heard : connection.request ≡ front ++ connection.left
@@ -58,8 +58,8 @@ pub record AcceptsAsking (old new : List Accepted) : Type 0 where
   pub asks : AsksForFile connection.request
   pub heard : IsHeard connection
 
--- one more connection was accepted, and it was served where neither count of faults rose; nothing but a first part of its
--- answer was sent, and its request was received as far as a host may
+-- one more connection was accepted, and it was served where neither count of faults rose; nothing
+-- but a first part of its answer was sent, and its request was received as far as a host may
 pub record HostsOne (files : List Held) (old new : List Accepted)
     (door_old door_new folder_old folder_new : ℕ) : Type 0 where
   pub connection : Accepted
@@ -68,8 +68,8 @@ pub record HostsOne (files : List Held) (old new : List Accepted)
   pub begun : IsBegun files connection
   pub heard : IsHeard connection
 
--- connections were accepted, of which at most n were not served, and on each nothing but a first part of its answer was sent;
--- the request of each was received as far as a host may
+-- connections were accepted, of which at most n were not served, and on each nothing but a first
+-- part of its answer was sent; the request of each was received as far as a host may
 pub record HostsBut (files : List Held) (old new : List Accepted) (n : ℕ) : Type 0 where
   pub made : List Accepted
   pub after : new ≡ old ++ made
@@ -77,9 +77,9 @@ pub record HostsBut (files : List Held) (old new : List Accepted) (n : ℕ) : Ty
   pub begun : AllBut (IsBegun files) made 0
   pub heard : AllBut IsHeard made 0
 
--- connections were accepted, of which, without the last, at most n were not served, and on each of those nothing but a first
--- part of its answer was sent; the last asks for a file, and nothing was sent on it; the request of each was received as far
--- as a host may
+-- connections were accepted, of which, without the last, at most n were not served, and on each of
+-- those nothing but a first part of its answer was sent; the last asks for a file, and nothing was
+-- sent on it; the request of each was received as far as a host may
 pub record HostsButLast (files : List Held) (old new : List Accepted) (n : ℕ) : Type 0 where
   pub made : List Accepted
   pub last : Accepted

@@ -10,19 +10,22 @@ use folders::Folder;
 use small_types::Word;
 use std::alloc::Global;
 
-/// Accepts connections at the door, one after the other, and answers one request on each from the files of the
-/// folder. The words are `PORT COUNT`: 1 to 65,535, and 0 to 1,000,000, in 1 to 19 decimal digits each.
+/// Accepts connections at the door, one after the other, and answers one request on each from the
+/// files of the folder. The words are `PORT COUNT`: 1 to 65,535, and 0 to 1,000,000, in 1 to 19
+/// decimal digits each.
 ///
-/// The status is 0 where so many connections were accepted, 1 exactly at other words, where nothing is done, 2 where
-/// the door failed to accept, and 6 where there was no memory for the file that the last connection asks for. Any status but 2 leaves the
-/// count of misses, so no failed accept is passed over. A fault of the door or the folder while a connection is served
-/// ends that connection alone.
+/// The status is 0 where so many connections were accepted, 1 exactly at other words, where nothing
+/// is done, 2 where the door failed to accept, and 6 where there was no memory for the file that
+/// the last connection asks for. Any status but 2 leaves the count of misses, so no failed accept
+/// is passed over. A fault of the door or the folder while a connection is served ends that
+/// connection alone.
 ///
-/// So, over a door and a folder that tell, and where neither count of faults ended at its greatest number, at most as
-/// many connections are not served as the counts rose by, and on those nothing or a first part of the answer was sent.
-/// A host speaks only when enough of the request has come to know the answer, and of no request it receives more than
-/// 65,536 bytes, or a piece, of at most 8,192 bytes, once the end of the head has come. At status 6 the last connection
-/// is not counted: it asks for a file, nothing was sent on it, and no more of its request was received than that.
+/// So, over a door and a folder that tell, and where neither count of faults ended at its greatest
+/// number, at most as many connections are not served as the counts rose by, and on those nothing
+/// or a first part of the answer was sent. A host speaks only when enough of the request has come
+/// to know the answer, and of no request it receives more than 65,536 bytes, or a piece, of at most
+/// 8,192 bytes, once the end of the head has come. At status 6 the last connection is not counted:
+/// it asks for a file, nothing was sent on it, and no more of its request was received than that.
 pub fn host_run<F: Folder, G: Door>(
     alloc: Global,
     words: &[Word],

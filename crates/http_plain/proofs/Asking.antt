@@ -1,5 +1,5 @@
 -- From the front of a message to the whole.
-use Rattle.std.proofs.Common.{◌≡◌, ◌≤◌, ◌+◌, ℕ, zero, suc, min, Bool, true, false, cond, List, [], ◌∷◌, ◌++◌, length, take, drop, ltb, eqb, codes, Option, Some, None, Result, Ok, Err, refl, inl, inr, ap, sym, subst, ◌∙◌, arith, length-take}
+use Rattle.std.proofs.Common.{◌≡◌, ◌≤◌, ◌<◌, ◌+◌, ℕ, zero, suc, min, Bool, true, false, cond, List, [], ◌∷◌, ◌++◌, length, take, drop, ltb, eqb, codes, Option, Some, None, Result, Ok, Err, refl, inl, inr, ap, sym, subst, ◌∙◌, arith, length-take}
 use Rattle.std.specs.Result.{IfOk, OnErr}
 use Rattle.std.specs.Option.{IfSome, IsSome}
 use Rattle.std.proofs.lemmas.List.{take_all}
@@ -16,7 +16,7 @@ use Rattle.http_plain.specs.Asked.{Asked, AsksBy}
 use Rattle.http_plain.specs.Begin.{Comes, IsRefusedBy}
 use Rattle.http_plain.specs.Exchange.{Gives, GivesBy, given, is_encoded, length_in, named_by}
 use Rattle.http_plain.specs.Fields.{pairs_of, values_of}
-use Rattle.http_plain.specs.Head.{head_end, Whole, TooLong, Short, front_at, front_of, behind_head, IsEnough}
+use Rattle.http_plain.specs.Head.{head_end, Whole, TooLong, Short, front_at, front_of, behind_head, IsEnough, IsNear}
 use Rattle.http_plain.specs.declared.head.TheConstants.{HEAD_LIMIT}
 use Rattle.http_plain.specs.Served.{Asks, AsksForFile, Demands, DemandsFile, IsFile, demand_of}
 use Rattle.http_plain.proofs.Ends.{end_bounds, no_end}
@@ -146,6 +146,16 @@ unended_refuses front left fault e is enough =
     refused_by (front ++ left) fault
     (unended_gives (ltb (length front) HEAD_LIMIT) (front ++ left) fault is (front_longer front left enough ∙ front_by front None e))
 
+-- the end of a head that lies within the limit
+end_is : (front : List ℕ) (end : ℕ) → length front ≤ HEAD_LIMIT → Some end ≡ head_end (take HEAD_LIMIT front) → head_end front ≡ Some end
+end_is front end fits e = ap head_end (sym (take_all HEAD_LIMIT front fits)) ∙ sym e
+
+-- fewer bytes than a piece stand behind it
+pub near_room : (piece : ℕ) (front : List ℕ) (end : ℕ) → length front ≤ HEAD_LIMIT → Some end ≡ head_end (take HEAD_LIMIT front)
+    → IsNear piece front → length front < end + piece
+near_room piece front end fits e near =
+    subst (λ (found : Option ℕ). IfSome found (λ n. length front < n + piece)) (end_is front end fits e) near
+
 -- what is left may as well stand behind all that came
 take_early : (n : ℕ) (bytes left : List ℕ) → take n (take n bytes ++ left) ≡ take n (bytes ++ left)
 take_early zero bytes left = refl
@@ -156,7 +166,7 @@ pub comes : (front left : List ℕ) (end : ℕ) (begun : Begun) (size : ℕ) →
     → IsEnough front left → GivesBy (Whole (take end front)) (Ok size)
     → begun.length ≡ size → begun.early ≡ take size (drop end front) → Comes (front ++ left) left begun
 comes front left end begun size fits e enough gives is_length is_early =
-    let ends : head_end front ≡ Some end = ap head_end (sym (take_all HEAD_LIMIT front fits)) ∙ sym e in
+    let ends : head_end front ≡ Some end = end_is front end fits e in
     record {
       gives = subst (λ n. Gives (front ++ left) (Ok n)) (sym is_length) (gives_longer front left end (Ok size) e enough gives);
       within = omega (arith, length-take size (drop end front), ap length is_early, is_length);

@@ -4,14 +4,13 @@ use Rattle.std.specs.Option.{IsSome, IfSome}
 use Rattle.std.specs.Result.{IfOk, IfErr}
 use Rattle.std.proofs.lemmas.List.{append-nil, nil_from_length, take-append-le}
 use Rattle.std.proofs.Math.Seq.{take-append-add}
-use Rattle.outside.specs.Streams.{ReadsAtMost}
 use Rattle.small_types.specs.declared.target.Target.{Target}
-use Rattle.connections.specs.Wire.{Made, begun, Connects, Receives, Sends, all_sent}
+use Rattle.connections.specs.Wire.{Made, begun, Connects, Receives, Sends}
 use Rattle.http_plain.specs.declared.begun.Begun.{Begun}
 use Rattle.http_plain.specs.declared.fault.ExchangeFault.{ExchangeFault}
 use Rattle.http_plain.specs.declared.fault.ExchangeFault.TheVariants.{ReadFault, WriteFault, Cut, HeadTooLong, Malformed, Missing, Status, Encoded, NoLength, Memory}
 use Rattle.http_plain.specs.Exchange.{request_text}
-use Rattle.http_plain.specs.Begin.{Answers, Exchanges, ExchangesBy, IsHalfAsked, IsHalfHeard, IsMade, IsRead, IsReadFront, IsReadPart, GivesLength, RunsOut, IsSending, IsSent, IsSentPart, IsOwn}
+use Rattle.http_plain.specs.Begin.{Answers, Exchanges, ExchangesBy, IsHalfAsked, IsHalfHeard, IsMade, IsRead, IsReadFront, IsReadPart, IsSending, IsSent, IsSentPart, IsOwn}
 use Rattle.http_plain.specs.declared.exchange.TheConstants.{ANSWER_PIECE}
 use Rattle.http_plain.specs.Head.{head_end, IsEnough, IsNear}
 use Rattle.http_plain.specs.declared.head.TheConstants.{HEAD_LIMIT}
@@ -77,12 +76,12 @@ front_grown old new buf tail used n is within fits =
 
 -- a piece is received behind the first bytes of a buffer
 pub piece_read : {E : Type 0} (r : Result ℕ E) (old new : Option Made) (front before buf tail : List ℕ) (used : ℕ) → used ≤ length front → length buf ≡ length before
-    → IfOk r (λ n. ReadsAtMost n before buf)
+    → IfOk r (λ n. n ≤ length before)
     → IfOk r (λ n. Receives old new buf n)
     → IfOk r (λ n. (made : Made) → IsRead made old (take used front) → IsRead made new (take (used + n) (take used front ++ (buf ++ tail))))
 piece_read (Err e) old new front before buf tail used within same fits receives = tt
 piece_read (Ok n) old new front before buf tail used within same fits receives = λ made read.
-    subst (IsRead made new) (sym (front_grown front (take used front ++ (buf ++ tail)) buf tail used n refl within (omega (arith, fits.fits, same))))
+    subst (IsRead made new) (sym (front_grown front (take used front ++ (buf ++ tail)) buf tail used n refl within (omega (arith, fits, same))))
     (read_more made old new (take used front) buf n read receives)
 
 -- nothing more came
@@ -145,10 +144,10 @@ exchanged target one two three request front result connects sends reads text fi
 
 -- what the answer alone decides
 pub exchanges : (target : Target) (present : Option Made) (result : Result Begun ExchangeFault)
-    → IfErr result (λ fault. fault ≢ Memory → IsOwn fault) → Exchanges target present result → ExchangesBy target present result
+    → IfErr result IsOwn → Exchanges target present result → ExchangesBy target present result
 exchanges target present (Ok begun) own x = x
-exchanges target present (Err ReadFault) own x = absurd (own (λ e. cc))
-exchanges target present (Err WriteFault) own x = absurd (own (λ e. cc))
+exchanges target present (Err ReadFault) own x = absurd own
+exchanges target present (Err WriteFault) own x = absurd own
 exchanges target present (Err Memory) own x = tt
 exchanges target present (Err Cut) own x = x
 exchanges target present (Err HeadTooLong) own x = x
@@ -157,6 +156,10 @@ exchanges target present (Err Missing) own x = x
 exchanges target present (Err (Status code)) own x = x
 exchanges target present (Err Encoded) own x = x
 exchanges target present (Err NoLength) own x = x
+
+-- an answer is no want of memory
+pub not_for_memory : (result : Result Begun ExchangeFault) → IfErr result IsOwn → result ≡ Err Memory → ⊥
+not_for_memory result own is = subst (λ (r : Result Begun ExchangeFault). IfErr r IsOwn) is own
 
 -- sending failed
 pub half_asked : (target : Target) (one two : Option Made) (request : List ℕ)
@@ -193,33 +196,3 @@ half_heard target one two three request connects sends reads text =
         none = part.none;
       },
     )
-
--- memory ran out behind the head of the answer
-pub runs_out : (target : Target) (over_old over_new : List (List ℕ)) (zero one two three : Option Made) (request front : List ℕ)
-    → over_new ≡ all_sent over_old zero
-    → Connects target.host target.port one
-    → ((made : Made) → one ≡ Some made → IsSent made two request)
-    → ((made : Made) → two ≡ Some made → IsReadFront made three front)
-    → request ≡ request_text target
-    → length front ≤ HEAD_LIMIT
-    → ((left : List ℕ) → IsEnough front left → GivesLength (front ++ left))
-    → RunsOut target over_old over_new zero three
-runs_out target over_old over_new zero one two three request front over connects sends reads text fits gives =
-    let first : Made = begun target.host target.port connects.answer in
-    let second : Made = record first { sent = first.sent ++ request } in
-    let read = reads second (sends first connects.made) in
-    record {
-      over = over;
-      heard = (
-        record second { left = read.left },
-        read.after,
-        record {
-          asked = record { host = refl; port = refl; sent = text };
-          answer = subst GivesLength (sym read.given) (gives read.left read.enough);
-          front = front;
-          given = read.given;
-          few = fits;
-          near = read.near;
-        },
-      );
-    }

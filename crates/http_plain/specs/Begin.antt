@@ -2,7 +2,7 @@
 use Rattle.std.specs.Prelude.{◌≡◌, ◌≢◌, ◌<◌, ◌≤◌, ◌+◌, ◌⊎◌, ℕ, List, ◌++◌, length, take, Option, Some, None, Result, Ok, Err, IfErr, IfSome}
 use Rattle.outside.specs.Streams.{Rose}
 use Rattle.small_types.specs.declared.target.Target.{Target}
-use Rattle.connections.specs.Wire.{Made, all_sent}
+use Rattle.connections.specs.Wire.{Made}
 use Rattle.http_plain.specs.declared.begun.Begun.{Begun}
 use Rattle.http_plain.specs.declared.fault.ExchangeFault.{ExchangeFault}
 use Rattle.http_plain.specs.declared.fault.ExchangeFault.TheVariants.{ReadFault, WriteFault, Memory}
@@ -35,21 +35,6 @@ pub record IsHalfHeard (target : Target) (made : Made) : Type 0 where
   pub given : made.answer ≡ front ++ made.left
   pub few : length front < HEAD_LIMIT
   pub none : head_end front ≡ None
-
--- the answer gives the length of a body
-pub record GivesLength (answer : List ℕ) : Type 0 where
-  pub length : ℕ
-  pub gives : Gives answer (Ok length)
-
--- the whole request was sent, and the answer gives a length; no more of it was received than a head may
--- have, and no piece once the end of the head had come
-pub record IsHeard (target : Target) (made : Made) : Type 0 where
-  pub asked : IsAsked target made
-  pub answer : GivesLength made.answer
-  pub front : List ℕ
-  pub given : made.answer ≡ front ++ made.left
-  pub few : length front ≤ HEAD_LIMIT
-  pub near : IsNear ANSWER_PIECE front
 
 -- the present connection was made, and it is so
 abbrev pub IsMade : (Made → Type 0) → Option Made → Type 0
@@ -100,13 +85,6 @@ pub record FailsCounted {T : Type 0} (old new : ℕ) (result : Result T Exchange
   pub read : IfErr result (λ e. e ≡ ReadFault → Rose old new)
   pub write : IfErr result (λ e. e ≡ WriteFault → Rose old new)
   pub quiet : result ≢ Err ReadFault → result ≢ Err WriteFault → new ≡ old
-
--- memory ran out for the first bytes of the body: the request was sent on a new connection, whose
--- answer gives a length, and the connection before it is over
-pub record RunsOut (target : Target) (over_old over_new : List (List ℕ)) (old new : Option Made)
-    : Type 0 where
-  pub over : over_new ≡ all_sent over_old old
-  pub heard : IsMade (IsHeard target) new
 
 -- an error that the answer alone decides
 abbrev pub IsOwn : ExchangeFault → Type 0

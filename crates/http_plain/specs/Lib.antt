@@ -8,4 +8,5 @@ pub mod Laws
 pub mod Path
 pub mod Reading
 pub mod Served
+pub mod Sites
 pub mod Spans

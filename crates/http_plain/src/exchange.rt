@@ -1,13 +1,14 @@
 // The exchange of a client over a wire.
-ghost use Rattle.std.specs.Prelude.{◌≡◌, ◌≢◌, ◌<◌, ◌≤◌, ◌++◌, ◌+◌, ◌⊎◌, Some, Err, length, take, drop, string_bytes, IfOk, OnOk, OnErr};
+ghost use Rattle.std.specs.Prelude.{◌≡◌, ◌≢◌, ◌<◌, ◌≤◌, ◌++◌, ◌+◌, Some, Err, length, take, drop, string_bytes, IfOk, OnOk, OnErr};
 ghost use Rattle.outside.specs.Streams.{Causes};
 ghost use Rattle.connections.specs.Wire.{Made, all_sent};
 ghost use Rattle.http_plain.specs.declared.exchange.TheConstants.{ANSWER_PIECE};
 ghost use Rattle.http_plain.specs.declared.fault.ExchangeFault.TheVariants.{Memory as no_memory};
 ghost use Rattle.http_plain.specs.declared.head.TheConstants.{HEAD_LIMIT};
-ghost use Rattle.http_plain.specs.Begin.{ExchangesBy, FailsCounted, IsRead, IsReadFront, IsReadPart, IsSent, IsSentPart, RunsOut};
+ghost use Rattle.http_plain.specs.Begin.{ExchangesBy, FailsCounted, IsRead, IsReadFront, IsReadPart, IsSent, IsSentPart};
 ghost use Rattle.http_plain.specs.Exchange.{host_value as host_given, request_text as text_of_request};
 ghost use Rattle.http_plain.specs.Flat.{flat_request};
+ghost use Rattle.http_plain.specs.Head.{IsNear};
 
 use crate::begun::{Begun, begin};
 use crate::fault::ExchangeFault;
@@ -113,6 +114,7 @@ fn receive_front<W: Wire>(wire: &mut W, front: &mut [u8]) -> Result<usize, Faile
     ensures part { W.tells → OnErr result ((made : Made) → W.present wire.old ≡ Some made
         → IsReadPart made (W.present wire.new)) }
     ensures few { IfOk result (λ n. n ≤ HEAD_LIMIT) }
+    ensures near { IfOk result (λ n. IsNear ANSWER_PIECE (take n front.new)) }
     ensures over { W.tells → W.over wire.new ≡ W.over wire.old }
     ensures cause { Causes (W.count wire.old) (W.count wire.new) result }
 {
@@ -136,10 +138,10 @@ fn receive_front<W: Wire>(wire: &mut W, front: &mut [u8]) -> Result<usize, Faile
 /// are received, and no piece, of at most 4,096 bytes, once the end of the head has come.
 ///
 /// `ReadFault` comes where connecting or receiving failed, before the answer's head was whole, `WriteFault` where
-/// sending did, and `Memory` where there was none for the request or for the first bytes of the body; over a wire that
+/// sending did, and `Memory` where there was none for the request or for the first bytes of a body; over a wire that
 /// tells, each other error comes exactly where the answer gives it. Any result but the two faults leaves the wire's
-/// count, so no failed call is passed over. After `Memory` the wire is as it was, or the whole request was sent on a new
-/// connection, the answer gives a length, and no more of it was received than is said above.
+/// count, so no failed call is passed over. All memory is taken before the wire is used: after `Memory` the wire is as
+/// it was.
 pub fn ask_wire<W: Wire>(
     alloc: Global,
     wire: &mut W,
@@ -148,12 +150,11 @@ pub fn ask_wire<W: Wire>(
     ensures exchange { W.tells → ExchangesBy target.now (W.present wire.new) result }
     ensures one { W.tells → result ≢ Err no_memory
         → W.over wire.new ≡ all_sent (W.over wire.old) (W.present wire.old) }
-    ensures memory { W.tells → result ≡ Err no_memory → (wire.new ≡ wire.old)
-        ⊎ RunsOut target.now (W.over wire.old) (W.over wire.new)
-        (W.present wire.old) (W.present wire.new) }
+    ensures memory { result ≡ Err no_memory → wire.new ≡ wire.old }
     ensures cause { FailsCounted (W.count wire.old) (W.count wire.new) result }
 {
     let request = request_text(alloc, target)?;
+    let room = Vec::with_capacity(alloc, ANSWER_PIECE)?;
     let Ok(()) = wire.connect(&target.host, target.port) else {
         return Err(ExchangeFault::ReadFault);
     };
@@ -164,5 +165,5 @@ pub fn ask_wire<W: Wire>(
     let Ok(n) = receive_front(wire, &mut front) else {
         return Err(ExchangeFault::ReadFault);
     };
-    begin(alloc, &front[..n])
+    begin(room, &front[..n])
 }

@@ -25,7 +25,7 @@ pub enum ExchangeFault {
     Encoded,
     /// No length is named.
     NoLength,
-    /// There was no memory for the request or the answer's head.
+    /// There was no memory for the request or for the first bytes of a body. Nothing was asked.
     Memory,
 }
 

@@ -13,8 +13,6 @@ mod path;
 mod refusals;
 mod request;
 mod response;
-#[cfg(test)]
-mod tests;
 
 pub use begun::Begun;
 pub use demand::{Demand, demand_in, demand_of};

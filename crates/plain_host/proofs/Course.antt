@@ -5,7 +5,6 @@ use Rattle.std.proofs.Common.{subst}
 use Rattle.std.proofs.lemmas.List.{append-nil}
 use Rattle.connections.specs.Door.{Accepted, ReceivesOnLast, SendsOnLast}
 use Rattle.connections.proofs.Ends.{Ends, ends, SameEnd, same_end, ReceivedOn, received_on, sent_on}
-use Rattle.outside.specs.Streams.{ReadsAtMost}
 use Rattle.http_plain.specs.Head.{head_end, IsNear}
 use Rattle.http_plain.proofs.Ends.{near_none}
 use Rattle.http_plain.proofs.Sending.{front_grown}
@@ -101,12 +100,12 @@ sends_more old mid new bytes rest now later split f s = record {
 
 -- a piece is received behind the first bytes of a buffer
 pub piece_taken : {E : Type 0} (r : Result ℕ E) (old new : List Accepted) (front before buf tail : List ℕ) (used : ℕ) → used ≤ length front → length buf ≡ length before
-    → IfOk r (λ n. ReadsAtMost n before buf)
+    → IfOk r (λ n. n ≤ length before)
     → IfOk r (λ n. ReceivesOnLast old new buf n)
     → IfOk r (λ n. (start : List Accepted) → Serving start old (take used front) [] → Serving start new (take (used + n) (take used front ++ (buf ++ tail))) [])
 piece_taken (Err e) old new front before buf tail used within same fits received = tt
 piece_taken (Ok n) old new front before buf tail used within same fits received = λ start s.
-    subst (λ (f : List ℕ). Serving start new f []) (sym (front_grown front (take used front ++ (buf ++ tail)) buf tail used n refl within (omega (arith, fits.fits, same))))
+    subst (λ (f : List ℕ). Serving start new f []) (sym (front_grown front (take used front ++ (buf ++ tail)) buf tail used n refl within (omega (arith, fits, same))))
     (takes_on start old new (take used front) [] buf n s received)
 
 -- nothing more came

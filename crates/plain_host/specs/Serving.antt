@@ -56,7 +56,8 @@ pub record SendsNothing (old new : List Accepted) : Type 0 where
   pub near : IsNear REQUEST_PIECE front
   pub taken : Serving old new front []
 
--- what was taken of the last connection's request is shorter than a head may be and has no end of one, and nothing was sent
+-- what was taken of the last connection's request is shorter than a head may be and has no end of
+-- one, and nothing was sent
 pub record BreaksOff (old new : List Accepted) : Type 0 where
   pub front : List ℕ
   pub few : length front < HEAD_LIMIT

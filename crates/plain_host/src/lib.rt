@@ -7,8 +7,6 @@ mod receiving;
 mod room;
 mod sending;
 mod serving;
-#[cfg(test)]
-mod tests;
 
 pub use fault::{ServeFault, Served};
 pub use receiving::REQUEST_PIECE;

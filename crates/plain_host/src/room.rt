@@ -5,9 +5,10 @@ use std::alloc::Global;
 
 /// The memory that a host's run hands from one connection to the next.
 ///
-/// A request is received into as many bytes as a head may have, so receiving one takes no memory. The file of an answer
-/// leaves its memory to the next one: where it is of many megabytes, memory that is had anew costs more than the reading
-/// and the sending together, since the system gives it page by page at the first touch of each.
+/// A request is received into as many bytes as a head may have, so receiving one takes no memory.
+/// The file of an answer leaves its memory to the next one: where it is of many megabytes, memory
+/// that is had anew costs more than the reading and the sending together, since the system gives it
+/// page by page at the first touch of each.
 #[derive(Drop)]
 pub struct Room {
     pub(crate) request: [u8; HEAD_LIMIT],

@@ -13,15 +13,17 @@ use connections::Door;
 use folders::Folder;
 use std::alloc::Global;
 
-/// Answers one request on the connection that the door accepted last, from the files of the folder. It receives at most
-/// 65,536 bytes of the request, and no piece, of at most 8,192 bytes, once the end of the head has come. It sends nothing
-/// before enough of the request has come to know the answer, and the file, if there is one, was read whole. A file of at
-/// most 16,384 bytes goes out in one call with its head.
+/// Answers one request on the connection that the door accepted last, from the files of the folder.
+/// It receives at most 65,536 bytes of the request, and no piece, of at most 8,192 bytes, once the
+/// end of the head has come. It sends nothing before enough of the request has come to know the
+/// answer, and the file, if there is one, was read whole. A file of at most 16,384 bytes goes out
+/// in one call with its head.
 ///
-/// `Silent` comes exactly where the request is empty. After `WriteFault` a first part of the answer was sent, and not
-/// all; after each other fault nothing was sent. `ReadFault` comes only before the request's head is whole, and
-/// `FolderFault` and `Memory` only where the request asks for a file. Any result but `ReadFault` and `WriteFault` leaves
-/// the door's count, and any but `FolderFault` the folder's, so no failed call is passed over.
+/// `Silent` comes exactly where the request is empty. After `WriteFault` a first part of the answer
+/// was sent, and not all; after each other fault nothing was sent. `ReadFault` comes only before
+/// the request's head is whole, and `FolderFault` and `Memory` only where the request asks for a
+/// file. Any result but `ReadFault` and `WriteFault` leaves the door's count, and any but
+/// `FolderFault` the folder's, so no failed call is passed over.
 pub fn serve_connection<G: Door, F: Folder>(
     alloc: Global,
     door: &mut G,

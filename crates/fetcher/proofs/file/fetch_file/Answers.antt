@@ -1,18 +1,47 @@
-use Rattle.std.proofs.Common.{subst}
+use Rattle.std.proofs.Common.{◌≡◌, ◌<◌, ◌∙◌, arith}
 use Rattle.links.specs.Links.{LinksState}
-use Rattle.fetcher.specs.declared.stopped.Stopped.{Stopped}
-use Rattle.fetcher.specs.Stopping.{IsFileStop}
-use Rattle.fetcher.proofs.OnlyLink.{file_refused}
+use Rattle.fetcher.proofs.Ending.{count_stays, file_more, file_refused, file_served}
 use Rattle.fetcher.proofs.file.fetch_file.Goals as goal
 
-pub returns-in-Err-By-clause-fault : goal.returns-in-Err-By-clause-fault
-returns-in-Err-By-clause-fault g c =
+pub returns-in-Ok-file_of-clause-file : goal.returns-in-Ok-file_of-clause-file
+returns-in-Ok-file_of-clause-file g c =
     let a : LinksState = g.L.Links.links c.args.links.now in
-    let b : LinksState = g.L.Links.links c.want.new.self in
+    let b : LinksState = g.L.Links.links c.loop-place.links in
     let left : LinksState = g.L.Links.links c.file_of.new.links in
-    let before = g.B.Basket.count c.args.basket.now in
+    let count = c.sources-place-end.ensures.count in
+    let less : c.loop-place.place < a.sources = omega (arith, count, c.in-Ok.ensures.remain.sources) in
+    file_served c.loop-place.place a b left c.loop-place.causes.items c.args.target.now
+    c.in-Ok-file_of.ensures.moves less c.args.list.now c.args.size
+    g.B.Basket.tells (g.B.Basket.taken c.file_of.new.basket)
+    c.loop-place.invariant.refused c.in-Ok-file_of.ensures.file
+
+pub loop-place-preserved : goal.loop-place-preserved
+loop-place-preserved g c =
+    let a : LinksState = g.L.Links.links c.args.links.now in
+    let b : LinksState = g.L.Links.links c.loop-place.links in
+    let left : LinksState = g.L.Links.links c.file_of.new.links in
+    let count = c.sources-place-end.ensures.count in
+    let less : c.loop-place.place < a.sources = omega (arith, count, c.in-Ok.ensures.remain.sources) in
+    let before = g.B.Basket.count c.loop-place.basket in
     let after = g.B.Basket.count c.file_of.new.basket in
-    let P : Stopped → Type 0 = λ s. IsFileStop c.args.list.now c.args.size c.args.target.now (b.link 0) (left.link 0) before after s in
-    file_refused c.args.list.now c.args.size c.args.target.now a b left before after c.in-Err-By.cause c.only_link.result c.requires.one
-    (record { asked = c.in-Ok.ensures.ok; remain = c.in-Ok.ensures.remain; links = c.in-Ok.ensures.links })
-    c.in-Err-By.ensures.moves (subst P c.in-Err-By.field-0-is c.in-Err-By.ensures.stop) c.only_link.ensures
+    let added = c.in_default-add_cause.ensures.added in
+    record {
+      refused = file_more c.loop-place.place a b left c.loop-place.causes.items c.args.target.now
+          c.in-Err.ensures.moves less c.args.list.now c.args.size before after
+          c.loop-place.invariant.refused c.in-Err.stop c.add_cause.new.causes.items
+          c.in-Err.ensures.stop added;
+      basket = count_stays before after c.in-Err.stop c.file_of.result c.loop-place.causes.items
+          c.add_cause.new.causes.items c.in-Err.is c.file_of.ensures.basket added
+          ∙ c.loop-place.invariant.basket;
+    }
+
+pub returns-clause-fault : goal.returns-clause-fault
+returns-clause-fault g c =
+    let a : LinksState = g.L.Links.links c.args.links.now in
+    let left : LinksState = g.L.Links.links c.loop-place.links in
+    let count = c.sources-place-end.ensures.count in
+    let all : c.loop-place.place ≡ a.sources = omega (arith, count, c.in-Ok.ensures.remain.sources) in
+    file_refused c.loop-place.place a left c.loop-place.causes.items c.args.target.now all
+    c.args.list.now c.args.size (g.B.Basket.count c.args.basket.now)
+    (g.B.Basket.count c.loop-place.basket) c.loop-place.invariant.refused
+    c.all_links.result c.all_links.ensures

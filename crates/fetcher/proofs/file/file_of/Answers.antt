@@ -15,11 +15,13 @@ pub returns-in-Ok-finish-clause-file : goal.returns-in-Ok-finish-clause-file
 returns-in-Ok-finish-clause-file g c =
     let first : LinkState = (g.L.Links.links c.args.links.now).link c.args.place in
     let asked : LinkState = (g.L.Links.links c.ask.new.self).link c.args.place in
+    let left : LinkState = (g.L.Links.links c.pour.new.links).link c.args.place in
     let same : c.in-Ok.length ≡ c.args.size = omega arith in
-    file_given c.args.list.now c.args.size c.in-Ok.length c.args.target.now first asked c.in-Ok-new.checker c.pour.new.checker
+    file_given c.args.list.now c.args.size c.in-Ok.length c.args.target.now first asked left c.in-Ok-new.checker c.pour.new.checker
     g.B.Basket.tells (g.B.Basket.taken c.restart.new.self) (g.B.Basket.taken c.pour.new.basket)
     c.in-Ok.ensures.asks.opens same c.in-Ok.ensures.asks.site c.in_default-pour.ensures.poured c.restart.ensures.empty c.in-Ok-new.ensures.fresh
     (λ bytes fed. (c.in-Ok-finish.ensures.matches c.args.list.now c.args.size bytes fed).0 refl)
+    (c.in_default-pour.ensures.quiet ∙ c.in-Ok.ensures.asks.counts.quiet)
 
 pub returns-in-Err-Differs-clause-stop : goal.returns-in-Err-Differs-clause-stop
 returns-in-Err-Differs-clause-stop g c =

@@ -1,5 +1,5 @@
 use Rattle.std.proofs.Common.{take, arith, inr, ◌∙◌, length-take}
-use Rattle.http_plain.proofs.Sending.{exchanged, exchanges, half_asked, half_heard, runs_out}
+use Rattle.http_plain.proofs.Sending.{exchanged, exchanges, half_asked, half_heard, not_for_memory}
 use Rattle.http_plain.proofs.exchange.ask_wire.Goals as goal
 
 pub returns-in_default-send_all-clause-exchange : goal.returns-in_default-send_all-clause-exchange
@@ -28,13 +28,4 @@ returns-clause-exchange g c =
 
 pub returns-clause-memory : goal.returns-clause-memory
 returns-clause-memory g c =
-    λ t is.
-    inr (runs_out c.args.target.now (g.W.Wire.over c.args.wire.now) _ (g.W.Wire.present c.args.wire.now) _ _ _ c.as_bytes.result.now
-    (take c.in-Ok-receive_front.n c.receive_front.new.front)
-    (c.in-Ok-receive_front.ensures.over t ∙ c.in-Ok-send_all.ensures.over t ∙ c.in-Ok.ensures.ended t)
-    (c.in-Ok.ensures.made t)
-    (c.in-Ok-send_all.ensures.sent t)
-    (c.in-Ok-receive_front.ensures.front t)
-    (c.as_bytes.ensures.value ∙ c.in_ok-request.ensures)
-    (omega (arith, length-take c.in-Ok-receive_front.n c.receive_front.new.front, c.in-Ok-receive_front.ensures.few))
-    (c.begin.ensures.memory is))
+    λ is. absurd (not_for_memory c.begin.result c.begin.ensures.own is)

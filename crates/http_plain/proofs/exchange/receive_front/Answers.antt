@@ -1,7 +1,7 @@
 use Rattle.std.proofs.Common.{◌≡◌, ◌+◌, take, ap, sym, ◌∙◌, refl, arith, length-take}
 use Rattle.std.specs.Option.{is_some}
 use Rattle.http_plain.specs.declared.exchange.TheConstants.{ANSWER_PIECE}
-use Rattle.http_plain.proofs.Ends.{no_end, near_taken}
+use Rattle.http_plain.proofs.Ends.{no_end, near_none, near_taken}
 use Rattle.http_plain.proofs.Sending.{front_at_end, front_at_mark, front_at_limit}
 use Rattle.http_plain.proofs.exchange.receive_front.Goals as goal
 
@@ -37,3 +37,16 @@ returns-clause-front g c =
     let long = length-take c.loop-used.used c.loop-used.front in
     front_at_limit made _ _ (c.loop-used.invariant.read t made is) (omega (arith, long, c.loop-used.auto.front, c.requires)) (omega (arith, long, c.loop-used.auto.front, c.requires))
     c.loop-used.invariant.none
+
+pub returns-then-n-eq0-clause-near : goal.returns-then-n-eq0-clause-near
+returns-then-n-eq0-clause-near g c =
+    near_taken ANSWER_PIECE c.loop-used.used c.in_ok-n.n c.loop-used.front c.receive_piece.new.front
+    c.loop-used.invariant.none c.in_ok-n.ensures.kept c.in_ok-n.ensures.few
+
+pub returns-then-is_some-clause-near : goal.returns-then-is_some-clause-near
+returns-then-is_some-clause-near g c =
+    near_taken ANSWER_PIECE c.loop-used.used c.in_ok-n.n c.loop-used.front c.receive_piece.new.front
+    c.loop-used.invariant.none c.in_ok-n.ensures.kept c.in_ok-n.ensures.few
+
+pub returns-clause-near : goal.returns-clause-near
+returns-clause-near g c = near_none ANSWER_PIECE _ c.loop-used.invariant.none

@@ -1,0 +1,113 @@
+-- How a fetch that asks the links in order goes on and ends.
+use Rattle.std.proofs.Common.{◌≡◌, ℕ, ◌+◌, ◌<◌, inr, List, Err}
+use Rattle.std.specs.Prelude.{Result}
+use Rattle.small_types.specs.declared.target.Target.{Target}
+use Rattle.digest_list.specs.declared.digest.Digest.{Digest}
+use Rattle.digest_list.specs.Matches.{Matches}
+use Rattle.links.specs.Links.{LinksState}
+use Rattle.causes.specs.declared.cause.Cause.{Cause}
+use Rattle.fetcher.specs.declared.fault.FetchFault.{FetchFault}
+use Rattle.fetcher.specs.declared.fault.FetchFault.TheVariants.{AllLinks, BasketFault, Memory}
+use Rattle.fetcher.specs.declared.stopped.Stopped.{Stopped}
+use Rattle.fetcher.specs.declared.stopped.Stopped.TheVariants.{By, Basket, Memory as NoMemory}
+use Rattle.fetcher.specs.Causes.{IsFileCause, IsTextCause}
+use Rattle.fetcher.specs.Fetched.{IsFile, IsFileFault, IsText, IsTextFault}
+use Rattle.fetcher.specs.Given.{FitsText}
+use Rattle.fetcher.specs.Stopping.{AddsCause, IsFileOf, IsFileStop, IsTextOf, IsTextStop, KeepsBasket, Moves, TellsCauses}
+use Rattle.fetcher.proofs.InOrder.{Refused, asked_on, none_gave, refused_more, served_enough, served_given, served_next, served_site}
+use Rattle.fetcher.proofs.Reasons.{file_kind, text_kind}
+
+-- ---- one link more
+
+module _ (place : ℕ) (a b c : LinksState) (old : List Cause) (target : Target)
+    (moves : Moves place b c) (less : place < a.sources) where
+  pub text_more : (limit : ℕ) → Refused (IsTextCause limit target) target place a b old
+      → (stop : Stopped) (new : List Cause)
+      → IsTextStop limit target (b.link place) (c.link place) stop → AddsCause stop old new
+      → Refused (IsTextCause limit target) target (place + 1) a c new
+  text_more limit so (By cause) new is added =
+      refused_more (IsTextCause limit target) (FitsText limit) target (text_kind limit target)
+      place a b c old so moves less cause new is added
+  text_more limit so Basket new is added = absurd added
+  text_more limit so NoMemory new is added = absurd added
+
+  pub file_more : (list : List Digest) (size before after : ℕ)
+      → Refused (IsFileCause list size target) target place a b old
+      → (stop : Stopped) (new : List Cause)
+      → IsFileStop list size target (b.link place) (c.link place) before after stop
+      → AddsCause stop old new
+      → Refused (IsFileCause list size target) target (place + 1) a c new
+  file_more list size before after so (By cause) new is added =
+      refused_more (IsFileCause list size target) (Matches list size) target
+      (file_kind list size target) place a b c old so moves less cause new is added
+  file_more list size before after so Basket new is added = absurd added
+  file_more list size before after so NoMemory new is added = absurd added
+
+  -- ---- it served
+
+  pub text_served : (limit : ℕ) → Refused (IsTextCause limit target) target place a b old
+      → (bytes : List ℕ) → IsTextOf limit target (b.link place) (c.link place) bytes
+      → IsText limit target a c bytes
+  text_served limit so bytes of =
+      let kind = text_kind limit target in
+      let served = served_next (IsTextCause limit target) (FitsText limit)
+      target kind place a b c old so moves less bytes of.told of.sound in
+      record {
+        asked = asked_on (IsTextCause limit target) (FitsText limit) target kind place a b c old so moves less;
+        within = of.within;
+        served = served;
+        enough = served_enough (IsTextCause limit target) (FitsText limit) target kind a c bytes served of.within;
+        site = served_site (IsTextCause limit target) (FitsText limit) target kind a c bytes served of.within;
+        given = served_given (IsTextCause limit target) (FitsText limit) target kind a c bytes served of.within;
+      }
+
+  pub file_served : (list : List Digest) (size : ℕ) (tells : Type 0) (held : List ℕ)
+      → Refused (IsFileCause list size target) target place a b old
+      → IsFileOf list size target (b.link place) (c.link place) tells held
+      → IsFile list size target a c tells held
+  file_served list size tells held so of =
+      let kind = file_kind list size target in
+      let served = served_next (IsFileCause list size target) (Matches list size)
+      target kind place a b c old so moves less of.bytes of.told of.sound in
+      record {
+        asked = asked_on (IsFileCause list size target) (Matches list size) target kind place a b c old so moves less;
+        bytes = of.bytes;
+        taken = of.taken;
+        matches = of.matches;
+        served = served;
+        enough = served_enough (IsFileCause list size target) (Matches list size)
+            target kind a c of.bytes served of.matches;
+        site = served_site (IsFileCause list size target) (Matches list size)
+            target kind a c of.bytes served of.matches;
+        given = served_given (IsFileCause list size target) (Matches list size)
+            target kind a c of.bytes served of.matches;
+      }
+
+-- ---- none served
+
+module _ (place : ℕ) (a c : LinksState) (causes : List Cause) (target : Target) (all : place ≡ a.sources) where
+  pub text_refused : (limit : ℕ) → Refused (IsTextCause limit target) target place a c causes
+      → (fault : FetchFault) → TellsCauses target causes fault → IsTextFault limit target a c fault
+  text_refused limit so (AllLinks named reasons) tells =
+      none_gave (IsTextCause limit target) (FitsText limit) target (text_kind limit target)
+      place a c causes so all named reasons tells.0 tells.1
+  text_refused limit so BasketFault tells = absurd tells
+  text_refused limit so Memory tells = inr so.asked
+
+  pub file_refused : (list : List Digest) (size before after : ℕ)
+      → Refused (IsFileCause list size target) target place a c causes → (fault : FetchFault)
+      → TellsCauses target causes fault → IsFileFault list size target a c before after fault
+  file_refused list size before after so (AllLinks named reasons) tells =
+      none_gave (IsFileCause list size target) (Matches list size) target
+      (file_kind list size target) place a c causes so all named reasons tells.0 tells.1
+  file_refused list size before after so BasketFault tells = absurd tells
+  file_refused list size before after so Memory tells = inr so.asked
+
+-- ---- the count of the basket is as it was where the fetch goes on
+
+pub count_stays : {T : Type 0} (before after : ℕ) (stop : Stopped) (result : Result T Stopped)
+    (old new : List Cause) → result ≡ Err stop → KeepsBasket before after result
+    → AddsCause stop old new → after ≡ before
+count_stays before after (By cause) result old new is keeps added = keeps.quiet (λ e. cc)
+count_stays before after Basket result old new is keeps added = absurd added
+count_stays before after NoMemory result old new is keeps added = keeps.quiet (λ e. cc)

@@ -1,0 +1,11 @@
+use Rattle.std.proofs.Common.{◌≡◌}
+use Rattle.fetcher.specs.Causes.{IsFileCause}
+use Rattle.fetcher.proofs.InOrder.{Refused}
+use Rattle.fetcher.proofs.file.fetch_file.Given as goal
+
+abbrev pub invariant-loop-place : goal.invariant-loop-place
+invariant-loop-place g l = record {
+  refused : Refused (IsFileCause l.list l.size l.target) l.target l.place
+      (g.L.Links.links l.fn.links) (g.L.Links.links l.links) l.causes.items;
+  basket : g.B.Basket.count l.basket ≡ g.B.Basket.count l.fn.basket;
+}
