@@ -1,0 +1,5 @@
+pub mod Counts
+pub mod Hearing
+pub mod Laws
+pub mod Pieces
+pub mod States
