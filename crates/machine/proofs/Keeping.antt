@@ -1,5 +1,5 @@
 -- Steps keep what holds of a store.
-use Rattle.std.proofs.Common.{◌≡◌, ◌∙◌, ◌⊎◌, ◌<◌, ◌≤◌, inl, inr, refl, sym, subst, ℕ, Bool, true, false, cond, ◌==◌, List, [], length, All, Option, Some, None, IsSome, arith}
+use Rattle.std.proofs.Common.{◌≡◌, ◌∙◌, ◌⊎◌, ◌<◌, ◌≤◌, inl, inr, refl, sym, ap, subst, ℕ, Bool, true, false, cond, ◌==◌, List, [], length, All, Option, Some, None, IsSome, arith}
 use Rattle.std.specs.Prelude.{unwrap_or, IsSomeAnd, IfSome}
 use Rattle.std.specs.declared.cmp.Ordering.{Ordering}
 use Rattle.std.specs.declared.cmp.Ordering.TheVariants.{Less, Equal, Greater}
@@ -15,7 +15,7 @@ use Rattle.machine.specs.Entries.{AreInOrder, entry_of, fresh, key_cmp, with_ent
 use Rattle.machine.specs.Fields.{IsShortKey}
 use Rattle.machine.specs.Minimums.{raised, raised_app}
 use Rattle.machine.specs.RequireRow.{required}
-use Rattle.machine.specs.Sound.{Sound}
+use Rattle.machine.specs.Sound.{IsSoundView, ShareBytes, Sound, program_files_of}
 use Rattle.machine.specs.Store.{Store, booted, empty}
 use Rattle.machine.specs.Valid.{IsApp, IsInstalled, Ordered, Valid}
 use Rattle.machine.specs.Views.{View, key_of}
@@ -50,6 +50,14 @@ empty_sound blocks some few = record {
   valid = empty_valid blocks some few;
   views = All-nil _;
   shared = λ i j d lt within. absurd (omega arith);
+}
+
+-- a valid store of the same views is as sound
+pub same_views_sound : (old new : Store) → new.views ≡ old.views → Valid new → Sound old → Sound new
+same_views_sound old new same valid sound = record {
+  valid = valid;
+  views = subst (All IsSoundView) (sym same) sound.views;
+  shared = subst ShareBytes (ap (λ (views : List View). program_files_of (record old { views = views })) (sym same)) sound.shared;
 }
 
 -- ---- a boot

@@ -5,7 +5,6 @@ use Rattle.std.proofs.lemmas.List.Elements.{All-nil}
 use Rattle.small_types.specs.declared.limits.TheConstants.{JOB_LIMIT}
 use Rattle.manifests.specs.declared.facts.FileEntry.{FileEntry}
 use Rattle.machine.specs.declared.command.Command.{Command}
-use Rattle.machine.specs.declared.command.Command.TheVariants.{At, Require, Install}
 use Rattle.machine.specs.declared.event.Event.{Event}
 use Rattle.machine.specs.declared.event.Event.TheVariants.{Boot, Line, Unread}
 use Rattle.machine.specs.declared.event.Heard.{Heard}
@@ -21,21 +20,14 @@ use Rattle.machine.specs.Store.{Job, Session, Store, session_over}
 use Rattle.machine.specs.Valid.{AreNumbers}
 use Rattle.machine.specs.Views.{View}
 use Rattle.machine.specs.Words.{IsEvent}
+use Rattle.machine.proofs.EachRow.{facts}
 use Rattle.machine.proofs.Refusals.{nothing_or_effect}
 use Rattle.machine.proofs.Stepping.{step_blocks, step_leaves, step_sound}
 
-effect_jobs : (now : ℕ) (heard : List (List ℕ)) (command : Command) (old : Session) (reply : Reply) (new : Session) → effect now heard command old reply new → new.jobs ≡ old.jobs
-effect_jobs now heard (At next) old reply new done = ap (λ (s : Session). s.jobs) done.1
-effect_jobs now heard (Require key version) old reply new done = ap (λ (s : Session). s.jobs) done.1
-effect_jobs now heard (Install url) old reply new done = ap (λ (s : Session). s.jobs) done.is
-
-effect_next : (now : ℕ) (heard : List (List ℕ)) (command : Command) (old : Session) (reply : Reply) (new : Session) → effect now heard command old reply new → new.next_job ≡ old.next_job
-effect_next now heard (At next) old reply new done = ap (λ (s : Session). s.next_job) done.1
-effect_next now heard (Require key version) old reply new done = ap (λ (s : Session). s.next_job) done.1
-effect_next now heard (Install url) old reply new done = ap (λ (s : Session). s.next_job) done.is
-
 -- a session of the same views, jobs and numbers, over a sound store
-same_sound : (old new : Session) → new.store.views ≡ old.store.views → new.store.blocks ≡ old.store.blocks → new.jobs ≡ old.jobs → new.next_job ≡ old.next_job → Sound new.store → SoundSession old → SoundSession new
+same_sound : (old new : Session) → new.store.views ≡ old.store.views
+    → new.store.blocks ≡ old.store.blocks → new.jobs ≡ old.jobs → new.next_job ≡ old.next_job
+    → Sound new.store → SoundSession old → SoundSession new
 same_sound old new views blocks jobs next store sound = record {
   store = store;
   job_numbers = subst (λ (js : List Job). AreNumbers new.next_job (map (λ job. job.number) js)) (sym jobs)
@@ -43,21 +35,26 @@ same_sound old new views blocks jobs next store sound = record {
   few_jobs = subst (λ (js : List Job). length js ≤ JOB_LIMIT) (sym jobs) sound.few_jobs;
   jobs = subst (All IsSoundJob) (sym jobs) sound.jobs;
   shared = subst (λ (js : List Job). ShareBytes (program_files_of new.store ++ program_files_in js)) (sym jobs)
-      (subst (λ (vs : List View). ShareBytes (program_files_of (record old.store { views = vs }) ++ program_files_in old.jobs)) (sym views) sound.shared);
+      (subst (λ (vs : List View). ShareBytes (program_files_of (record old.store { views = vs })
+      ++ program_files_in old.jobs)) (sym views) sound.shared);
   room = subst (λ (js : List Job). blocks_with (map bare_view new.store.views) js ≤ new.store.blocks) (sym jobs)
       (subst (λ (vs : List View). blocks_with (map bare_view vs) old.jobs ≤ new.store.blocks) (sym views)
       (subst (λ n. session_blocks old ≤ n) (sym blocks) sound.room));
 }
 
-pub step_jobs : (now : ℕ) (old : Session) (event : Event) (reply : Option Reply) (new : Session) → Step now old event reply new → new.jobs ≡ old.jobs
-step_jobs = step_leaves (λ (s : Session). s.jobs) (λ boot old. refl) effect_jobs
+pub step_jobs : (now : ℕ) (old : Session) (event : Event) (reply : Option Reply) (new : Session)
+    → Step now old event reply new → new.jobs ≡ old.jobs
+step_jobs = step_leaves (λ (s : Session). s.jobs) (λ boot old. refl) (λ command old reply new acts. acts.jobs)
 
-step_next : (now : ℕ) (old : Session) (event : Event) (reply : Option Reply) (new : Session) → Step now old event reply new → new.next_job ≡ old.next_job
-step_next = step_leaves (λ (s : Session). s.next_job) (λ boot old. refl) effect_next
+step_next : (now : ℕ) (old : Session) (event : Event) (reply : Option Reply) (new : Session)
+    → Step now old event reply new → new.next_job ≡ old.next_job
+step_next = step_leaves (λ (s : Session). s.next_job) (λ boot old. refl) (λ command old reply new acts. acts.next_job)
 
 none_more : (store : Store) → blocks_with (map bare_view store.views) [] ≡ used_blocks (map bare_view store.views)
 none_more store =
-    let none : standing_files (map bare_view store.views) ++ [] ≡ standing_files (map bare_view store.views) = append-nil (standing_files (map bare_view store.views)) in
+    let none : standing_files (map bare_view store.views) ++ []
+    ≡ standing_files (map bare_view store.views) =
+    append-nil (standing_files (map bare_view store.views)) in
     let counted = ap (λ (es : List FileEntry). sum_by (λ entry. blocks_of entry.size) (distinct es)) none in
     omega (arith, counted)
 
@@ -74,7 +71,8 @@ begins_sound store sound = record {
 -- ---- steps
 
 -- a session without jobs is as sound as its store
-without_jobs : (old new : Session) → old.jobs ≡ [] → new.jobs ≡ old.jobs → new.next_job ≡ old.next_job → Sound new.store → SoundSession old → SoundSession new
+without_jobs : (old new : Session) → old.jobs ≡ [] → new.jobs ≡ old.jobs
+    → new.next_job ≡ old.next_job → Sound new.store → SoundSession old → SoundSession new
 without_jobs old new none jobs next store sound =
     let begun = begins_sound new.store store in
     let no_jobs : new.jobs ≡ [] = jobs ∙ none in
@@ -84,32 +82,54 @@ without_jobs old new none jobs next store sound =
           (subst (λ n. AreNumbers n (map (λ (job : Job). job.number) old.jobs)) (sym next) sound.job_numbers);
       few_jobs = subst (λ (js : List Job). length js ≤ JOB_LIMIT) (sym jobs) sound.few_jobs;
       jobs = subst (All IsSoundJob) (sym jobs) sound.jobs;
-      shared = subst (λ (js : List Job). ShareBytes (program_files_of new.store ++ program_files_in js)) (sym no_jobs) begun.shared;
-      room = subst (λ (js : List Job). blocks_with (map bare_view new.store.views) js ≤ new.store.blocks) (sym no_jobs) begun.room;
+      shared = subst (λ (js : List Job). ShareBytes (program_files_of new.store
+          ++ program_files_in js)) (sym no_jobs) begun.shared;
+      room = subst (λ (js : List Job). blocks_with (map bare_view new.store.views) js
+          ≤ new.store.blocks) (sym no_jobs) begun.room;
     }
 
 module _ (now : ℕ) (old : Session) (reply : Option Reply) (new : Session) (sound : SoundSession old) where
   -- an event that leaves the views
-  same_views : (event : Event) → IsEvent event → Step now old event reply new → new.store.views ≡ old.store.views → SoundSession new
+  same_views : (event : Event) → IsEvent event → Step now old event reply new
+      → new.store.views ≡ old.store.views → SoundSession new
   same_views event is step views =
       same_sound old new views (step_blocks now old event reply new step) (step_jobs now old event reply new step)
       (step_next now old event reply new step) (step_sound now old event reply new is step sound.store) sound
 
-  line_views : (command : Command) → ((heard : List (List ℕ)) (answer : Reply) (left : Session) → effect now heard command old answer left → left.store.views ≡ old.store.views) → (at : ℕ) (heard : Heard) → Step now old (Line command at heard) reply new → new.store.views ≡ old.store.views
-  line_views command leaves at heard step = by (nothing_or_effect now heard.texts old command step.answer new step.answers)
+  -- a line leaves the views, or there is no open job
+  line_views : (command : Command) (at : ℕ) (heard : Heard) → Step now old (Line command at heard) reply new
+      → InstallsWithoutJobs (Line command at heard) old
+      → (new.store.views ≡ old.store.views) ⊎ (old.jobs ≡ [])
+  line_views command at heard step none =
+      by (nothing_or_effect now heard.texts old command step.answer new step.answers)
     where
-      by : (new ≡ old) ⊎ (PassesAll (refusals now heard.texts (shape_of old.store) command) × effect now heard.texts command old step.answer new) → new.store.views ≡ old.store.views
-      by (inl same) = ap (λ (s : Session). s.store.views) same
-      by (inr done) = leaves heard.texts step.answer new done.1
+      by : (new ≡ old)
+          ⊎ (PassesAll (refusals now heard.texts (shape_of old.store) command)
+          × effect now heard.texts command old step.answer new)
+          → (new.store.views ≡ old.store.views) ⊎ (old.jobs ≡ [])
+      by (inl same) = inl (ap (λ (s : Session). s.store.views) same)
+      by (inr done) = (facts now heard.texts command).views old step.answer new at heard none done.1
 
-  line_session : (command : Command) (at : ℕ) (heard : Heard) → IsEvent (Line command at heard) → Step now old (Line command at heard) reply new → InstallsWithoutJobs (Line command at heard) old → SoundSession new
-  line_session (At next) at heard is step none = same_views (Line (At next) at heard) is step (line_views (At next) (λ h r left done. ap (λ (s : Session). s.store.views) done.1) at heard step)
-  line_session (Require key version) at heard is step none = same_views (Line (Require key version) at heard) is step (line_views (Require key version) (λ h r left done. ap (λ (s : Session). s.store.views) done.1) at heard step)
-  line_session (Install url) at heard is step none =
-      without_jobs old new none (step_jobs now old (Line (Install url) at heard) reply new step) (step_next now old (Line (Install url) at heard) reply new step)
-      (step_sound now old (Line (Install url) at heard) reply new is step sound.store) sound
+  line_session : (command : Command) (at : ℕ) (heard : Heard) → IsEvent (Line command at heard)
+      → Step now old (Line command at heard) reply new
+      → InstallsWithoutJobs (Line command at heard) old → SoundSession new
+  line_session command at heard is step none = by (line_views command at heard step none)
+    where
+      by : (new.store.views ≡ old.store.views) ⊎ (old.jobs ≡ []) → SoundSession new
+      by (inl views) = same_views (Line command at heard) is step views
+      by (inr no_jobs) =
+          without_jobs old new no_jobs (step_jobs now old (Line command at heard) reply new step)
+          (step_next now old (Line command at heard) reply new step)
+          (step_sound now old (Line command at heard) reply new is step sound.store) sound
 
-pub step_session : (now : ℕ) (old : Session) (event : Event) (reply : Option Reply) (new : Session) → IsEvent event → Step now old event reply new → InstallsWithoutJobs event old → SoundSession old → SoundSession new
-step_session now old (Boot boot) reply new is step none sound = same_views now old reply new sound (Boot boot) is step (ap (λ (s : Session). s.store.views) step.1)
-step_session now old (Line command at heard) reply new is step none sound = line_session now old reply new sound command at heard is step none
-step_session now old (Unread fault) reply new is step none sound = same_views now old reply new sound (Unread fault) is step (ap (λ (s : Session). s.store.views) step.1)
+pub step_session : (now : ℕ) (old : Session) (event : Event) (reply : Option Reply) (new : Session)
+    → IsEvent event → Step now old event reply new → InstallsWithoutJobs event old
+    → SoundSession old → SoundSession new
+step_session now old (Boot boot) reply new is step none sound =
+    same_views now old reply new sound (Boot boot) is step
+    (ap (λ (s : Session). s.store.views) step.1)
+step_session now old (Line command at heard) reply new is step none sound =
+    line_session now old reply new sound command at heard is step none
+step_session now old (Unread fault) reply new is step none sound =
+    same_views now old reply new sound (Unread fault) is step
+    (ap (λ (s : Session). s.store.views) step.1)

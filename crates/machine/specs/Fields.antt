@@ -25,7 +25,8 @@ pub record IsTarget (target : Target) : Type 0 where
   pub port : target.port < 2 ^ 16
   pub path : IsShort URL_LIMIT target.path
 
--- Each part of a key is within its limit. A part may be empty: a journal can hold such a key, though no command reads one.
+-- Each part of a key is within its limit. A part may be empty: a journal can hold such a key,
+-- though no command reads one.
 pub record IsShortKey (key : Key) : Type 0 where
   pub name : IsShort NAME_LIMIT key.name
   pub token : IsShort IDENTITY_PART_LIMIT key.token

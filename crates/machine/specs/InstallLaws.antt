@@ -81,7 +81,8 @@ InstallsReachMinimums R C = (says : Replies R C) (locals : ℕ) (url : List ℕ)
 
 -- ---- refusals
 
--- the refusals of an address, and where the texts are heard those of the deployment and of the release, are no free choices
+-- the refusals of an address, and where the texts are heard those of the deployment and of the
+-- release, are no free choices
 pub record InstallRefusalsAreExact (R C : Type 0) : Type 0 where
   pub address : (says : Replies R C) (url : List ℕ) → AreExact (address_refusals says url)
   pub deployment : (says : Replies R C) (url text : List ℕ) (texts : List (List ℕ)) (shape : Shape)
@@ -114,8 +115,8 @@ MigrationsExist = (old : List DataFile) (old_files : List FileEntry) (a : Applic
 
 -- ---- updates
 
--- An install over a sound store leads to one in which the application has a previous view, a data file is kept aside, and a
--- listed program file does not stand.
+-- An install over a sound store leads to one in which the application has a previous view, a data
+-- file is kept aside, and a listed program file does not stand.
 pub record IsUpdate (old new : Store) : Type 0 where
   pub url : Target
   pub base : Target
@@ -137,8 +138,9 @@ StoresMayBeUpdated = (old new : Store) × IsUpdate old new
 
 -- ---- wanted files
 
--- Each required program file has the content of a file that stands in a kept view, or of a wanted one. A wanted one has no
--- content of theirs, and no two have one. All data files are wanted. So the wanted files take the blocks that are counted.
+-- Each required program file has the content of a file that stands in a kept view, or of a wanted
+-- one. A wanted one has no content of theirs, and no two have one. All data files are wanted. So
+-- the wanted files take the blocks that are counted.
 pub record AreWanted (views : List BareView) (a : Application) : Type 0 where
   pub each : (entry : FileEntry) → is_required entry ≡ true → Contains a.files entry
       → (is_held (standing_files views) entry ≡ true)

@@ -136,8 +136,8 @@ deployment_refusals {C = C} says url heard shape =
     (λ scheme. says.not_http)
     ∷ []
 
--- The application manifest is not heard, cannot be read or is not the listed one, or its files have no place. A view has at
--- most so many data files outside `.pre`.
+-- The application manifest is not heard, cannot be read or is not the listed one, or its files have
+-- no place. A view has at most so many data files outside `.pre`.
 abbrev pub release_refusals : {R C : Type 0}
     → Replies R C → ℕ → List ℕ → List (List ℕ) → Shape → List (Refusal R Session)
 release_refusals {C = C} says locals url heard shape =
@@ -194,8 +194,8 @@ pub record InstallEffect {R C : Type 0} (says : Replies R C) (url : List ℕ) (h
 
 -- ---- what it hears and asks
 
--- Nothing; the deployment manifest, at an address; or behind it the application manifest that it lists, where the deployment
--- is not refused.
+-- Nothing; the deployment manifest, at an address; or behind it the application manifest that it
+-- lists, where the deployment is not refused.
 abbrev pub HearsRelease : {R C : Type 0} → Replies R C → List ℕ → Shape → List (List ℕ) → Type 0
 HearsRelease says url shape [] = Unit {0}
 HearsRelease says url shape (deployment ∷ []) = PassesAll (address_refusals says url)

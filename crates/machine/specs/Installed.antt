@@ -18,8 +18,8 @@ use Rattle.machine.specs.Views.{DataFile, ListedFile, View, is_required}
 
 -- ---- the files that it brings
 
--- Each required program file and each deployed data file, with bytes that match what is listed. Files with equal content
--- keys have equal bytes, also those that kept views have.
+-- Each required program file and each deployed data file, with bytes that match what is listed.
+-- Files with equal content keys have equal bytes, also those that kept views have.
 pub record AreFetched (store : Store) (a : Application) (files originals : List ListedFile) :
     Type 0 where
   pub required : map (λ file. file.entry) files ≡ filter is_required a.files

@@ -18,7 +18,7 @@ use Rattle.manifests.specs.Applications.{application_of}
 use Rattle.manifests.specs.Deployments.{deployment_of}
 use Rattle.machine.specs.declared.app.AppState.{AppState}
 use Rattle.machine.specs.declared.command.Command.{Command}
-use Rattle.machine.specs.declared.command.Command.TheVariants.{At, Require, Install}
+use Rattle.machine.specs.declared.command.Command.TheVariants.{At, Require, Install, Launch, Read, Finish}
 use Rattle.machine.specs.declared.event.Event.{Event}
 use Rattle.machine.specs.declared.event.Event.TheVariants.{Boot, Line, Unread}
 use Rattle.machine.specs.declared.reply.Reply.{Reply}
@@ -118,8 +118,9 @@ EmptyStoresAreSound = (blocks : ℕ) → 1 ≤ blocks → blocks ≤ BLOCK_LIMIT
 abbrev pub program_count : Application → ℕ
 program_count application = count_by (λ entry. not entry.local) application.files
 
--- There is a sound store in use: with a lease, an application with a previous view, a program file of some bytes, program
--- files that share theirs, a group that stands, files that do not stand, and a data file that was carried over.
+-- There is a sound store in use: with a lease, an application with a previous view, a program file
+-- of some bytes, program files that share theirs, a group that stands, files that do not stand, and
+-- a data file that was carried over.
 pub record IsUsed (store : Store) : Type 0 where
   pub sound : Sound store
   pub leases : 0 < length store.leases
@@ -152,14 +153,19 @@ RefusalsAreFirst = (now : ℕ) (heard : List (List ℕ)) (shape : Shape) (comman
     → (k : ℕ) × Passes k (refusals now heard shape command)
     × GivesAt k (refusals now heard shape command) old reply new
 
--- The refusals of `at` and of `require` are no free choices. Nor are those of `install` before one at a file, where the
--- manifests are heard.
+-- No refusal is a free choice, but that of `install` at a file. Those before it are none where the manifests are heard.
 pub record RowsAreExact : Type 0 where
   pub at : (now : ℕ) (heard : List (List ℕ)) (shape : Shape) (next : ℕ)
       → AreExact (refusals now heard shape (At next))
   pub require : (now : ℕ) (heard : List (List ℕ)) (shape : Shape) (key : Key) (version : Version)
       → AreExact (refusals now heard shape (Require key version))
   pub install : InstallRefusalsAreExact Reply Cause
+  pub launch : (now : ℕ) (heard : List (List ℕ)) (shape : Shape) (key : Key)
+      → AreExact (refusals now heard shape (Launch key))
+  pub read : (now : ℕ) (heard : List (List ℕ)) (shape : Shape) (lease : ℕ) (name : List ℕ) (from count : ℕ)
+      → AreExact (refusals now heard shape (Read lease name from count))
+  pub finish : (now : ℕ) (heard : List (List ℕ)) (shape : Shape) (lease : ℕ)
+      → AreExact (refusals now heard shape (Finish lease))
 
 -- where none is a free choice, two refusals of a command that are given have one reply
 abbrev pub OneRefusalIsGiven : Type 0
@@ -184,7 +190,7 @@ RefusalsChangeNothing = (now : ℕ) (heard : List (List ℕ)) (shape : Shape) (c
     → LeavesNothingAt k (refusals now heard shape command)
     → GivesAt k (refusals now heard shape command) old reply new → new ≡ old
 
--- no refusal of `at`, of `require` and of `install` changes anything
+-- no refusal changes anything
 pub record RowsChangeNothing : Type 0 where
   pub at : (now : ℕ) (heard : List (List ℕ)) (shape : Shape) (next : ℕ)
       → ChangeNothing (refusals now heard shape (At next))
@@ -192,6 +198,12 @@ pub record RowsChangeNothing : Type 0 where
       → ChangeNothing (refusals now heard shape (Require key version))
   pub install : (now : ℕ) (heard : List (List ℕ)) (shape : Shape) (url : List ℕ)
       → ChangeNothing (refusals now heard shape (Install url))
+  pub launch : (now : ℕ) (heard : List (List ℕ)) (shape : Shape) (key : Key)
+      → ChangeNothing (refusals now heard shape (Launch key))
+  pub read : (now : ℕ) (heard : List (List ℕ)) (shape : Shape) (lease : ℕ) (name : List ℕ) (from count : ℕ)
+      → ChangeNothing (refusals now heard shape (Read lease name from count))
+  pub finish : (now : ℕ) (heard : List (List ℕ)) (shape : Shape) (lease : ℕ)
+      → ChangeNothing (refusals now heard shape (Finish lease))
 
 -- an answer other than want of memory
 pub record IsAnswered (now : ℕ) (heard : List (List ℕ)) (old : Session) (command : Command)
@@ -206,9 +218,12 @@ abbrev pub InstallsUnheard : Command → List (List ℕ) → Type 0
 InstallsUnheard (At next) heard = Unit {0}
 InstallsUnheard (Require key version) heard = Unit {0}
 InstallsUnheard (Install url) heard = heard ≡ []
+InstallsUnheard (Launch key) heard = Unit {0}
+InstallsUnheard (Read lease name from count) heard = Unit {0}
+InstallsUnheard (Finish lease) heard = Unit {0}
 
--- Each command has one, in each valid store, at each moment and whatever it may hear; an install at least where it hears
--- nothing.
+-- Each command has one, in each valid store, at each moment and whatever it may hear; an install at
+-- least where it hears nothing.
 abbrev pub CommandsAreAnswered : Type 0
 CommandsAreAnswered = (now : ℕ) (heard : List (List ℕ)) (old : Session) (command : Command)
     → Valid old.store → Hears (shape_of old.store) command heard → InstallsUnheard command heard

@@ -1,7 +1,7 @@
 -- The machine: what an event may answer, and what it leaves.
 use Rattle.std.specs.Prelude.{◌≡◌, ℕ, List, [], ◌∷◌, Option, Some, None, unwrap_or}
 use Rattle.machine.specs.declared.command.Command.{Command}
-use Rattle.machine.specs.declared.command.Command.TheVariants.{At, Require, Install}
+use Rattle.machine.specs.declared.command.Command.TheVariants.{At, Require, Install, Launch, Read, Finish}
 use Rattle.machine.specs.declared.event.Event.{Event}
 use Rattle.machine.specs.declared.event.Event.TheVariants.{Boot, Line, Unread}
 use Rattle.machine.specs.declared.event.Heard.{Heard}
@@ -10,6 +10,9 @@ use Rattle.machine.specs.declared.reply.Reply.TheVariants as says
 use Rattle.machine.specs.AtRow.{at_refusals, at_effect}
 use Rattle.machine.specs.RequireRow.{require_refusals, require_effect}
 use Rattle.machine.specs.InstallRow.{HearsRelease, InstallEffect, install_refusals}
+use Rattle.machine.specs.LaunchRow.{LaunchEffect, launch_refusals}
+use Rattle.machine.specs.ReadRow.{ReadEffect, read_refusals}
+use Rattle.machine.specs.FinishRow.{finish_effect, finish_refusals}
 use Rattle.machine.specs.InstallReplies.{install_replies}
 use Rattle.machine.specs.declared.views.TheConstants.{INSTALLED_LOCALS}
 use Rattle.machine.specs.Rows.{Refusal, maybe, FirstOf}
@@ -23,6 +26,9 @@ abbrev pub Hears : Shape → Command → List (List ℕ) → Type 0
 Hears shape (At next) heard = heard ≡ []
 Hears shape (Require key version) heard = heard ≡ []
 Hears shape (Install url) heard = HearsRelease install_replies url shape heard
+Hears shape (Launch key) heard = heard ≡ []
+Hears shape (Read lease name from count) heard = heard ≡ []
+Hears shape (Finish lease) heard = heard ≡ []
 
 -- the refusals of a command at a moment, in their order, by what it heard and by the shape of the store
 abbrev pub refusals : ℕ → List (List ℕ) → Shape → Command → List (Refusal Reply Session)
@@ -30,12 +36,18 @@ refusals now heard shape (At next) = at_refusals
 refusals now heard shape (Require key version) = require_refusals key shape
 refusals now heard shape (Install url) =
     install_refusals install_replies INSTALLED_LOCALS url heard shape
+refusals now heard shape (Launch key) = launch_refusals key now shape
+refusals now heard shape (Read lease name from count) = read_refusals lease name shape
+refusals now heard shape (Finish lease) = finish_refusals lease shape
 
 -- its effect where none of them holds
 abbrev pub effect : ℕ → List (List ℕ) → Command → Session → Reply → Session → Type 0
 effect now heard (At next) = at_effect next
 effect now heard (Require key version) = require_effect key version
 effect now heard (Install url) = InstallEffect install_replies url heard now
+effect now heard (Launch key) = LaunchEffect key now
+effect now heard (Read lease name from count) = ReadEffect lease name from count
+effect now heard (Finish lease) = finish_effect lease
 
 -- Any command may find no memory, which changes nothing. Else the first refusal that holds is the reply, and where none
 -- holds the effect is that of the row.

@@ -58,7 +58,8 @@ pub record IsFresh (old : List DataFile) (old_files new_files : List FileEntry)
   pub alone : (kept : DataFile) → IsKept old old_files new_files kept
       → ◌≢◌ {A = List ℕ} kept.name file.name
 
--- These and no others, in order of their names. The originals are the data files that the new release deploys, as listed.
+-- These and no others, in order of their names. The originals are the data files that the new
+-- release deploys, as listed.
 pub record Migrated (old : List DataFile) (old_files new_files : List FileEntry)
     (originals : List ListedFile) (new : List DataFile) : Type 0 where
   pub order : AllPairs (λ (f g : DataFile). text_cmp f.name g.name ≡ Less) new

@@ -9,8 +9,8 @@ use Rattle.machine.specs.Views.{DataFile, ListedFile, View, content_key}
 abbrev pub IsWhole : ListedFile → Type 0
 IsWhole file = Matches file.entry.list file.entry.size file.bytes
 
--- One release: the application is the listed one, each program file has the listed bytes, and no two data files have one
--- name. Which program files stand, a valid store says.
+-- One release: the application is the listed one, each program file has the listed bytes, and no
+-- two data files have one name. Which program files stand, a valid store says.
 pub record IsSoundView (view : View) : Type 0 where
   pub key : view.application.identity.key ≡ view.deployment.app.key
   pub version : view.application.identity.version ≡ view.deployment.app.version

@@ -35,8 +35,8 @@ empty blocks = record {
 abbrev pub booted : ℕ → Store → Store
 booted boot old = record old { boot = boot; leases = if old.boot == boot then old.leases else [] }
 
--- An open job of an installation: the address that was given, that of the application manifest, the manifests, the files
--- that are left, and those that it has.
+-- An open job of an installation: the address that was given, that of the application manifest, the
+-- manifests, the files that are left, and those that it has.
 pub record Job : Type 0 where
   pub number : ℕ
   pub url : Target

@@ -22,8 +22,9 @@ pub record IsDataFile (file : DataFile) : Type 0 where
   pub name : IsName file.name
   pub short : ¬ IsBelowPre file.name → length file.name ≤ LOCAL_NAME_LIMIT
 
--- Manifests that can be read, and texts within their limits. The program files are exactly the required ones and those of
--- the groups that stand, each once, in the manifest's order; the data files are in order of their names.
+-- Manifests that can be read, and texts within their limits. The program files are exactly the
+-- required ones and those of the groups that stand, each once, in the manifest's order; the data
+-- files are in order of their names.
 pub record IsView (view : View) : Type 0 where
   pub deployment : IsDeployment view.deployment
   pub application : IsApplication view.application
@@ -40,8 +41,8 @@ pub record IsView (view : View) : Type 0 where
 abbrev pub IsViewOf : List View → Key → ℕ → Type 0
 IsViewOf views key number = Any (λ view. (view.number ≡ number) × (key_of view ≡ key)) views
 
--- Its views are kept and its own. A previous one stands only beside a current one, and is another. An application with a
--- current view has a provider.
+-- Its views are kept and its own. A previous one stands only beside a current one, and is another.
+-- An application with a current view has a provider.
 pub record IsApp (views : List View) (app : AppState) : Type 0 where
   pub key : IsShortKey app.key
   pub provider : IfSome app.provider IsTarget

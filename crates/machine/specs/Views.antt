@@ -21,8 +21,9 @@ pub record DataFile : Type 0 where
   pub name : List ℕ
   pub bytes : List ℕ
 
--- A view: its manifests, the address of its application manifest, the groups that stand in the order in which they came,
--- the program files that stand in the manifest's order, and the data files in order of their names.
+-- A view: its manifests, the address of its application manifest, the groups that stand in the
+-- order in which they came, the program files that stand in the manifest's order, and the data
+-- files in order of their names.
 pub record View : Type 0 where
   pub number : ℕ
   pub deployment : Deployment

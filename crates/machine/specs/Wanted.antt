@@ -16,7 +16,8 @@ is_held held entry = list_any (same_content entry) held
 
 -- ---- wanted files
 
--- in the manifest's order each data file, and each required program file whose content is not held and was not wanted before
+-- in the manifest's order each data file, and each required program file whose content is not held
+-- and was not wanted before
 abbrev pub wanted_beside : List FileEntry → List FileEntry → List FileEntry
 wanted_beside held [] = []
 wanted_beside held (entry ∷ entries) =

@@ -1,10 +1,11 @@
 -- Events as a session makes them: their words keep their forms.
 use Rattle.std.specs.Prelude.{◌≤◌, ℕ, List, All, length}
-use Rattle.small_types.specs.declared.limits.TheConstants.{NUMBER_LIMIT, URL_LIMIT}
+use Rattle.small_types.specs.declared.limits.TheConstants.{NUMBER_LIMIT, PIECE_LIMIT, URL_LIMIT}
+use Rattle.small_types.specs.Name.{IsName}
 use Rattle.identity.specs.Key.{IsKey}
 use Rattle.identity.specs.Version.{IsVersion}
 use Rattle.machine.specs.declared.command.Command.{Command}
-use Rattle.machine.specs.declared.command.Command.TheVariants.{At, Require, Install}
+use Rattle.machine.specs.declared.command.Command.TheVariants.{At, Require, Install, Launch, Read, Finish}
 use Rattle.machine.specs.declared.event.Event.{Event}
 use Rattle.machine.specs.declared.event.Event.TheVariants.{Boot, Line, Unread}
 
@@ -19,6 +20,10 @@ abbrev pub IsCommand : Command → Type 0
 IsCommand (At now) = now ≤ NUMBER_LIMIT
 IsCommand (Require key version) = IsKey key × IsVersion version
 IsCommand (Install url) = IsUrl url
+IsCommand (Launch key) = IsKey key
+IsCommand (Read lease name from count) =
+    (lease ≤ NUMBER_LIMIT) × IsName name × (from ≤ NUMBER_LIMIT) × (count ≤ PIECE_LIMIT)
+IsCommand (Finish lease) = lease ≤ NUMBER_LIMIT
 
 -- numbers are at most 2 ^ 62, and the words of a command have their forms
 abbrev pub IsEvent : Event → Type 0

@@ -21,6 +21,6 @@ pub struct AppState {
     pub excluded: Option<Version>,
     /// The moment of the last check, in seconds.
     pub last_check: Option<u64>,
-    /// Whether a check was made since the last start.
+    /// Whether an install or a check came since the last start.
     pub checked: bool,
 }

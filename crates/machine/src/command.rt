@@ -1,17 +1,39 @@
 // What a session line asks for.
 use identity::{Key, Version};
-use small_types::Bytes;
+use small_types::{Bytes, Name};
 
 /// A command of a session line.
 #[derive(Drop, Debug, PartialEq, Eq)]
 pub enum Command {
     /// `at N`: the session's moment is this one, in seconds, from the next line on.
-    At { now: u64 },
+    At {
+        now: u64,
+    },
     /// `require KEY V`: the application's minimum is the greater of what it was and this version.
-    Require { key: Key, version: Version },
+    Require {
+        key: Key,
+        version: Version,
+    },
     /// `install URL`: the release whose deployment manifest is at the address becomes the current view of its
     /// application.
-    Install { url: Bytes },
+    Install {
+        url: Bytes,
+    },
+    /// `launch KEY`: a new lease on the application's current view.
+    Launch {
+        key: Key,
+    },
+    /// `read L NAME FROM COUNT`: bytes of a program file of the leased view, from a place on, at most so many.
+    Read {
+        lease: u64,
+        name: Name,
+        from: u64,
+        count: u64,
+    },
+    /// `finish L`: the lease is gone.
+    Finish {
+        lease: u64,
+    },
 }
 
 /// Why a line is no command, in the order in which the causes are looked for.

@@ -8,7 +8,7 @@ pub enum Due {
     Required {
         minimum: Version,
     },
-    /// It is to be checked before each start, and was not since the last one.
+    /// It is to be checked before each start, and no install or check came since the last one.
     CheckFirst,
     /// This newer version is offered, which the user neither skipped nor went back from.
     Offered {

@@ -23,8 +23,8 @@ pub fn installs_keep_minimums<R, C>()
     ensures reach { InstallsReachMinimums R C }
 {}
 
-/// An install is refused in one way: where the manifests are heard, no refusal but one at a file is a free choice. And two
-/// installs from one store that heard the same have one reply.
+/// An install is refused in one way: where the manifests are heard, no refusal but one at a file is
+/// a free choice. And two installs from one store that heard the same have one reply.
 pub fn one_install_is_given<R, C>()
     ensures refusals { InstallRefusalsAreExact R C }
     ensures reply { InstallsHaveOneReply R C }
@@ -36,8 +36,8 @@ pub fn migrations_are_one()
     ensures exist { MigrationsExist }
 {}
 
-/// There is an update of a sound store that leads to one: with a previous view, a data file kept aside, and a listed file
-/// that does not stand.
+/// There is an update of a sound store that leads to one: with a previous view, a data file kept
+/// aside, and a listed file that does not stand.
 pub fn stores_may_be_updated()
     ensures { StoresMayBeUpdated }
 {}

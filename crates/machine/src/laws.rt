@@ -29,7 +29,8 @@ pub fn read_manifests_may_be_held()
     ensures applications { ReadApplicationsMayBeHeld }
 {}
 
-/// The host and the path of an address that a text spells, or a codebase beside a base, have at most 2,048 bytes together.
+/// The host and the path of an address that a text spells, or a codebase beside a base, have at
+/// most 2,048 bytes together.
 pub fn addresses_are_short()
     ensures read { AddressesAreShort }
     ensures joined { JoinedAddressesAreShort }
@@ -47,29 +48,30 @@ pub fn some_stores_are_sound()
     ensures used { StoresMayBeUsed }
 {}
 
-/// Where the first refusals of a command are passed and the next one is given, its reply is an answer; and a refusal that
-/// is given is the first that is not passed.
+/// Where the first refusals of a command are passed and the next one is given, its reply is an
+/// answer; and a refusal that is given is the first that is not passed.
 pub fn refusals_come_in_order()
     ensures answer { RefusalsComeInOrder }
     ensures first { RefusalsAreFirst }
 {}
 
-/// At most one refusal of a command is given, and none where all are passed, where none of its refusals is a free choice.
-/// Those of `at` and of `require` are none, and where the manifests are heard those of `install` but the last.
+/// At most one refusal of a command is given, and none where all are passed, where none of its
+/// refusals is a free choice. Those of `install` are none but the last, where the manifests are
+/// heard; those of every other command are none.
 pub fn one_refusal_is_given()
     ensures rows { RowsAreExact }
     ensures one { OneRefusalIsGiven }
     ensures none { NoRefusalIsGivenWherePassed }
 {}
 
-/// A refusal that leaves everything as it was changes nothing, and each one of `at`, of `require` and of `install` is so.
+/// A refusal that leaves everything as it was changes nothing, and each refusal is so.
 pub fn refusals_change_nothing()
     ensures given { RefusalsChangeNothing }
     ensures rows { RowsChangeNothing }
 {}
 
-/// In each valid store each command has an answer other than want of memory, and each event that may come a step with such
-/// an answer; an install at least where it hears nothing.
+/// In each valid store each command has an answer other than want of memory, and each event that
+/// may come a step with such an answer; an install at least where it hears nothing.
 pub fn commands_are_answered()
     ensures commands { CommandsAreAnswered }
     ensures events { EventsHaveSteps }
@@ -103,8 +105,8 @@ pub fn steps_keep_sound()
     ensures runs { RunsKeepSound }
 {}
 
-/// A session begins sound over a sound store, and a step from a sound session leads to one; an install where there is no
-/// open job.
+/// A session begins sound over a sound store, and a step from a sound session leads to one; an
+/// install where there is no open job.
 pub fn sessions_stay_sound()
     ensures begun { SessionsBeginSound }
     ensures steps { StepsKeepSoundSessions }

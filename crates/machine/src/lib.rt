@@ -9,6 +9,7 @@ mod event;
 mod install_laws;
 mod laws;
 mod lease;
+mod lease_laws;
 mod reply;
 mod report;
 mod views;
@@ -30,6 +31,10 @@ pub use laws::{
     steps_keep_valid,
 };
 pub use lease::Lease;
+pub use lease_laws::{
+    free_launches_are_granted, launches_are_sound, launches_reach_minimums, leased_views_are_sound,
+    leased_views_stay, reads_are_of_files,
+};
 pub use reply::Reply;
 pub use report::{Report, ReportLine};
 pub use views::INSTALLED_LOCALS;

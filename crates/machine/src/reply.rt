@@ -4,7 +4,7 @@ use causes::Cause;
 use identity::{Key, Version};
 use manifest_parts::ManifestFault;
 use manifests::ReleaseFault;
-use small_types::{Limit, List, Target};
+use small_types::{Bytes, Limit, List, Target};
 
 /// The answer of a line.
 #[derive(Drop, Debug, PartialEq, Eq)]
@@ -23,6 +23,39 @@ pub enum Reply {
         version: Version,
         view: u64,
     },
+    /// A new lease on a view of this version, and whether the time for the next check has come.
+    Lease {
+        lease: u64,
+        version: Version,
+        check_due: bool,
+    },
+    /// The length of the file in bytes, and those that were asked for.
+    Read {
+        length: u64,
+        bytes: Bytes,
+    },
+    /// The lease is gone.
+    Finished {
+        lease: u64,
+    },
+    /// The application has no current view.
+    NotInstalled,
+    /// No lease has the number.
+    NoLease,
+    /// No program file of that name stands in the leased view.
+    NoFile,
+    /// The application is to be checked before each start, and no install or check came since the last one.
+    CheckFirst,
+    /// The minimum of the application, below which its current version is.
+    Required {
+        minimum: Version,
+    },
+    /// A newer version that is offered, which the user neither skipped nor went back from.
+    Offered {
+        version: Version,
+    },
+    /// There are as many leases as may be, which is 1,024.
+    LeasesFull,
     /// The version that is current, which the heard one is not above.
     NotNewer {
         have: Version,

@@ -1,7 +1,10 @@
 use Rattle.machine.specs.Machine.{refusals}
 use Rattle.machine.proofs.Choosing.{none_refuses, one_refuses}
 use Rattle.machine.proofs.InstallExact.{address_exact, deployment_exact, release_exact}
-use Rattle.machine.proofs.Refusals.{require_exact}
+use Rattle.machine.proofs.FinishFacts.{finish_exact}
+use Rattle.machine.proofs.LaunchFacts.{launch_exact}
+use Rattle.machine.proofs.ReadFacts.{read_exact}
+use Rattle.machine.proofs.RequireFacts.{require_exact}
 use Rattle.machine.proofs.laws.one_refusal_is_given.Goals as goal
 
 pub returns-clause-rows : goal.returns-clause-rows
@@ -9,6 +12,9 @@ returns-clause-rows c = record {
   at = λ now heard shape next. tt;
   require = λ now heard shape key version. require_exact key shape;
   install = record { address = address_exact; deployment = deployment_exact; release = release_exact };
+  launch = λ now heard shape key. launch_exact key now shape;
+  read = λ now heard shape lease name from count. read_exact lease name shape;
+  finish = λ now heard shape lease. finish_exact lease shape;
 }
 
 pub returns-clause-one : goal.returns-clause-one

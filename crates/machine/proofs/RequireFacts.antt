@@ -1,0 +1,100 @@
+-- The row of `require`.
+use Rattle.std.proofs.Common.{◌≡◌, ◌≢◌, ◌∙◌, ◌⊎◌, ◌<◌, ◌≤◌, inl, inr, refl, sym, ap, subst, append-nil, ℕ, List, [], length, Option, Some, None, arith}
+use Rattle.std.proofs.lemmas.Bool.{cases_lt}
+use Rattle.small_types.specs.declared.limit.Limit.TheVariants.{Applications}
+use Rattle.small_types.specs.declared.limits.TheConstants.{APPLICATION_LIMIT}
+use Rattle.identity.specs.declared.key.Key.{Key}
+use Rattle.identity.specs.declared.version.Version.{Version}
+use Rattle.machine.specs.declared.app.AppState.{AppState}
+use Rattle.machine.specs.declared.command.Command.TheVariants.{Require}
+use Rattle.machine.specs.declared.reply.Reply.{Reply}
+use Rattle.machine.specs.declared.reply.Reply.TheVariants as says
+use Rattle.machine.specs.Entries.{entry_of, key_cmp}
+use Rattle.machine.specs.Laws.{IsAnswered}
+use Rattle.machine.specs.Machine.{moment_set}
+use Rattle.machine.specs.Minimums.{minimum_of, raised}
+use Rattle.machine.specs.RequireRow.{require_refusals, required}
+use Rattle.machine.specs.Rows.{AreExact}
+use Rattle.machine.specs.Shape.{Shape}
+use Rattle.machine.specs.Store.{Session}
+use Rattle.machine.specs.Valid.{Valid}
+use Rattle.machine.proofs.Choosing.{exactly-exact}
+use Rattle.machine.proofs.Keeping.{required_valid, same_views_sound}
+use Rattle.machine.proofs.LeasesKept.{keeps_more}
+use Rattle.machine.proofs.Raising.{required_holds}
+use Rattle.machine.proofs.RowFacts.{RowFacts, acts_on}
+use Rattle.machine.proofs.Shortness.{short_key}
+
+minimum_is_other : (version : Version) → says.Minimum version ≢ says.Memory
+minimum_is_other version e = cc
+
+too_many_is_other : says.TooMany Applications APPLICATION_LIMIT ≢ says.Memory
+too_many_is_other e = cc
+
+some_is_not_none : (app : AppState) → Some app ≢ None
+some_is_not_none app e = cc
+
+-- its refusals are exact
+pub require_exact : (key : Key) (shape : Shape) → AreExact (require_refusals key shape)
+require_exact key shape = (exactly-exact _ _, tt)
+
+module _ (now : ℕ) (heard : List (List ℕ)) (key : Key) (version : Version) where
+  module _ (old : Session) where
+    raises : ¬ ((entry_of key old.store.apps ≡ None) × (APPLICATION_LIMIT ≤ length old.store.apps))
+        → IsAnswered now heard old (Require key version)
+    raises room = record {
+      reply = says.Minimum (raised (minimum_of key old.store.apps) version);
+      new = record old { store = record old.store { apps = required key version old.store.apps } };
+      answers = inr ((tt, (room, tt)), (refl, refl));
+      other = minimum_is_other (raised (minimum_of key old.store.apps) version);
+    }
+
+    refuses : entry_of key old.store.apps ≡ None → APPLICATION_LIMIT ≤ length old.store.apps
+        → IsAnswered now heard old (Require key version)
+    refuses new full = record {
+      reply = says.TooMany Applications APPLICATION_LIMIT;
+      new = old;
+      answers = inl (inr (tt, inl (((new, full), refl), refl)));
+      other = too_many_is_other;
+    }
+
+    by_count : entry_of key old.store.apps ≡ None
+        → (length old.store.apps < APPLICATION_LIMIT) ⊎ (APPLICATION_LIMIT ≤ length old.store.apps)
+        → IsAnswered now heard old (Require key version)
+    by_count new (inl few) = raises (λ both. let full = both.1 in omega arith)
+    by_count new (inr full) = refuses new full
+
+    by_entry : (entry : Option AppState) → entry_of key old.store.apps ≡ entry
+        → IsAnswered now heard old (Require key version)
+    by_entry None new = by_count new (cases_lt (length old.store.apps) APPLICATION_LIMIT)
+    by_entry (Some app) known = raises (λ both. some_is_not_none app (sym known ∙ both.0))
+
+  pub require_facts : RowFacts now heard (Require key version)
+  require_facts = record {
+    unchanged = λ shape. ((λ s. refl), tt);
+    set_none = λ shape. ((λ reply given. ap (λ (r : Reply). moment_set (Some r)) given.1), tt);
+    acts = λ old reply new done.
+        acts_on (Require key version) old reply new (record old.store {
+          apps =
+              required key version old.store.apps;
+        })
+        done.1 (λ e. minimum_is_other _ (sym done.0 ∙ e))
+        (ap (λ (r : Reply). moment_set (Some r)) done.0) refl refl
+        (λ other minimum is. required_holds other key version minimum old.store.apps
+        (key_cmp key other) refl is)
+        (keeps_more old.store (record old.store {
+          apps =
+              required key version old.store.apps;
+        }) [] refl refl
+        (sym (append-nil old.store.views)));
+    valid = λ old reply new is few passes done valid.
+        subst (λ (s : Session). Valid s.store) (sym done.1)
+        (required_valid key version old.store (short_key is.0) is.1 passes.0 valid);
+    sound = λ old reply new is few passes done sound.
+        same_views_sound old.store new.store (ap (λ (s : Session). s.store.views) done.1)
+        (subst (λ (s : Session). Valid s.store) (sym done.1)
+        (required_valid key version old.store (short_key is.0) is.1 passes.0 sound.valid)) sound;
+    views = λ old reply new at with_texts none done. inl
+        (ap (λ (s : Session). s.store.views) done.1);
+    answered = λ old valid none. by_entry old (entry_of key old.store.apps) refl;
+  }

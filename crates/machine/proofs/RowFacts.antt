@@ -1,0 +1,102 @@
+-- What is shown of each row of the machine, so that each law is shown of all rows at once.
+use Rattle.std.proofs.Common.{◌≡◌, ◌≢◌, ◌∙◌, ◌⊎◌, ◌≤◌, refl, sym, subst, ℕ, List, [], Option, Some, None}
+use Rattle.small_types.specs.declared.limits.TheConstants.{NUMBER_LIMIT}
+use Rattle.identity.specs.declared.key.Key.{Key}
+use Rattle.identity.specs.declared.version.Version.{Version}
+use Rattle.machine.specs.declared.app.AppState.{AppState}
+use Rattle.machine.specs.declared.command.Command.{Command}
+use Rattle.machine.specs.declared.command.Command.TheVariants.{At}
+use Rattle.machine.specs.declared.event.Event.TheVariants.{Line}
+use Rattle.machine.specs.declared.event.Heard.{Heard}
+use Rattle.machine.specs.declared.reply.Reply.{Reply}
+use Rattle.machine.specs.declared.reply.Reply.TheVariants as says
+use Rattle.machine.specs.Laws.{InstallsUnheard, InstallsWithoutJobs, IsAnswered}
+use Rattle.machine.specs.Machine.{effect, moment_set, refusals}
+use Rattle.machine.specs.Minimums.{minimum_of}
+use Rattle.machine.specs.Rows.{ChangeNothing, PassesAll}
+use Rattle.machine.specs.Shape.{Shape, shape_of}
+use Rattle.machine.specs.Sound.{Sound}
+use Rattle.machine.specs.Store.{Session, Store}
+use Rattle.machine.specs.Valid.{Valid}
+use Rattle.machine.specs.Words.{IsCommand}
+use Rattle.machine.proofs.Choosing.{AllGive}
+use Rattle.machine.proofs.LeasesKept.{KeepsLeases, keeps_itself}
+use Rattle.machine.proofs.Moments.{SetsNone}
+use Rattle.machine.proofs.Raising.{Holds, holds_itself}
+
+-- ---- an effect
+
+-- the moment that a command sets
+abbrev pub moment_by : Command → Option ℕ
+moment_by (At next) = Some next
+moment_by _ = None
+
+-- each minimum that held holds, or one that is not below it
+abbrev pub Rises : List AppState → List AppState → Type 0
+Rises old new = (key : Key) (minimum : Version) → minimum_of key old ≡ Some minimum
+    → Holds minimum (minimum_of key new)
+
+pub rises_as : (old new : List AppState) → ((key : Key) → minimum_of key new ≡ minimum_of key old)
+    → Rises old new
+rises_as old new same = λ key minimum is. holds_itself minimum (minimum_of key new) (same key ∙ is)
+
+-- It is no want of memory, it sets the moment that the command sets, and it leaves what no command
+-- changes.
+pub record Acts (command : Command) (old : Session) (reply : Reply) (new : Session) : Type 0 where
+  pub other : reply ≢ says.Memory
+  pub sets : moment_set (Some reply) ≡ moment_by command
+  pub blocks : new.store.blocks ≡ old.store.blocks
+  pub boot : new.store.boot ≡ old.store.boot
+  pub jobs : new.jobs ≡ old.jobs
+  pub next_job : new.next_job ≡ old.next_job
+  pub minimums : Rises old.store.apps new.store.apps
+  pub leases : KeepsLeases old.store new.store
+
+-- it changes the store alone
+pub acts_on : (command : Command) (old : Session) (reply : Reply) (new : Session) (later : Store)
+    → new ≡ record old { store = later } → reply ≢ says.Memory
+    → moment_set (Some reply) ≡ moment_by command → later.blocks ≡ old.store.blocks
+    → later.boot ≡ old.store.boot → Rises old.store.apps later.apps → KeepsLeases old.store later
+    → Acts command old reply new
+acts_on command old reply new later is other sets blocks boot rises keeps =
+    subst (λ (s : Session). Acts command old reply s) (sym is) (record {
+      other = other;
+      sets = sets;
+      blocks = blocks;
+      boot = boot;
+      jobs = refl;
+      next_job = refl;
+      minimums = rises;
+      leases = keeps;
+    })
+
+-- it changes nothing
+pub acts_not : (command : Command) (old : Session) (reply : Reply) (new : Session) → new ≡ old
+    → reply ≢ says.Memory → moment_set (Some reply) ≡ moment_by command → Acts command old reply new
+acts_not command old reply new is other sets =
+    acts_on command old reply new old.store is other sets refl refl
+    (rises_as old.store.apps old.store.apps (λ key. refl)) (keeps_itself old.store)
+
+-- ---- a row
+
+-- Its refusals change nothing and set no moment. Its effect acts so, and keeps a store valid and
+-- sound. It leaves the views, or there is no open job. And there is an answer.
+pub record RowFacts (now : ℕ) (heard : List (List ℕ)) (command : Command) : Type 0 where
+  pub unchanged : (shape : Shape) → ChangeNothing (refusals now heard shape command)
+  pub set_none : (shape : Shape) → AllGive SetsNone (refusals now heard shape command)
+  pub acts : (old : Session) (reply : Reply) (new : Session)
+      → effect now heard command old reply new → Acts command old reply new
+  pub valid : (old : Session) (reply : Reply) (new : Session) → IsCommand command
+      → now ≤ NUMBER_LIMIT
+      → PassesAll (refusals now heard (shape_of old.store) command)
+      → effect now heard command old reply new → Valid old.store → Valid new.store
+  pub sound : (old : Session) (reply : Reply) (new : Session) → IsCommand command
+      → now ≤ NUMBER_LIMIT
+      → PassesAll (refusals now heard (shape_of old.store) command)
+      → effect now heard command old reply new → Sound old.store → Sound new.store
+  pub views : (old : Session) (reply : Reply) (new : Session) (at : ℕ) (with_texts : Heard)
+      → InstallsWithoutJobs (Line command at with_texts) old
+      → effect now heard command old reply new
+      → (new.store.views ≡ old.store.views) ⊎ (old.jobs ≡ [])
+  pub answered : (old : Session) → Valid old.store → InstallsUnheard command heard
+      → IsAnswered now heard old command
