@@ -8,19 +8,26 @@ use Rattle.store_state.specs.declared.view.View.{View}
 use Rattle.store_state.specs.Rows.{current_row, row_at}
 use Rattle.store_state.specs.Tables.{Tables, bare_row, table_shape}
 
-found_bare : (b : Bool) (view : View) (rest : Option View) → option_map bare_row (cond b (Some view) rest) ≡ cond b (Some (bare_row view)) (option_map bare_row rest)
+found_bare : (b : Bool) (view : View) (rest : Option View)
+    → option_map bare_row (cond b (Some view) rest) ≡ cond b (Some (bare_row view))
+    (option_map bare_row rest)
 found_bare true view rest = refl
 found_bare false view rest = refl
 
-bare_at : (number : ℕ) (views : List View) → option_map bare_row (row_at number views) ≡ bare_view_at number (map bare_row views)
+pub bare_at : (number : ℕ) (views : List View)
+    → option_map bare_row (row_at number views) ≡ bare_view_at number (map bare_row views)
 bare_at number [] = refl
 bare_at number (view ∷ views) =
     found_bare (eqb view.number number) view (row_at number views)
-    ∙ ap (λ (rest : Option BareView). cond (eqb view.number number) (Some (bare_row view)) rest) (bare_at number views)
+    ∙ ap (λ (rest : Option BareView). cond (eqb view.number number) (Some (bare_row view)) rest)
+    (bare_at number views)
 
-bare_then : (number : Option ℕ) (views : List View) → option_map bare_row (option_and_then (λ (n : ℕ). row_at n views) number) ≡ option_and_then (λ (n : ℕ). bare_view_at n (map bare_row views)) number
+bare_then : (number : Option ℕ) (views : List View)
+    → option_map bare_row (option_and_then (λ (n : ℕ). row_at n views) number) ≡ option_and_then
+    (λ (n : ℕ). bare_view_at n (map bare_row views)) number
 bare_then None views = refl
 bare_then (Some number) views = bare_at number views
 
-pub bare_current : (key : Key) (tables : Tables) (blocks : ℕ) → option_map bare_row (current_row key tables) ≡ current_bare key (table_shape blocks tables)
+pub bare_current : (key : Key) (tables : Tables) (blocks : ℕ)
+    → option_map bare_row (current_row key tables) ≡ current_bare key (table_shape blocks tables)
 bare_current key tables blocks = bare_then (current_of key tables.apps) tables.views

@@ -1,85 +1,127 @@
 -- Changes that fit keep the store that tables show within its order and its limits.
-use Rattle.std.proofs.Common.{◌≡◌, ◌∙◌, ◌≤◌, ◌<◌, ℕ, cond, not, List, [], ◌∷◌, All, None, length, map, refl, sym, ap, subst, arith}
-use Rattle.std.specs.Prelude.{count_by, sum_by}
+use Rattle.std.proofs.Common.{◌≡◌, ◌∙◌, ◌≤◌, ◌<◌, ℕ, cond, not, List, [], ◌∷◌, All, Contains, Option, Some, None, length, map, get_or, refl, sym, ap, subst, arith}
+use Rattle.std.specs.Prelude.{count_by, option_and_then, slice_get, sum_by, ⊤}
 use Rattle.std.specs.declared.cmp.Ordering.TheVariants.{Less}
+use Rattle.std.proofs.lemmas.Cmp.{tied_itself}
 use Rattle.std.proofs.lemmas.List.{length-map}
 use Rattle.std.proofs.lemmas.List.Elements.{All-map, All-weaker}
-use Rattle.small_types.specs.declared.limits.TheConstants.{APPLICATION_LIMIT, BLOCK_LIMIT}
+use Rattle.std.proofs.lemmas.Option.{MatchOption-at_some, get_or_from_slice_get, slice_get_within}
+use Rattle.small_types.specs.declared.limits.TheConstants.{APPLICATION_LIMIT, BLOCK_LIMIT, LEASE_LIMIT, NUMBER_LIMIT}
 use Rattle.small_types.specs.declared.target.Target.{Target}
 use Rattle.identity.specs.Printed.{text_cmp}
+use Rattle.identity.specs.Key.{key_text}
 use Rattle.identity.specs.declared.key.Key.{Key}
 use Rattle.manifests.specs.declared.facts.FileEntry.{FileEntry}
 use Rattle.manifests.specs.Applications.{is_below_pre}
 use Rattle.machine.specs.declared.app.AppState.{AppState}
+use Rattle.machine.specs.declared.lease.Lease.{Lease}
 use Rattle.machine.specs.Blocks.{used_blocks}
-use Rattle.machine.specs.Entries.{entry_of}
+use Rattle.machine.specs.Current.{current_of}
+use Rattle.machine.specs.Entries.{AreInOrder, entry_of, key_cmp}
+use Rattle.machine.specs.FinishRow.{finished}
+use Rattle.machine.specs.LaunchRow.{launched}
 use Rattle.machine.specs.Shape.{Shape, bare_view}
 use Rattle.machine.specs.Store as stores
 use Rattle.machine.specs.Store.{Store, booted}
-use Rattle.machine.specs.Valid.{IsDataFile, Ordered}
+use Rattle.machine.specs.Valid.{IsApp, IsDataFile, IsViewOf, Ordered}
 use Rattle.machine.specs.Views.{DataFile, ListedFile, standing_entries}
 use Rattle.machine.specs.Views.{View as KeptView}
+use Rattle.machine.proofs.Entering.{order as text_order}
+use Rattle.machine.proofs.Finding.{some_there, then_value, value_of}
 use Rattle.machine.proofs.Installing.{Fitting, installed_ordered, standing_required}
 use Rattle.machine.proofs.Keeping.{booted_ordered, empty_ordered, required_ordered}
-use Rattle.machine.proofs.Members.{pairs_map, sum_map}
+use Rattle.machine.proofs.Leasing.{finished_ordered, launched_ordered}
+use Rattle.machine.proofs.Members.{In, all_in, contains_in, in_contains, in_map, pairs_map, sum_map}
+use Rattle.machine.proofs.Places.{found}
 use Rattle.store_state.specs.declared.change.Change.{Change}
-use Rattle.store_state.specs.declared.change.Change.TheVariants.{Boot, Install, Require}
+use Rattle.store_state.specs.declared.change.Change.TheVariants.{Boot, Finish, Install, Launch, Require}
 use Rattle.store_state.specs.declared.view.Content.{Content}
 use Rattle.store_state.specs.declared.view.LocalFile.{LocalFile}
 use Rattle.store_state.specs.declared.view.View.{View}
 use Rattle.store_state.specs.Change.{Fits, FitsInstall, IsLocal, Replays, effect}
 use Rattle.store_state.specs.Laws.{ShowsOrdered}
-use Rattle.store_state.specs.Rows.{listed_files}
+use Rattle.store_state.specs.Rows.{current_at, listed_files}
 use Rattle.store_state.specs.Shows.{Shows, shown_data, shown_file, shown_view}
 use Rattle.store_state.specs.Tables.{Tables, bare_row, empty}
-use Rattle.store_state.proofs.Showing.{data_files, files, installed, shape_shown, shows_booted, shows_empty, shows_installed, shows_required}
+use Rattle.store_state.proofs.Firsts.{in_place}
+use Rattle.store_state.proofs.Holding.{room_is}
+use Rattle.store_state.proofs.Showing.{data_files, files, installed, shape_shown, shows_booted, shows_empty, shows_finished, shows_installed, shows_launched, shows_required}
 
 -- the store that tables show has their applications
-apps_shown : {blocks : ℕ} {tables : Tables} {image : List ℕ} {store : Store} → Shows blocks tables image store → tables.apps ≡ store.apps
+apps_shown : {blocks : ℕ} {tables : Tables} {image : List ℕ} {store : Store}
+    → Shows blocks tables image store → tables.apps ≡ store.apps
 apps_shown shows = sym (ap (λ (s : Store). s.apps) shows.is)
-
-room_is : (key : Key) (apps : List AppState) → (entry_of key apps ≡ None → length apps < APPLICATION_LIMIT) → ¬ ((entry_of key apps ≡ None) × (APPLICATION_LIMIT ≤ length apps))
-room_is key apps room = λ full. (let few = room full.0 in let many = full.1 in absurd (omega arith))
 
 -- ---- the parts of a new view
 
-entries_of : (contents : List Content) (entries : List FileEntry) → map (λ (file : ListedFile). file.entry) (map (shown_file contents) entries) ≡ entries
+entries_of : (contents : List Content) (entries : List FileEntry)
+    → map (λ (file : ListedFile). file.entry) (map (shown_file contents) entries) ≡ entries
 entries_of contents [] = refl
-entries_of contents (entry ∷ entries) = ap (λ (rest : List FileEntry). entry ∷ rest) (entries_of contents entries)
+entries_of contents (entry ∷ entries) =
+    ap (λ (rest : List FileEntry). entry ∷ rest) (entries_of contents entries)
 
 are_data : (locals : List LocalFile) → All IsLocal locals → All IsDataFile (map shown_data locals)
-are_data locals is = All-map IsDataFile shown_data locals (All-weaker IsLocal (λ (file : LocalFile). IsDataFile (shown_data file)) (λ file local. record { name = local.name; short = local.short }) locals is)
+are_data locals is =
+    All-map IsDataFile shown_data locals
+    (All-weaker IsLocal (λ (file : LocalFile). IsDataFile (shown_data file))
+    (λ file local. record { name = local.name; short = local.short }) locals is)
 
-count_data : (locals : List LocalFile) → count_by (λ (file : DataFile). not (is_below_pre file.name)) (map shown_data locals) ≡ count_by (λ (file : LocalFile). not (is_below_pre file.name)) locals
-count_data locals = sum_map shown_data (λ (file : DataFile). cond (not (is_below_pre file.name)) 1 0) locals
+count_data : (locals : List LocalFile)
+    → count_by (λ (file : DataFile). not (is_below_pre file.name))
+    (map shown_data locals) ≡ count_by (λ (file : LocalFile). not (is_below_pre file.name)) locals
+count_data locals =
+    sum_map shown_data (λ (file : DataFile). cond (not (is_below_pre file.name)) 1 0) locals
 
-listed_shown : (contents : List Content) (views : List View) → sum_by (λ (view : KeptView). length view.application.files) (map (shown_view contents) views) ≡ listed_files views
-listed_shown contents views = sum_map (shown_view contents) (λ (view : KeptView). length view.application.files) views
+listed_shown : (contents : List Content) (views : List View)
+    → sum_by (λ (view : KeptView). length view.application.files) (map (shown_view contents) views)
+    ≡ listed_files views
+listed_shown contents views =
+    sum_map (shown_view contents) (λ (view : KeptView). length view.application.files) views
 
-module _ (blocks : ℕ) (tables : Tables) (view : View) (contents : List Content) (provider : Target) (now : ℕ) (image : List ℕ) (store : Store) (shows : Shows blocks tables image store) (fits : FitsInstall tables view contents provider now) where
+module _ (blocks : ℕ) (tables : Tables) (view : View) (contents : List Content) (provider : Target)
+    (now : ℕ) (image : List ℕ) (store : Store) (shows : Shows blocks tables image store)
+    (fits : FitsInstall tables view contents provider now) where
   abbrev new : Store
   new = installed blocks tables view contents provider now image image store shows fits
 
   views_long : length store.views ≡ length tables.views
-  views_long = ap (λ (s : Store). length s.views) shows.is ∙ length-map tables.views (shown_view tables.contents)
+  views_long =
+      ap (λ (s : Store). length s.views) shows.is
+      ∙ length-map tables.views (shown_view tables.contents)
 
-  files_long : sum_by (λ (v : KeptView). length v.application.files) store.views ≡ listed_files tables.views
-  files_long = ap (λ (s : Store). sum_by (λ (v : KeptView). length v.application.files) s.views) shows.is ∙ listed_shown tables.contents tables.views
+  files_long : sum_by (λ (v : KeptView). length v.application.files) store.views ≡ listed_files
+      tables.views
+  files_long =
+      ap (λ (s : Store). sum_by (λ (v : KeptView). length v.application.files) s.views) shows.is
+      ∙ listed_shown tables.contents tables.views
 
-  pub fitting : Fitting provider view.base view.deployment view.application (files blocks tables view contents provider now image image store shows fits) (data_files blocks tables view contents provider now image image store shows fits) now store
+  pub fitting : Fitting provider view.base view.deployment view.application
+      (files blocks tables view contents provider now image image store shows fits)
+      (data_files blocks tables view contents provider now image image store shows fits) now store
   fitting = record {
     deployment = fits.row.deployment;
     application = fits.row.application;
     has_provider = fits.has_provider;
     has_base = fits.row.base;
     moment = fits.moment;
-    required = entries_of _ (standing_entries view.groups view.application) ∙ ap (λ (groups : List (List ℕ)). standing_entries groups view.application) fits.groups ∙ standing_required view.application;
-    data_order = pairs_map shown_data (λ (f g : LocalFile). text_cmp f.name g.name ≡ Less) (λ (f g : DataFile). text_cmp f.name g.name ≡ Less) view.locals (λ f g less. less) fits.row.order;
+    required =
+        entries_of _ (standing_entries view.groups view.application)
+        ∙ ap (λ (groups : List (List ℕ)). standing_entries groups view.application) fits.groups
+        ∙ standing_required view.application;
+    data_order =
+        pairs_map shown_data (λ (f g : LocalFile). text_cmp f.name g.name ≡ Less)
+        (λ (f g : DataFile). text_cmp f.name g.name ≡ Less) view.locals (λ f g less. less)
+        fits.row.order;
     are_data = are_data view.locals fits.row.locals;
     few_data = (let few = fits.row.few in omega (arith, count_data view.locals));
-    entry_room = room_is view.deployment.identity.key store.apps (subst (λ (apps : List AppState). entry_of view.deployment.identity.key apps ≡ None → length apps < APPLICATION_LIMIT) (apps_shown shows) fits.application);
+    entry_room =
+        room_is view.deployment.identity.key store.apps
+        (subst (λ (apps : List AppState). entry_of view.deployment.identity.key apps ≡ None
+        → length apps < APPLICATION_LIMIT) (apps_shown shows) fits.application);
     view_room = (let room = fits.views in omega (arith, views_long));
-    number_room = subst (λ (n : ℕ). n < 4611686018427387904) (sym (ap (λ (s : Store). s.next_view) shows.is)) fits.next;
+    number_room =
+        subst (λ (n : ℕ). n < 4611686018427387904) (sym (ap (λ (s : Store). s.next_view) shows.is))
+        fits.next;
     file_room = (let room = fits.files in omega (arith, files_long));
   }
 
@@ -91,43 +133,125 @@ pub record Shown (blocks : ℕ) (tables : Tables) (image : List ℕ) : Type 0 wh
   pub shows : Shows blocks tables image store
   pub ordered : Ordered store
 
-pub changed_shown : (blocks : ℕ) (image : List ℕ) (old : Tables) (change : Change) → Fits old change → Shown blocks old image → Shown blocks (effect change old) image
+-- an application is the entry of its own key
+own_entry : (apps : List AppState) (place : ℕ) (app : AppState) → AreInOrder apps
+    → slice_get apps place ≡ Some app → entry_of app.key apps ≡ Some app
+own_entry apps place app order stands =
+    let read : get_or apps place app ≡ app = get_or_from_slice_get apps place app app stands in
+    found app.key apps place app order (slice_get_within apps place app stands)
+    (ap (λ (a : AppState). key_cmp a.key app.key) read ∙ tied_itself text_order
+    (key_text app.key))
+    ∙ ap Some read
+
+-- a current view is among those that are kept
+current_number : (views : List KeptView) (key : Key) (number : ℕ) → IsViewOf views key number
+    → Contains (map (λ (view : KeptView). view.number) views) number
+current_number views key number is =
+    contains_in (map (λ (view : KeptView). view.number) views) number
+    (subst (λ (n : ℕ). In n (map (λ (view : KeptView). view.number) views)) is.4.0
+    (in_map (λ (view : KeptView). view.number) views is.1
+    (in_contains views is.1 (is.0, is.2, is.3))))
+
+pub changed_shown : (blocks : ℕ) (image : List ℕ) (old : Tables) (change : Change) → Fits old change
+    → Shown blocks old image → Shown blocks (effect change old) image
 changed_shown blocks image old (Boot boot) fits shown = record {
   store = booted boot shown.store;
   shows = shows_booted image boot shown.shows;
   ordered = booted_ordered boot shown.store fits shown.ordered;
 }
 changed_shown blocks image old (Require key version) fits shown =
-    let room = subst (λ (apps : List AppState). entry_of key apps ≡ None → length apps < APPLICATION_LIMIT) (apps_shown shown.shows) fits.2 in
+    let room = subst (λ (apps : List AppState). entry_of key apps ≡ None
+    → length apps < APPLICATION_LIMIT) (apps_shown shown.shows) fits.2 in
     record {
       store = _;
       shows = shows_required image key version shown.shows;
-      ordered = required_ordered key version shown.store fits.0 fits.1 (room_is key shown.store.apps room) shown.ordered;
+      ordered =
+          required_ordered key version shown.store fits.0 fits.1 (room_is key shown.store.apps room)
+          shown.ordered;
     }
 changed_shown blocks image old (Install view contents provider now) fits shown = record {
   store = installed blocks old view contents provider now image image shown.store shown.shows fits;
-  shows = shows_installed blocks old view contents provider now image image shown.store shown.shows fits;
-  ordered = installed_ordered provider view.base view.deployment view.application _ _ now shown.store (fitting blocks old view contents provider now image shown.store shown.shows fits) shown.ordered;
+  shows =
+      shows_installed blocks old view contents provider now image image shown.store shown.shows
+      fits;
+  ordered =
+      installed_ordered provider view.base view.deployment view.application _ _ now shown.store
+      (fitting blocks old view contents provider now image shown.store shown.shows fits)
+      shown.ordered;
+}
+changed_shown blocks image old (Launch place) fits shown =
+    let apps = old.apps in
+    let order : AreInOrder apps = subst AreInOrder (sym (apps_shown shown.shows))
+    shown.ordered.order in
+    let number = value_of (current_at place apps) fits.installed in
+    let app = then_value (λ (a : AppState). a.current) (slice_get apps place) number.0 number.1 in
+    let key = app.0.key in
+    let entry : entry_of key apps ≡ Some app.0 = own_entry apps place app.0 order app.1 in
+    let current : current_of key apps ≡ Some number.0 =
+    ap (λ (o : Option AppState). option_and_then (λ (a : AppState). a.current) o) entry
+    ∙ app.2 in
+    let same = apps_shown shown.shows in
+    let is_app = all_in (IsApp shown.store.views) apps app.0
+    (subst (All (IsApp shown.store.views)) (sym same) shown.ordered.apps)
+    (in_place apps place app.0 app.1) in
+    record {
+      store = launched key number.0 shown.store;
+      shows =
+          shows_launched blocks old key place number.0 image image shown.store shown.shows order
+          (app.1 ∙ sym entry) current;
+      ordered = launched_ordered key number.0 shown.store is_app.key
+          (some_there (entry_of key shown.store.apps) app.0 (ap (entry_of key) (sym same) ∙ entry))
+          (current_number shown.store.views key number.0
+          (MatchOption-at_some ⊤ (IsViewOf shown.store.views key) number.0 app.2
+          is_app.current))
+          (let room = fits.room in subst (λ (leases : List Lease). length leases < LEASE_LIMIT)
+          (sym (ap (λ (s : Store). s.leases) shown.shows.is)) room)
+          (let left = fits.next in subst (λ (n : ℕ). n < NUMBER_LIMIT)
+          (sym (ap (λ (s : Store). s.next_lease) shown.shows.is)) left)
+          shown.ordered;
+    }
+changed_shown blocks image old (Finish lease) fits shown = record {
+  store = finished lease shown.store;
+  shows = shows_finished image lease shown.shows;
+  ordered = finished_ordered lease shown.store shown.ordered;
 }
 
-replays_shown : (blocks : ℕ) (image : List ℕ) (old new : Tables) (changes : List Change) → Shown blocks old image → Replays old changes new → Shown blocks new image
-replays_shown blocks image old new [] shown replays = subst (λ (t : Tables). Shown blocks t image) (sym replays) shown
-replays_shown blocks image old new (change ∷ changes) shown replays =
-    replays_shown blocks image (effect change old) new changes (changed_shown blocks image old change replays.0 shown) replays.1
+replays_shown : (blocks : ℕ) (image : List ℕ) (old last : Tables) (changes : List Change)
+    → Shown blocks old image → Replays old changes last → Shown blocks last image
+replays_shown blocks image old last [] shown replays =
+    subst (λ (t : Tables). Shown blocks t image) (sym replays) shown
+replays_shown blocks image old last (change ∷ changes) shown replays =
+    replays_shown blocks image (effect change old) last changes
+    (changed_shown blocks image old change replays.0 shown) replays.1
 
-room_shown : (blocks : ℕ) (tables : Tables) (image : List ℕ) (store : Store) → Shows blocks tables image store → used_blocks (map bare_row tables.views) ≤ blocks → used_blocks (map bare_view store.views) ≤ store.blocks
+room_shown : (blocks : ℕ) (tables : Tables) (image : List ℕ) (store : Store)
+    → Shows blocks tables image store → used_blocks (map bare_row tables.views) ≤ blocks
+    → used_blocks (map bare_view store.views) ≤ store.blocks
 room_shown blocks tables image store shows few =
     let shape = shape_shown shows in
-    let used : used_blocks (map bare_view store.views) ≡ used_blocks (map bare_row tables.views) = ap (λ (s : Shape). used_blocks s.views) shape in
+    let used : used_blocks (map bare_view store.views) ≡ used_blocks (map bare_row tables.views) =
+    ap (λ (s : Shape). used_blocks s.views) shape in
     let same : store.blocks ≡ blocks = ap (λ (s : Shape). s.blocks) shape in
     omega (arith, few, used, same)
 
-pub loaded_ordered : (blocks : ℕ) (changes : List Change) (tables : Tables) (image : List ℕ) → 1 ≤ blocks → blocks ≤ BLOCK_LIMIT → Replays empty changes tables → ShowsOrdered blocks tables image
+pub loaded_ordered : (blocks : ℕ) (changes : List Change) (tables : Tables) (image : List ℕ)
+    → 1 ≤ blocks → blocks ≤ BLOCK_LIMIT → Replays empty changes tables
+    → ShowsOrdered blocks tables image
 loaded_ordered blocks changes tables image some few replays =
-    let shown = replays_shown blocks image empty tables changes (record { store = stores.empty blocks; shows = shows_empty blocks image; ordered = empty_ordered blocks some few }) replays in
+    let shown = replays_shown blocks image empty tables changes
+    (record {
+      store = stores.empty blocks;
+      shows = shows_empty blocks image;
+      ordered = empty_ordered blocks some few;
+    }) replays in
     record {
       store = shown.store;
       shows = shown.shows;
       ordered = shown.ordered;
-      valid = λ room. record { ordered = shown.ordered; room = room_shown blocks tables image shown.store shown.shows room };
+      valid =
+          λ room. record {
+            ordered = shown.ordered;
+            room = room_shown blocks tables image
+                shown.store shown.shows room;
+          };
     }

@@ -1,7 +1,7 @@
 -- Changes of tables: which fit, and what they do.
-use Rattle.std.specs.Prelude.{◌≡◌, ◌+◌, ◌<◌, ◌≤◌, ◌==◌, if◌then◌else◌, ℕ, not, List, [], ◌∷◌, ◌++◌, All, AllPairs, count_by, length, None}
+use Rattle.std.specs.Prelude.{◌≡◌, ◌+◌, ◌<◌, ◌≤◌, ◌==◌, if◌then◌else◌, ℕ, not, List, [], ◌∷◌, ◌++◌, All, AllPairs, IsSome, count_by, length, None, unwrap_or}
 use Rattle.std.specs.declared.cmp.Ordering.TheVariants.{Less}
-use Rattle.small_types.specs.declared.limits.TheConstants.{APPLICATION_LIMIT, FILE_COUNT_LIMIT, LOCAL_COUNT_LIMIT, LOCAL_NAME_LIMIT, NUMBER_LIMIT, VIEW_LIMIT}
+use Rattle.small_types.specs.declared.limits.TheConstants.{APPLICATION_LIMIT, FILE_COUNT_LIMIT, LEASE_LIMIT, LOCAL_COUNT_LIMIT, LOCAL_NAME_LIMIT, NUMBER_LIMIT, VIEW_LIMIT}
 use Rattle.small_types.specs.declared.target.Target.{Target}
 use Rattle.small_types.specs.Name.{IsBelowPre, IsName}
 use Rattle.identity.specs.Printed.{text_cmp}
@@ -10,15 +10,17 @@ use Rattle.manifests.specs.Applications.{is_below_pre}
 use Rattle.machine.specs.Entries.{entry_of, with_entry}
 use Rattle.machine.specs.Fields.{IsApplication, IsDeployment, IsShortKey, IsTarget}
 use Rattle.machine.specs.Installed.{installed_app}
+use Rattle.machine.specs.LaunchRow.{started_app}
+use Rattle.machine.specs.Leases.{lease_of, with_lease, without_lease}
 use Rattle.machine.specs.RequireRow.{required}
 use Rattle.machine.specs.Views.{standing_entries}
 use Rattle.store_state.specs.declared.change.Change.{Change}
-use Rattle.store_state.specs.declared.change.Change.TheVariants.{Boot, Require, Install}
+use Rattle.store_state.specs.declared.change.Change.TheVariants.{Boot, Require, Install, Launch, Finish}
 use Rattle.store_state.specs.declared.view.Content.{Content}
 use Rattle.store_state.specs.declared.view.LocalFile.{LocalFile}
 use Rattle.store_state.specs.declared.view.View.{View}
 use Rattle.store_state.specs.Contents.{Brings}
-use Rattle.store_state.specs.Rows.{listed_files}
+use Rattle.store_state.specs.Rows.{current_at, listed_files, with_app}
 use Rattle.store_state.specs.Tables.{Tables}
 
 -- ---- views
@@ -29,7 +31,8 @@ pub record IsLocal (file : LocalFile) : Type 0 where
   pub short : ¬ IsBelowPre file.name → length file.name ≤ LOCAL_NAME_LIMIT
   pub measured : length file.bytes ≡ file.length
 
--- what manifests can say, an address within its limits, and data files in order of their names, few enough
+-- what manifests can say, an address within its limits, and data files in order of their names, few
+-- enough
 pub record IsRow (view : View) : Type 0 where
   pub deployment : IsDeployment view.deployment
   pub application : IsApplication view.application
@@ -40,10 +43,10 @@ pub record IsRow (view : View) : Type 0 where
 
 -- ---- changes
 
--- An install brings the next view, whose manifests could be read and in which no group stands yet, and exactly the contents
--- that the tables lack. No limit is exceeded.
-pub record FitsInstall (old : Tables) (view : View) (contents : List Content) (provider : Target) (now : ℕ)
-    : Type 0 where
+-- An install brings the next view, whose manifests could be read and in which no group stands yet,
+-- and exactly the contents that the tables lack. No limit is exceeded.
+pub record FitsInstall (old : Tables) (view : View) (contents : List Content) (provider : Target)
+    (now : ℕ) : Type 0 where
   pub number : view.number ≡ old.next_view
   pub next : old.next_view < NUMBER_LIMIT
   pub moment : now ≤ NUMBER_LIMIT
@@ -56,21 +59,56 @@ pub record FitsInstall (old : Tables) (view : View) (contents : List Content) (p
   pub views : length old.views < VIEW_LIMIT
   pub files : listed_files old.views + length view.application.files ≤ FILE_COUNT_LIMIT
 
--- A change may be made: no limit is exceeded, and a new application finds fewer than may be. That a part of a key is
--- empty is no hindrance.
+-- A launch names the place of an application with a current view. There is room for one more lease,
+-- and a number is left.
+pub record FitsLaunch (old : Tables) (app : ℕ) : Type 0 where
+  pub installed : IsSome (current_at app old.apps)
+  pub room : length old.leases < LEASE_LIMIT
+  pub next : old.next_lease < NUMBER_LIMIT
+
+-- A change may be made: no limit is exceeded, and a new application finds fewer than may be. That a
+-- part of a key is empty is no hindrance. The lease that a finish names is there.
 abbrev pub Fits : Tables → Change → Type 0
 Fits old (Boot boot) = boot ≤ NUMBER_LIMIT
 Fits old (Require key version) =
     IsShortKey key × IsVersion version × (entry_of key old.apps ≡ None → length old.apps < APPLICATION_LIMIT)
 Fits old (Install view contents provider now) = FitsInstall old view contents provider now
+Fits old (Launch app) = FitsLaunch old app
+Fits old (Finish lease) = IsSome (lease_of lease old.leases)
+
+-- The tables make it by their own call. A launch and a finish are made by calls of their own.
+abbrev pub IsPlain : Change → Type 0
+IsPlain (Boot boot) = Unit {0}
+IsPlain (Require key version) = Unit {0}
+IsPlain (Install view contents provider now) = Unit {0}
+IsPlain (Launch app) = ⊥
+IsPlain (Finish lease) = ⊥
 
 -- what takes memory: an entry that is made, and an install
 abbrev pub TakesMemory : Tables → Change → Type 0
 TakesMemory old (Boot boot) = ⊥
 TakesMemory old (Require key version) = entry_of key old.apps ≡ None
 TakesMemory old (Install view contents provider now) = Unit {0}
+TakesMemory old (Launch app) = ⊥
+TakesMemory old (Finish lease) = ⊥
 
--- what it leaves; another boot number ends all leases
+-- what takes memory before it is made, where it is tested whether it fits: an install
+abbrev pub TestsWithMemory : Change → Type 0
+TestsWithMemory (Boot boot) = ⊥
+TestsWithMemory (Require key version) = ⊥
+TestsWithMemory (Install view contents provider now) = Unit {0}
+TestsWithMemory (Launch app) = ⊥
+TestsWithMemory (Finish lease) = ⊥
+
+-- the tables with one more lease, on that view
+abbrev pub leased : ℕ → Tables → Tables
+leased view old = record old {
+  next_lease = old.next_lease + 1;
+  leases = with_lease old.next_lease view old.leases;
+}
+
+-- What it leaves. Another boot number ends all leases. A launch leases the view that is current for
+-- the application at the place, which a change that fits has.
 abbrev pub effect : Change → Tables → Tables
 effect (Boot boot) old =
     record old { boot = boot; leases = if old.boot == boot then old.leases else [] }
@@ -82,6 +120,11 @@ effect (Install view contents provider now) old = record old {
       (installed_app view.number view.deployment provider now) old.apps;
   contents = old.contents ++ contents;
 }
+effect (Launch app) old =
+    record (leased (unwrap_or (current_at app old.apps) 0) old) {
+      apps = with_app app started_app old.apps;
+    }
+effect (Finish lease) old = record old { leases = without_lease lease old.leases }
 
 -- one change after another leads from old to new, and each fits
 abbrev pub Replays : Tables → List Change → Tables → Type 0

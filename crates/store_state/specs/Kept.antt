@@ -1,22 +1,27 @@
 -- What holds of the tables that the code has.
-use Rattle.std.specs.Prelude.{◌≡◌, ◌<◌, ◌≤◌, ℕ, List, All, AllPairs, map}
-use Rattle.small_types.specs.declared.limits.TheConstants.{FILE_COUNT_LIMIT, NUMBER_LIMIT}
+use Rattle.std.specs.Prelude.{◌≡◌, ◌<◌, ◌≤◌, ℕ, List, All, AllPairs, length, map}
+use Rattle.small_types.specs.declared.limits.TheConstants.{APPLICATION_LIMIT, FILE_COUNT_LIMIT, LEASE_LIMIT, NUMBER_LIMIT}
 use Rattle.identity.specs.Key.{key_text}
 use Rattle.machine.specs.declared.app.AppState.{AppState}
 use Rattle.machine.specs.Blocks.{standing_files}
 use Rattle.machine.specs.Entries.{AreInOrder}
+use Rattle.machine.specs.Valid.{AreNumbers}
 use Rattle.store_state.specs.Contents.{AreContentsOf}
 use Rattle.store_state.specs.Rows.{listed_files}
 use Rattle.store_state.specs.Tables.{Tables, bare_row}
 
--- Applications stand in their order, and views in that of their numbers, which are below the next one. Views list few enough
--- files. The contents are those of the program files that stand in views.
+-- Applications stand in their order, and views and leases in that of their numbers, which are below
+-- the next ones. There are few enough applications and leases, and views list few enough files. The
+-- contents are those of the program files that stand in views.
 pub record AreTables (tables : Tables) : Type 0 where
   pub order : AreInOrder tables.apps
+  pub few_apps : length tables.apps ≤ APPLICATION_LIMIT
   pub rising : AllPairs (λ (m n : ℕ). m < n) (map (λ view. view.number) tables.views)
   pub below : All (λ number. number < tables.next_view) (map (λ view. view.number) tables.views)
   pub limit : tables.next_view ≤ NUMBER_LIMIT
   pub few_files : listed_files tables.views ≤ FILE_COUNT_LIMIT
+  pub lease_numbers : AreNumbers tables.next_lease (map (λ lease. lease.number) tables.leases)
+  pub few_leases : length tables.leases ≤ LEASE_LIMIT
   pub contents : AreContentsOf (standing_files (map bare_row tables.views)) tables.contents
 
 -- the printed keys of applications, which stand in their order

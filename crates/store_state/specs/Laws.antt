@@ -1,18 +1,25 @@
 -- What is true of tables and the stores that they show.
-use Rattle.std.specs.Prelude.{◌≡◌, ◌≤◌, ℕ, List, map}
+use Rattle.std.specs.Prelude.{◌≡◌, ◌≤◌, ℕ, List, Some, is_some, map, option_and_then, option_map, slice_get}
 use Rattle.small_types.specs.declared.limits.TheConstants.{BLOCK_LIMIT}
 use Rattle.small_types.specs.declared.target.Target.{Target}
+use Rattle.identity.specs.declared.key.Key.{Key}
 use Rattle.machine.specs.Blocks.{used_blocks}
+use Rattle.machine.specs.Current.{bare_view_at, current_of, view_at}
+use Rattle.machine.specs.Entries.{AreInOrder, entry_of}
+use Rattle.machine.specs.FinishRow.{finished}
 use Rattle.machine.specs.Installed.{with_view}
+use Rattle.machine.specs.LaunchRow.{launched}
+use Rattle.machine.specs.ReadRow.{entry_named, file_named}
 use Rattle.machine.specs.Shape.{shape_of}
 use Rattle.machine.specs.Store.{Store}
 use Rattle.machine.specs.Valid.{Ordered, Valid}
 use Rattle.machine.specs.Views.{standing_entries}
 use Rattle.store_state.specs.declared.change.Change.{Change}
-use Rattle.store_state.specs.declared.change.Change.TheVariants.{Install}
+use Rattle.store_state.specs.declared.change.Change.TheVariants.{Install, Launch, Finish}
 use Rattle.store_state.specs.declared.view.Content.{Content}
 use Rattle.store_state.specs.declared.view.View.{View}
 use Rattle.store_state.specs.Change.{Fits, Replays, effect}
+use Rattle.store_state.specs.Named.{file_at}
 use Rattle.store_state.specs.Shows.{Shows, shown_data, shown_file}
 use Rattle.store_state.specs.Tables.{Tables, bare_row, empty, table_shape}
 
@@ -26,8 +33,8 @@ abbrev pub ShapesAreShown : Type 0
 ShapesAreShown = (blocks : ℕ) (tables : Tables) (image : List ℕ) (store : Store)
     → Shows blocks tables image store → shape_of store ≡ table_shape blocks tables
 
--- Tables that changes led to from the empty ones show a store within its order and its limits, where the number of blocks is
--- possible. Where its files have room, it is valid.
+-- Tables that changes led to from the empty ones show a store within its order and its limits,
+-- where the number of blocks is possible. Where its files have room, it is valid.
 pub record ShowsOrdered (blocks : ℕ) (tables : Tables) (image : List ℕ) : Type 0 where
   pub store : Store
   pub shows : Shows blocks tables image store
@@ -41,11 +48,41 @@ ChangesShowOrderedStores = (blocks : ℕ) (changes : List Change) (tables : Tabl
 
 -- an install that fits leads from tables that show a store to tables that show it with the new view
 abbrev pub InstallsShowTheView : Type 0
-InstallsShowTheView = (blocks : ℕ) (tables : Tables) (view : View) (contents : List Content) (provider : Target) (now : ℕ)
-    (image later : List ℕ) (store : Store) → Shows blocks tables image store
+InstallsShowTheView = (blocks : ℕ) (tables : Tables) (view : View) (contents : List Content)
+    (provider : Target) (now : ℕ) (image later : List ℕ) (store : Store) → Shows blocks tables image store
     → Fits tables (Install view contents provider now)
     → Shows blocks (effect (Install view contents provider now) tables) later
     (with_view provider view.base view.deployment view.application
     (map (shown_file (effect (Install view contents provider now) tables).contents)
     (standing_entries view.groups view.application))
     (map shown_data view.locals) now store)
+
+-- A launch of the application of a key leads to tables that show the store with one more lease on
+-- its current view.
+abbrev pub LaunchesShowTheLease : Type 0
+LaunchesShowTheLease = (blocks : ℕ) (tables : Tables) (key : Key) (place view : ℕ)
+    (image later : List ℕ) (store : Store) → Shows blocks tables image store
+    → AreInOrder tables.apps → slice_get tables.apps place ≡ entry_of key tables.apps
+    → current_of key tables.apps ≡ Some view
+    → Shows blocks (effect (Launch place) tables) later (launched key view store)
+
+-- a finish leads to tables that show the store without the lease
+abbrev pub FinishesShowTheRest : Type 0
+FinishesShowTheRest = (blocks : ℕ) (tables : Tables) (lease : ℕ) (image later : List ℕ)
+    (store : Store) → Shows blocks tables image store
+    → Shows blocks (effect (Finish lease) tables) later (finished lease store)
+
+-- the bytes that are found in the tables are those of the file in the view that is shown
+abbrev pub ReadsShowFiles : Type 0
+ReadsShowFiles = (blocks : ℕ) (tables : Tables) (number : ℕ) (name image : List ℕ) (store : Store)
+    → Shows blocks tables image store
+    → file_at number name tables ≡ option_and_then
+    (λ view. option_map (λ file. file.bytes) (file_named name view.program_files))
+    (view_at number store.views)
+
+-- where none are found, no program file of that name stands in the view
+abbrev pub ReadsShowNames : Type 0
+ReadsShowNames = (blocks : ℕ) (tables : Tables) (number : ℕ) (name : List ℕ)
+    → is_some (file_at number name tables) ≡ is_some (option_and_then
+    (λ view. entry_named name (standing_entries view.groups view.application))
+    (bare_view_at number (table_shape blocks tables).views))

@@ -2,6 +2,8 @@ pub mod Change
 pub mod Contents
 pub mod Kept
 pub mod Laws
+pub mod Named
+pub mod Places
 pub mod Rows
 pub mod Shows
 pub mod Signs

@@ -1,6 +1,7 @@
--- Views of the tables.
-use Rattle.std.specs.Prelude.{ℕ, ◌==◌, List, find, sum_by, length, Option, option_and_then}
+-- Views and applications of the tables, by numbers, keys and places.
+use Rattle.std.specs.Prelude.{ℕ, ◌==◌, List, find, sum_by, length, Option, option_and_then, option_map, slice_get, slice_set, unwrap_or}
 use Rattle.identity.specs.declared.key.Key.{Key}
+use Rattle.machine.specs.declared.app.AppState.{AppState}
 use Rattle.machine.specs.Current.{current_of}
 use Rattle.store_state.specs.declared.view.View.{View}
 use Rattle.store_state.specs.Tables.{Tables}
@@ -16,3 +17,14 @@ current_row key tables = option_and_then (λ number. row_at number tables.views)
 -- how many files the views list
 abbrev pub listed_files : List View → ℕ
 listed_files views = sum_by (λ view. length view.application.files) views
+
+-- ---- applications by their places, counted from 0
+
+-- the number of the view that is current for the application at the place
+abbrev pub current_at : ℕ → List AppState → Option ℕ
+current_at place apps = option_and_then (λ app. app.current) (slice_get apps place)
+
+-- the applications once that at the place is what f makes of it
+abbrev pub with_app : ℕ → (AppState → AppState) → List AppState → List AppState
+with_app place f apps =
+    unwrap_or (option_map (λ app. slice_set apps place (f app)) (slice_get apps place)) apps

@@ -44,8 +44,8 @@ shown_store blocks tables = record {
   apps = tables.apps;
 }
 
--- Each program file that stands has its content, and each data file as many bytes as its length says. The bytes stand in
--- the tables themselves, so nothing is read in the image.
+-- Each program file that stands has its content, and each data file as many bytes as its length
+-- says. The bytes stand in the tables themselves, so nothing is read in the image.
 pub record Shows (blocks : ℕ) (tables : Tables) (image : List ℕ) (store : Store) : Type 0 where
   pub is : store ≡ shown_store blocks tables
   pub held : All (λ view. All (λ entry. IsSome (content_of tables.contents entry))

@@ -32,8 +32,8 @@ pub record IsIndex (signs index : List Sign) : Type 0 where
   pub sorted : IsSorted sign_cmp index
   pub same : IsPermutation signs index
 
--- the signs of files that stand are those of contents that are held or brought, and no sign is brought that is held, twice,
--- or of no file
+-- the signs of files that stand are those of contents that are held or brought, and no sign is
+-- brought that is held, twice, or of no file
 pub record Agree (held standing brought : List Sign) : Type 0 where
   pub once : AllPairs (λ (a b : Sign). a ≢ b) brought
   pub each : All (λ sign. Contains held sign ⊎ Contains brought sign) standing

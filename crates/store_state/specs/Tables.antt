@@ -7,8 +7,9 @@ use Rattle.store_state.specs.declared.view.Content.{Content}
 use Rattle.store_state.specs.declared.view.LocalFile.{LocalFile}
 use Rattle.store_state.specs.declared.view.View.{View}
 
--- The number of the last boot; the numbers that the next view and the next lease get; leases and views in order of their
--- numbers; applications in order of their printed keys; and the contents of the program files that stand in views.
+-- The number of the last boot; the numbers that the next view and the next lease get; leases and
+-- views in order of their numbers; applications in order of their printed keys; and the contents of
+-- the program files that stand in views.
 pub record Tables : Type 0 where
   pub boot : ℕ
   pub next_view : ℕ

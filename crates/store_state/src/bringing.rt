@@ -6,10 +6,10 @@ ghost use Rattle.std.specs.declared.cmp.Ordering.TheVariants.{Less};
 ghost use Rattle.machine.specs.Views.{standing_entries, stands_by};
 ghost use Rattle.store_state.specs.declared.sign.Sign.{Sign};
 ghost use Rattle.store_state.specs.Contents.{IsMeasured};
-ghost use Rattle.store_state.specs.Signs.{Agree, entry_sign, sign_cmp};
+ghost use Rattle.store_state.specs.Signs.{Agree, content_sign, entry_sign, sign_cmp};
 
 use crate::sign::{Sign, has_sign, sign_order};
-use crate::{Content, StateFault, View};
+use crate::{Content, StateFault, StoreState, View};
 use manifests::FileEntry;
 use small_types::{Duplicate, Text};
 use std::alloc::Global;
@@ -55,7 +55,7 @@ fn stands_by(groups: &[Text], group: &Option<Text>) -> bool
 }
 
 // Whether the file is a program file that stands.
-fn stands(groups: &[Text], entry: &FileEntry) -> bool
+pub(crate) fn stands(groups: &[Text], entry: &FileEntry) -> bool
     ensures { result ≡ (not entry.now.local && stands_by groups.now entry.now.group) }
 {
     !entry.local && stands_by(groups, &entry.group)
@@ -116,23 +116,30 @@ fn is_among(signs: &[Sign], sign: &Sign) -> bool
     has_sign(signs, sign.size, sign.list.as_slice())
 }
 
-// Whether the sign is among the one or the other.
-fn is_among_either(held: &[Sign], brought: &[Sign], sign: &Sign) -> bool
-    requires held { IsSorted sign_cmp held.now }
-    requires brought { IsSorted sign_cmp brought.now }
-    ensures { IsTrue result ↔ (Contains held.now sign.now ⊎ Contains brought.now sign.now) }
+// Whether a content of the tables has the sign.
+fn is_held(state: &StoreState, sign: &Sign) -> bool
+    ensures { IsTrue result ↔ Contains (map content_sign state.now.contents) sign.now }
 {
-    is_among(held, sign) || is_among(brought, sign)
+    state.has_content(sign.size, sign.list.as_slice())
+}
+
+// Whether the sign is held or brought.
+fn is_held_or_brought(state: &StoreState, brought: &[Sign], sign: &Sign) -> bool
+    requires { IsSorted sign_cmp brought.now }
+    ensures { IsTrue result ↔ (Contains (map content_sign state.now.contents) sign.now
+        ⊎ Contains brought.now sign.now) }
+{
+    is_held(state, sign) || is_among(brought, sign)
 }
 
 // Whether each standing sign is held or brought.
-fn is_each(held: &[Sign], standing: &[Sign], brought: &[Sign]) -> bool
-    requires held { IsSorted sign_cmp held.now }
-    requires brought { IsSorted sign_cmp brought.now }
-    ensures { IsTrue result ↔ All (λ sign. Contains held.now sign ⊎ Contains brought.now sign) standing.now }
+fn is_each(state: &StoreState, standing: &[Sign], brought: &[Sign]) -> bool
+    requires { IsSorted sign_cmp brought.now }
+    ensures { IsTrue result ↔ All (λ sign. Contains (map content_sign state.now.contents) sign
+        ⊎ Contains brought.now sign) standing.now }
 {
     for sign in standing {
-        if !is_among_either(held, brought, sign) {
+        if !is_held_or_brought(state, brought, sign) {
             return false;
         }
     }
@@ -153,12 +160,12 @@ fn is_only(standing: &[Sign], brought: &[Sign]) -> bool
 }
 
 // Whether no sign that is brought is held.
-fn is_lacking(held: &[Sign], brought: &[Sign]) -> bool
-    requires { IsSorted sign_cmp held.now }
-    ensures { IsTrue result ↔ All (λ sign. ¬ Contains held.now sign) brought.now }
+fn is_lacking(state: &StoreState, brought: &[Sign]) -> bool
+    ensures { IsTrue result
+        ↔ All (λ sign. ¬ Contains (map content_sign state.now.contents) sign) brought.now }
 {
     for sign in brought {
-        if is_among(held, sign) {
+        if is_held(state, sign) {
             return false;
         }
     }
@@ -166,16 +173,15 @@ fn is_lacking(held: &[Sign], brought: &[Sign]) -> bool
 }
 
 // Whether exactly the signs are brought that stand and are not held, each once.
-pub(crate) fn agree(held: &[Sign], standing: &[Sign], brought: &[Sign]) -> bool
-    requires held { IsSorted sign_cmp held.now }
+pub(crate) fn agree(state: &StoreState, standing: &[Sign], brought: &[Sign]) -> bool
     requires standing { IsSorted sign_cmp standing.now }
     requires brought { IsSorted sign_cmp brought.now }
-    ensures { IsTrue result ↔ Agree held.now standing.now brought.now }
+    ensures { IsTrue result ↔ Agree (map content_sign state.now.contents) standing.now brought.now }
 {
     let once = are_distinct(brought);
-    let each = is_each(held, standing, brought);
+    let each = is_each(state, standing, brought);
     let only = is_only(standing, brought);
-    let lacking = is_lacking(held, brought);
+    let lacking = is_lacking(state, brought);
     are_all(once, each, only, lacking)
 }
 

@@ -15,12 +15,21 @@ pub enum Change {
         key: Key,
         version: Version,
     },
-    /// A view that becomes the current one of its application, the contents that it brings, the address that updates come
-    /// from, and the moment in seconds.
+    /// A view that becomes the current one of its application, the contents that it brings, the
+    /// address that updates come from, and the moment in seconds.
     Install {
         view: View,
         contents: List<Content>,
         provider: Target,
         now: u64,
+    },
+    /// A new lease on the current view of the application at the place, counted from 0, which is
+    /// then not checked.
+    Launch {
+        app: u32,
+    },
+    /// The lease of that number is gone.
+    Finish {
+        lease: u64,
     },
 }

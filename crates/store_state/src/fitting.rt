@@ -1,30 +1,36 @@
 // Which changes fit the tables.
-ghost use Rattle.std.specs.Prelude.{◌≡◌, ◌↔◌, ◌+◌, ◌<◌, ◌≤◌, length, List, [], None, IsTrue, IfOk};
+ghost use Rattle.std.specs.Prelude.{◌≡◌, ◌↔◌, ◌+◌, ◌<◌, ◌≤◌, length, List, [], None, IsSome, IsTrue, IfOk, OnErr};
 ghost use Rattle.small_types.specs.declared.limits.TheConstants as limits;
 ghost use Rattle.identity.specs.Version.{IsVersion};
 ghost use Rattle.machine.specs.Entries.{entry_of};
 ghost use Rattle.machine.specs.Fields.{IsShortKey, IsTarget};
 ghost use Rattle.machine.specs.Views.{standing_entries};
-ghost use Rattle.store_state.specs.Change.{Fits, FitsInstall};
+ghost use Rattle.store_state.specs.Change.{Fits, FitsInstall, FitsLaunch, TestsWithMemory};
 ghost use Rattle.store_state.specs.Contents.{Brings};
-ghost use Rattle.store_state.specs.Rows.{listed_files};
+ghost use Rattle.store_state.specs.Rows.{current_at, listed_files};
 
 use crate::bringing::{agree, are_measured, standing_signs};
 use crate::fields::{is_row, is_short_key, is_target};
 use crate::sign::{signs_of, sort_signs};
 use crate::{Change, Content, StateFault, StoreState, View};
 use identity::{Key, Version};
-use small_types::limits::{APPLICATION_LIMIT, FILE_COUNT_LIMIT, NUMBER_LIMIT, VIEW_LIMIT};
+use small_types::limits::{
+    APPLICATION_LIMIT, FILE_COUNT_LIMIT, LEASE_LIMIT, NUMBER_LIMIT, VIEW_LIMIT,
+};
 use small_types::{List, Target};
 use std::alloc::Global;
 
 impl StoreState {
-    /// Whether the change may be made: a boot number is at most 2 ^ 62, a key's parts are within their limits (one may
-    /// be empty), and a new application finds fewer than 256. The view that an install brings has the next number and
-    /// manifests that can be read, no group of it stands yet, and its contents are exactly those that the tables lack; views
-    /// and their files are not too many. It takes memory for an install alone.
+    /// Whether the change may be made: a boot number is at most 2 ^ 62, a key's parts are within
+    /// their limits (one may be empty), and a new application finds fewer than 256. The view that
+    /// an install brings has the next number and manifests that can be read, no group of it stands
+    /// yet, and its contents are exactly those that the tables lack; views and their files are not
+    /// too many. A launch names the place of an application with a current view, and finds fewer
+    /// than 1,024 leases and a next number below 2 ^ 62; a finish names a lease. It takes memory
+    /// for an install alone.
     pub fn fits(&self, alloc: Global, change: &Change) -> Result<bool, StateFault>
-        ensures { IfOk result (λ answer. IsTrue answer ↔ Fits self.now change.now) }
+        ensures answer { IfOk result (λ answer. IsTrue answer ↔ Fits self.now change.now) }
+        ensures memory { OnErr result (TestsWithMemory change.now) }
     {
         match change {
             Change::Boot { boot } => Ok(*boot <= NUMBER_LIMIT),
@@ -35,6 +41,27 @@ impl StoreState {
                 provider,
                 now,
             } => self.fits_install(alloc, view, contents, provider, *now),
+            Change::Launch { app } => Ok(self.fits_launch(*app as usize)),
+            Change::Finish { lease } => Ok(self.lease(*lease).is_some()),
+        }
+    }
+
+    // Whether a lease may be had on the current view of the application at the place.
+    fn fits_launch(&self, place: usize) -> bool
+        ensures { IsTrue result ↔ FitsLaunch self.now place }
+    {
+        self.is_installed(place)
+            && self.leases.as_slice().len() < LEASE_LIMIT
+            && self.next_lease < NUMBER_LIMIT
+    }
+
+    // Whether an application stands at the place and has a current view.
+    fn is_installed(&self, place: usize) -> bool
+        ensures { IsTrue result ↔ IsSome (current_at place self.now.apps) }
+    {
+        match self.apps.as_slice().get(place) {
+            Some(app) => app.current.is_some(),
+            None => false,
         }
     }
 
@@ -110,11 +137,7 @@ impl StoreState {
         sort_signs(&mut brought);
         let mut standing = standing_signs(alloc, view)?;
         sort_signs(&mut standing);
-        Ok(agree(
-            self.index.as_slice(),
-            standing.as_slice(),
-            brought.as_slice(),
-        ))
+        Ok(agree(self, standing.as_slice(), brought.as_slice()))
     }
 }
 

@@ -107,7 +107,8 @@ fn installed_entry(key: Key, view: &View, provider: Target, now: u64) -> AppStat
     app
 }
 
-// The view becomes the current one of its application, which gets an entry where it has none. An `Err` changes nothing.
+// The view becomes the current one of its application, which gets an entry where it has none. An
+// `Err` changes nothing.
 pub(crate) fn install_app(
     alloc: Global,
     keys: &mut List<Text>,
@@ -161,25 +162,53 @@ fn append<T: Drop>(alloc: Global, list: &mut List<T>, more: List<T>) -> Result<(
     }
 }
 
-// Adds the view and the contents, both or neither.
-pub(crate) fn add_rows(
+// Adds the view and its index, both or neither.
+fn add_view(
     alloc: Global,
     views: &mut List<View>,
-    contents: &mut List<Content>,
+    names: &mut List<List<usize>>,
     view: View,
-    new: List<Content>,
+    index: List<usize>,
 ) -> Result<(), StateFault>
     ensures views { OnOk result (views.new ≡ views.old ++ view ∷ []) }
-    ensures contents { OnOk result (contents.new ≡ contents.old ++ new) }
+    ensures names { OnOk result (names.new ≡ names.old ++ index ∷ []) }
     ensures same_views { OnErr result (views.new ≡ views.old) }
-    ensures same_contents { OnErr result (contents.new ≡ contents.old) }
+    ensures same_names { OnErr result (names.new ≡ names.old) }
 {
     let count = views.as_slice().len();
     let Ok(()) = views.push(view) else {
         return Err(StateFault::Memory);
     };
+    let Ok(()) = names.push(index) else {
+        cut(alloc, views, count);
+        return Err(StateFault::Memory);
+    };
+    Ok(())
+}
+
+// Adds the view with its index and the contents, all or nothing.
+pub(crate) fn add_rows(
+    alloc: Global,
+    views: &mut List<View>,
+    names: &mut List<List<usize>>,
+    contents: &mut List<Content>,
+    view: View,
+    index: List<usize>,
+    new: List<Content>,
+) -> Result<(), StateFault>
+    requires { length names.old ≡ length views.old }
+    ensures views { OnOk result (views.new ≡ views.old ++ view ∷ []) }
+    ensures names { OnOk result (names.new ≡ names.old ++ index ∷ []) }
+    ensures contents { OnOk result (contents.new ≡ contents.old ++ new) }
+    ensures same_views { OnErr result (views.new ≡ views.old) }
+    ensures same_names { OnErr result (names.new ≡ names.old) }
+    ensures same_contents { OnErr result (contents.new ≡ contents.old) }
+{
+    let count = views.as_slice().len();
+    add_view(alloc, views, names, view, index)?;
     let Ok(()) = append(alloc, contents, new) else {
         cut(alloc, views, count);
+        cut(alloc, names, count);
         return Err(StateFault::Memory);
     };
     Ok(())

@@ -11,7 +11,8 @@ pub fn shapes_are_shown()
     ensures { laws.ShapesAreShown }
 {}
 
-/// Tables that changes led to from the empty ones show a store in its order, which is valid where its files have room.
+/// Tables that changes led to from the empty ones show a store in its order, which is valid where
+/// its files have room.
 pub fn changes_show_ordered_stores()
     ensures { laws.ChangesShowOrderedStores }
 {}
@@ -19,4 +20,21 @@ pub fn changes_show_ordered_stores()
 /// An install that fits leads to tables that show the store with the new view.
 pub fn installs_show_the_view()
     ensures { laws.InstallsShowTheView }
+{}
+
+/// A launch leads to tables that show the store with one more lease, on the application's current
+/// view.
+pub fn launches_show_the_lease()
+    ensures { laws.LaunchesShowTheLease }
+{}
+
+/// A finish leads to tables that show the store without the lease.
+pub fn finishes_show_the_rest()
+    ensures { laws.FinishesShowTheRest }
+{}
+
+/// What is found in the tables by a name is the file of that name in the view that they show.
+pub fn reads_show_files()
+    ensures bytes { laws.ReadsShowFiles }
+    ensures names { laws.ReadsShowNames }
 {}

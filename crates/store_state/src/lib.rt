@@ -1,4 +1,5 @@
-//! The tables of a client's store, the changes of them that a journal keeps, and the store that they show.
+//! The tables of a client's store, the changes of them that a journal keeps, and the store that
+//! they show.
 #![tactic(auto)]
 
 mod bringing;
@@ -6,9 +7,14 @@ mod change;
 mod contents;
 mod entries;
 mod fields;
+mod finding;
 mod fitting;
 mod installing;
 mod laws;
+mod lease_list;
+mod leasing;
+mod names;
+mod numbers;
 mod reading;
 mod sign;
 mod state;
@@ -17,10 +23,9 @@ mod views;
 
 pub use change::Change;
 pub use laws::{
-    changes_show_ordered_stores, installs_show_the_view, one_store_is_shown, shapes_are_shown,
+    changes_show_ordered_stores, finishes_show_the_rest, installs_show_the_view,
+    launches_show_the_lease, one_store_is_shown, reads_show_files, shapes_are_shown,
 };
+pub use lease_list::LeaseList;
 pub use state::{StateFault, StoreState};
 pub use view::{Content, LocalFile, View};
-
-#[cfg(test)]
-mod tests;

@@ -1,25 +1,26 @@
 // What is read in the tables. None of it takes memory.
-ghost use Rattle.std.specs.Prelude.{◌≡◌, ◌↔◌, ◌<◌, ◌≤◌, ◌-◌, ◌^◌, ℕ, length, map, min, option_map, IsTrue};
+ghost use Rattle.std.specs.Prelude.{◌≡◌, ◌↔◌, ◌<◌, ◌≤◌, ◌-◌, ◌^◌, ℕ, length, map, min, option_map, slice_get, IfNone, IfSome, IsTrue, None};
 ghost use Rattle.std.specs.Option.{option_copied};
-ghost use Rattle.machine.specs.Blocks.{free_blocks, standing_files, used_blocks};
+ghost use Rattle.small_types.specs.declared.limits.TheConstants as limits;
+ghost use Rattle.machine.specs.Blocks.{free_blocks, used_blocks};
 ghost use Rattle.machine.specs.Current.{current_bare};
 ghost use Rattle.machine.specs.Entries.{entry_of};
-ghost use Rattle.machine.specs.Wanted.{is_held};
+ghost use Rattle.machine.specs.Leases.{lease_of};
 ghost use Rattle.store_state.specs.Kept.{AreTables};
 ghost use Rattle.store_state.specs.Rows.{current_row, listed_files, row_at};
 ghost use Rattle.store_state.specs.Tables.{bare_row, table_shape};
 
 use crate::contents::sum_blocks;
 use crate::entries::place_of;
-use crate::sign::has_sign;
+use crate::lease_list::find_lease;
 use crate::views::{add_views, find_view, sum_files};
 use crate::{StoreState, View};
 use identity::Key;
-use machine::AppState;
-use manifests::FileEntry;
+use machine::{AppState, Lease};
 
 impl StoreState {
-    /// The tables are in their order and within their limits, and their contents are those of the program files that stand.
+    /// The tables are in their order and within their limits, and their contents are those of the
+    /// program files that stand.
     pub fn are_tables(&self)
         ensures { AreTables self.now }
     {
@@ -57,6 +58,24 @@ impl StoreState {
         }
     }
 
+    /// The place of the application with that key, counted from 0, where it has an entry. It is
+    /// below 256.
+    pub fn place(&self, key: &Key) -> Option<usize>
+        ensures found { IfSome result (λ place. (place < length self.now.apps)
+            × (slice_get self.now.apps place ≡ entry_of key.now self.now.apps)) }
+        ensures few { IfSome result (λ place. place < limits.APPLICATION_LIMIT) }
+        ensures none { IfNone result (entry_of key.now self.now.apps ≡ None) }
+    {
+        place_of(self.keys.as_slice(), key).ok()
+    }
+
+    /// The lease of that number.
+    pub fn lease(&self, number: u64) -> Option<Lease>
+        ensures { result ≡ lease_of number self.now.leases }
+    {
+        find_lease(self.leases.as_slice(), number)
+    }
+
     /// The view of that number.
     pub fn view(&self, number: u64) -> Option<&View>
         ensures { option_copied result ≡ row_at number self.now.views }
@@ -86,15 +105,8 @@ impl StoreState {
         self.view(number)
     }
 
-    /// Whether a program file with that content stands in a view.
-    pub fn holds(&self, entry: &FileEntry) -> bool
-        ensures { result ≡ is_held (standing_files (map bare_row self.now.views)) entry.now }
-    {
-        has_sign(self.index.as_slice(), entry.size, entry.list.as_slice())
-    }
-
-    /// How many blocks files take, as far as a number goes: those of each content of a program file that stands in a view,
-    /// and of each data file.
+    /// How many blocks files take, as far as a number goes: those of each content of a program file
+    /// that stands in a view, and of each data file.
     pub fn used_blocks(&self) -> u64
         ensures { result ≡ min (used_blocks (map bare_row self.now.views)) (2 ^ 64 - 1) }
     {

@@ -1,9 +1,13 @@
 // What contents are known by, and the indexes in which they are found.
-ghost use Rattle.std.specs.Prelude.{◌≡◌, ◌↔◌, ◌+◌, ◌≤◌, ◌++◌, length, map, vec_capacity, vec_len, Contains, IsTrue, IfOk};
+ghost use Rattle.std.specs.Prelude.{◌≡◌, ◌↔◌, ◌+◌, ◌-◌, ◌<◌, ◌≤◌, ◌++◌, length, map, slice_get, vec_capacity, vec_len, Contains, Some, IfOk, IfSome, IsTrue};
 ghost use Rattle.std.specs.Cmp.Lexicographic.{slice_cmp};
-ghost use Rattle.std.specs.List.Sorted.{IsBinarySearchResult, IsSearchInRange, IsSorted};
+ghost use Rattle.std.specs.List.{range_with_len};
+ghost use Rattle.std.specs.List.Sorted.{IsBinarySearchResult, IsPermutation, IsSearchInRange, IsSorted};
+ghost use Rattle.std.specs.Option.{option_cmp};
+ghost use Rattle.store_state.specs.Places.{ArePlaces, AreSorted, IsPlaceOf};
 ghost use Rattle.store_state.specs.Signs.{IsIndex, content_sign, digest_cmp, sign_cmp};
 
+use crate::numbers::push_numbers;
 use crate::{Content, StateFault};
 use digest_list::{Digest, DigestList};
 use manifests::FileEntry;
@@ -42,20 +46,29 @@ fn digests_order(a: &[Digest], b: &[Digest]) -> Ordering
     a.len().cmp(&b.len())
 }
 
+// How a size and digests compare with others.
+fn key_order(size: u64, list: &[Digest], other: u64, digests: &[Digest]) -> Ordering
+    ensures { result ≡ sign_cmp (record { size = size; list = list.now })
+        (record { size = other; list = digests.now }) }
+{
+    match size.cmp(&other) {
+        Ordering::Equal => digests_order(list, digests),
+        order => order,
+    }
+}
+
 // How a sign compares with a size and digests.
 pub(crate) fn sign_order(sign: &Sign, size: u64, list: &[Digest]) -> Ordering
     ensures { result ≡ sign_cmp sign.now (record { size = size; list = list.now }) }
 {
-    match sign.size.cmp(&size) {
-        Ordering::Equal => digests_order(sign.list.as_slice(), list),
-        order => order,
-    }
+    key_order(sign.size, sign.list.as_slice(), size, list)
 }
 
 // Where the size and the digests stand among signs in order, or where they would go.
 fn place_of_sign(signs: &[Sign], size: u64, list: &[Digest]) -> Result<usize, usize>
     ensures range { IsSearchInRange result (length signs.now) }
-    ensures found { IsBinarySearchResult (λ sign. sign_cmp sign (record { size = size; list = list.now })) signs.now result }
+    ensures found { IsBinarySearchResult (λ sign. sign_cmp sign
+        (record { size = size; list = list.now })) signs.now result }
 {
     signs.binary_search_by(|sign| sign_order(sign, size, list))
 }
@@ -96,12 +109,86 @@ pub(crate) fn sort_signs(signs: &mut Vec<Sign>)
     signs.sort_unstable_by(|a, b| sign_order(a, b.size, b.list.as_slice()));
 }
 
-// Adds signs to those in order, for which there is room.
-pub(crate) fn add_signs(index: &mut Vec<Sign>, more: Vec<Sign>)
-    requires { vec_len index.old + vec_len more ≤ vec_capacity index.old }
-    ensures { IsIndex (index.old.items ++ more.items) index.new.items }
+// ---- the index of contents
+
+// How the content at the place compares with a size and digests. Where there is no content, it is
+// below.
+fn content_order(contents: &[Content], place: usize, size: u64, list: &[Digest]) -> Ordering
+    ensures { result ≡ option_cmp sign_cmp (slice_get (map content_sign contents.now) place)
+        (Some (record { size = size; list = list.now })) }
 {
-    let mut more = more;
-    let _added = index.append(&mut more);
-    sort_signs(index);
+    match contents.get(place) {
+        Some(content) => key_order(content.size, content.list.as_slice(), size, list),
+        None => Ordering::Less,
+    }
+}
+
+// How the contents at two places compare.
+fn contents_order(contents: &[Content], a: usize, b: usize) -> Ordering
+    ensures { result ≡ option_cmp sign_cmp (slice_get (map content_sign contents.now) a)
+        (slice_get (map content_sign contents.now) b) }
+{
+    match contents.get(b) {
+        Some(content) => content_order(contents, a, content.size, content.list.as_slice()),
+        None => {
+            if a < contents.len() {
+                Ordering::Greater
+            } else {
+                Ordering::Equal
+            }
+        }
+    }
+}
+
+// The places in the order of the contents there.
+fn sort_contents(contents: &[Content], places: &mut Vec<usize>)
+    ensures sorted { AreSorted sign_cmp (map content_sign contents.now) places.new.items }
+    ensures same { IsPermutation places.old.items places.new.items }
+{
+    places.sort_unstable_by(|a, b| contents_order(contents, *a, *b));
+}
+
+// Adds the places of the contents behind the first ones to their index, which has room.
+pub(crate) fn add_places(contents: &[Content], index: &mut Vec<usize>, held: usize)
+    requires order { held ≤ length contents.now }
+    requires room { vec_len index.old + (length contents.now - held) ≤ vec_capacity index.old }
+    ensures sorted { AreSorted sign_cmp (map content_sign contents.now) index.new.items }
+    ensures same { IsPermutation (index.old.items
+        ++ range_with_len held (length contents.now - held)) index.new.items }
+{
+    push_numbers(index, held, contents.len());
+    sort_contents(contents, index);
+}
+
+// Where the search for the size and the digests in the index ends.
+fn search_content(
+    contents: &[Content],
+    index: &[usize],
+    size: u64,
+    list: &[Digest],
+) -> Result<usize, usize>
+    ensures range { IsSearchInRange result (length index.now) }
+    ensures found { IsBinarySearchResult (λ place. option_cmp sign_cmp
+        (slice_get (map content_sign contents.now) place)
+        (Some (record { size = size; list = list.now }))) index.now result }
+{
+    index.binary_search_by(|place| content_order(contents, *place, size, list))
+}
+
+// The place of the content of that size and those digests.
+pub(crate) fn place_of_content(
+    contents: &[Content],
+    index: &[usize],
+    size: u64,
+    list: &[Digest],
+) -> Option<usize>
+    requires { ArePlaces sign_cmp (map content_sign contents.now) index.now }
+    ensures found { IsPlaceOf (map content_sign contents.now)
+        (record { size = size; list = list.now }) result }
+    ensures within { IfSome result (λ place. place < length contents.now) }
+{
+    match search_content(contents, index, size, list) {
+        Ok(at) => Some(index[at]),
+        Err(_) => None,
+    }
 }

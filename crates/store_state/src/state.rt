@@ -1,18 +1,20 @@
 // The tables in memory.
-ghost use Rattle.std.specs.Prelude.{◌≡◌, length, Ok, None, OnOk, OnErr};
+ghost use Rattle.std.specs.Prelude.{◌≡◌, ◌<◌, length, None, IfOk, OnOk, OnErr};
+ghost use Rattle.small_types.specs.declared.limits.TheConstants as limits;
 ghost use Rattle.machine.specs.Entries.{entry_of, with_entry};
 ghost use Rattle.machine.specs.Installed.{installed_app};
 ghost use Rattle.machine.specs.RequireRow.{required};
 ghost use Rattle.store_state.specs.declared.change.Change.TheVariants as change;
-ghost use Rattle.store_state.specs.Change.{Fits, TakesMemory, effect};
+ghost use Rattle.store_state.specs.Change.{Fits, IsPlain, TakesMemory, effect};
 ghost use Rattle.store_state.specs.Tables.{empty};
 
 use crate::entries::{insert_both, new_entry, place_of, raise_at};
 use crate::installing::{add_rows, cut, install_app};
-use crate::sign::{Sign, add_signs, signs_of};
-use crate::{Change, Content, View};
+use crate::names::index_names;
+use crate::sign::add_places;
+use crate::{Change, Content, LeaseList, View};
 use identity::{Key, Version};
-use machine::{AppState, Lease};
+use machine::AppState;
 use small_types::{CopyFault, List, PrintFault, Target, Text};
 use std::alloc::{AllocError, AllocFailed, Global};
 use std::marker::Model;
@@ -57,7 +59,7 @@ pub struct StoreState {
     /// The number of the next lease.
     pub next_lease: u64,
     /// The leases, in order of their numbers.
-    pub leases: List<Lease>,
+    pub leases: LeaseList,
     /// The views, in order of their numbers.
     pub views: List<View>,
     /// The applications, in order of their printed keys.
@@ -66,15 +68,19 @@ pub struct StoreState {
     pub contents: List<Content>,
     // The printed keys of the applications, by which one is found.
     pub(crate) keys: List<Text>,
-    // The signs of the contents in order, by which one is found.
-    pub(crate) index: Vec<Sign>,
+    // The places of the contents in the order of their signs, by which one is found.
+    pub(crate) index: Vec<usize>,
+    // Of each view the places of its files in the order of their names.
+    pub(crate) names: List<List<usize>>,
 }
 
 impl Model for StoreState {
     ghost use Rattle.std.specs.Prelude.{◌≡◌, map};
     ghost use Rattle.identity.specs.Key.{key_text};
     ghost use Rattle.store_state.specs.Kept.{AreTables};
-    ghost use Rattle.store_state.specs.Signs.{IsIndex, content_sign};
+    ghost use Rattle.store_state.specs.Named.{AreNameIndexes};
+    ghost use Rattle.store_state.specs.Places.{ArePlaces};
+    ghost use Rattle.store_state.specs.Signs.{content_sign, sign_cmp};
     ghost use Rattle.store_state.specs.Tables.{Tables};
 
     ghost Value = { Tables };
@@ -97,39 +103,44 @@ impl Model for StoreState {
       views = s.views;
       apps = s.apps;
       contents = s.contents;
-    }) × IsIndex (map content_sign s.contents) s.index.items };
+    }) × ArePlaces sign_cmp (map content_sign s.contents) s.index.items
+        × AreNameIndexes s.views s.names };
 }
 
 impl StoreState {
-    /// The tables of the empty store: boot number 0, the next numbers 1, and nothing else. It takes no memory, and does not
-    /// fail.
+    /// The tables of the empty store: boot number 0, the next numbers 1, and nothing else. The room
+    /// for all leases is made with them; it fails only for want of memory.
     pub fn empty(alloc: Global) -> Result<StoreState, StateFault>
-        ensures { result ≡ Ok empty }
+        ensures { IfOk result (λ state. state ≡ empty) }
     {
+        let leases = LeaseList::empty(alloc)?;
         Ok(StoreState {
             boot: 0,
             next_view: 1,
             next_lease: 1,
-            leases: List::from_vec(Vec::new(alloc)),
+            leases,
             views: List::from_vec(Vec::new(alloc)),
             apps: List::from_vec(Vec::new(alloc)),
             contents: List::from_vec(Vec::new(alloc)),
             keys: List::from_vec(Vec::new(alloc)),
             index: Vec::new(alloc),
+            names: List::from_vec(Vec::new(alloc)),
         })
     }
 
-    /// Makes a change that fits the tables. It takes memory only for a new entry and for an install, fails only for want of
-    /// it, and then changes nothing.
+    /// Makes a change that fits the tables and is neither a launch nor a finish. It takes memory
+    /// only for a new entry and for an install, fails only for want of it, and then changes
+    /// nothing.
     pub fn apply(&mut self, alloc: Global, change: Change) -> Result<(), StateFault>
-        requires { Fits self.old change }
+        requires fits { Fits self.old change }
+        requires plain { IsPlain change }
         ensures ok { OnOk result (self.new ≡ effect change self.old) }
         ensures err { OnErr result (self.new ≡ self.old) }
         ensures memory { OnErr result (TakesMemory self.old change) }
     {
         match change {
             Change::Boot { boot } => {
-                self.set_boot(alloc, boot);
+                self.set_boot(boot);
                 Ok(())
             }
             Change::Require { key, version } => self.require(alloc, key, version),
@@ -139,21 +150,24 @@ impl StoreState {
                 provider,
                 now,
             } => self.install(alloc, view, contents, provider, now),
+            Change::Launch { .. } | Change::Finish { .. } => unreachable!(),
         }
     }
 
     // Another boot number than before ends all leases.
-    fn set_boot(&mut self, alloc: Global, boot: u64)
+    fn set_boot(&mut self, boot: u64)
         ensures { self.new ≡ effect (change.Boot boot) self.old }
     {
         if self.boot != boot {
             self.boot = boot;
-            self.leases = List::from_vec(Vec::new(alloc));
+            self.leases.clear();
         }
     }
 
-    // Raises the minimum of the application, which has an entry from then on. An `Err` changes nothing.
+    // Raises the minimum of the application, which has an entry from then on. An `Err` changes
+    // nothing.
     fn require(&mut self, alloc: Global, key: Key, version: Version) -> Result<(), StateFault>
+        requires { entry_of key self.old.apps ≡ None → length self.old.apps < limits.APPLICATION_LIMIT }
         ensures ok { OnOk result (self.new ≡ record self.old { apps = required key version self.old.apps }) }
         ensures err { OnErr result (self.new ≡ self.old) }
         ensures memory { OnErr result (entry_of key self.old.apps ≡ None) }
@@ -172,7 +186,8 @@ impl StoreState {
         }
     }
 
-    // Adds the view with its contents, as the current one of its application. An `Err` changes nothing.
+    // Adds the view with its contents, as the current one of its application. An `Err` changes
+    // nothing.
     fn install(
         &mut self,
         alloc: Global,
@@ -185,19 +200,28 @@ impl StoreState {
         ensures ok { OnOk result (self.new ≡ effect (change.Install view contents provider now) self.old) }
         ensures err { OnErr result (self.new ≡ self.old) }
     {
-        let more = signs_of(alloc, contents.as_slice())?;
-        self.index.reserve(more.len())?;
         let count = self.views.as_slice().len();
         let held = self.contents.as_slice().len();
-        add_rows(alloc, &mut self.views, &mut self.contents, view, contents)?;
+        let names = index_names(alloc, view.application.files.as_slice())?;
+        self.index.reserve(contents.as_slice().len())?;
+        add_rows(
+            alloc,
+            &mut self.views,
+            &mut self.names,
+            &mut self.contents,
+            view,
+            names,
+            contents,
+        )?;
         let added = &self.views.as_slice()[count];
         let done = install_app(alloc, &mut self.keys, &mut self.apps, added, provider, now);
         if let Err(fault) = done {
             cut(alloc, &mut self.views, count);
+            cut(alloc, &mut self.names, count);
             cut(alloc, &mut self.contents, held);
             return Err(fault);
         }
-        add_signs(&mut self.index, more);
+        add_places(self.contents.as_slice(), &mut self.index, held);
         self.next_view += 1;
         Ok(())
     }

@@ -11,7 +11,7 @@ use crate::{LocalFile, View};
 use small_types::limits::BLOCK_SIZE;
 
 // Where the view of that number stands among views in order, or where it would go.
-fn place_of_view(views: &[View], number: u64) -> Result<usize, usize>
+pub(crate) fn place_of_view(views: &[View], number: u64) -> Result<usize, usize>
     ensures range { IsSearchInRange result (length views.now) }
     ensures found { IsBinarySearchResult (λ view. nat_cmp view.number number) views.now result }
 {

@@ -1,13 +1,30 @@
-use Rattle.std.proofs.Common.{◌⊎◌, Contains, arith, refl}
+use Rattle.std.proofs.Common.{◌⊎◌, Contains, arith, map, refl}
 use Rattle.store_state.specs.declared.sign.Sign.{Sign}
+use Rattle.store_state.specs.Signs.{content_sign}
 use Rattle.store_state.proofs.Passing.{all_ended, all_more, all_refuted}
 use Rattle.store_state.proofs.bringing.is_each.Goals as goal
 
-pub returns-then-not-is_among_either : goal.returns-then-not-is_among_either
-returns-then-not-is_among_either c = (λ no. absurd cc, λ all. absurd (all_refuted (λ (sign : Sign). Contains c.args.held.now sign ⊎ Contains c.args.brought.now sign) c.args.standing.now c.loop-sign.sign-index c.sign-item.result c.sign-item.is c.loop-sign-test.true (λ there. absurd (grind (arith, c.is_among_either.ensures.1 there))) all))
+pub returns-then-not-is_held_or_brought : goal.returns-then-not-is_held_or_brought
+returns-then-not-is_held_or_brought c = (
+  λ no. absurd cc,
+  λ all. absurd
+      (all_refuted (λ (sign : Sign). Contains (map content_sign c.args.state.now.contents) sign
+      ⊎ Contains c.args.brought.now sign) c.args.standing.now c.loop-sign.sign-index
+      c.sign-item.result c.sign-item.is c.loop-sign-test.true
+      (λ there. absurd (grind (arith, c.is_held_or_brought.ensures.1 there))) all),
+)
 
 pub loop-sign-preserved : goal.loop-sign-preserved
-loop-sign-preserved c = all_more (λ (sign : Sign). Contains c.args.held.now sign ⊎ Contains c.args.brought.now sign) c.args.standing.now c.loop-sign.sign-index c.sign-item.result c.sign-item.is c.loop-sign-test.true (c.is_among_either.ensures.0 c.if-not-is_among_either.false) c.loop-sign.invariant
+loop-sign-preserved c =
+    all_more (λ (sign : Sign). Contains (map content_sign c.args.state.now.contents) sign
+    ⊎ Contains c.args.brought.now sign) c.args.standing.now c.loop-sign.sign-index
+    c.sign-item.result c.sign-item.is c.loop-sign-test.true
+    (c.is_held_or_brought.ensures.0 c.if-not-is_held_or_brought.false) c.loop-sign.invariant
 
 pub returns : goal.returns
-returns c = (λ ended. all_ended (λ (sign : Sign). Contains c.args.held.now sign ⊎ Contains c.args.brought.now sign) c.args.standing.now c.loop-sign.sign-index c.loop-sign-test.false c.loop-sign.invariant, λ all. refl)
+returns c = (
+  λ ended. all_ended (λ (sign : Sign). Contains (map content_sign c.args.state.now.contents) sign
+      ⊎ Contains c.args.brought.now sign) c.args.standing.now c.loop-sign.sign-index
+      c.loop-sign-test.false c.loop-sign.invariant,
+  λ all. refl,
+)

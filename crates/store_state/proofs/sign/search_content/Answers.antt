@@ -1,0 +1,14 @@
+use Rattle.std.proofs.Common.{ℕ, Some, map, rules}
+use Rattle.std.specs.Prelude.{slice_get}
+use Rattle.std.specs.Option.{option_cmp}
+use Rattle.std.proofs.lemmas.Fn.{always_returns_same}
+use Rattle.store_state.specs.Signs.{content_sign, sign_cmp}
+use Rattle.store_state.proofs.sign.search_content.Goals as goal
+
+-- the closure compares the content at a place with the size and the digests
+pub returns-clause-found : goal.returns-clause-found
+returns-clause-found c =
+    c.binary_search_by.ensures.position
+    (λ (place : ℕ). option_cmp sign_cmp (slice_get (map content_sign c.args.contents.now) place)
+    (Some (record { size = c.args.size; list = c.args.list.now })))
+    (always_returns_same _ _ _ (λ a r f called. search rules))
