@@ -19,7 +19,7 @@ use Rattle.manifests.specs.declared.facts.Rule.{Rule}
 use Rattle.manifests.specs.declared.facts.Rule.TheVariants.{Never, Before, Age}
 use Rattle.machine.specs.Fields.{IsShort, IsShortKey, IsTarget}
 use Rattle.store_state.specs.declared.change.Change.{Change}
-use Rattle.store_state.specs.declared.change.Change.TheVariants.{Boot, Require, Install}
+use Rattle.store_state.specs.declared.change.Change.TheVariants.{Boot, Require, Install, Launch, Finish}
 use Rattle.store_state.specs.declared.view.Content.{Content}
 use Rattle.store_state.specs.declared.view.LocalFile.{LocalFile}
 use Rattle.store_state.specs.declared.view.View.{View}
@@ -29,7 +29,7 @@ use Rattle.record_codec.specs.Spelling.{application_field, content_field, deploy
 use Rattle.record_codec.specs.Values.{AreDigests, IsApplication, IsContent, IsDeployment, IsEntry, IsIdentity, IsInstall, IsLocal, IsView}
 use Rattle.record_codec.proofs.Long.{length-text_field, length-list_field, length-key_field, length-version_field, length-truth_field}
 use Rattle.record_codec.proofs.Sizes.{digest_le, name_le}
-use Rattle.record_codec.proofs.Written.{length-change_text_boot, length-change_text_require}
+use Rattle.record_codec.proofs.Written.{length-change_text_boot, length-change_text_require, length-change_text_launch, length-change_text_finish}
 
 -- ---- lists and options
 
@@ -279,6 +279,8 @@ change_le (Boot boot) is = omega (arith, length-change_text_boot boot)
 change_le (Require key version) is =
     omega (arith, length-change_text_require key version, key_le key is.0)
 change_le (Install view contents provider now) is = install_le view contents provider now is
+change_le (Launch app) is = omega (arith, length-change_text_launch app)
+change_le (Finish lease) is = omega (arith, length-change_text_finish lease)
 
 pub installed_le : {change : Change} {view : View} {contents : List Content} {provider : Target}
     {now : ℕ} → change ≡ Install view contents provider now → IsChange change
@@ -287,17 +289,3 @@ installed_le {change} is fits =
     let most = change_le change fits in
     let limit : length_limit change ≡ 2 ^ 48 = ap length_limit is in
     omega arith
-
--- an encoding has nine bytes or more
-pub nine_le : (change : Change) → 9 ≤ length (change_text change)
-unfolding change_text install_text
-nine_le (Boot boot) = omega arith
-nine_le (Require key version) =
-    let long = length-append (key_field key) (version_field version) in
-    omega (arith, length-version_field version)
-nine_le (Install view contents provider now) =
-    let v = view_field view in
-    let c = list_field content_field contents in
-    let p = target_field provider in
-    let n = to_be_bytes w64 now in
-    omega (arith, length-append v (c ++ (p ++ n)), length-append c (p ++ n), length-append p n)

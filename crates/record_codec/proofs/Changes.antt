@@ -1,14 +1,14 @@
 -- What is read is spelled so, and what is spelled so is read.
-use Rattle.std.proofs.Common.{◌≡◌, ◌≢◌, ℕ, zero, suc, ◌+◌, ◌^◌, ◌≤◌, cond, eqb, List, [], ◌∷◌, ◌++◌, length, drop, Result, Ok, Err, refl, sym, ap, subst, ◌∙◌, arith}
+use Rattle.std.proofs.Common.{◌≡◌, ◌≢◌, ℕ, ◌+◌, ◌^◌, ◌≤◌, cond, eqb, List, [], ◌∷◌, ◌++◌, length, drop, Result, Ok, Err, refl, sym, ap, subst, ◌∙◌, arith, inl, inr}
 use Rattle.std.specs.Prelude.{IfOk}
-use Rattle.std.specs.Int.{w64, to_be_bytes}
-use Rattle.std.proofs.lemmas.Bool.{eqb-true, eq-eqb}
+use Rattle.std.specs.Int.{w32, w64, to_be_bytes}
+use Rattle.std.proofs.lemmas.Bool.{cases_Bool, eqb-true, eq-eqb}
 use Rattle.std.proofs.lemmas.List.{append-nil}
 use Rattle.small_types.specs.declared.limits.TheConstants.{FILE_COUNT_LIMIT}
 use Rattle.small_types.specs.declared.target.Target.{Target}
 use Rattle.small_types.specs.Reading.{◌>>=◌}
 use Rattle.store_state.specs.declared.change.Change.{Change}
-use Rattle.store_state.specs.declared.change.Change.TheVariants.{Boot, Require, Install}
+use Rattle.store_state.specs.declared.change.Change.TheVariants.{Boot, Require, Install, Launch, Finish}
 use Rattle.store_state.specs.declared.view.Content.{Content}
 use Rattle.store_state.specs.declared.view.View.{View}
 use Rattle.record_codec.specs.declared.fault.CodecFault.{CodecFault}
@@ -17,18 +17,22 @@ use Rattle.record_codec.specs.Codec.{change_text, install_text, IsChange}
 use Rattle.record_codec.specs.Fields.{key_field, version_field}
 use Rattle.record_codec.specs.Places.{Stands}
 use Rattle.record_codec.specs.Reading.{Gives, number_at, key_at, version_at}
-use Rattle.record_codec.specs.Parts.{list_at, target_at}
+use Rattle.record_codec.specs.Parts.{Reader, list_at, target_at}
 use Rattle.record_codec.specs.Records.{content_at, view_at}
-use Rattle.record_codec.specs.Changes.{boot_at, require_at, install_at, change_at, change_of}
+use Rattle.record_codec.specs.Changes.{boot_at, require_at, install_at, launch_at, finish_at, change_at, change_of}
 use Rattle.record_codec.specs.Spelling.{content_field, list_field, target_field, view_field}
 use Rattle.record_codec.specs.Values.{IsInstall}
-use Rattle.record_codec.proofs.Fields.{bind_ok, ok_is, passed_test, IsBytes, Stands-then, Stands-first, Stands-second, wide64, number_takes, number_again}
+use Rattle.record_codec.proofs.Fields.{bind_ok, ok_is, passed_test, IsBytes, Stands-then, Stands-first, Stands-second, wide32, wide64, number_takes, number_again}
 use Rattle.record_codec.proofs.Keys.{Stands-four, four_stand, key_takes, key_again, version_takes, version_again}
 use Rattle.record_codec.proofs.Lists.{list_reads}
 use Rattle.record_codec.proofs.Records.{content_reads, number64_reads, view_reads}
 use Rattle.record_codec.proofs.Structs.{target_reads}
 
 -- ---- changes
+
+-- the change is spelled at the front, and is within its limits
+abbrev Takes : List ℕ → Change × ℕ → Type 0
+Takes bytes x = Stands bytes 0 (change_text x.0) x.1 × IsChange x.0
 
 kind_stands : (kind : ℕ) (rest : List ℕ) → Stands (kind ∷ rest) 0 (kind ∷ []) 1
 kind_stands kind rest = record { behind = refl; within = omega arith; parts = refl }
@@ -79,19 +83,61 @@ install_again rest view contents provider now next is stands =
     let four = four_stand bytes (view_field view) (list_field content_field contents) (target_field provider) (to_be_bytes w64 now) 1 next stands in
     rw (view_reads.again bytes 1 view _ is.view four.first, (list_reads content_reads FILE_COUNT_LIMIT (omega arith)).again bytes _ contents _ (is.few, is.contents) four.second, target_reads.again bytes _ provider _ is.provider four.third, number64_reads.again bytes _ now next is.now four.fourth) refl
 
-change_takes : (bytes : List ℕ) (x : Change × ℕ) → IsBytes bytes → change_at bytes ≡ Ok x → Stands bytes 0 (change_text x.0) x.1 × IsChange x.0
+launch_takes : (rest : List ℕ) (x : Change × ℕ) → IsBytes (7 ∷ rest) → launch_at (7 ∷ rest) 1 ≡ Ok x
+    → Takes (7 ∷ rest) x
+unfolding launch_at change_text
+launch_takes rest x fits e =
+    let app = bind_ok (number_at w32 (7 ∷ rest) 1) (λ app. Ok (Launch app.0, app.1)) x e in
+    let t = number_takes w32 (2 ^ 32) wide32 (7 ∷ rest) 1 app.0 fits (omega arith) app.1 in
+    let made : Change × ℕ = (Launch app.0.0, app.0.1) in
+    let field = to_be_bytes w32 app.0.0 in
+    let stands = Stands-then (7 ∷ rest) (7 ∷ []) field 0 1 app.0.1 (kind_stands 7 rest) t.0 in
+    subst (λ (y : Change × ℕ). Takes (7 ∷ rest) y) (ok_is made x app.2) (stands, t.1)
+
+finish_takes : (rest : List ℕ) (x : Change × ℕ) → IsBytes (8 ∷ rest) → finish_at (8 ∷ rest) 1 ≡ Ok x
+    → Takes (8 ∷ rest) x
+unfolding finish_at change_text
+finish_takes rest x fits e =
+    let lease = bind_ok (number_at w64 (8 ∷ rest) 1) (λ lease. Ok (Finish lease.0, lease.1)) x e in
+    let t = number_takes w64 (2 ^ 64) wide64 (8 ∷ rest) 1 lease.0 fits (omega arith) lease.1 in
+    let made : Change × ℕ = (Finish lease.0.0, lease.0.1) in
+    let field = to_be_bytes w64 lease.0.0 in
+    let stands = Stands-then (8 ∷ rest) (8 ∷ []) field 0 1 lease.0.1 (kind_stands 8 rest) t.0 in
+    subst (λ (y : Change × ℕ). Takes (8 ∷ rest) y) (ok_is made x lease.2) (stands, t.1)
+
+-- what is read of a kind, and what of any other
+by_kind : (n kind : ℕ) (rest : List ℕ) (f : Reader Change) (others : Result (Change × ℕ) CodecFault)
+    (x : Change × ℕ) → (IsBytes (n ∷ rest) → f (n ∷ rest) 1 ≡ Ok x → Takes (n ∷ rest) x)
+    → (IsBytes (kind ∷ rest) → others ≡ Ok x → Takes (kind ∷ rest) x)
+    → IsBytes (kind ∷ rest) → cond (eqb kind n) (f (kind ∷ rest) 1) others ≡ Ok x → Takes (kind ∷ rest) x
+by_kind n kind rest f others x this other fits e =
+    elim (cases_Bool (eqb kind n)) [
+      | inl same ↦
+          let is : n ≡ kind = sym (eqb-true kind n same) in
+          let read : f (kind ∷ rest) 1 ≡ Ok x = rw same at e in
+          subst (λ (k : ℕ). IsBytes (k ∷ rest) → f (k ∷ rest) 1 ≡ Ok x → Takes (k ∷ rest) x) is this fits read
+      | inr differs ↦ other fits (rw differs at e)
+    ]
+
+change_takes : (bytes : List ℕ) (x : Change × ℕ) → IsBytes bytes → change_at bytes ≡ Ok x
+    → Takes bytes x
 unfolding change_at
 change_takes [] x fits e = absurd cc
-change_takes (zero ∷ rest) x fits e = boot_takes rest x fits e
-change_takes (suc zero ∷ rest) x fits e = require_takes rest x fits e
-change_takes (suc (suc zero) ∷ rest) x fits e = install_takes rest x fits e
-change_takes (suc (suc (suc kind)) ∷ rest) x fits e = absurd cc
+change_takes (kind ∷ rest) x fits e =
+    by_kind 0 kind rest boot_at _ x (boot_takes rest x)
+    (by_kind 1 kind rest require_at _ x (require_takes rest x)
+    (by_kind 2 kind rest install_at _ x (install_takes rest x)
+    (by_kind 7 kind rest launch_at _ x (launch_takes rest x)
+    (by_kind 8 kind rest finish_at _ x (finish_takes rest x) (λ bytes none. absurd cc)))))
+    fits e
 
 change_again : (bytes : List ℕ) (c : Change) (next : ℕ) → IsChange c → Stands bytes 0 (change_text c) next → change_at bytes ≡ Ok (c, next)
-unfolding change_at boot_at require_at change_text install_text
+unfolding change_at boot_at require_at launch_at finish_at change_text install_text
 change_again [] (Boot boot) next fits stands = absurd (let e = stands.parts in cc)
 change_again [] (Require key version) next fits stands = absurd (let e = stands.parts in cc)
 change_again [] (Install view contents provider now) next fits stands = absurd (let e = stands.parts in cc)
+change_again [] (Launch app) next fits stands = absurd (let e = stands.parts in cc)
+change_again [] (Finish lease) next fits stands = absurd (let e = stands.parts in cc)
 change_again (kind ∷ rest) (Boot boot) next fits stands =
     let is : kind ≡ 0 = (let e = stands.parts in cc) in
     let field = subst (λ (k : ℕ). Stands (k ∷ rest) 1 (to_be_bytes w64 boot) next) is (Stands-second (kind ∷ rest) (0 ∷ []) (to_be_bytes w64 boot) 0 next stands) in
@@ -107,6 +153,16 @@ change_again (kind ∷ rest) (Install view contents provider now) next fits stan
     let is : kind ≡ 2 = (let e = stands.parts in cc) in
     let behind = subst (λ (k : ℕ). Stands (k ∷ rest) 1 fields next) is (Stands-second (kind ∷ rest) (2 ∷ []) fields 0 next stands) in
     rw is (install_again rest view contents provider now next fits behind)
+change_again (kind ∷ rest) (Launch app) next fits stands =
+    let is : kind ≡ 7 = (let e = stands.parts in cc) in
+    let second = Stands-second (kind ∷ rest) (7 ∷ []) (to_be_bytes w32 app) 0 next stands in
+    let field = subst (λ (k : ℕ). Stands (k ∷ rest) 1 (to_be_bytes w32 app) next) is second in
+    rw (is, number_again w32 (2 ^ 32) wide32 (7 ∷ rest) 1 app next fits field) refl
+change_again (kind ∷ rest) (Finish lease) next fits stands =
+    let is : kind ≡ 8 = (let e = stands.parts in cc) in
+    let second = Stands-second (kind ∷ rest) (8 ∷ []) (to_be_bytes w64 lease) 0 next stands in
+    let field = subst (λ (k : ℕ). Stands (k ∷ rest) 1 (to_be_bytes w64 lease) next) is second in
+    rw (is, number_again w64 (2 ^ 64) wide64 (8 ∷ rest) 1 lease next fits field) refl
 
 -- ---- all of the bytes
 

@@ -1,12 +1,12 @@
 -- Fields that are written one behind another.
 use Rattle.std.proofs.Common.{◌≡◌, ℕ, ◌+◌, ◌≤◌, List, [], ◌∷◌, ◌++◌, length, take, drop, refl, sym, ap, ◌∙◌, append_assoc, arith}
-use Rattle.std.specs.Int.{w64, to_be_bytes}
+use Rattle.std.specs.Int.{w32, w64, to_be_bytes}
 use Rattle.std.proofs.lemmas.List.{take_at, drop_at, drop-drop, take-append-drop, length-append, length-take, length-drop}
 use Rattle.small_types.specs.declared.target.Target.{Target}
 use Rattle.identity.specs.declared.version.Version.{Version}
 use Rattle.identity.specs.declared.key.Key.{Key}
 use Rattle.store_state.specs.declared.change.Change.{Change}
-use Rattle.store_state.specs.declared.change.Change.TheVariants.{Boot, Require, Install}
+use Rattle.store_state.specs.declared.change.Change.TheVariants.{Boot, Require, Install, Launch, Finish}
 use Rattle.store_state.specs.declared.view.Content.{Content}
 use Rattle.store_state.specs.declared.view.View.{View}
 use Rattle.record_codec.specs.Codec.{change_text, install_text}
@@ -97,6 +97,14 @@ pub change_text_install : (view : View) (contents : List Content) (provider : Ta
 unfolding change_text
 change_text_install view contents provider now = refl
 
+pub change_text_launch : (app : ℕ) → change_text (Launch app) ≡ (7 ∷ []) ++ to_be_bytes w32 app
+unfolding change_text
+change_text_launch app = refl
+
+pub change_text_finish : (lease : ℕ) → change_text (Finish lease) ≡ (8 ∷ []) ++ to_be_bytes w64 lease
+unfolding change_text
+change_text_finish lease = refl
+
 -- ---- how long changes are
 
 pub length-change_text_boot : (boot : ℕ) → length (change_text (Boot boot)) ≡ 9
@@ -106,6 +114,14 @@ length-change_text_boot boot = refl
 pub length-change_text_require : (key : Key) (version : Version) → length (change_text (Require key version)) ≡ 9 + length (key_field key)
 unfolding change_text
 length-change_text_require key version = omega (arith, length-append (key_field key) (version_field version), length-version_field version)
+
+pub length-change_text_launch : (app : ℕ) → length (change_text (Launch app)) ≡ 5
+unfolding change_text
+length-change_text_launch app = refl
+
+pub length-change_text_finish : (lease : ℕ) → length (change_text (Finish lease)) ≡ 9
+unfolding change_text
+length-change_text_finish lease = refl
 
 -- the moment takes eight bytes, whatever it is
 length-install_text : (view : View) (contents : List Content) (provider : Target) (now other : ℕ)
@@ -145,3 +161,13 @@ boot_room c boot room is enough = let same = ap (λ (x : Change). length (change
 
 pub require_room : (c : Change) (key : Key) (version : Version) (room : ℕ) → c ≡ Require key version → length (change_text c) ≤ room → 9 + length (key_field key) ≤ room
 require_room c key version room is enough = let same = ap (λ (x : Change). length (change_text x)) is in omega (arith, length-change_text_require key version)
+
+pub launch_room : (c : Change) (app room : ℕ) → c ≡ Launch app → length (change_text c) ≤ room → 5 ≤ room
+launch_room c app room is enough =
+    let same = ap (λ (x : Change). length (change_text x)) is in
+    omega (arith, length-change_text_launch app)
+
+pub finish_room : (c : Change) (lease room : ℕ) → c ≡ Finish lease → length (change_text c) ≤ room → 9 ≤ room
+finish_room c lease room is enough =
+    let same = ap (λ (x : Change). length (change_text x)) is in
+    omega (arith, length-change_text_finish lease)

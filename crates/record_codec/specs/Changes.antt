@@ -1,10 +1,10 @@
 -- Reading changes from the left.
-use Rattle.std.specs.Prelude.{ℕ, zero, suc, List, [], ◌∷◌, length, Result, Ok, Err, ◌==◌, if◌then◌else◌}
-use Rattle.std.specs.Int.{w64}
+use Rattle.std.specs.Prelude.{ℕ, List, [], ◌∷◌, length, Result, Ok, Err, ◌==◌, if◌then◌else◌}
+use Rattle.std.specs.Int.{w32, w64}
 use Rattle.small_types.specs.declared.limits.TheConstants.{FILE_COUNT_LIMIT}
 use Rattle.small_types.specs.Reading.{◌>>=◌}
 use Rattle.store_state.specs.declared.change.Change.{Change}
-use Rattle.store_state.specs.declared.change.Change.TheVariants.{Boot, Require, Install}
+use Rattle.store_state.specs.declared.change.Change.TheVariants.{Boot, Require, Install, Launch, Finish}
 use Rattle.record_codec.specs.declared.fault.CodecFault.{CodecFault}
 use Rattle.record_codec.specs.declared.fault.CodecFault.TheVariants.{Bad}
 use Rattle.record_codec.specs.Reading.{number_at, key_at, version_at}
@@ -30,13 +30,32 @@ install_at bytes place = do
   now ← number_at w64 bytes provider.1
   Ok (Install view.0 contents.0 provider.0 now.0, now.1)
 
+-- the place of an application
+unfoldable pub launch_at : Reader Change
+launch_at bytes place = do
+  app ← number_at w32 bytes place
+  Ok (Launch app.0, app.1)
+
+-- the number of a lease
+unfoldable pub finish_at : Reader Change
+finish_at bytes place = do
+  lease ← number_at w64 bytes place
+  Ok (Finish lease.0, lease.1)
+
+-- what stands behind the number of a kind; no other number is one
+abbrev pub kind_at : ℕ → List ℕ → Result (Change × ℕ) CodecFault
+kind_at kind bytes =
+    if kind == 0 then boot_at bytes 1
+    else if kind == 1 then require_at bytes 1
+    else if kind == 2 then install_at bytes 1
+    else if kind == 7 then launch_at bytes 1
+    else if kind == 8 then finish_at bytes 1
+    else Err (Bad 0)
+
 -- the number of the kind, and the fields
 unfoldable pub change_at : List ℕ → Result (Change × ℕ) CodecFault
 change_at [] = Err (Bad 0)
-change_at (zero ∷ rest) = boot_at (zero ∷ rest) 1
-change_at (suc zero ∷ rest) = require_at (suc zero ∷ rest) 1
-change_at (suc (suc zero) ∷ rest) = install_at (suc (suc zero) ∷ rest) 1
-change_at (suc (suc (suc kind)) ∷ rest) = Err (Bad 0)
+change_at (kind ∷ rest) = kind_at kind (kind ∷ rest)
 
 -- all of the bytes
 unfoldable pub change_of : List ℕ → Result Change CodecFault

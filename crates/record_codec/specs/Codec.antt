@@ -1,11 +1,11 @@
 -- How changes are spelled as bytes.
 use Rattle.std.specs.Prelude.{◌<◌, ◌^◌, List, ℕ, ◌∷◌, ◌++◌}
-use Rattle.std.specs.Int.{to_be_bytes, w64}
+use Rattle.std.specs.Int.{to_be_bytes, w32, w64}
 use Rattle.small_types.specs.declared.target.Target.{Target}
 use Rattle.identity.specs.Version.{IsVersion}
 use Rattle.machine.specs.Fields.{IsShortKey}
 use Rattle.store_state.specs.declared.change.Change.{Change}
-use Rattle.store_state.specs.declared.change.Change.TheVariants.{Boot, Require, Install}
+use Rattle.store_state.specs.declared.change.Change.TheVariants.{Boot, Require, Install, Launch, Finish}
 use Rattle.store_state.specs.declared.view.Content.{Content}
 use Rattle.store_state.specs.declared.view.View.{View}
 use Rattle.record_codec.specs.Fields.{key_field, version_field}
@@ -23,15 +23,21 @@ unfoldable pub change_text : Change → List ℕ
 change_text (Boot boot) = 0 ∷ to_be_bytes w64 boot
 change_text (Require key version) = 1 ∷ (key_field key ++ version_field version)
 change_text (Install view contents provider now) = install_text view contents provider now
+change_text (Launch app) = 7 ∷ to_be_bytes w32 app
+change_text (Finish lease) = 8 ∷ to_be_bytes w64 lease
 
 -- The fields are within their limits: just such a change has an encoding. A part of a key may be empty, as any text.
 abbrev pub IsChange : Change → Type 0
 IsChange (Boot boot) = boot < 2 ^ 64
 IsChange (Require key version) = IsShortKey key × IsVersion version
 IsChange (Install view contents provider now) = IsInstall view contents provider now
+IsChange (Launch app) = app < 2 ^ 32
+IsChange (Finish lease) = lease < 2 ^ 64
 
 -- the most bytes of an encoding
 abbrev pub length_limit : Change → ℕ
 length_limit (Boot boot) = 9
 length_limit (Require key version) = 457
 length_limit (Install view contents provider now) = 2 ^ 48
+length_limit (Launch app) = 5
+length_limit (Finish lease) = 9

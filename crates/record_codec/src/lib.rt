@@ -38,6 +38,3 @@ pub use writing::{
     encode_change, encoded_length, write_key, write_text, write_u16, write_u32, write_u64,
     write_version,
 };
-
-#[cfg(test)]
-mod tests;

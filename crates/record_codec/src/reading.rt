@@ -5,7 +5,7 @@ ghost use Rattle.std.specs.Str.{is_utf8};
 ghost use Rattle.store_state.specs.declared.change.Change.{Change};
 ghost use Rattle.record_codec.specs.Codec.{change_text, IsChange};
 ghost use Rattle.record_codec.specs.Reading.{Gives, IsWithin, number_at, sized_at, text_at, key_at, version_at};
-ghost use Rattle.record_codec.specs.Changes.{boot_at, require_at, install_at, change_at, change_of};
+ghost use Rattle.record_codec.specs.Changes.{boot_at, require_at, install_at, launch_at, finish_at, change_at, change_of};
 
 use crate::CodecFault;
 use crate::list_reading::list_here;
@@ -29,7 +29,8 @@ pub(crate) fn bad(place: usize) -> CodecFault
 // So many bytes from the place on, where they are there.
 fn front(bytes: &[u8], place: usize, size: usize) -> Option<&[u8]>
     requires { place ≤ length bytes.now }
-    ensures { MatchOption result (length bytes.now - place < size) (λ s. (size ≤ length bytes.now - place) × (s.now ≡ take size (drop place bytes.now))) }
+    ensures { MatchOption result (length bytes.now - place < size)
+        (λ s. (size ≤ length bytes.now - place) × (s.now ≡ take size (drop place bytes.now))) }
 {
     let (_, rest) = bytes.split_at(place);
     if rest.len() < size {
@@ -227,6 +228,30 @@ fn read_install(alloc: Global, bytes: &[u8], place: usize) -> Result<(Change, us
     Ok((change, next))
 }
 
+// The place of an application, at the place.
+#[tactic(auto, unfolding(crate::specs::Changes::launch_at))]
+fn read_launch(bytes: &[u8], place: usize) -> Result<(Change, usize), CodecFault>
+    requires { place ≤ length bytes.now }
+    ensures exact { Gives result (launch_at bytes.now place) }
+    ensures next { IfOk result (λ x. x.1 ≤ length bytes.now) }
+    ensures fault { IfErr result (IsWithin (length bytes.now)) }
+{
+    let (app, next) = read_u32(bytes, place)?;
+    Ok((Change::Launch { app }, next))
+}
+
+// The number of a lease, at the place.
+#[tactic(auto, unfolding(crate::specs::Changes::finish_at))]
+fn read_finish(bytes: &[u8], place: usize) -> Result<(Change, usize), CodecFault>
+    requires { place ≤ length bytes.now }
+    ensures exact { Gives result (finish_at bytes.now place) }
+    ensures next { IfOk result (λ x. x.1 ≤ length bytes.now) }
+    ensures fault { IfErr result (IsWithin (length bytes.now)) }
+{
+    let (lease, next) = read_u64(bytes, place)?;
+    Ok((Change::Finish { lease }, next))
+}
+
 // The change at the front.
 #[tactic(auto, unfolding(crate::specs::Changes::change_at))]
 fn read_change(alloc: Global, bytes: &[u8]) -> Result<(Change, usize), CodecFault>
@@ -238,6 +263,8 @@ fn read_change(alloc: Global, bytes: &[u8]) -> Result<(Change, usize), CodecFaul
         [0, ..] => read_boot(bytes, 1),
         [1, ..] => read_require(alloc, bytes, 1),
         [2, ..] => read_install(alloc, bytes, 1),
+        [7, ..] => read_launch(bytes, 1),
+        [8, ..] => read_finish(bytes, 1),
         _ => Err(bad(0)),
     }
 }
@@ -255,9 +282,10 @@ fn read_all(alloc: Global, bytes: &[u8]) -> Result<Change, CodecFault>
     Ok(change)
 }
 
-/// The change that the bytes encode: what is read is within its limits, and the bytes are its encoding; bytes that
-/// encode a change within its limits are read, unless memory runs out. `Bad` names the place, at most their length, where the first
-/// field begins that cannot be read, or where bytes are left over.
+/// The change that the bytes encode: what is read is within its limits, and the bytes are its
+/// encoding; bytes that encode a change within its limits are read, unless memory runs out. `Bad`
+/// names the place, at most their length, where the first field begins that cannot be read, or
+/// where bytes are left over.
 pub fn decode_change(alloc: Global, bytes: &[u8]) -> Result<Change, CodecFault>
     ensures found { IfOk result (λ c. IsChange c × (bytes.now ≡ change_text c)) }
     ensures only { (c : Change) → IsChange c → bytes.now ≡ change_text c → Gives result (Ok c) }

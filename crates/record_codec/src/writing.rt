@@ -89,8 +89,8 @@ pub fn write_version(out: &mut [u8], place: usize, version: Version) -> usize
     write_u16(out, next, version.d)
 }
 
-/// How many bytes the change's encoding has: 9 of a boot number, at most 457 of a requirement, and
-/// at most 2^48 of an installation.
+/// How many bytes the change's encoding has: 9 of a boot number, at most 457 of a requirement, at most
+/// 2^48 of an installation, 5 of a launch, and 9 of the end of a lease.
 pub fn encoded_length(change: &Change) -> u64
     requires { IsChange change.now }
     ensures length { result ≡ length (change_text change.now) }
@@ -105,6 +105,8 @@ pub fn encoded_length(change: &Change) -> u64
             provider,
             ..
         } => install_length(view, contents.as_slice(), provider),
+        Change::Launch { .. } => 5,
+        Change::Finish { .. } => 9,
     }
 }
 
@@ -132,5 +134,13 @@ pub fn encode_change(change: &Change, out: &mut [u8]) -> usize
             provider,
             now,
         } => write_install(out, view, contents.as_slice(), provider, *now),
+        Change::Launch { app } => {
+            let next = put(out, 0, &[7]);
+            write_u32(out, next, *app)
+        }
+        Change::Finish { lease } => {
+            let next = put(out, 0, &[8]);
+            write_u64(out, next, *lease)
+        }
     }
 }

@@ -1,6 +1,6 @@
 use Rattle.std.proofs.Common.{subst, ◌∙◌, arith}
 use Rattle.record_codec.specs.Codec.{IsChange}
-use Rattle.record_codec.proofs.Written.{length-change_text_boot, length-change_text_require, length-installed}
+use Rattle.record_codec.proofs.Written.{length-change_text_boot, length-change_text_require, length-change_text_launch, length-change_text_finish, length-installed}
 use Rattle.record_codec.proofs.Bounds.{change_le, key_le, installed_le}
 use Rattle.record_codec.proofs.writing.encoded_length.Goals as goal
 
@@ -41,3 +41,11 @@ pub returns-in-Install-clause-bound : goal.returns-in-Install-clause-bound
 returns-in-Install-clause-bound c =
     let long = length-installed 0 c.in-Install.is c.as_slice.ensures in
     omega (arith, c.install_length.ensures, change_le c.args.change.now c.requires)
+
+pub returns-in-Launch-clause-length : goal.returns-in-Launch-clause-length
+returns-in-Launch-clause-length c =
+    rw c.in-Launch.is (omega (arith, length-change_text_launch c.in-Launch.app))
+
+pub returns-in-Finish-clause-length : goal.returns-in-Finish-clause-length
+returns-in-Finish-clause-length c =
+    rw c.in-Finish.is (omega (arith, length-change_text_finish c.in-Finish.lease))
