@@ -1,5 +1,5 @@
 -- Causes with commas between them, hexadecimal digits, and keys and addresses before other text.
-use Rattle.std.proofs.Common.{◌≡◌, ◌∙◌, ◌<◌, ◌+◌, ℕ, List, [], ◌∷◌, ◌++◌, drop, get_or, length, map, decimal, codes, refl, sym, ap, append_assoc}
+use Rattle.std.proofs.Common.{◌≡◌, ◌∙◌, ◌<◌, ◌+◌, ℕ, List, [], ◌∷◌, ◌++◌, drop, get_or, length, map, decimal, codes, refl, sym, ap, append_assoc, arith}
 use Rattle.std.specs.List.{join_with_byte}
 use Rattle.std.proofs.Math.Numerals.{add-one}
 use Rattle.std.proofs.Math.Seq.{drop-cons}
@@ -11,7 +11,7 @@ use Rattle.hex.specs.Hex.{encode_lower, encode_with}
 use Rattle.identity.specs.declared.key.Key.{Key}
 use Rattle.identity.specs.Key.{comma, key_text, part_text}
 use Rattle.manifest_text.specs.Lines.{two}
-use Rattle.command_text.specs.Lines.{reason_text, reasons_text}
+use Rattle.command_text.specs.Lines.{reason_text, reasons_text, shown_text}
 
 -- ---- causes
 
@@ -46,14 +46,21 @@ all_left (cause ∷ causes) = joined cause causes
 
 -- ---- hexadecimal digits
 
--- two digits for a byte, and then the others
-pub hex_at : (bytes : List ℕ) (i : ℕ) → i < length bytes → encode_lower (drop i bytes) ≡ encode_lower (get_or bytes i 0 ∷ []) ++ encode_lower (drop (i + 1) bytes)
+-- those of two texts, one behind the other
+pub hex_append : (a b : List ℕ) → encode_lower (a ++ b) ≡ encode_lower a ++ encode_lower b
 unfolding encode_with
-hex_at bytes i within = rw (add-one, drop-cons bytes i 0 within) refl
+hex_append [] b = refl
+hex_append (byte ∷ a) b = rw (hex_append a b) refl
 
-pub hex_none : encode_lower [] ≡ []
+pub hex_over : (rest : List ℕ) → length rest ≡ 0 → encode_lower rest ≡ []
 unfolding encode_with
-hex_none = refl
+hex_over [] none = refl
+hex_over (byte ∷ rest) none = absurd (omega arith)
+
+-- where bytes are left they are shown
+pub hex_shown : (bytes : List ℕ) → 0 < length bytes → encode_lower bytes ≡ shown_text bytes
+hex_shown [] some = absurd (omega arith)
+hex_shown (byte ∷ bytes) some = refl
 
 -- ---- before other text
 

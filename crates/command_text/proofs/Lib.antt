@@ -1,3 +1,4 @@
+mod FileWords
 pub mod InputLemmas
 pub mod Joining
 mod UrlWords

@@ -1,7 +1,14 @@
 -- Cutting a line at its spaces.
-use Rattle.std.proofs.Common.{◌≡◌, ◌≢◌, ℕ, List, ◌∷◌, length, ap, arith}
+use Rattle.std.proofs.Common.{◌≡◌, ◌≢◌, ℕ, List, ◌∷◌, length, Option, Some, ap, ◌∙◌, arith}
 use Rattle.small_types.proofs.CutLemmas.{some_part}
-use Rattle.command_text.specs.Lines.{words_of}
+use Rattle.command_text.specs.Lines.{words_behind, words_of}
+
+-- what stands behind a word that a space follows
+pub behind : (line word rest : List ℕ) (more : Option (List ℕ))
+    → words_of line ≡ word ∷ words_behind more → more ≡ Some rest
+    → words_of line ≡ word ∷ words_of rest
+behind line word rest more first is =
+    first ∙ ap (λ (next : Option (List ℕ)). word ∷ words_behind next) is
 
 -- a line that is cut has not one word
 pub more_words : {a : List ℕ} (line rest : List ℕ) → words_of line ≡ a ∷ words_of rest → length (words_of line) ≢ 1
@@ -14,3 +21,13 @@ pub three_words : {a b : List ℕ} (line rest more : List ℕ) → words_of line
 three_words line rest more first second two =
     let some = some_part 32 more in
     omega (arith, ap (length {A = List ℕ}) first, ap (length {A = List ℕ}) second)
+
+-- a line that is cut four times has not four words
+pub five_words : {a b c d : List ℕ} (line second third fourth more : List ℕ)
+    → words_of line ≡ a ∷ words_of second → words_of second ≡ b ∷ words_of third
+    → words_of third ≡ c ∷ words_of fourth → words_of fourth ≡ d ∷ words_of more
+    → length (words_of line) ≢ 4
+five_words line second third fourth more cut cut_second cut_third cut_fourth four =
+    let some = some_part 32 more in
+    let count : List (List ℕ) → ℕ = length {A = List ℕ} in
+    omega (arith, ap count cut, ap count cut_second, ap count cut_third, ap count cut_fourth)

@@ -1,5 +1,5 @@
 -- How lines are read, and how replies are written.
-use Rattle.std.specs.Prelude.{◌≡◌, ℕ, Bool, ◌&&◌, List, [], ◌∷◌, ◌++◌, length, map, nat_le, if◌then◌else◌, codes, Option, Some, None, Result, Ok, Err}
+use Rattle.std.specs.Prelude.{◌≡◌, ℕ, Bool, true, false, ◌&&◌, List, [], ◌∷◌, ◌++◌, length, map, nat_le, if◌then◌else◌, codes, Option, Some, None, Result, Ok, Err}
 use Rattle.std.specs.Fmt.{decimal}
 use Rattle.std.specs.List.{join_with_byte, list_all}
 use Rattle.std.specs.Str.{bytes_eq}
@@ -13,6 +13,7 @@ use Rattle.identity.specs.Key.{comma, key_of, key_text}
 use Rattle.digest_list.specs.declared.difference.Difference.TheVariants.{Digest, Size}
 use Rattle.digest_list.specs.Algorithm.{name_of}
 use Rattle.hex.specs.Hex.{encode_lower}
+use Rattle.percent_encoding.specs.Percent.{percent_decode}
 use Rattle.causes.specs.declared.cause.Cause.{Cause}
 use Rattle.causes.specs.declared.cause.Cause.TheVariants.{Differs, Down, Missing, TooLong}
 use Rattle.addresses.specs.Join.{target_text}
@@ -20,7 +21,7 @@ use Rattle.manifests.specs.declared.releases.ReleaseFault.{ReleaseFault}
 use Rattle.manifests.specs.declared.releases.ReleaseFault.TheVariants as unlike
 use Rattle.manifest_text.specs.Lines.{refusal_text, two}
 use Rattle.machine.specs.declared.command.Command.{Command}
-use Rattle.machine.specs.declared.command.Command.TheVariants.{At, Require, Install}
+use Rattle.machine.specs.declared.command.Command.TheVariants.{At, Require, Install, Launch, Read, Finish}
 use Rattle.machine.specs.declared.command.LineFault.{LineFault}
 use Rattle.machine.specs.declared.command.LineFault.TheVariants.{LineTooLong, NoSuchCommand, WordCount, BadWord}
 use Rattle.machine.specs.declared.command.LineFault.TheVariants as fault
@@ -28,11 +29,13 @@ use Rattle.machine.specs.declared.event.Event.{Event}
 use Rattle.machine.specs.declared.event.Event.TheVariants.{Boot, Line, Unread}
 use Rattle.small_types.specs.Cuts.{parts_between}
 use Rattle.small_types.specs.Limit.{limit_text}
-use Rattle.small_types.specs.declared.limits.TheConstants.{LINE_LIMIT, URL_LIMIT}
+use Rattle.small_types.specs.declared.limits.TheConstants.{LEASE_LIMIT, LINE_LIMIT, URL_LIMIT}
+use Rattle.small_types.specs.declared.name.NameFault.{NameFault}
 use Rattle.small_types.specs.declared.target.Target.{Target}
-use Rattle.command_text.specs.Numbers.{number_of}
+use Rattle.small_types.specs.Name as names
+use Rattle.command_text.specs.Numbers.{count_of, number_of}
 use Rattle.machine.specs.declared.reply.Reply.{Reply}
-use Rattle.machine.specs.declared.reply.Reply.TheVariants.{AllLinks, BadUrl, BelowMinimum, Full, Installed, Manifest, Minimum, NotHttp, NotNewer, Release, Spent, TooMany}
+use Rattle.machine.specs.declared.reply.Reply.TheVariants.{AllLinks, BadUrl, BelowMinimum, CheckFirst, Finished, Full, Installed, Lease, LeasesFull, Manifest, Minimum, NoFile, NoLease, NotHttp, NotInstalled, NotNewer, Offered, Release, Required, Spent, TooMany}
 use Rattle.machine.specs.declared.reply.Reply.TheVariants as reply
 
 -- words are separated by one space each
@@ -82,6 +85,47 @@ install_words [] = Err WordCount
 install_words (url ∷ []) = if is_url url then Ok (Install url) else Err (BadWord 1)
 install_words (url ∷ more ∷ rest) = Err WordCount
 
+-- what the word of a `launch` is
+abbrev pub launch_of : Result Key KeyFault → Result Command LineFault
+launch_of (Err key) = Err (BadWord 1)
+launch_of (Ok key) = Ok (Launch key)
+
+-- the words after `launch`
+abbrev pub launch_words : List (List ℕ) → Result Command LineFault
+launch_words [] = Err WordCount
+launch_words (key ∷ []) = launch_of (key_of key)
+launch_words (key ∷ more ∷ rest) = Err WordCount
+
+-- the file name of a word, with each escape read
+abbrev pub file_of : List ℕ → Result (List ℕ) NameFault
+file_of word = names.name_of (percent_decode word)
+
+-- what the first word that cannot be read makes of the four words of a `read`
+abbrev pub read_of : Option ℕ → Result (List ℕ) NameFault → Option ℕ → Option ℕ
+    → Result Command LineFault
+read_of None name from count = Err (BadWord 1)
+read_of (Some lease) (Err name) from count = Err (BadWord 2)
+read_of (Some lease) (Ok name) None count = Err (BadWord 3)
+read_of (Some lease) (Ok name) (Some from) None = Err (BadWord 4)
+read_of (Some lease) (Ok name) (Some from) (Some count) = Ok (Read lease name from count)
+
+-- the words after `read`
+abbrev pub read_words : List (List ℕ) → Result Command LineFault
+read_words (lease ∷ name ∷ from ∷ count ∷ []) =
+    read_of (number_of lease) (file_of name) (number_of from) (count_of count)
+read_words _ = Err WordCount
+
+-- what the word of a `finish` is
+abbrev pub finish_of : Option ℕ → Result Command LineFault
+finish_of None = Err (BadWord 1)
+finish_of (Some lease) = Ok (Finish lease)
+
+-- the words after `finish`
+abbrev pub finish_words : List (List ℕ) → Result Command LineFault
+finish_words [] = Err WordCount
+finish_words (lease ∷ []) = finish_of (number_of lease)
+finish_words (lease ∷ more ∷ rest) = Err WordCount
+
 -- the first word names the command
 abbrev pub command_words : List (List ℕ) → Result Command LineFault
 command_words [] = Err NoSuchCommand
@@ -89,6 +133,9 @@ command_words (name ∷ args) =
     if bytes_eq name (codes "at") then at_words args
     else if bytes_eq name (codes "require") then require_words args
     else if bytes_eq name (codes "install") then install_words args
+    else if bytes_eq name (codes "launch") then launch_words args
+    else if bytes_eq name (codes "read") then read_words args
+    else if bytes_eq name (codes "finish") then finish_words args
     else Err NoSuchCommand
 
 -- what a line asks for, or why it is no command
@@ -105,8 +152,8 @@ abbrev pub Gives : Result Command LineFault → Result Command LineFault → Typ
 Gives (Ok command) read = read ≡ Ok command
 Gives (Err e) read = Fails e read
 
--- Each line is an event: a command, or unread with its fault. Where reading it found no memory it is unread for that. The
--- moment of a command, and what it heard, are those of the run.
+-- Each line is an event: a command, or unread with its fault. Where reading it found no memory it
+-- is unread for that. The moment of a command, and what it heard, are those of the run.
 abbrev pub IsEvent : List ℕ → Event → Type 0
 IsEvent line (Line command now heard) = command_of line ≡ Ok command
 IsEvent line (Unread fault) = Fails fault (command_of line)
@@ -133,6 +180,27 @@ abbrev pub installed_text : Key → Version → ℕ → List ℕ
 installed_text key version view =
     codes "ok installed " ++ (key_text key ++ (codes " " ++ (version_text version
     ++ (codes " " ++ (decimal view ++ codes "\n")))))
+
+-- whether the time for the next check has come
+abbrev pub note_text : Bool → List ℕ
+note_text true = codes "check-due"
+note_text false = codes "-"
+
+-- a lease, the version that it is on, and the note
+abbrev pub lease_text : ℕ → Version → Bool → List ℕ
+lease_text lease version check_due =
+    codes "ok lease " ++ (decimal lease ++ (codes " " ++ (version_text version
+    ++ (codes " " ++ (note_text check_due ++ codes "\n")))))
+
+-- bytes as a reply shows them
+abbrev pub shown_text : List ℕ → List ℕ
+shown_text [] = codes "-"
+shown_text (byte ∷ bytes) = encode_lower (byte ∷ bytes)
+
+-- the length of a file, and the bytes of it that were asked for
+abbrev pub read_text : ℕ → List ℕ → List ℕ
+read_text size bytes =
+    codes "ok bytes " ++ (decimal size ++ (codes " " ++ (shown_text bytes ++ codes "\n")))
 
 -- why one link did not serve
 abbrev pub reason_text : Cause → List ℕ
@@ -175,8 +243,19 @@ release_text unlike.Memory = codes "no memory\n"
 unfoldable pub reply_text : Reply → List ℕ
 reply_text (reply.At now) = codes "ok at " ++ (decimal now ++ codes "\n")
 reply_text (Minimum version) = codes "ok minimum " ++ (version_text version ++ codes "\n")
-reply_text (TooMany what limit) = codes "no too-many " ++ (limit_text what ++ (codes " " ++ (decimal limit ++ codes "\n")))
+reply_text (TooMany what limit) =
+    codes "no too-many " ++ (limit_text what ++ (codes " " ++ (decimal limit ++ codes "\n")))
 reply_text (Installed key version view) = installed_text key version view
+reply_text (Lease lease version check_due) = lease_text lease version check_due
+reply_text (reply.Read size bytes) = read_text size bytes
+reply_text (Finished lease) = codes "ok finished " ++ (decimal lease ++ codes "\n")
+reply_text NotInstalled = codes "no not-installed\n"
+reply_text NoLease = codes "no no-lease\n"
+reply_text NoFile = codes "no no-file\n"
+reply_text CheckFirst = codes "no check-first\n"
+reply_text (Required minimum) = codes "no required " ++ (version_text minimum ++ codes "\n")
+reply_text (Offered version) = codes "no offered " ++ (version_text version ++ codes "\n")
+reply_text LeasesFull = codes "no leases-full " ++ (decimal LEASE_LIMIT ++ codes "\n")
 reply_text (NotNewer have) = codes "no not-newer " ++ (version_text have ++ codes "\n")
 reply_text (BelowMinimum minimum) = codes "no below-minimum " ++ (version_text minimum ++ codes "\n")
 reply_text (Spent next) = codes "no spent " ++ (decimal next ++ codes "\n")

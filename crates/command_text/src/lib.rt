@@ -2,15 +2,16 @@
 #![tactic(auto)]
 
 mod escapes;
+mod lease_lines;
+mod lease_replies;
 mod lines;
+mod names;
 mod numbers;
 mod pieces;
 mod raw;
 mod reasons;
 mod refusals;
 mod replies;
-#[cfg(test)]
-mod tests;
 mod urls;
 mod words;
 

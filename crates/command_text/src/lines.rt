@@ -7,6 +7,7 @@ ghost use Rattle.std.specs.Option.{option_copied};
 ghost use Rattle.machine.specs.Words.{IsCommand};
 ghost use Rattle.command_text.specs.Lines.{Gives, at_words, command_of, install_words, require_of, require_words, words_behind};
 
+use crate::lease_lines::{file_line, finish_line, launch_line};
 use crate::numbers::read_number;
 use crate::urls::is_url;
 use crate::words::{first_word, one_word, two_words};
@@ -115,6 +116,15 @@ pub fn read_line(alloc: Global, line: &[u8]) -> Result<Command, LineFault>
     }
     if name == b"install".as_slice() {
         return install_line(alloc, args);
+    }
+    if name == b"launch".as_slice() {
+        return launch_line(alloc, args);
+    }
+    if name == b"read".as_slice() {
+        return file_line(alloc, args);
+    }
+    if name == b"finish".as_slice() {
+        return finish_line(args);
     }
     Err(LineFault::NoSuchCommand)
 }

@@ -1,10 +1,13 @@
 // The bytes of a reply.
-ghost use Rattle.std.specs.Prelude.{OnOk, OnErr};
+ghost use Rattle.std.specs.Prelude.{[], ◌∷◌, ◌++◌, decimal, OnOk, OnErr};
+ghost use Rattle.identity.specs.Version.{version_text};
 ghost use Rattle.outside.specs.Streams.{Appends, AppendsPart, Causes};
 ghost use Rattle.command_text.specs.Lines.{fault_text, installed_text, lacking_text, links_text, reply_text};
 ghost use Rattle.command_text.specs.Pieces.{Writes};
 
+use crate::lease_replies::{print_lease, print_read};
 use crate::pieces::{Piece, print_pieces};
+use crate::raw::print_bytes;
 use crate::reasons::print_reasons;
 use crate::refusals::{print_manifest, print_release};
 use causes::Cause;
@@ -12,6 +15,7 @@ use identity::{Key, Version};
 use machine::{LineFault, Reply};
 use outside::{Failed, Sink};
 use small_types::Target;
+use small_types::limits::LEASE_LIMIT;
 
 // Writes the reply of a line that is no command.
 fn print_fault<K: Sink>(fault: LineFault, sink: &mut K) -> Result<(), Failed>
@@ -89,28 +93,43 @@ fn print_links<K: Sink>(target: &Target, causes: &[Cause], sink: &mut K) -> Resu
     print_pieces(&[Piece::Bytes(b"\n")], sink)
 }
 
+// Writes the line that shows a number.
+fn print_number_line<K: Sink>(front: &[u8], number: u64, sink: &mut K) -> Result<(), Failed>
+    ensures { Writes K.Sink sink.old sink.new (front.now ++ (decimal number ++ 10 ∷ [])) result }
+{
+    print_pieces(
+        &[
+            Piece::Bytes(front),
+            Piece::Number(number),
+            Piece::Bytes(b"\n"),
+        ],
+        sink,
+    )
+}
+
+// Writes the line that shows a version.
+fn print_version_line<K: Sink>(front: &[u8], shown: Version, sink: &mut K) -> Result<(), Failed>
+    ensures { Writes K.Sink sink.old sink.new
+        (front.now ++ (version_text shown ++ 10 ∷ [])) result }
+{
+    print_pieces(
+        &[
+            Piece::Bytes(front),
+            Piece::Version(shown),
+            Piece::Bytes(b"\n"),
+        ],
+        sink,
+    )
+}
+
 // Writes the reply, a line for each.
 #[tactic(auto, unfolding(crate::specs::Lines::reply_text))]
 fn print_line<K: Sink>(reply: &Reply, sink: &mut K) -> Result<(), Failed>
     ensures { Writes K.Sink sink.old sink.new (reply_text reply.now) result }
 {
     match reply {
-        Reply::At { now } => print_pieces(
-            &[
-                Piece::Bytes(b"ok at "),
-                Piece::Number(*now),
-                Piece::Bytes(b"\n"),
-            ],
-            sink,
-        ),
-        Reply::Minimum { version } => print_pieces(
-            &[
-                Piece::Bytes(b"ok minimum "),
-                Piece::Version(*version),
-                Piece::Bytes(b"\n"),
-            ],
-            sink,
-        ),
+        Reply::At { now } => print_number_line(b"ok at ", *now, sink),
+        Reply::Minimum { version } => print_version_line(b"ok minimum ", *version, sink),
         Reply::TooMany { what, limit } => print_pieces(
             &[
                 Piece::Bytes(b"no too-many "),
@@ -122,30 +141,23 @@ fn print_line<K: Sink>(reply: &Reply, sink: &mut K) -> Result<(), Failed>
             sink,
         ),
         Reply::Installed { key, version, view } => print_installed(key, *version, *view, sink),
-        Reply::NotNewer { have } => print_pieces(
-            &[
-                Piece::Bytes(b"no not-newer "),
-                Piece::Version(*have),
-                Piece::Bytes(b"\n"),
-            ],
-            sink,
-        ),
-        Reply::BelowMinimum { minimum } => print_pieces(
-            &[
-                Piece::Bytes(b"no below-minimum "),
-                Piece::Version(*minimum),
-                Piece::Bytes(b"\n"),
-            ],
-            sink,
-        ),
-        Reply::Spent { next } => print_pieces(
-            &[
-                Piece::Bytes(b"no spent "),
-                Piece::Number(*next),
-                Piece::Bytes(b"\n"),
-            ],
-            sink,
-        ),
+        Reply::Lease {
+            lease,
+            version,
+            check_due,
+        } => print_lease(*lease, *version, *check_due, sink),
+        Reply::Read { length, bytes } => print_read(*length, bytes.as_slice(), sink),
+        Reply::Finished { lease } => print_number_line(b"ok finished ", *lease, sink),
+        Reply::NotInstalled => print_bytes(b"no not-installed\n", sink),
+        Reply::NoLease => print_bytes(b"no no-lease\n", sink),
+        Reply::NoFile => print_bytes(b"no no-file\n", sink),
+        Reply::CheckFirst => print_bytes(b"no check-first\n", sink),
+        Reply::Required { minimum } => print_version_line(b"no required ", *minimum, sink),
+        Reply::Offered { version } => print_version_line(b"no offered ", *version, sink),
+        Reply::LeasesFull => print_number_line(b"no leases-full ", LEASE_LIMIT as u64, sink),
+        Reply::NotNewer { have } => print_version_line(b"no not-newer ", *have, sink),
+        Reply::BelowMinimum { minimum } => print_version_line(b"no below-minimum ", *minimum, sink),
+        Reply::Spent { next } => print_number_line(b"no spent ", *next, sink),
         Reply::Full { need, free } => print_pieces(
             &[
                 Piece::Bytes(b"no full "),
@@ -159,10 +171,10 @@ fn print_line<K: Sink>(reply: &Reply, sink: &mut K) -> Result<(), Failed>
         Reply::AllLinks { target, causes } => print_links(target, causes.as_slice(), sink),
         Reply::Manifest { fault } => print_manifest(fault, sink),
         Reply::Release { fault } => print_release(fault, sink),
-        Reply::BadUrl => print_pieces(&[Piece::Bytes(b"no bad-url\n")], sink),
-        Reply::NotHttp => print_pieces(&[Piece::Bytes(b"no not-http\n")], sink),
+        Reply::BadUrl => print_bytes(b"no bad-url\n", sink),
+        Reply::NotHttp => print_bytes(b"no not-http\n", sink),
         Reply::Line { fault } => print_fault(*fault, sink),
-        Reply::Memory => print_pieces(&[Piece::Bytes(b"no memory\n")], sink),
+        Reply::Memory => print_bytes(b"no memory\n", sink),
     }
 }
 

@@ -39,3 +39,19 @@ pub(crate) fn two_words(line: &[u8]) -> Option<(&[u8], &[u8])>
         None => Some((first, second)),
     }
 }
+
+/// The words, where there are four.
+pub(crate) fn four_words(line: &[u8]) -> Option<(&[u8], &[u8], &[u8], &[u8])>
+    ensures words { IfSome result
+        (λ w. words_of line.now ≡ w.0.now ∷ w.1.now ∷ w.2.now ∷ w.3.now ∷ []) }
+    ensures count { IfNone result (length (words_of line.now) ≢ 4) }
+{
+    let (first, rest) = first_word(line);
+    let (second, rest) = first_word(rest?);
+    let (third, rest) = first_word(rest?);
+    let (fourth, more) = first_word(rest?);
+    match more {
+        Some(_) => None,
+        None => Some((first, second, third, fourth)),
+    }
+}

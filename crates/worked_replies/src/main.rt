@@ -1,4 +1,5 @@
-//! Replies as they are printed, and addresses as lines give them. What it prints is compared with what it must print.
+//! Replies as they are printed, and what lines are read as: addresses, and the lines of the input.
+//! What it prints is compared with what it must print.
 #![tactic(auto)]
 
 use causes::Cause;
@@ -46,6 +47,53 @@ fn plain(rt: &HostRuntime) -> io::Result<()> {
     say(rt, Reply::BadUrl)?;
     say(rt, Reply::NotHttp)?;
     say(rt, Reply::Memory)
+}
+
+// Leases, and why there is none.
+fn leases(rt: &HostRuntime) -> io::Result<()> {
+    let version = version(1, 0, 0, 0);
+    for check_due in [false, true] {
+        let lease = 1;
+        say(
+            rt,
+            Reply::Lease {
+                lease,
+                version,
+                check_due,
+            },
+        )?;
+    }
+    let lease = 4_611_686_018_427_387_903;
+    say(rt, Reply::Finished { lease })?;
+    say(rt, Reply::NotInstalled)?;
+    say(rt, Reply::NoLease)?;
+    say(rt, Reply::NoFile)?;
+    say(rt, Reply::CheckFirst)?;
+    say(rt, Reply::Required { minimum: version })?;
+    say(rt, Reply::Offered { version })?;
+    say(rt, Reply::LeasesFull)
+}
+
+// So many bytes, of all values.
+fn bytes_of(alloc: Global, count: usize) -> Result<Bytes, AllocError> {
+    let mut bytes = Bytes::from_vec(Vec::new(alloc));
+    for i in 0..count {
+        bytes.push((i % 256) as u8)?;
+    }
+    Ok(bytes)
+}
+
+// Bytes of files: none, few, and about as many as are written at a time.
+fn reads(rt: &HostRuntime) -> io::Result<()> {
+    let alloc = rt.alloc();
+    let bytes = Bytes::from_slice(alloc, b"abc")?;
+    say(rt, Reply::Read { length: 3, bytes })?;
+    for count in [0, 1, 256, 2_047, 2_048, 2_049, 4_097] {
+        let bytes = bytes_of(alloc, count)?;
+        let length = 4_611_686_018_427_387_904;
+        say(rt, Reply::Read { length, bytes })?;
+    }
+    Ok(())
 }
 
 // What there may be too many of.
@@ -244,14 +292,35 @@ fn manifests(rt: &HostRuntime) -> io::Result<()> {
     Ok(())
 }
 
-// What a line is read as.
-fn tell(rt: &HostRuntime, line: &[u8]) -> io::Result<()> {
-    match read_line(rt.alloc(), line) {
-        Ok(Command::Install { url }) => {
+// What a command asks for.
+fn tell_command(rt: &HostRuntime, command: Command) -> io::Result<()> {
+    match command {
+        Command::Install { url } => {
             let length = url.as_slice().len();
             println!(rt; "an address of {length}")
         }
-        Ok(_) => println!(rt; "another command"),
+        Command::Launch { key } => {
+            let (name, language) = (key.name.as_str(), key.language.as_str());
+            println!(rt; "a launch of {name} in {language}")
+        }
+        Command::Read {
+            lease,
+            name,
+            from,
+            count,
+        } => {
+            let name = name.as_str();
+            println!(rt; "a read on {lease} of <{name}> from {from}, {count}")
+        }
+        Command::Finish { lease } => println!(rt; "the end of {lease}"),
+        Command::At { .. } | Command::Require { .. } => println!(rt; "another command"),
+    }
+}
+
+// What a line is read as.
+fn tell(rt: &HostRuntime, line: &[u8]) -> io::Result<()> {
+    match read_line(rt.alloc(), line) {
+        Ok(command) => tell_command(rt, command),
         Err(fault) => say(rt, Reply::Line { fault }),
     }
 }
@@ -280,8 +349,19 @@ fn addresses(rt: &HostRuntime) -> io::Result<()> {
     Ok(())
 }
 
+// What the lines of the input are read as.
+fn lines(rt: &HostRuntime) -> io::Result<()> {
+    for line in rt.lines(rt.alloc()) {
+        let line = line?;
+        tell(rt, line.as_str().as_bytes())?;
+    }
+    Ok(())
+}
+
 fn main(rt: HostRuntime) -> io::Result<()> {
     plain(&rt)?;
+    leases(&rt)?;
+    reads(&rt)?;
     counts(&rt)?;
     faults(&rt)?;
     keys(&rt)?;
@@ -290,5 +370,6 @@ fn main(rt: HostRuntime) -> io::Result<()> {
     trees(&rt)?;
     names(&rt)?;
     manifests(&rt)?;
-    addresses(&rt)
+    addresses(&rt)?;
+    lines(&rt)
 }

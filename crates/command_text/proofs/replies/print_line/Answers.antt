@@ -3,4 +3,4 @@ use Rattle.command_text.proofs.replies.print_line.Goals as goal
 
 pub returns-in-TooMany : goal.returns-in-TooMany
 unfolding reply_text
-returns-in-TooMany g c = rw c.in-TooMany.is c.print_pieces-in-TooMany.ensures
+returns-in-TooMany g c = rw c.in-TooMany.is c.print_pieces.ensures
