@@ -37,21 +37,9 @@ plain_refused (r ∷ rs) old reply new plain (inr later) = plain_refused rs old 
 
 module _ (shape : Shape) (url : List ℕ) (texts : List (List ℕ)) (a c : LinksState) (asked : List Target) where
   pub plain_accounts : (reply : Reply) → IsPlain reply → AsksInstall install_replies INSTALLED_LOCALS url texts shape asked → Accounts shape url texts a c asked reply
-  plain_accounts (says.At now) plain asks = asks
-  plain_accounts (says.Minimum version) plain asks = asks
-  plain_accounts (says.Installed key version view) plain asks = asks
-  plain_accounts (says.NotNewer have) plain asks = asks
-  plain_accounts (says.BelowMinimum minimum) plain asks = asks
-  plain_accounts (says.TooMany what limit) plain asks = asks
-  plain_accounts (says.Spent next) plain asks = asks
-  plain_accounts (says.Full need free) plain asks = asks
   plain_accounts (says.AllLinks target reasons) plain asks = absurd plain
-  plain_accounts (says.Manifest fault) plain asks = asks
-  plain_accounts (says.Release fault) plain asks = asks
-  plain_accounts says.BadUrl plain asks = asks
-  plain_accounts says.NotHttp plain asks = asks
-  plain_accounts (says.Line fault) plain asks = asks
   plain_accounts says.Memory plain asks = absurd plain
+  plain_accounts _ plain asks = asks
 
   pub memory_accounts : (reply : Reply) → reply ≡ says.Memory → Accounts shape url texts a c asked reply
   memory_accounts reply is = subst (Accounts shape url texts a c asked) (sym is) tt

@@ -13,7 +13,7 @@ use Rattle.machine.specs.Sound.{Sound}
 use Rattle.machine.specs.Store.{Session}
 use Rattle.machine.specs.Views.{View}
 use Rattle.store_state.specs.declared.change.Change.{Change}
-use Rattle.store_state.specs.declared.change.Change.TheVariants.{Boot, Require, Install}
+use Rattle.store_state.specs.declared.change.Change.TheVariants.{Install}
 use Rattle.store_state.specs.Change.{Fits, effect}
 use Rattle.store_state.specs.Shows.{Shows}
 use Rattle.store_state.specs.Tables.{Tables, table_shape}
@@ -23,10 +23,9 @@ use Rattle.install_plan.specs.Hearing.{Served}
 
 -- it is an install without data files, and of as many contents as a release may have files
 abbrev pub HasFew : Change → Type 0
-HasFew (Boot boot) = ⊥
-HasFew (Require key version) = ⊥
 HasFew (Install view contents provider now) =
     (view.locals ≡ []) × (length contents ≤ FILE_COUNT_LIMIT)
+HasFew _ = ⊥
 
 -- the step of a session over the store that the tables show
 pub record IsStep (blocks : ℕ) (tables : Tables) (url : List ℕ) (texts : List (List ℕ))

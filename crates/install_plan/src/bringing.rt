@@ -22,7 +22,6 @@ fn fetch_content<L: Links>(
     target: &Target,
     entry: &FileEntry,
 ) -> Result<Content, Reply>
-    requires one { (L.links links.old).sources ≡ 1 }
     requires below { entry.now.size < 2 ^ 61 }
     ensures fetched { IfOk result (IsFetched entry.now target.now
         (L.links links.old) (L.links links.new)) }
@@ -51,7 +50,6 @@ pub(crate) fn fetch_wanted<L: Links>(
     links: &mut L,
     plan: &Plan,
 ) -> Result<List<Content>, Reply>
-    requires one { (L.links links.old).sources ≡ 1 }
     requires places { ArePlaces plan.now.application.files plan.now.wanted }
     ensures fetched { IfOk result (HasFetched plan.now.application.files plan.now.wanted
         (L.links links.old) (L.links links.new)) }

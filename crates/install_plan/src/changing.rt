@@ -68,7 +68,6 @@ pub fn prepare<L: Links>(
     url: &Bytes,
     heard: &mut Heard,
 ) -> Result<(Change, Reply), Reply>
-    requires one { (L.links links.old).sources ≡ 1 }
     requires empty { heard.old.texts ≡ [] }
     requires moment { now ≤ NUMBER_LIMIT }
     ensures ready { IfOk result (λ made. IsReady blocks state.now url.now heard.new.texts

@@ -45,7 +45,6 @@ pub fn hear<L: Links>(
     url: &Bytes,
     heard: &mut Heard,
 ) -> Result<Plan, Reply>
-    requires one { (L.links links.old).sources ≡ 1 }
     requires empty { heard.old.texts ≡ [] }
     ensures plan { IfOk result (IsPlanned (table_shape blocks state.now) url.now heard.new.texts
         (L.links links.old) (L.links links.new)) }

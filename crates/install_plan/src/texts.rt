@@ -29,7 +29,6 @@ pub(crate) fn hear_deployment<L: Links>(
     target: &Target,
     heard: &mut Heard,
 ) -> Result<Deployment, Reply>
-    requires { (L.links links.old).sources ≡ 1 }
     ensures told { IfOk result (HearsOne deployment_of (FitsText limits.MANIFEST_LIMIT) target.now
         (L.links links.old) (L.links links.new) heard.old.texts heard.new.texts) }
     ensures stopped { IfErr result (StopsOne deployment_of
@@ -59,7 +58,6 @@ fn fetch_listed<L: Links>(
     base: &Target,
     d: &Deployment,
 ) -> Result<Bytes, Reply>
-    requires one { (L.links links.old).sources ≡ 1 }
     requires below { d.now.app_size < 2 ^ 61 }
     ensures got { IfOk result (IsGot (Matches d.now.app_list d.now.app_size) base.now
         (L.links links.old) (L.links links.new)) }
@@ -84,7 +82,6 @@ pub(crate) fn hear_application<L: Links>(
     d: &Deployment,
     heard: &mut Heard,
 ) -> Result<Application, Reply>
-    requires one { (L.links links.old).sources ≡ 1 }
     requires below { d.now.app_size < 2 ^ 61 }
     ensures told { IfOk result (HearsOne application_of
         (Matches d.now.app_list d.now.app_size) base.now

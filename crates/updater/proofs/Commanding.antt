@@ -1,5 +1,5 @@
 -- How commands end.
-use Rattle.std.proofs.Common.{◌≡◌, ◌≢◌, ◌≤◌, ◌++◌, ◌∷◌, ℕ, List, [], length, length-append, Some, Result, Ok, Err, inl, inr, refl, sym, ap, subst, arith}
+use Rattle.std.proofs.Common.{◌≡◌, ◌≢◌, ◌≤◌, ℕ, List, [], Some, Result, Ok, Err, inl, inr, refl, sym, subst, arith}
 use Rattle.small_types.specs.declared.limits.TheConstants.{NUMBER_LIMIT}
 use Rattle.outside.specs.declared.failed.Failed.{Failed}
 use Rattle.disks.specs.declared.disk.Disk.{Ghosts}
@@ -8,7 +8,7 @@ use Rattle.links.specs.Links.{LinksState}
 use Rattle.fetcher.specs.Fetched.{Kept}
 use Rattle.fetcher.proofs.Sequence.{kept_same}
 use Rattle.machine.specs.declared.command.Command.{Command}
-use Rattle.machine.specs.declared.command.Command.TheVariants.{At, Require, Install}
+use Rattle.machine.specs.declared.command.Command.TheVariants.{At, Install}
 use Rattle.machine.specs.declared.reply.Reply.{Reply}
 use Rattle.machine.specs.declared.reply.Reply.TheVariants as says
 use Rattle.machine.specs.Machine.{Answers, Hears, effect, moment_after, refusals}
@@ -33,25 +33,21 @@ use Rattle.updater.proofs.Standing.{still_stands}
 -- ---- commands that are no installs
 
 abbrev pub IsPlain : Command → Type 0
-IsPlain (At next) = Unit {0}
-IsPlain (Require key version) = Unit {0}
 IsPlain (Install url) = ⊥
+IsPlain _ = Unit {0}
 
 -- a command may hear nothing
 pub hears_nothing : (shape : Shape) (command : Command) → Hears shape command []
-hears_nothing shape (At next) = refl
-hears_nothing shape (Require key version) = refl
 hears_nothing shape (Install url) = tt
+hears_nothing shape _ = refl
 
 nothing_left : {L : Type 0} (command : Command) (links : L) → LeavesLinks command links links
-nothing_left (At next) links = refl
-nothing_left (Require key version) links = refl
 nothing_left (Install url) links = tt
+nothing_left _ links = refl
 
 nothing_served : (command : Command) (heard : List (List ℕ)) (before after : LinksState) (old : Store) (reply : Reply) (new : Store) → IsPlain command → Serves command heard before after old reply new
-nothing_served (At next) heard before after old reply new plain = tt
-nothing_served (Require key version) heard before after old reply new plain = tt
 nothing_served (Install url) heard before after old reply new plain = absurd plain
+nothing_served _ heard before after old reply new plain = tt
 
 -- ---- steps
 
@@ -199,11 +195,13 @@ module _ {D L : Type 0} (on : Ghosts D) (net : LinksGhosts L) (now : ℕ) (comma
   served_none old reply new = nothing_served command [] (net.links links) (net.links links) old reply new plain
 
   -- the tables give a refusal, which changes nothing
-  pub refused : (reply : Reply) → moment_after now (Some reply) ≤ NUMBER_LIMIT → ((blocks : ℕ) (old : Session) → Refuses (refusals now [] (table_shape blocks (tables_of updater)) command) old reply old)
+  pub refused : (reply : Reply) → moment_after now (Some reply) ≤ NUMBER_LIMIT
+      → ((old : Session) → Shown (on.seen disk) command updater old
+      → Refuses (refusals now [] (table_shape (room_of updater) (tables_of updater)) command) old reply old)
       → Commanded on net now [] command updater disk links (Ok reply) updater disk links
   refused reply few refuses = rested on net now [] command updater disk links links seen_left moment asked_none reply few (λ old s. record {
     new = old;
-    step = refused_answers now [] (room_of updater) (tables_of updater) old s.shape command reply old (refuses (room_of updater) old);
+    step = refused_answers now [] (room_of updater) (tables_of updater) old s.shape command reply old (refuses old s);
     same = refl;
     served = served_none old.store reply old.store;
   })

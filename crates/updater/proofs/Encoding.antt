@@ -1,9 +1,9 @@
 -- Changes that fit have an encoding.
-use Rattle.std.proofs.Common.{◌≡◌, ◌≤◌, ◌<◌, ◌^◌, ◌/◌, ◌==◌, ◌||◌, not, cond, true, false, ℕ, Bool, List, [], length, Option, Some, None, All, Contains, ◌⊎◌, inl, inr, Ok, Err, Result, refl, sym, ap, subst, ◌∙◌, arith, IsUtf8}
-use Rattle.std.specs.Prelude.{Any, IfSome, filter}
+use Rattle.std.proofs.Common.{◌≡◌, ◌≤◌, ◌<◌, ◌^◌, ◌/◌, ◌||◌, not, cond, true, false, ℕ, Bool, List, [], length, Option, Some, None, All, ◌⊎◌, inl, inr, Ok, Err, Result, sym, ap, subst, arith, IsUtf8}
+use Rattle.std.specs.Prelude.{Any, IfSome}
 use Rattle.std.proofs.lemmas.Bool.{cases_lt, lt-ltb}
 use Rattle.std.proofs.lemmas.List.Elements.{All-contains, All-filter, All-nil}
-use Rattle.small_types.specs.declared.limits.TheConstants.{FILE_COUNT_LIMIT, IDENTITY_PART_LIMIT, NAME_LIMIT, NUMBER_LIMIT, URL_LIMIT}
+use Rattle.small_types.specs.declared.limits.TheConstants.{FILE_COUNT_LIMIT, NAME_LIMIT, URL_LIMIT}
 use Rattle.small_types.specs.declared.target.Target.{Target}
 use Rattle.addresses.specs.declared.fault.UrlFault.{UrlFault}
 use Rattle.addresses.specs.declared.fault.UrlFault.TheVariants.{BadUrl}
@@ -13,10 +13,6 @@ use Rattle.url.specs.Parser.{parse_url}
 use Rattle.std.specs.Prelude.{nat_lt}
 use Rattle.std.specs.Str.{is_utf8}
 use Rattle.identity.specs.declared.identity.Identity.{Identity}
-use Rattle.identity.specs.Version.{IsVersion}
-use Rattle.digest_list.specs.declared.digest.Digest.{Digest}
-use Rattle.digest_list.specs.Count.{IsCount}
-use Rattle.digest_list.specs.Digest.{IsSized}
 use Rattle.manifests.specs.declared.ages.AgeUnit.{AgeUnit}
 use Rattle.manifests.specs.declared.ages.AgeUnit.TheVariants.{Hours, Days, Weeks}
 use Rattle.manifests.specs.declared.facts.Application.{Application}
@@ -33,7 +29,7 @@ use Rattle.machine.specs.Views.{ContentKey, content_key, standing_entries}
 use Rattle.machine.proofs.Contents.{content_decides}
 use Rattle.machine.proofs.Shortness.{short_key}
 use Rattle.store_state.specs.declared.change.Change.{Change}
-use Rattle.store_state.specs.declared.change.Change.TheVariants.{Boot, Require, Install}
+use Rattle.store_state.specs.declared.change.Change.TheVariants.{Install}
 use Rattle.store_state.specs.declared.view.Content.{Content}
 use Rattle.store_state.specs.declared.view.LocalFile.{LocalFile}
 use Rattle.store_state.specs.declared.view.View.{View}
@@ -41,7 +37,7 @@ use Rattle.store_state.specs.Change.{Fits, FitsInstall}
 use Rattle.store_state.specs.Contents.{is_content_of}
 use Rattle.store_state.specs.Tables.{Tables}
 use Rattle.record_codec.specs.Codec.{IsChange}
-use Rattle.record_codec.specs.Values.{AreDigests, IsApplication, IsContent, IsDeployment, IsEntry, IsIdentity, IsInstall, IsLocal, IsRule, IsView}
+use Rattle.record_codec.specs.Values.{AreDigests, IsApplication, IsContent, IsDeployment, IsEntry, IsIdentity, IsInstall, IsLocal, IsRule}
 use Rattle.install_plan.specs.Ready.{HasFew}
 
 -- ---- texts and identities
@@ -191,6 +187,5 @@ install_encodes tables view contents provider now fits none few =
     }
 
 pub encodes : (tables : Tables) (change : Change) → Fits tables change → HasFew change → IsChange change
-encodes tables (Boot boot) fits few = absurd few
-encodes tables (Require key version) fits few = absurd few
 encodes tables (Install view contents provider now) fits few = install_encodes tables view contents provider now fits few.0 few.1
+encodes tables _ fits few = absurd few

@@ -1,5 +1,5 @@
 -- How installs end.
-use Rattle.std.proofs.Common.{◌≡◌, ◌≢◌, ◌⊎◌, ◌≤◌, ◌+◌, ◌++◌, ◌∷◌, ℕ, List, [], length, length-append, Some, Result, Ok, Err, inl, inr, refl, sym, ap, subst, ◌∙◌, arith}
+use Rattle.std.proofs.Common.{◌≡◌, ◌≢◌, ◌⊎◌, ◌≤◌, ◌+◌, ◌++◌, ◌∷◌, ℕ, List, [], length, length-append, Some, Result, Ok, inl, inr, refl, sym, ap, subst, ◌∙◌, arith}
 use Rattle.small_types.specs.declared.limits.TheConstants.{NUMBER_LIMIT}
 use Rattle.outside.specs.declared.failed.Failed.{Failed}
 use Rattle.disks.specs.declared.disk.Disk.{Ghosts}
@@ -9,7 +9,6 @@ use Rattle.machine.specs.declared.command.Command.TheVariants.{Install}
 use Rattle.machine.specs.declared.reply.Reply.{Reply}
 use Rattle.machine.specs.declared.reply.Reply.TheVariants as says
 use Rattle.machine.specs.declared.views.TheConstants.{INSTALLED_LOCALS}
-use Rattle.machine.specs.InstallLaws.{IsInstall}
 use Rattle.machine.specs.InstallReplies.{install_replies}
 use Rattle.machine.specs.InstallRow.{InstallEffect, install_refusals}
 use Rattle.machine.specs.Machine.{Answers, moment_after}
@@ -17,15 +16,12 @@ use Rattle.machine.specs.Rows.{PassesAll, Refuses}
 use Rattle.machine.specs.Shape.{Shape, shape_of}
 use Rattle.machine.specs.Store as stores
 use Rattle.machine.specs.Store.{Session, Store, session_over}
-use Rattle.machine.specs.Valid.{Valid}
-use Rattle.machine.specs.Views.{View}
 use Rattle.machine.proofs.InstallSteps.{left_valid}
 use Rattle.machine.proofs.Moments.{refusal_moment}
-use Rattle.machine.proofs.Stepping.{store_left}
 use Rattle.store_state.specs.declared.change.Change.{Change}
 use Rattle.store_state.specs.Change.{effect}
 use Rattle.store_state.specs.Shows.{Shows}
-use Rattle.store_state.specs.Tables.{Tables, table_shape}
+use Rattle.store_state.specs.Tables.{table_shape}
 use Rattle.install_plan.specs.Brought.{IsBrought}
 use Rattle.install_plan.specs.Hearing.{Served}
 use Rattle.install_plan.specs.Plans.{IsRefused}

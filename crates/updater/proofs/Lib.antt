@@ -1,10 +1,14 @@
 pub mod Changing
 pub mod Commanding
 pub mod Encoding
+pub mod Finishing
 pub mod Installing
 pub mod Keeping
+pub mod Launching
+pub mod LeasedFiles
 pub mod Loading
 pub mod Opening
 pub mod Recovering
 pub mod Requiring
+pub mod ShownViews
 pub mod Standing

@@ -9,7 +9,7 @@ use Rattle.record_codec.proofs.Changes.{change_text_injective}
 use Rattle.std.specs.Prelude.{IfOk, OnOk}
 use Rattle.store_state.specs.declared.state.StateFault.{StateFault}
 use Rattle.store_state.specs.declared.change.Change.{Change}
-use Rattle.store_state.specs.declared.change.Change.TheVariants.{Boot, Require, Install}
+use Rattle.store_state.specs.declared.change.Change.TheVariants.{Boot, Require, Install, Launch, Finish}
 use Rattle.store_state.specs.Change.{Fits, Replays, effect}
 use Rattle.store_state.specs.Tables.{Tables, empty}
 use Rattle.updater.specs.Stands.{Encodes, Loads}
@@ -21,6 +21,8 @@ unfolding change_text install_text
 some_text (Boot boot) = omega arith
 some_text (Require key version) = omega arith
 some_text (Install view contents provider now) = omega arith
+some_text (Launch app) = omega arith
+some_text (Finish lease) = omega arith
 
 -- a text encodes one change
 pub one_encoded : (a b : Change) (text : List ℕ) → Encodes a text → Encodes b text → a ≡ b

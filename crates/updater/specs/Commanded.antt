@@ -11,7 +11,7 @@ use Rattle.fetcher.specs.Fetched.{Kept}
 use Rattle.install_plan.specs.Brought.{IsBrought}
 use Rattle.install_plan.specs.Hearing.{Served}
 use Rattle.machine.specs.declared.command.Command.{Command}
-use Rattle.machine.specs.declared.command.Command.TheVariants.{At, Require, Install}
+use Rattle.machine.specs.declared.command.Command.TheVariants.{At, Require, Install, Launch, Read, Finish}
 use Rattle.machine.specs.declared.reply.Reply.{Reply}
 use Rattle.machine.specs.Machine.{Answers, Hears, moment_after}
 use Rattle.machine.specs.Shape.{shape_of}
@@ -30,12 +30,18 @@ abbrev pub SoundFor : Command → Store → Type 0
 SoundFor (At next) store = Unit {0}
 SoundFor (Require key version) store = Unit {0}
 SoundFor (Install url) store = Sound store
+SoundFor (Launch key) store = Unit {0}
+SoundFor (Read lease name from count) store = Unit {0}
+SoundFor (Finish lease) store = Unit {0}
 
 -- a command that is no install leaves the links alone
 abbrev pub LeavesLinks : {L : Type 0} → Command → L → L → Type 0
 LeavesLinks (At next) old new = new ≡ old
 LeavesLinks (Require key version) old new = new ≡ old
 LeavesLinks (Install url) old new = Unit {0}
+LeavesLinks (Launch key) old new = new ≡ old
+LeavesLinks (Read lease name from count) old new = new ≡ old
+LeavesLinks (Finish lease) old new = new ≡ old
 
 -- What the links did for a step from one store to another. An install asked them for what it heard,
 -- and for each file of the new view whose content no kept view has.
@@ -47,6 +53,9 @@ Serves (Install url) heard before after old reply new =
     Served (shape_of old) url heard before after reply
     × ((view : View) → new.views ≡ old.views ++ view ∷ []
     → IsBrought (shape_of old) before after view)
+Serves (Launch key) heard before after old reply new = Unit {0}
+Serves (Read lease name from count) heard before after old reply new = Unit {0}
+Serves (Finish lease) heard before after old reply new = Unit {0}
 
 -- ---- what it did
 

@@ -1,10 +1,12 @@
 pub mod Answer
 pub mod Commanded
 pub mod Keeps
+pub mod Leased
 pub mod Loaded
 pub mod Moments
 pub mod Opened
 pub mod Replay
 pub mod Requirement
 pub mod Stands
+pub mod Start
 pub mod Updater

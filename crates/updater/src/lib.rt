@@ -3,12 +3,12 @@
 
 mod fault;
 mod laws;
+mod leased;
 mod piece;
 mod refusal;
 mod replay;
 mod requirement;
-#[cfg(test)]
-mod tests;
+mod start;
 mod updater;
 
 pub use fault::RecoverFault;

@@ -31,3 +31,19 @@ pub(crate) fn require_refusal(state: &StoreState, key: &Key) -> Option<Reply>
     }
     None
 }
+
+/// The refusal of `finish` that the tables give, whatever their number of blocks. It takes no
+/// memory.
+pub(crate) fn finish_refusal(state: &StoreState, lease: u64) -> Option<Reply>
+    ensures none { result ≡ None → (now blocks : ℕ)
+        → PassesAll (refusals now [] (table_shape blocks state.now) (command.Finish lease)) }
+    ensures some { (now blocks : ℕ) (old : Session)
+        → IfSome result (λ reply. Refuses (refusals now [] (table_shape blocks state.now)
+        (command.Finish lease)) old reply old) }
+    ensures still { (now : ℕ) → IfSome result (λ reply. moment_after now (Some reply) ≡ now) }
+{
+    match state.lease(lease) {
+        Some(_) => None,
+        None => Some(Reply::NoLease),
+    }
+}

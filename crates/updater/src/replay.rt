@@ -34,7 +34,7 @@ fn make(alloc: Global, state: &mut StoreState, change: Change) -> Result<bool, S
             drop(change);
             Ok(false)
         }
-        Ok(true) => made(state.apply(alloc, change)),
+        Ok(true) => made(leases::make(alloc, state, change)),
     }
 }
 

@@ -20,17 +20,19 @@ ghost use Rattle.updater.specs.Requirement.{Raises};
 
 use crate::RecoverFault;
 use crate::fault::StepFault;
+use crate::leased::{leased_file, part_of};
 use crate::piece::piece_of;
-use crate::refusal::require_refusal;
+use crate::refusal::{finish_refusal, require_refusal};
 use crate::replay::settle;
 use crate::requirement::minimum_that_stays;
+use crate::start::start_of;
 use disks::Disk;
 use identity::{Key, Version};
 use install_plan::prepare;
 use links::Links;
 use machine::{Command, Heard, Reply};
 use outside::Failed;
-use small_types::{Bytes, Duplicate};
+use small_types::{Bytes, Duplicate, Name};
 use std::alloc::Global;
 use store_log::{Log, LogFault};
 use store_state::{Change, StoreState};
@@ -99,7 +101,6 @@ impl Updater {
     ) -> Result<Reply, Failed>
         requires command { IsCommand command.now }
         requires moment { now ≤ NUMBER_LIMIT }
-        requires one { (L.links links.old).sources ≡ 1 }
         requires empty { heard.old.texts ≡ [] }
         ensures { Commanded D.Disk L.Links now heard.new.texts command.now self.old disk.old links.old
             result self.new disk.new links.new }
@@ -110,6 +111,14 @@ impl Updater {
                 alloc, disk, links, now, key, *version,
             ),
             Command::Install { url } => self.install(alloc, disk, links, now, url, heard),
+            Command::Launch { key } => self.launch(alloc, disk, links, now, key),
+            Command::Read {
+                lease,
+                name,
+                from,
+                count,
+            } => self.read(alloc, disk, links, now, *lease, name, *from, *count),
+            Command::Finish { lease } => self.finish(alloc, disk, links, now, *lease),
         }
     }
 
@@ -159,7 +168,7 @@ impl Updater {
         let Ok(mut piece) = piece_of(alloc, &change) else {
             return Err(StepFault::Memory);
         };
-        self.state.apply(alloc, change)?;
+        leases::make(alloc, &mut self.state, change)?;
         match self.log.append(disk, &mut piece) {
             Ok(()) => Ok(()),
             Err(_) => Err(StepFault::DiskFault),
@@ -228,7 +237,6 @@ impl Updater {
         heard: &mut Heard,
     ) -> Result<Reply, Failed>
         requires moment { now ≤ NUMBER_LIMIT }
-        requires one { (L.links links.old).sources ≡ 1 }
         requires empty { heard.old.texts ≡ [] }
         ensures { Commanded D.Disk L.Links now heard.new.texts (command.Install url.now) self.old
             disk.old links.old result self.new disk.new links.new }
@@ -246,5 +254,82 @@ impl Updater {
             Err(reply) => return Ok(reply),
         };
         answer(self.keep(alloc, disk, change), reply)
+    }
+    // Gives a lease on the current view of the application. The links are not asked.
+    fn launch<D: Disk, L: Links>(
+        &mut self,
+        alloc: Global,
+        disk: &mut D,
+        _links: &L,
+        now: u64,
+        key: &Key,
+    ) -> Result<Reply, Failed>
+        requires words { IsKey key.now }
+        requires moment { now ≤ NUMBER_LIMIT }
+        ensures { Commanded D.Disk L.Links now [] (command.Launch key.now)
+            self.old disk.old _links.now result self.new disk.new _links.now }
+    {
+        let start = match start_of(&self.state, key, now) {
+            Ok(start) => start,
+            Err(reply) => return Ok(reply),
+        };
+        answer(
+            self.keep(alloc, disk, Change::Launch { app: start.app }),
+            Reply::Lease {
+                lease: start.lease,
+                version: start.version,
+                check_due: start.check_due,
+            },
+        )
+    }
+
+    // Reads bytes of a program file of the leased view. Neither the disk nor the links are asked.
+    fn read<D: Disk, L: Links>(
+        &self,
+        alloc: Global,
+        _disk: &D,
+        _links: &L,
+        now: u64,
+        lease: u64,
+        name: &Name,
+        from: u64,
+        count: u64,
+    ) -> Result<Reply, Failed>
+        requires { now ≤ NUMBER_LIMIT }
+        ensures { Commanded D.Disk L.Links now [] (command.Read lease name.now from count)
+            self.now _disk.now _links.now result self.now _disk.now _links.now }
+    {
+        let file = match leased_file(&self.state, lease, name) {
+            Ok(file) => file,
+            Err(reply) => return Ok(reply),
+        };
+        let length = file.as_slice().len() as u64;
+        match part_of(alloc, file.as_slice(), from, count) {
+            Ok(bytes) => Ok(Reply::Read { length, bytes }),
+            Err(_) => Ok(Reply::Memory),
+        }
+    }
+
+    // Ends the lease. The links are not asked.
+    fn finish<D: Disk, L: Links>(
+        &mut self,
+        alloc: Global,
+        disk: &mut D,
+        _links: &L,
+        now: u64,
+        lease: u64,
+    ) -> Result<Reply, Failed>
+        requires words { lease ≤ NUMBER_LIMIT }
+        requires moment { now ≤ NUMBER_LIMIT }
+        ensures { Commanded D.Disk L.Links now [] (command.Finish lease)
+            self.old disk.old _links.now result self.new disk.new _links.now }
+    {
+        if let Some(reply) = finish_refusal(&self.state, lease) {
+            return Ok(reply);
+        }
+        answer(
+            self.keep(alloc, disk, Change::Finish { lease }),
+            Reply::Finished { lease },
+        )
     }
 }

@@ -3,9 +3,11 @@ use Rattle.install_plan.proofs.Readying.{plan_places, ready_with, refused_behind
 use Rattle.install_plan.proofs.Serving.{refused_at_files}
 use Rattle.install_plan.proofs.changing.prepare.Goals as goal
 
-pub fetch_wanted-requires-clause-places : goal.fetch_wanted-requires-clause-places
-fetch_wanted-requires-clause-places g c =
-    plan_places c.args.blocks c.args.state.now c.args.url.now c.hear.new.heard.texts c.in-Ok.plan c.in-Ok.ensures.plan.is
+pub fetch_wanted-requires : goal.fetch_wanted-requires
+fetch_wanted-requires g c = record {
+  places = plan_places c.args.blocks c.args.state.now c.args.url.now c.hear.new.heard.texts
+      c.in-Ok.plan c.in-Ok.ensures.plan.is;
+}
 
 pub returns-in-Err-fetch_wanted-clause-refused : goal.returns-in-Err-fetch_wanted-clause-refused
 returns-in-Err-fetch_wanted-clause-refused g c =

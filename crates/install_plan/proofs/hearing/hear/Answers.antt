@@ -12,8 +12,10 @@ hear_application-requires g c =
     let d = c.in-Ok-hear_deployment.deployment in
     let b = g.L.Links.links c.hear_deployment.new.links in
     record {
-      one = c.hear_deployment.ensures.kept.remain.sources ∙ c.requires.one;
-      below = size_below d (deployment_held (FitsText MANIFEST_LIMIT) c.in-Ok.target (g.L.Links.links c.args.links.now) b c.args.heard.now.texts c.hear_deployment.new.heard.texts d c.in-Ok-hear_deployment.ensures.told);
+      below = size_below d
+          (deployment_held (FitsText MANIFEST_LIMIT) c.in-Ok.target
+          (g.L.Links.links c.args.links.now) b c.args.heard.now.texts
+          c.hear_deployment.new.heard.texts d c.in-Ok-hear_deployment.ensures.told);
     }
 
 pub returns-in-Err : goal.returns-in-Err

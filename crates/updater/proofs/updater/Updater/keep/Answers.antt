@@ -1,4 +1,4 @@
-use Rattle.std.proofs.Common.{◌≡◌, ◌≤◌, ◌+◌, List, ℕ, length, refl, sym, ap, subst, ◌∙◌}
+use Rattle.std.proofs.Common.{◌≤◌, ◌+◌, List, ℕ, length, refl, sym, ap, subst, ◌∙◌}
 use Rattle.store_log.specs.declared.piece.TheConstants.{AROUND, CHANGE_LIMIT}
 use Rattle.store_log.specs.Log.{entry_in}
 use Rattle.updater.specs.Stands.{Encodes}
@@ -10,7 +10,7 @@ pub returns-in-Ok-append : goal.returns-in-Ok-append
 returns-in-Ok-append g c =
     let encodes : Encodes c.args.change (entry_in c.deref_mut.result.now) = record { has = c.requires.1; is = ap entry_in c.deref_mut.ensures.value ∙ c.in-Ok.ensures.change } in
     record {
-      stored = λ old new leads holds. holds_more g.D.Disk c.args.self.now c.args.disk.now c.args.change (entry_in c.deref_mut.result.now) c.requires.0 encodes old new leads holds (record { log = c.append.new.self; blocks = room_of c.args.self.now; state = c.apply.new.self }) c.append.new.disk c.in_ok-apply.ensures.ok refl c.in-Ok-append.ensures.ok;
+      stored = λ old new leads holds. holds_more g.D.Disk c.args.self.now c.args.disk.now c.args.change (entry_in c.deref_mut.result.now) c.requires.0 encodes old new leads holds (record { log = c.append.new.self; blocks = room_of c.args.self.now; state = c.make.new.state }) c.append.new.disk c.in_ok-make.ensures.ok refl c.in-Ok-append.ensures.ok;
       stop = λ old new leads holds. either_store g.D.Disk c.args.self.now c.args.disk.now c.args.change (entry_in c.deref_mut.result.now) c.requires.0 encodes old new leads holds c.append.new.disk (g.met.D.Disk.seen_left c.args.disk.now) c.append.ensures.any_moment;
       past = c.append.ensures.outside.past;
       memory = λ e. absurd (cc);

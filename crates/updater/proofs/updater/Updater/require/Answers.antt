@@ -10,7 +10,7 @@ pub returns-in-Some : goal.returns-in-Some
 returns-in-Some g c =
     refused g.D.Disk g.L.Links c.args.now (command.Require c.args.key.now c.args.version) c.args.self.now c.args.disk.now c.args.links.now (g.met.D.Disk.seen_left c.args.disk.now) c.requires.moment tt c.in-Some.reply
     (subst (λ (n : ℕ). n ≤ NUMBER_LIMIT) (sym (c.in-Some.ensures.still c.args.now)) c.requires.moment)
-    (λ blocks old. c.in-Some.ensures.some c.args.now blocks c.args.version old)
+    (λ old s. c.in-Some.ensures.some c.args.now c.args.self.now.blocks c.args.version old)
 
 pub returns-in-Some-minimum_that_stays : goal.returns-in-Some-minimum_that_stays
 returns-in-Some-minimum_that_stays g c =

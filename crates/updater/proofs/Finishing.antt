@@ -1,0 +1,73 @@
+-- A finish: the step that it is, and the change that it makes.
+use Rattle.std.proofs.Common.{◌≡◌, ◌≤◌, ◌∙◌, ℕ, List, [], Option, Some, None, IsSome, refl, sym, ap, subst}
+use Rattle.small_types.specs.declared.limits.TheConstants.{NUMBER_LIMIT}
+use Rattle.machine.specs.declared.command.Command.TheVariants as command
+use Rattle.machine.specs.declared.event.Event.TheVariants.{Line}
+use Rattle.machine.specs.declared.lease.Lease.{Lease}
+use Rattle.machine.specs.declared.reply.Reply.TheVariants as says
+use Rattle.machine.specs.FinishRow.{finished}
+use Rattle.machine.specs.Leases.{lease_of}
+use Rattle.machine.specs.Machine.{Answers, refusals}
+use Rattle.machine.specs.Rows.{PassesAll}
+use Rattle.machine.specs.Store.{Session, Store}
+use Rattle.machine.specs.Valid.{Valid}
+use Rattle.machine.proofs.Leasing.{lease_gone}
+use Rattle.machine.proofs.Stepping.{step_valid}
+use Rattle.store_state.specs.declared.change.Change.TheVariants as change
+use Rattle.store_state.specs.Change.{Fits, effect}
+use Rattle.store_state.specs.Shows.{Shows}
+use Rattle.store_state.specs.Tables.{Tables, table_shape}
+use Rattle.store_state.proofs.Showing.{shape_shown, shows_finished}
+use Rattle.links.specs.Links.{LinksState}
+use Rattle.updater.specs.Keeps.{Leads}
+use Rattle.updater.proofs.Commanding.{Does, effect_answers}
+
+-- it fits where the row's refusal is passed
+pub finished_fits : (tables : Tables) (lease : ℕ)
+    → ((now blocks : ℕ)
+    → PassesAll (refusals now [] (table_shape blocks tables) (command.Finish lease)))
+    → Fits tables (change.Finish lease)
+finished_fits tables lease passes = by (lease_of lease tables.leases) (passes 0 0).0
+  where
+    by : (found : Option Lease) → ¬ (found ≡ None) → IsSome found
+    by None some = absurd (some refl)
+    by (Some found) some = refl
+
+module _ (now lease blocks : ℕ) (tables : Tables) (image : List ℕ) (before after : LinksState)
+    (old : Session) (shows : Shows blocks tables image old.store) (valid : Valid old.store)
+    (few : lease ≤ NUMBER_LIMIT) (moment : now ≤ NUMBER_LIMIT)
+    (passes : PassesAll (refusals now [] (table_shape blocks tables) (command.Finish lease))) where
+  abbrev new : Session
+  new = record old { store = finished lease old.store }
+
+  step : Answers now [] old (command.Finish lease) (says.Finished lease) new
+  step = effect_answers now [] blocks tables old (shape_shown shows) (command.Finish lease)
+      (says.Finished lease) new passes (refl, refl)
+
+  leads : Leads (change.Finish lease) tables old.store new.store
+  leads = record {
+    shows = λ later. subst
+        (λ (n : ℕ). Shows n (effect (change.Finish lease) tables) later new.store)
+        (sym (ap (λ (s : Store). s.blocks) shows.is)) (shows_finished later lease shows);
+    valid = step_valid now old (Line (command.Finish lease) now (record { texts = [] }))
+        (Some (says.Finished lease)) new (few, moment)
+        (record {
+          moment = refl;
+          hears = refl;
+          answer = says.Finished lease;
+          replied = refl;
+          answers = step;
+        }) valid;
+  }
+
+  pub finished_does : Does now [] (command.Finish lease) before after (change.Finish lease)
+      tables old (says.Finished lease)
+  finished_does = record {
+    new = new;
+    step = step;
+    leads = leads;
+    other = λ same. passes.0 (ap (λ (s : Store). lease_of lease s.leases) (sym shows.is)
+        ∙ ap (λ (s : Store). lease_of lease s.leases) (sym same)
+        ∙ lease_gone lease old.store.leases);
+    served = tt;
+  }

@@ -1,0 +1,106 @@
+-- A launch: the step that it is, and the change that it makes.
+use Rattle.std.proofs.Common.{◌≡◌, ◌≤◌, ◌+◌, ◌∙◌, ℕ, List, [], Option, Some, refl, sym, ap, subst, arith}
+use Rattle.std.specs.Prelude.{option_and_then, option_map}
+use Rattle.small_types.specs.declared.limits.TheConstants.{NUMBER_LIMIT}
+use Rattle.identity.specs.declared.key.Key.{Key}
+use Rattle.identity.specs.declared.version.Version.{Version}
+use Rattle.identity.specs.Key.{IsKey}
+use Rattle.machine.specs.declared.app.AppState.{AppState}
+use Rattle.machine.specs.declared.command.Command.TheVariants as command
+use Rattle.machine.specs.declared.due.Due.TheVariants.{Clear}
+use Rattle.machine.specs.declared.event.Event.TheVariants.{Line}
+use Rattle.machine.specs.declared.reply.Reply.{Reply}
+use Rattle.machine.specs.declared.reply.Reply.TheVariants as says
+use Rattle.machine.specs.Current.{current_of, current_view}
+use Rattle.machine.specs.Due.{due}
+use Rattle.machine.specs.Entries.{AreInOrder}
+use Rattle.machine.specs.LaunchRow.{launched}
+use Rattle.machine.specs.Machine.{Answers}
+use Rattle.machine.specs.Shape.{Shape}
+use Rattle.machine.specs.Store.{Session, Store}
+use Rattle.machine.specs.Valid.{Valid}
+use Rattle.machine.specs.Views.{View as KeptView}
+use Rattle.machine.proofs.Leased.{current_entry}
+use Rattle.machine.proofs.Stepping.{step_valid}
+use Rattle.store_state.specs.declared.change.Change.TheVariants as change
+use Rattle.store_state.specs.Change.{effect}
+use Rattle.store_state.specs.Shows.{Shows, shown_view}
+use Rattle.store_state.specs.Tables.{Tables}
+use Rattle.store_state.proofs.Showing.{shape_shown, shows_launched}
+use Rattle.links.specs.Links.{LinksState}
+use Rattle.updater.specs.declared.start.Start.{Start}
+use Rattle.updater.specs.Keeps.{Leads}
+use Rattle.updater.specs.Start.{IsStart}
+use Rattle.updater.proofs.Commanding.{Does, effect_answers}
+use Rattle.updater.proofs.ShownViews.{current_shown}
+
+module _ (now : ℕ) (key : Key) (blocks : ℕ) (tables : Tables) (image : List ℕ)
+    (before after : LinksState) (old : Session) (shows : Shows blocks tables image old.store)
+    (valid : Valid old.store) (is_key : IsKey key) (moment : now ≤ NUMBER_LIMIT)
+    (start : Start) (is : IsStart key now tables start) where
+  abbrev view : KeptView
+  view = shown_view tables.contents is.row
+
+  abbrev reply : Reply
+  reply = says.Lease start.lease start.version start.check_due
+
+  abbrev new : Session
+  new = record old { store = launched key is.row.number old.store }
+
+  is_current : current_view key old.store ≡ Some view
+  is_current = current_shown shows key ∙ ap (option_map (shown_view tables.contents)) is.current
+
+  next_shown : old.store.next_lease ≡ tables.next_lease
+  next_shown = ap (λ (s : Store). s.next_lease) shows.is
+
+  blocks_shown : old.store.blocks ≡ blocks
+  blocks_shown = ap (λ (s : Store). s.blocks) shows.is
+
+  in_order : AreInOrder tables.apps
+  in_order = subst (λ (s : Store). AreInOrder s.apps) shows.is valid.ordered.order
+
+  step : Answers now [] old (command.Launch key) reply new
+  step = effect_answers now [] blocks tables old (shape_shown shows) (command.Launch key) reply new
+      (is.passes blocks) (record {
+        view = view;
+        current = is_current;
+        check_due = start.check_due;
+        clear = subst (λ (s : Shape). due key s now ≡ Some (Clear start.check_due))
+            (sym (shape_shown shows)) (is.clear blocks);
+        replied =
+            ap (λ (n : ℕ). says.Lease n start.version start.check_due) (is.lease ∙ sym next_shown)
+            ∙ ap (λ (v : Version). says.Lease old.store.next_lease v start.check_due) is.version;
+        is = refl;
+      })
+
+  -- the application is the one at the place
+  number_is : current_of key tables.apps ≡ Some is.row.number
+  number_is =
+      let app = current_entry key old.store view is_current in
+      ap (λ (s : Store). current_of key s.apps) (sym shows.is)
+      ∙ ap (λ (o : Option AppState). option_and_then (λ (a : AppState). a.current) o) app.1
+      ∙ app.2
+
+  leads : Leads (change.Launch start.app) tables old.store new.store
+  leads = record {
+    shows = λ later. subst
+        (λ (n : ℕ). Shows n (effect (change.Launch start.app) tables) later new.store)
+        (sym blocks_shown)
+        (shows_launched blocks tables key start.app is.row.number image later old.store
+        shows in_order is.app number_is);
+    valid = step_valid now old (Line (command.Launch key) now (record { texts = [] })) (Some reply)
+        new (is_key, moment)
+        (record { moment = refl; hears = refl; answer = reply; replied = refl; answers = step })
+        valid;
+  }
+
+  pub launched_does : Does now [] (command.Launch key) before after (change.Launch start.app)
+      tables old reply
+  launched_does = record {
+    new = new;
+    step = step;
+    leads = leads;
+    other = λ same. (let more : old.store.next_lease + 1 ≡ old.store.next_lease =
+        ap (λ (s : Store). s.next_lease) same in omega arith);
+    served = tt;
+  }

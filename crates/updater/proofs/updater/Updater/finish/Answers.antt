@@ -1,0 +1,39 @@
+use Rattle.std.proofs.Common.{[], ◌≤◌, ℕ, refl, subst, sym, arith}
+use Rattle.small_types.specs.declared.limits.TheConstants.{NUMBER_LIMIT}
+use Rattle.machine.specs.declared.command.Command.TheVariants as command
+use Rattle.machine.specs.declared.reply.Reply.TheVariants as says
+use Rattle.store_state.specs.declared.change.Change.TheVariants as change
+use Rattle.updater.proofs.Commanding.{kept, memory_missed, refused, unlinked}
+use Rattle.updater.proofs.Finishing.{finished_does, finished_fits}
+use Rattle.updater.proofs.updater.Updater.finish.Goals as goal
+
+pub returns-in-Some : goal.returns-in-Some
+returns-in-Some g c =
+    refused g.D.Disk g.L.Links c.args.now (command.Finish c.args.lease)
+    c.args.self.now c.args.disk.now c.args._links.now
+    (g.met.D.Disk.seen_left c.args.disk.now) c.requires.moment tt c.in-Some.reply
+    (subst (λ (n : ℕ). n ≤ NUMBER_LIMIT) (sym (c.in-Some.ensures.still c.args.now))
+    c.requires.moment)
+    (λ old s. c.in-Some.ensures.some c.args.now c.args.self.now.blocks old)
+
+pub keep-requires : goal.keep-requires
+keep-requires g c = (
+  finished_fits c.args.self.now.state c.args.lease (c.in_default.ensures.none refl),
+  (let few = c.requires.words in omega arith),
+)
+
+pub returns : goal.returns
+returns g c =
+    let command = command.Finish c.args.lease in
+    kept g.D.Disk g.L.Links c.args.now [] command
+    c.args.self.now c.args.disk.now c.args._links.now c.args._links.now
+    (g.met.D.Disk.seen_left c.args.disk.now) c.requires.moment
+    (unlinked g.L.Links command c.args.self.now c.args._links.now)
+    (change.Finish c.args.lease) (says.Finished c.args.lease) c.requires.moment
+    (λ old s. finished_does c.args.now c.args.lease c.args.self.now.blocks c.args.self.now.state
+    _ _ _ old s.shows s.valid c.requires.words c.requires.moment
+    (c.in_default.ensures.none refl c.args.now c.args.self.now.blocks))
+    (memory_missed g.D.Disk g.L.Links c.args.now command
+    c.args.self.now c.args.disk.now c.args._links.now
+    (g.met.D.Disk.seen_left c.args.disk.now) c.requires.moment tt)
+    c.keep.new.self c.keep.new.disk c.keep.result c.answer.result c.keep.ensures c.answer.ensures

@@ -1,0 +1,51 @@
+// What is read of a leased view.
+ghost use Rattle.std.specs.Prelude.{◌≡◌, ℕ, List, [], Some, IfErr, IfOk};
+ghost use Rattle.machine.specs.declared.command.Command.TheVariants as command;
+ghost use Rattle.machine.specs.Machine.{moment_after, refusals};
+ghost use Rattle.machine.specs.ReadRow.{part};
+ghost use Rattle.machine.specs.Rows.{Refuses};
+ghost use Rattle.machine.specs.Store.{Session};
+ghost use Rattle.store_state.specs.Tables.{table_shape};
+ghost use Rattle.updater.specs.Leased.{IsLeasedFile, KeepsView};
+
+use machine::Reply;
+use small_types::{Bytes, Name, rest_from};
+use std::alloc::{AllocError, Global};
+use store_state::StoreState;
+
+/// The bytes of the program file of that name that stands in the leased view, or the refusal that
+/// the tables give, whatever their number of blocks. It takes no memory.
+pub(crate) fn leased_file<'a>(
+    state: &'a StoreState,
+    lease: u64,
+    name: &Name,
+) -> Result<&'a Bytes, Reply>
+    ensures file { IfOk result (λ bytes. IsLeasedFile lease name.now state.now bytes.now) }
+    ensures refused { KeepsView lease state.now
+        → (now blocks from count : ℕ) (old : Session)
+        → IfErr result (λ reply. Refuses (refusals now [] (table_shape blocks state.now)
+        (command.Read lease name.now from count)) old reply old) }
+    ensures still { (now : ℕ) → IfErr result (λ reply. moment_after now (Some reply) ≡ now) }
+{
+    let Some(lease) = state.lease(lease) else {
+        return Err(Reply::NoLease);
+    };
+    match state.file(lease.view, name) {
+        Some(bytes) => Ok(bytes),
+        None => Err(Reply::NoFile),
+    }
+}
+
+/// The bytes from a place on, at most so many, copied once.
+pub(crate) fn part_of(
+    alloc: Global,
+    bytes: &[u8],
+    from: u64,
+    count: u64,
+) -> Result<Bytes, AllocError>
+    ensures { IfOk result (λ made. made ≡ part from count bytes.now) }
+{
+    let rest = rest_from(bytes, bytes.len().min(from as usize));
+    let shown = rest.len().min(count as usize);
+    Bytes::from_slice(alloc, &rest[..shown])
+}
