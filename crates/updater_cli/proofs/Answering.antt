@@ -23,7 +23,7 @@ use Rattle.updater_cli.proofs.Traces.{trace_none, trace_begun, trace_cut, trace_
 six_three : ◌≢◌ {A = ℕ} 6 3
 six_three same = omega arith
 
-module _ {K D L : Type 0} (to : SinkGhosts K) (on : Ghosts D) (net : LinksGhosts L) (line : List ℕ) (course next : Course) (links links_new : L) (ready : IsReady net course links) where
+module _ {K D L : Type 0} (to : SinkGhosts K) (on : Ghosts D) (net : LinksGhosts L) (line : List ℕ) (course next : Course) (links links_new : L) (ready : IsReady course) where
   -- there was no memory for it
   pub no_room : (sink : K) (disk : D) → on.left_at disk (on.moment disk) (on.seen disk) → next.now ≡ course.now → next.lines.items ≡ course.lines.items → next.begun ≡ course.begun
       → LineAnswered to on net line (place_of sink disk links course) (Err Memory) (place_of sink disk links next)
@@ -82,7 +82,7 @@ module _ {K D L : Type 0} (to : SinkGhosts K) (on : Ghosts D) (net : LinksGhosts
     written appends same_count = record {
       keeps = record {
         machine = λ start between. goes_on on net start course disk disk_new links links_new between l reply next.updater (run.ran between.session between.runs.settled between.stored) is_reply is_mark is_failures next refl is_now grown;
-        goes_on = record { begun = same_begun ∙ ready.begun; moment = subst (λ (n : ℕ). n ≤ NUMBER_LIMIT) (sym is_now) run.few; one = run.kept.remain.sources ∙ ready.one };
+        goes_on = record { begun = same_begun ∙ ready.begun; moment = subst (λ (n : ℕ). n ≤ NUMBER_LIMIT) (sym is_now) run.few };
         writes = rises_none _ (to.count sink) (to.count sink_new) (λ same. cc (same)) same_count;
         asks = asks_answered on (Event × Reply) Event (l.event, reply) _ disk disk_new (λ same. cc (same)) run.asks;
         numbered = λ same. absurd (cc (same));

@@ -76,7 +76,7 @@ went_on status same = cc (same)
 
 module _ {K D L : Type 0} (to : SinkGhosts K) (on : Ghosts D) (net : LinksGhosts L) where
   -- nothing was done
-  pub keeps_none : (place : Place K D L) → IsReady net place.course place.links → Keeps to on net place (Ok tt) place
+  pub keeps_none : (place : Place K D L) → IsReady place.course → Keeps to on net place (Ok tt) place
   keeps_none place ready = record {
     machine = λ start between. between;
     goes_on = ready;

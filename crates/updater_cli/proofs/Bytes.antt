@@ -24,7 +24,7 @@ six_three same = omega arith
 
 module _ {K D L : Type 0} (to : SinkGhosts K) (on : Ghosts D) (net : LinksGhosts L) (pending : List ℕ) (begun_line : HasNoFeed pending) (place : Place K D L) where
   -- a byte that is no line feed
-  pub byte_pushed : (byte : ℕ) (next : List ℕ) → byte ≢ 10 → IsReady net place.course place.links → next ≡ pending ++ byte ∷ [] → PieceAnswered to on net (pending ++ byte ∷ []) place (Ok tt) next place
+  pub byte_pushed : (byte : ℕ) (next : List ℕ) → byte ≢ 10 → IsReady place.course → next ≡ pending ++ byte ∷ [] → PieceAnswered to on net (pending ++ byte ∷ []) place (Ok tt) next place
   byte_pushed byte next other ready is = record {
     keeps = keeps_none to on net place ready;
     ends = tt;
@@ -34,7 +34,7 @@ module _ {K D L : Type 0} (to : SinkGhosts K) (on : Ghosts D) (net : LinksGhosts
   }
 
   -- there was no memory for it
-  pub byte_refused : (byte : ℕ) (next : List ℕ) → IsReady net place.course place.links → on.left_at place.disk (on.moment place.disk) (on.seen place.disk) → PieceAnswered to on net (pending ++ byte ∷ []) place (Err Memory) next place
+  pub byte_refused : (byte : ℕ) (next : List ℕ) → IsReady place.course → on.left_at place.disk (on.moment place.disk) (on.seen place.disk) → PieceAnswered to on net (pending ++ byte ∷ []) place (Err Memory) next place
   byte_refused byte next ready seen_left = record {
     keeps = keeps_stop to on net place place Memory (λ same. cc (same)) (λ same. cc (same)) six_three seen_left (keeps_none to on net place ready);
     ends = ready.begun;
@@ -109,7 +109,7 @@ module _ {K D L : Type 0} (to : SinkGhosts K) (on : Ghosts D) (net : LinksGhosts
   }
 
 -- no line is left
-pub rest_none : {K D L : Type 0} (to : SinkGhosts K) (on : Ghosts D) (net : LinksGhosts L) (place : Place K D L) (line : List ℕ) → line ≡ [] → IsReady net place.course place.links → RestAnswered to on net line place (Ok tt) place
+pub rest_none : {K D L : Type 0} (to : SinkGhosts K) (on : Ghosts D) (net : LinksGhosts L) (place : Place K D L) (line : List ℕ) → line ≡ [] → IsReady place.course → RestAnswered to on net line place (Ok tt) place
 rest_none to on net place line is ready = record {
   keeps = keeps_none to on net place ready;
   ends = tt;

@@ -3,6 +3,7 @@ use Rattle.std.proofs.Common.{◌≡◌, ◌≢◌, ◌⊎◌, inl, inr, ℕ, �
 use Rattle.std.proofs.lemmas.List.{append-nil, take_all, take-append-le}
 use Rattle.std.specs.Prelude.{option_to_list, IfSome, IfErr, OnOk}
 use Rattle.std.specs.Str.Lines.{lines}
+use Rattle.small_types.specs.declared.limits.TheConstants.{NUMBER_LIMIT}
 use Rattle.outside.specs.declared.source.Source.{Ghosts as SourceGhosts}
 use Rattle.outside.specs.declared.sink.Sink.{Ghosts as SinkGhosts}
 use Rattle.disks.specs.declared.disk.Disk.{Ghosts}
@@ -96,10 +97,10 @@ module _ (boot failures from mid : ℕ) where
   first_moment now (l ∷ []) has = rw has.1 refl
   first_moment now (l ∷ m ∷ lines) has = absurd has
 
-  first_run : (now : ℕ) (first : List ReportLine) → HasBootLine boot failures from mid first → AreRunFrom now first
-  first_run now [] has = tt
-  first_run now (l ∷ []) has = (rw has.0 tt, tt)
-  first_run now (l ∷ m ∷ lines) has = absurd has
+  first_run : boot ≤ NUMBER_LIMIT → (now : ℕ) (first : List ReportLine) → HasBootLine boot failures from mid first → AreRunFrom now first
+  first_run small now [] has = tt
+  first_run small now (l ∷ []) has = (rw has.0 small, tt)
+  first_run small now (l ∷ m ∷ lines) has = absurd has
 
   after_first : (first more : List ReportLine) (inputs : List (List ℕ)) (extra : List Event) → HasBootLine boot failures from mid first → AreEvents inputs (events_of more ++ extra) → after_boot (events_of (first ++ more)) ≡ events_of more
   after_first [] more inputs extra has are = after_events inputs (events_of more) extra are
@@ -193,7 +194,7 @@ module _ {S K D L : Type 0} (source : SourceGhosts S) (to : SinkGhosts K) (on : 
   report : Report
   report = report_of new.course.lines.items new.course.begun
 
-  goes_on_begun : (outcome : Outcome) → OnOk outcome (IsReady net new.course new.links) → OnOk outcome (new.course.begun ≡ None)
+  goes_on_begun : (outcome : Outcome) → OnOk outcome (IsReady new.course) → OnOk outcome (new.course.begun ≡ None)
   goes_on_begun (Ok done) ready = ready.begun
   goes_on_begun (Err status) ready = tt
 
@@ -211,11 +212,11 @@ module _ {S K D L : Type 0} (source : SourceGhosts S) (to : SinkGhosts K) (on : 
       answered.trace.moment ∙ ap (λ (n : ℕ). moment_behind n answered.trace.more) now_is
       ∙ sym (moment-append now old.course.lines.items answered.trace.more) ∙ ap (λ (ls : List ReportLine). moment_behind now ls) (sym answered.trace.grown)
 
-  moments : KeepsMoments now (report_of new.course.lines.items new.course.begun)
-  moments = record {
+  pub moments : boot ≤ NUMBER_LIMIT → KeepsMoments now (report_of new.course.lines.items new.course.begun)
+  moments small = record {
     lines =
         subst (λ (ls : List ReportLine). AreRunFrom now ls) (sym answered.trace.grown)
-        (run_from_append now old.course.lines.items answered.trace.more (first_run boot (failures_of (net.links old.links)) (on.moment disk) (on.moment old.disk) now old.course.lines.items begun.lines)
+        (run_from_append now old.course.lines.items answered.trace.more (first_run boot (failures_of (net.links old.links)) (on.moment disk) (on.moment old.disk) small now old.course.lines.items begun.lines)
         (subst (λ (n : ℕ). AreRunFrom n answered.trace.more) now_is answered.trace.at));
     begun = subst (λ (n : ℕ). IfSome new.course.begun (IsRunAt n)) now_behind answered.trace.begun_at;
   }
@@ -229,10 +230,10 @@ module _ {S K D L : Type 0} (source : SourceGhosts S) (to : SinkGhosts K) (on : 
   err_is (Err status) is = ap Err is
 
   -- the lines
-  pub opened_lines : (on.tells new.disk → (store : Store) → Stands (on.seen disk) store → BootsFirst boot store.boot old.course.lines.items)
+  pub opened_lines : boot ≤ NUMBER_LIMIT → (on.tells new.disk → (store : Store) → Stands (on.seen disk) store → BootsFirst boot store.boot old.course.lines.items)
       → HeadlineLines source on net boot now (code_of (end_of outcome)) (devices_of source_old old.sink disk old.links) (devices_of source_new new.sink new.disk new.links)
       (report_of new.course.lines.items new.course.begun)
-  opened_lines boots = record {
+  opened_lines small boots = record {
     reads = λ told.
         let same : after_boot (events_of new.course.lines.items) ≡ events_of answered.trace.more =
         ap (λ (ls : List ReportLine). after_boot (events_of ls)) answered.trace.grown
@@ -240,7 +241,7 @@ module _ {S K D L : Type 0} (source : SourceGhosts S) (to : SinkGhosts K) (on : 
         subst (λ (es : List Event). ReadsLines boot (code_of (end_of outcome)) (source.left source_old) (source.left source_new) (report_of new.course.lines.items new.course.begun) es) (sym same)
         (reads_lines boot (code_of (end_of outcome)) (source.left source_old) (source.left source_new) (report_of new.course.lines.items new.course.begun) (events_of answered.trace.more) answered.inputs answered.trace.events
         (answered.given told) (begins_on_fault (end_of outcome) new.course.begun ending).none);
-    moments = moments;
+    moments = moments small;
     begun = begins_on_fault (end_of outcome) new.course.begun ending;
     marks =
         subst (λ (ls : List ReportLine). MarksRise (on.moment disk) ls (on.moment new.disk)) (sym answered.trace.grown)
@@ -272,7 +273,7 @@ module _ {S K D L : Type 0} (source : SourceGhosts S) (to : SinkGhosts K) (on : 
 
 -- ---- a session that was not opened
 
-module _ {S K D L : Type 0} (source : SourceGhosts S) (on : Ghosts D) (net : LinksGhosts L) (boot now : ℕ) (s : S) (k : K) (l : L) (old new : D) (le : on.moment old ≤ on.moment new) where
+module _ {S K D L : Type 0} (source : SourceGhosts S) (on : Ghosts D) (net : LinksGhosts L) (boot now : ℕ) (small : boot ≤ NUMBER_LIMIT) (s : S) (k : K) (l : L) (old new : D) (le : on.moment old ≤ on.moment new) where
   none_lines : (status : ℕ) (begun : Option Event) → status ≢ 0 → status ≢ 2 → status ≢ 8 → ((event : Event) → begun ≡ Some event → event ≡ Boot boot)
       → IfSome begun (IsRunAt now) → BeginsOnFault status begun
       → ((status ≡ 4) × (begun ≡ Some (Boot boot))) ⊎ (((status ≡ 5) ⊎ (status ≡ 6)) × (begun ≡ None))
@@ -307,7 +308,7 @@ module _ {S K D L : Type 0} (source : SourceGhosts S) (on : Ghosts D) (net : Lin
       none_lines 5 None (λ same. omega (arith, same)) (λ same. omega (arith, same)) (λ same. omega (arith, same)) (λ event is. cc (is)) tt
       (record { none = λ other. refl; some = λ four. absurd (omega arith) }) (inr (inl refl, refl))
   unopened_lines DiskFault end =
-      none_lines 4 (Some (Boot boot)) (λ same. omega (arith, same)) (λ same. omega (arith, same)) (λ same. omega (arith, same)) (λ event is. cc (is)) tt
+      none_lines 4 (Some (Boot boot)) (λ same. omega (arith, same)) (λ same. omega (arith, same)) (λ same. omega (arith, same)) (λ event is. cc (is)) small
       (record { none = λ other. absurd (other refl); some = λ four. tt }) (inl (refl, refl))
   unopened_lines Done end = absurd end
   unopened_lines Words end = absurd end

@@ -5,6 +5,7 @@ pub mod Begin
 pub mod Bytes
 pub mod Ends
 pub mod Inputs
+pub mod Leased
 pub mod Opened
 pub mod Prefix
 pub mod Publishing
@@ -12,5 +13,6 @@ pub mod Reading
 pub mod Running
 pub mod Runs
 pub mod Sites
+pub mod Through
 pub mod Traces
 pub mod Whole

@@ -6,7 +6,7 @@ use Rattle.links.specs.declared.links.Links.{Ghosts as LinksGhosts}
 use Rattle.fetcher.proofs.Sequence.{kept_same}
 use Rattle.small_types.specs.declared.limits.TheConstants.{NUMBER_LIMIT}
 use Rattle.machine.specs.declared.command.Command.{Command}
-use Rattle.machine.specs.declared.command.Command.TheVariants.{At, Require, Install}
+use Rattle.machine.specs.declared.command.Command.TheVariants.{Install}
 use Rattle.machine.specs.declared.command.LineFault.{LineFault}
 use Rattle.machine.specs.declared.event.Event.TheVariants.{Line, Unread}
 use Rattle.machine.specs.declared.event.Heard.{Heard}
@@ -29,9 +29,8 @@ use Rattle.updater_cli.proofs.Runs.{step_settled}
 
 -- a sound store is one for each command
 sound_for : (command : Command) (store : Store) → Sound store → SoundFor command store
-sound_for (At next) store sound = tt
-sound_for (Require key version) store sound = tt
 sound_for (Install url) store sound = sound
+sound_for _ store sound = tt
 
 module _ {D L : Type 0} (on : Ghosts D) (net : LinksGhosts L) (now : ℕ) (few : now ≤ NUMBER_LIMIT) (line : List ℕ) (updater : Updater) (disk : D) (links : L) where
   -- the line is no command
@@ -62,7 +61,7 @@ module _ {D L : Type 0} (on : Ghosts D) (net : LinksGhosts L) (now : ℕ) (few :
         → LineRun on net now line updater disk links (Ok (Line command now heard, reply)) updater_new disk_new links_new
     answered reply commanded = record {
       event = command_event now heard line command gives;
-      at = (refl, (table_shape (room_of updater) (tables_of updater), commanded.hears));
+      at = (refl, few, is, (table_shape (room_of updater) (tables_of updater), commanded.hears));
       begun = tt;
       few = commanded.few;
       ran = λ old settled holds.
@@ -88,7 +87,7 @@ module _ {D L : Type 0} (on : Ghosts D) (net : LinksGhosts L) (now : ℕ) (few :
         → LineRun on net now line updater disk links (Err (Line command now heard)) updater_new disk_new links_new
     faulted e commanded = record {
       event = command_event now heard line command gives;
-      at = (refl, (table_shape (room_of updater) (tables_of updater), commanded.hears));
+      at = (refl, few, is, (table_shape (room_of updater) (tables_of updater), commanded.hears));
       begun = tt;
       few = tt;
       ran = λ old settled holds. tt;

@@ -7,8 +7,8 @@ use Rattle.machine.specs.declared.event.Event.{Event}
 use Rattle.machine.specs.declared.reply.Reply.{Reply}
 use Rattle.machine.specs.declared.report.ReportLine.{ReportLine}
 use Rattle.machine.specs.Machine.{Step, Run, moment_after}
-use Rattle.machine.specs.declared.command.Command.TheVariants.{At, Require, Install}
-use Rattle.machine.specs.declared.event.Event.TheVariants.{Boot, Line, Unread}
+use Rattle.machine.specs.declared.command.Command.TheVariants.{Install}
+use Rattle.machine.specs.declared.event.Event.TheVariants.{Line}
 use Rattle.machine.specs.Laws.{InstallsWithoutJobs}
 use Rattle.machine.specs.Words.{IsEvent}
 use Rattle.machine.proofs.Sessions.{step_jobs, step_session}
@@ -20,11 +20,8 @@ use Rattle.updater_cli.specs.Report.{Origin, origin_after, events_of, replies_of
 -- ---- a step
 
 without_jobs : (event : Event) (old : Session) → old.jobs ≡ [] → InstallsWithoutJobs event old
-without_jobs (Boot boot) old none = tt
-without_jobs (Line (At next) now heard) old none = tt
-without_jobs (Line (Require key version) now heard) old none = tt
 without_jobs (Line (Install url) now heard) old none = none
-without_jobs (Unread fault) old none = tt
+without_jobs _ old none = tt
 
 pub step_settled : (now : ℕ) (old : Session) (event : Event) (reply : Option Reply) (new : Session) → IsEvent event → Step now old event reply new → IsSettled old → IsSettled new
 step_settled now old event reply new is step settled = record {
@@ -34,7 +31,7 @@ step_settled now old event reply new is step settled = record {
 
 -- ---- the run
 
-run_push : (now : ℕ) (old mid new : Session) (lines : List ReportLine) (e : Event) (r : Option Reply)
+pub run_push : (now : ℕ) (old mid new : Session) (lines : List ReportLine) (e : Event) (r : Option Reply)
     → Run now old (events_of lines) (replies_of lines) mid → Step (moment_behind now lines) mid e r new
     → Run now old (events_of lines ++ e ∷ []) (replies_of lines ++ r ∷ []) new
 run_push now old mid new [] e r run step = (new, subst (λ (s : Session). Step now s e r new) run step, refl)

@@ -9,7 +9,7 @@ use Rattle.fetcher.proofs.Sequence.{kept_then, site_before, tell_after}
 use Rattle.install_plan.specs.Brought.{IsBrought, IsHeldOrFetched}
 use Rattle.install_plan.specs.Hearing.{Hearing, IsApplicationText, IsDeploymentText}
 use Rattle.machine.specs.declared.command.Command.{Command}
-use Rattle.machine.specs.declared.command.Command.TheVariants.{At, Require, Install}
+use Rattle.machine.specs.declared.command.Command.TheVariants.{Install}
 use Rattle.machine.specs.declared.event.Event.{Event}
 use Rattle.machine.specs.declared.event.Event.TheVariants.{Boot, Line, Unread}
 use Rattle.machine.specs.declared.reply.Reply.{Reply}
@@ -45,14 +45,13 @@ module _ (first before after : LinksState) (kept : Kept first before) (tell : Al
 
   served_of : (command : Command) (texts : List (List ℕ)) (old new : Store) (reply : Reply) (now : ℕ) → Serves command texts before after old reply new
       → IsLineOfSites first (Line command now (record { texts = texts })) old new
-  served_of (At next) texts old new reply now serves = tt
-  served_of (Require key version) texts old new reply now serves = tt
   served_of (Install url) texts old new reply now serves = record {
     heard = heard_of (shape_of old) url texts serves.0.hearing;
     brought = λ view is.
         let brought : IsBrought (shape_of old) before after view = serves.1 view is in
         All-weaker (IsHeldOrFetched (shape_of old) before after view) (IsHeldOrOfSite first (shape_of old) view) (file_of (shape_of old) view) view.program_files brought.files;
   }
+  served_of _ texts old new reply now serves = tt
 
 line_of : {L : Type 0} (net : LinksGhosts L) (first : LinksState) (before after : L) → Kept first (net.links before) → AllTell first
     → (now : ℕ) (old new : Session) (event : Event) (reply : Option Reply) → Step now old event reply new → IsServed net event reply before after old.store new.store

@@ -9,12 +9,12 @@ use Rattle.fetcher.proofs.Sequence.{kept_same}
 use Rattle.small_types.specs.declared.limits.TheConstants.{NUMBER_LIMIT}
 use Rattle.machine.specs.declared.event.Event.{Event}
 use Rattle.machine.specs.declared.report.Report.{Report}
-use Rattle.machine.specs.Store.{Store}
+use Rattle.machine.specs.Store.{Store, session_over}
 use Rattle.updater_cli.specs.declared.course.Course.{Course}
 use Rattle.updater_cli.specs.declared.status.Status.{Status}
 use Rattle.updater_cli.specs.declared.status.Status.TheVariants.{Done, Words, SourceFault, SinkFault, DiskFault, NotAStore, Memory, TooMuchInput}
 use Rattle.updater_cli.specs.Devices.{Asks, RisesWith, devices_of}
-use Rattle.updater_cli.specs.Headline.{Headline, IsNothing}
+use Rattle.updater_cli.specs.Headline.{Headline, HeadlineStop, IsNothing, LeadsTo}
 use Rattle.updater_cli.specs.Lines.{InputAnswered, IsReady, Place}
 use Rattle.updater_cli.specs.Opening.{IsOpeningEnd, Opens, begun_by}
 use Rattle.updater_cli.specs.Report.{StandsSound, origin_over, report_of}
@@ -22,6 +22,7 @@ use Rattle.updater_cli.specs.Session.{Between, Ended, Start, start_over}
 use Rattle.updater_cli.specs.Status.{Outcome, code_of, end_of, IsSessionEnd}
 use Rattle.updater_cli.proofs.Asking.{asks_as, asks_then, rises_as}
 use Rattle.updater_cli.proofs.Ends.{opened_lines, opened_output, unopened_lines, unopened_run}
+use Rattle.updater_cli.proofs.Leased.{launches_hold, leased_holds, views_hold}
 use Rattle.updater_cli.proofs.Prefix.{ended_at}
 use Rattle.updater_cli.proofs.Sites.{sites_of}
 
@@ -47,12 +48,18 @@ never_opening status other never end is = never (subst IsOpeningEnd is end)
 
 module _ {S K D L : Type 0} (from : SourceGhosts S) (to : SinkGhosts K) (on : Ghosts D) (net : LinksGhosts L) (boot now : ℕ) (s : S) (k : K) (l : L) (old new : D) (status : Status) (opens : Opens on net boot now l old (Err status) new) (report : Report)
     (is_report : report ≡ report_of [] (begun_by boot status)) where
-  pub unopened_headline : Headline from to on net boot now (code_of status) (devices_of s k old l) (devices_of s k new l) report
-  unopened_headline = rw is_report (record {
-    lines = unopened_lines from on net boot now s k l old new opens.asks.later status opens.ends;
-    run = unopened_run to on net boot now s k l old new status opens.ends (λ told is. opens.not_a_store told (ap Err is)) opens.within opens.reads;
-    stop = λ told store stands. opens.survives told store stands.stands;
-  })
+  pub unopened_headline : boot ≤ NUMBER_LIMIT → Headline from to on net boot now (code_of status) (devices_of s k old l) (devices_of s k new l) report
+  unopened_headline small =
+      let lines = unopened_lines from on net boot now small s k l old new opens.asks.later status opens.ends in
+      let stop : on.tells new → HeadlineStop on now (code_of status) old new (report_of [] (begun_by boot status)) = λ told store stands. opens.survives told store stands.stands in
+      rw is_report (record {
+        lines = lines;
+        run = unopened_run to on net boot now s k l old new status opens.ends (λ told is. opens.not_a_store told (ap Err is)) opens.within opens.reads;
+        stop = stop;
+        views = λ told store stands. views_hold (origin_over now store) stands.sound [] tt (session_over store) refl;
+        launch = λ told store stands. launches_hold (origin_over now store) [];
+        leased = λ told. leased_holds on now (code_of status) old new (report_of [] (begun_by boot status)) lines.moments (stop told);
+      })
 
   pub unopened_nothing : status ≡ NotAStore → IsNothing report
   unopened_nothing is = rw is_report (refl, ap (begun_by boot) is)
@@ -66,15 +73,11 @@ module _ {S K D L : Type 0} (from : SourceGhosts S) (to : SinkGhosts K) (on : Gh
 -- ---- a session that was opened
 
 -- at the end, however it came
-ended_by : {D L : Type 0} (on : Ghosts D) (net : LinksGhosts L) (start : Start D L) (outcome : Outcome) (course : Course) (disk : D) (links : L) → on.left_at disk (on.moment disk) (on.seen disk) → OnOk outcome (IsReady net course links)
+ended_by : {D L : Type 0} (on : Ghosts D) (net : LinksGhosts L) (start : Start D L) (outcome : Outcome) (course : Course) (disk : D) (links : L) → on.left_at disk (on.moment disk) (on.seen disk) → OnOk outcome (IsReady course)
     → MatchResult outcome (λ _. Between on net start course disk links) (λ status. Ended on net start (code_of status) (report_of course.lines.items course.begun) disk links)
     → Ended on net start (code_of (end_of outcome)) (report_of course.lines.items course.begun) disk links
 ended_by on net start (Ok done) course disk links seen_left ready between = ended_at on net start 0 course disk links between ready.begun zero_three seen_left
 ended_by on net start (Err status) course disk links seen_left ready ended = ended
-
--- an opened course is ready for lines
-pub ready_first : {L : Type 0} (net : LinksGhosts L) (links : L) (now : ℕ) (course : Course) → now ≤ NUMBER_LIMIT → course.now ≡ now → course.begun ≡ None → (net.links links).sources ≡ 1 → IsReady net course links
-ready_first net links now course few is_now none one = record { begun = none; moment = subst (λ (n : ℕ). n ≤ NUMBER_LIMIT) (sym is_now) few; one = one }
 
 -- an outcome by its status
 err_is : (outcome : Outcome) (status : Status) → (Done ≡ status → ⊥) → end_of outcome ≡ status → outcome ≡ Err status
@@ -112,33 +115,44 @@ module _ {S K D L : Type 0} (from : SourceGhosts S) (to : SinkGhosts K) (on : Gh
         ended_by on net (start_over now disk old.links store) outcome new.course new.disk new.links seen_left answered.keeps.goes_on
         (answered.keeps.machine (start_over now disk old.links store) (opens.machine (answered.keeps.asks.told told) store stands))
 
-    pub opened_headline : (report : Report) → report ≡ report_of new.course.lines.items new.course.begun
+    leads : on.tells new.disk → (store : Store) → StandsSound (on.seen disk) store
+        → LeadsTo on net now (code_of (end_of outcome)) (devices_of source_old old.sink disk old.links) (devices_of source_new new.sink new.disk new.links) (report_of new.course.lines.items new.course.begun) store
+    leads told store stands =
+        let end = ended told store stands in
+        record {
+          session = end.session;
+          runs = end.runs;
+          reads = end.reads;
+          last = end.last;
+          counts = end.counts;
+          calls = λ other. inl (end.calls other);
+          behind = end.behind;
+          served = end.served;
+          begun = end.begun;
+          sites = λ tell.
+              sites_of net (net.links old.links) (origin_over now store) old.links new.course.lines.items end.session end.behind (kept_same (net.links old.links)) tell end.served;
+        }
+
+    stop : on.tells new.disk → HeadlineStop on now (code_of (end_of outcome)) disk new.disk (report_of new.course.lines.items new.course.begun)
+    stop told store stands =
+        let end = ended told store stands in
+        record {
+          past = end.past;
+          since = λ t image first to left. inl (end.since t image first to left);
+          synced = inl (omega (arith, opens.course.synced, answered.keeps.asks.later));
+        }
+
+    pub opened_headline : boot ≤ NUMBER_LIMIT → (report : Report) → report ≡ report_of new.course.lines.items new.course.begun
         → Headline from to on net boot now (code_of (end_of outcome)) (devices_of source_old old.sink disk old.links) (devices_of source_new new.sink new.disk new.links) report
-    opened_headline report is_report = rw is_report (record {
-      lines = opened_lines from to on net boot now disk source_old source_new old new outcome opens.course answered (λ told store stands. opens.boots (answered.keeps.asks.told told) store stands);
-      run = record {
-        leads = λ told store stands.
-            let end = ended told store stands in
-            record {
-              session = end.session;
-              runs = end.runs;
-              reads = end.reads;
-              last = end.last;
-              counts = end.counts;
-              calls = λ other. inl (end.calls other);
-              behind = end.behind;
-              served = end.served;
-              begun = end.begun;
-              sites = λ tell.
-                  sites_of net (net.links old.links) (origin_over now store) old.links new.course.lines.items end.session end.behind (kept_same (net.links old.links)) tell end.served;
-            };
-        output = opened_output from to on net boot now disk source_old source_new old new outcome opens.course answered;
-      };
-      stop = λ told store stands.
-          let end = ended told store stands in
-          record {
-            past = end.past;
-            since = λ t image first to left. inl (end.since t image first to left);
-            synced = inl (omega (arith, opens.course.synced, answered.keeps.asks.later));
-          };
-    })
+    opened_headline small report is_report =
+        let lines = opened_lines from to on net boot now disk source_old source_new old new outcome opens.course answered small (λ told store stands. opens.boots (answered.keeps.asks.told told) store stands) in
+        rw is_report (record {
+          lines = lines;
+          run = record { leads = leads; output = opened_output from to on net boot now disk source_old source_new old new outcome opens.course answered };
+          stop = stop;
+          views = λ told store stands.
+              let end = ended told store stands in
+              views_hold (origin_over now store) stands.sound new.course.lines.items lines.moments.lines end.session end.runs.steps;
+          launch = λ told store stands. launches_hold (origin_over now store) new.course.lines.items;
+          leased = λ told. leased_holds on now (code_of (end_of outcome)) disk new.disk (report_of new.course.lines.items new.course.begun) lines.moments (stop told);
+        })

@@ -16,10 +16,11 @@ use Rattle.command_text.specs.Lines.{AreEvents}
 use Rattle.updater.specs.Stands.{Stands}
 use Rattle.updater.specs.Updater.{IsSpent}
 use Rattle.updater_cli.specs.Devices.{Devices}
-use Rattle.updater_cli.specs.Opening.{BootsFirst, IsLineOrNone, Survives}
-use Rattle.updater_cli.specs.Report.{origin_over, events_of, moment_behind, AreServed, Counts, FailuresRise, IsBegunServed, KeepsMoments, MarksRise, RunsTo, StandsSound, Writes}
+use Rattle.updater_cli.specs.Opening.{BootsFirst, IsLineOrNone, IsUnopened, Survives}
+use Rattle.updater_cli.specs.Report.{answered, marked_by, origin_over, events_of, moment_behind, AreServed, Counts, FailuresRise, IsBegunServed, KeepsMoments, MarksRise, RunsTo, StandsSound, Writes}
 use Rattle.updater_cli.specs.Sites.{AreOfSites}
 use Rattle.updater_cli.specs.Status.{IsBegun}
+use Rattle.updater_cli.specs.Views.{KeepsViews, LaunchesHold, ViewsHold}
 
 -- ---- the lines
 
@@ -144,6 +145,29 @@ HeadlineStop on now status old new report =
     (store : Store) → StandsSound (on.seen old) store
     → Survives on old new (origin_over now store) status report
 
+-- In each image that a stop may leave, from the sync on with which the opening begins, the view of
+-- each lease that lives in that store stands whole.
+abbrev pub HeadlineLeased : {D : Type 0} → Ghosts D → ℕ → ℕ → D → D → Report → Type 0
+HeadlineLeased on now status old new report =
+    (store : Store) → StandsSound (on.seen old) store → (t : ℕ) (image : List ℕ)
+    → on.moment old + 1 ≤ t → t ≤ on.moment new → on.left_at new t image
+    → KeepsViews (origin_over now store) report (marked_by (answered status report.lines) t) image
+    ⊎ IsUnopened on old new status report image
+
+-- ---- launches and reads
+
+-- For the sound store for which the reads stood, each lease is on a sound view that was current and
+-- is not below a minimum, and what is read on it is unchanged.
+abbrev pub HeadlineViews : {D : Type 0} → Ghosts D → ℕ → D → Report → Type 0
+HeadlineViews on now old report =
+    (store : Store) → StandsSound (on.seen old) store → ViewsHold (origin_over now store) report.lines
+
+-- Where nothing is due and a lease is free, a launch is answered with one, or there was no memory.
+abbrev pub HeadlineLaunch : {D : Type 0} → Ghosts D → ℕ → D → Report → Type 0
+HeadlineLaunch on now old report =
+    (store : Store) → StandsSound (on.seen old) store
+    → LaunchesHold (origin_over now store) report.lines
+
 -- ---- the whole
 
 -- a report of nothing
@@ -161,3 +185,10 @@ pub record Headline {S K D L : Type 0} (source : SourceGhosts S) (sink : SinkGho
   pub run : HeadlineRun sink on net now status old new report
   -- a stop at any moment leaves a store that holds every acknowledged line
   pub stop : on.tells new.disk → HeadlineStop on now status old.disk new.disk report
+  -- a launch hands out the current view, which is sound and not below a minimum, and reads on its
+  -- lease are of one list of bytes for each file
+  pub views : on.tells new.disk → HeadlineViews on now old.disk report
+  -- a launch succeeds where nothing is due and a lease is free, save for want of memory
+  pub launch : on.tells new.disk → HeadlineLaunch on now old.disk report
+  -- what a stop leaves has the view of each lease that lives, whole and unchanged
+  pub leased : on.tells new.disk → HeadlineLeased on now status old.disk new.disk report

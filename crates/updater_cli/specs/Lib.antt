@@ -8,4 +8,5 @@ pub mod Requests
 pub mod Session
 pub mod Sites
 pub mod Status
+pub mod Views
 pub mod Words

@@ -142,11 +142,10 @@ stage_of to on net place = record {
   lines = place.course.lines.items;
 }
 
--- a line may be answered: none was begun, the moment is within its limit, and there is one link
-pub record IsReady {L : Type 0} (net : LinksGhosts L) (course : Course) (links : L) : Type 0 where
+-- a line may be answered: none was begun, and the moment is within its limit
+pub record IsReady (course : Course) : Type 0 where
   pub begun : course.begun ≡ None
   pub moment : course.now ≤ NUMBER_LIMIT
-  pub one : (net.links links).sources ≡ 1
 
 -- its status, which is 0 where it goes on
 abbrev pub status_of : Outcome → ℕ
@@ -162,7 +161,7 @@ pub record Keeps {K D L : Type 0} (to : SinkGhosts K) (on : Ghosts D) (net : Lin
       → MatchResult result (λ _. Between on net start new.course new.disk new.links)
       (λ status. Ended on net start (code_of status)
       (report_of new.course.lines.items new.course.begun) new.disk new.links)
-  pub goes_on : OnOk result (IsReady net new.course new.links)
+  pub goes_on : OnOk result (IsReady new.course)
   pub writes : RisesWith (result ≡ Err SinkFault) (to.count old.sink) (to.count new.sink)
   pub asks : Asks on (result ≡ Err DiskFault) old.disk new.disk
   pub numbered : result ≡ Err DiskFault → TakesNumber on old.disk new.disk

@@ -1,5 +1,6 @@
 -- What a report says of a session.
 use Rattle.std.specs.Prelude.{◌≡◌, ◌≢◌, ◌⊎◌, ◌==◌, ℕ, ◌+◌, ◌-◌, ◌≤◌, nat_le, if◌then◌else◌, List, [], ◌∷◌, ◌++◌, length, take, map, Option, Some, None, IfSome}
+use Rattle.small_types.specs.declared.limits.TheConstants.{NUMBER_LIMIT}
 use Rattle.outside.specs.Streams.{AppendsPart}
 use Rattle.links.specs.declared.links.Links.{Ghosts as LinksGhosts}
 use Rattle.links.specs.Links.{LinksState, failures_of}
@@ -15,6 +16,7 @@ use Rattle.machine.specs.Shape.{Shape}
 use Rattle.machine.specs.Sound.{Sound}
 use Rattle.machine.specs.SoundSession.{SoundSession}
 use Rattle.machine.specs.Store.{Session, Store, session_over}
+use Rattle.machine.specs.Words.{IsCommand}
 use Rattle.command_text.specs.Lines.{texts_of}
 use Rattle.updater.specs.Commanded.{LeavesLinks, Serves}
 use Rattle.updater.specs.Stands.{Stands}
@@ -48,10 +50,12 @@ moment_behind now (l ∷ lines) = moment_behind (moment_after now l.reply) lines
 abbrev pub MayHear : Command → List (List ℕ) → Type 0
 MayHear command texts = (shape : Shape) × Hears shape command texts
 
--- a command is run at that moment, and has the texts that it heard
+-- A command is run at that moment, and has the texts that it heard. Numbers are within their limits,
+-- and its words have their forms.
 abbrev pub IsRunAt : ℕ → Event → Type 0
-IsRunAt now (Boot boot) = Unit {0}
-IsRunAt now (Line command at heard) = (at ≡ now) × MayHear command heard.texts
+IsRunAt now (Boot boot) = boot ≤ NUMBER_LIMIT
+IsRunAt now (Line command at heard) =
+    (at ≡ now) × (at ≤ NUMBER_LIMIT) × IsCommand command × MayHear command heard.texts
 IsRunAt now (Unread fault) = Unit {0}
 
 -- each line is run at the moment that the replies before it have set

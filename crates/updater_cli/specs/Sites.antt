@@ -5,9 +5,9 @@ use Rattle.addresses.specs.Address.{target_of_text}
 use Rattle.addresses.specs.Join.{file_target_of}
 use Rattle.links.specs.Links.{LinksState}
 use Rattle.fetcher.specs.Given.{IsOfSite}
-use Rattle.machine.specs.declared.command.Command.TheVariants.{Install}
+use Rattle.machine.specs.declared.command.Command.TheVariants.{At, Require, Install, Launch, Read, Finish}
 use Rattle.machine.specs.declared.event.Event.{Event}
-use Rattle.machine.specs.declared.event.Event.TheVariants.{Line}
+use Rattle.machine.specs.declared.event.Event.TheVariants.{Boot, Line, Unread}
 use Rattle.machine.specs.declared.report.ReportLine.{ReportLine}
 use Rattle.machine.specs.Blocks.{standing_files}
 use Rattle.machine.specs.InstallRow.{OfDeployment, base_of}
@@ -46,8 +46,14 @@ pub record IsOfSites (links : LinksState) (url : List ℕ) (texts : List (List �
 
 -- no other line hears or brings anything
 abbrev pub IsLineOfSites : LinksState → Event → Store → Store → Type 0
+IsLineOfSites links (Boot boot) old new = Unit {0}
+IsLineOfSites links (Line (At next) now heard) old new = Unit {0}
+IsLineOfSites links (Line (Require key version) now heard) old new = Unit {0}
 IsLineOfSites links (Line (Install url) now heard) old new = IsOfSites links url heard.texts old new
-IsLineOfSites links _ old new = Unit {0}
+IsLineOfSites links (Line (Launch key) now heard) old new = Unit {0}
+IsLineOfSites links (Line (Read lease name from count) now heard) old new = Unit {0}
+IsLineOfSites links (Line (Finish lease) now heard) old new = Unit {0}
+IsLineOfSites links (Unread fault) old new = Unit {0}
 
 -- The lines lead to this session, and what each heard and brought is of the sites of these links.
 abbrev pub AreOfSites : LinksState → Origin → List ReportLine → Session → Type 0

@@ -44,7 +44,6 @@ fn run_line<D: Disk, L: Links>(
     line: &[u8],
 ) -> Result<(Event, Reply), Event>
     requires moment { now ≤ NUMBER_LIMIT }
-    requires one { (L.links links.old).sources ≡ 1 }
     ensures { LineRun D.Disk L.Links now line.now updater.old disk.old links.old result
         updater.new disk.new links.new }
 {
@@ -74,7 +73,7 @@ pub(crate) fn answer_line<K: Sink, D: Disk, L: Links>(
     course: &mut Course,
     line: &[u8],
 ) -> Result<(), Status>
-    requires { IsReady L.Links course.old links.old }
+    requires { IsReady course.old }
     ensures { LineAnswered K.Sink D.Disk L.Links line.now
         (place_of sink.old disk.old links.old course.old) result
         (place_of sink.new disk.new links.new course.new) }

@@ -116,7 +116,6 @@ pub(crate) fn session<S: Source, K: Sink, D: Disk, L: Links>(
 ) -> Status
     requires boot { boot ≤ NUMBER_LIMIT }
     requires now { now ≤ NUMBER_LIMIT }
-    requires one { (L.links links.old).sources ≡ 1 }
     ensures headline { Headline S.Source K.Sink D.Disk L.Links boot now (code_of result)
         (devices_of source.old sink.old disk.old links.old)
         (devices_of source.new sink.new disk.new links.new) report.new }

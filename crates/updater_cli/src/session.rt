@@ -27,7 +27,7 @@ fn answer_byte<K: Sink, D: Disk, L: Links>(
     pending: &mut Vec<u8>,
     byte: u8,
 ) -> Result<(), Status>
-    requires ready { IsReady L.Links course.old links.old }
+    requires ready { IsReady course.old }
     requires pending { HasNoFeed pending.old.items }
     ensures { PieceAnswered K.Sink D.Disk L.Links (pending.old.items ++ byte ∷ [])
         (place_of sink.old disk.old links.old course.old) result pending.new.items
@@ -57,7 +57,7 @@ fn answer_piece<K: Sink, D: Disk, L: Links>(
     pending: &mut Vec<u8>,
     piece: &[u8],
 ) -> Result<(), Status>
-    requires ready { IsReady L.Links course.old links.old }
+    requires ready { IsReady course.old }
     requires pending { HasNoFeed pending.old.items }
     ensures { PieceAnswered K.Sink D.Disk L.Links (pending.old.items ++ piece.now)
         (place_of sink.old disk.old links.old course.old) result pending.new.items
@@ -80,7 +80,7 @@ fn answer_rest<K: Sink, D: Disk, L: Links>(
     course: &mut Course,
     pending: &[u8],
 ) -> Result<(), Status>
-    requires { IsReady L.Links course.old links.old }
+    requires { IsReady course.old }
     ensures { RestAnswered K.Sink D.Disk L.Links pending.now
         (place_of sink.old disk.old links.old course.old) result
         (place_of sink.new disk.new links.new course.new) }
@@ -114,7 +114,7 @@ pub(crate) fn answer_all<S: Source, K: Sink, D: Disk, L: Links>(
     links: &mut L,
     course: &mut Course,
 ) -> Result<(), Status>
-    requires { IsReady L.Links course.old links.old }
+    requires { IsReady course.old }
     ensures { InputAnswered S.Source K.Sink D.Disk L.Links source.old
         (place_of sink.old disk.old links.old course.old) result source.new
         (place_of sink.new disk.new links.new course.new) }

@@ -43,17 +43,27 @@ fn format<D: Disk>(alloc: Global, disk: &mut D, blocks: u64) -> Status
 
 /// Does what the words ask for and answers the exit status.
 ///
-/// `format --blocks N` makes a new store of N blocks, 1 to 65,536, on the disk. `session --boot N --now N` answers
-/// the lines of the source on the sink over the store on the disk, and fetches what they install from the link; the
-/// numbers are at most 2^62, and `now` is in seconds. The report then has what the session did. `inspect deployment` and `inspect application` read a manifest
-/// from the source, at most 4,194,305 bytes, and write what it says, or why it is refused, to the sink.
-/// `publish --name N --release V --entry E --from F --to T`, and then marks `data:FILE` and `group:GROUP:FILE`, publishes
-/// the files below F in the folder, and writes to the sink what was published, or why it is refused.
+/// `format --blocks N` makes a new store of N blocks, 1 to 65,536, on the disk.
 ///
-/// The status is 0 where all was done, 1 where the words are none of these, 2 where the source failed, 3 the sink,
-/// 4 the disk, 5 where the disk holds no store, 6 where there was no memory, 7 where a manifest or a publish is refused,
-/// and 8 where a session's input has more than 65,536 bytes. For `publish` it is 2 where the folder failed at a reading,
-/// and 3 also where it failed at a writing.
+/// `session --boot N --now N` answers the lines of the source on the sink over the store on the
+/// disk; the numbers are at most 2^62, and `now` is in seconds. The lines are `at N`,
+/// `require KEY V`, `install URL`, `launch KEY`, `read L NAME FROM COUNT` and `finish L`. What an
+/// `install` wants is fetched over the links. A `launch` gives a lease on the application's current
+/// view, whose files `read` reads as they are until `finish` or another boot number. The report then
+/// has what the session did.
+///
+/// `inspect deployment` and `inspect application` read a manifest from the source, at most 4,194,305
+/// bytes, and write what it says, or why it is refused, to the sink.
+///
+/// `publish --name N --release V --entry E --from F --to T`, and then marks `data:FILE` and
+/// `group:GROUP:FILE`, publishes the files below F in the folder, and writes to the sink what was
+/// published, or why it is refused.
+///
+/// The status is 0 where all was done, 1 where the words are none of these, 2 where the source
+/// failed, 3 the sink, 4 the disk, 5 where the disk holds no store, 6 where there was no memory, 7
+/// where a manifest or a publish is refused, and 8 where a session's input has more than 65,536
+/// bytes. For `publish` it is 2 where the folder failed at a reading, and 3 also where it failed at
+/// a writing.
 pub fn run<S: Source, K: Sink, D: Disk, F: Folder, L: Links>(
     alloc: Global,
     words: &[Word],
@@ -64,10 +74,9 @@ pub fn run<S: Source, K: Sink, D: Disk, F: Folder, L: Links>(
     links: &mut L,
     report: &mut Report,
 ) -> u8
-    // There is one link.
-    requires { (L.links links.old).sources ≡ 1 }
 
-    // A session: its lines, their run, and what a stop at any moment leaves.
+    // A session: its lines, their run, what a stop at any moment leaves, which views its launches
+    // hand out and when, what its reads show, and that a stop leaves leased views whole.
     ensures headline { (boot now : ℕ) → request_of words.now ≡ Some (asked.Session boot now)
         → Headline S.Source K.Sink D.Disk L.Links boot now result
         (devices_of source.old sink.old disk.old links.old)
@@ -93,7 +102,7 @@ pub fn run<S: Source, K: Sink, D: Disk, F: Folder, L: Links>(
         × (disk.new ≡ disk.old) × (report.new ≡ report.old) }
     ensures folder_kept { ¬ AsksToPublish (request_of words.now) → folder.new ≡ folder.old }
 
-    // Only a session asks the link.
+    // Only a session asks a link.
     ensures links_kept { ¬ AsksForSession (request_of words.now) → links.new ≡ links.old }
 
     // When each status comes.

@@ -7,7 +7,7 @@ use Rattle.updater_cli.proofs.opening.session.Goals as goal
 
 pub returns-in-Err-clause-headline : goal.returns-in-Err-clause-headline
 returns-in-Err-clause-headline g c =
-    unopened_headline g.S.Source g.K.Sink g.D.Disk g.L.Links c.args.boot c.args.now c.args.source.now c.args.sink.now c.args.links.now c.args.disk.now c.open.new.disk c.in-Err.status c.in-Err.ensures c.unopened_report.result c.unopened_report.ensures
+    unopened_headline g.S.Source g.K.Sink g.D.Disk g.L.Links c.args.boot c.args.now c.args.source.now c.args.sink.now c.args.links.now c.args.disk.now c.open.new.disk c.in-Err.status c.in-Err.ensures c.unopened_report.result c.unopened_report.ensures c.requires.boot
 
 pub returns-in-Err-clause-not_a_store : goal.returns-in-Err-clause-not_a_store
 returns-in-Err-clause-not_a_store g c = λ told is. c.in-Err.ensures.not_a_store told (ap Err is)
@@ -46,7 +46,7 @@ returns-clause-headline g c =
     rw c.end_of.ensures
     (opened_headline g.S.Source g.K.Sink g.D.Disk g.L.Links c.args.boot c.args.now c.args.disk.now c.args.source.now c.answer_all-outcome.new.source (place_of c.args.sink.now c.open.new.disk c.args.links.now c.in-Ok.course)
     (place_of c.answer_all-outcome.new.sink c.answer_all-outcome.new.disk c.answer_all-outcome.new.links c.answer_all-outcome.new.course) c.answer_all-outcome.result c.in-Ok.ensures c.answer_all-outcome.ensures
-    (g.met.D.Disk.seen_left c.answer_all-outcome.new.disk) c.report_of.result c.report_of.ensures)
+    (g.met.D.Disk.seen_left c.answer_all-outcome.new.disk) c.requires.boot c.report_of.result c.report_of.ensures)
 
 pub returns-clause-not_a_store : goal.returns-clause-not_a_store
 returns-clause-not_a_store g c = λ told five.
