@@ -1,15 +1,12 @@
 // Standard input as a source.
 ghost use Rattle.std.specs.Prelude.{◌≡◌, ◌<◌, ◌≤◌, [], length, IfOk, OnOk, OnErr};
-ghost use Rattle.outside.specs.Streams.{Causes, ReadsAtMost};
+ghost use Rattle.outside.specs.Streams.{Causes};
 
 use crate::counted::counted;
 use crate::reason::{Reason, keep};
 use outside::{Failed, Source};
-use small_types::copy_front;
 use std::io;
 use std::io::Read;
-
-const CHUNK: usize = 16384;
 
 /// The standard input of a runtime. It tells no content. A call that the system fails is a failed one; zero bytes are
 /// the end.
@@ -40,28 +37,15 @@ impl<R: Input + Drop> StdSource<R> {
     }
 }
 
-// What one system call gives, and at most a chunk of it. A read into the buffer itself may leave anything behind
-// what it gave.
-pub(crate) fn read_some<I: Read>(reader: &mut I, buf: &mut [u8]) -> io::Result<usize>
-    ensures { IfOk result (λ n. ReadsAtMost n buf.old buf.new) }
-{
-    let mut chunk = [0; CHUNK];
-    let room = buf.len().min(CHUNK);
-    match reader.read(&mut chunk[..room]) {
-        Ok(n) => Ok(copy_front(&chunk[..n], buf)),
-        Err(error) => Err(error),
-    }
-}
-
-// The same, and where it fails the first reason is kept.
-fn read_kept<I: Read>(
+// What one system call gives. Where it fails the first reason is kept.
+pub(crate) fn read_kept<I: Read>(
     reader: &mut I,
     why: &mut Option<Reason>,
     buf: &mut [u8],
 ) -> Result<usize, Failed>
-    ensures { IfOk result (λ n. ReadsAtMost n buf.old buf.new) }
+    ensures { IfOk result (λ n. n ≤ length buf.old) }
 {
-    match read_some(reader, buf) {
+    match reader.read(buf) {
         Ok(n) => Ok(n),
         Err(error) => Err(keep(why, error)),
     }

@@ -1,8 +1,7 @@
 // One connection of a network.
 ghost use Rattle.std.specs.Prelude.{◌≤◌, length, IfOk};
-ghost use Rattle.outside.specs.Streams.{ReadsAtMost, TakesSome};
+ghost use Rattle.outside.specs.Streams.{TakesSome};
 
-use crate::std_source::read_some;
 use outside::Failed;
 use std::io;
 use std::io::{Read, Write};
@@ -17,8 +16,11 @@ pub(crate) const HOST_PATIENCE: u64 = 10;
 // The seconds that the other side of such a connection may take until it has the whole answer.
 const ANSWER_PATIENCE: u64 = 3600;
 
-// The seconds that a client waits for one address, and for the next byte or until any is taken.
-pub(crate) const CLIENT_PATIENCE: u64 = 30;
+// The seconds that a client waits for a connection, for the next byte, and until any is taken.
+pub(crate) const CLIENT_PATIENCE: u64 = 60;
+
+// How many addresses of a host are tried at most.
+const MOST_ADDRESSES: usize = 32;
 
 // How many reads at most follow the last answer.
 const MOST_READS: u64 = 4096;
@@ -44,14 +46,27 @@ fn without_brackets(host: &str) -> &str {
     }
 }
 
-// A connection to the host's port, at the first of its addresses that answers.
-pub(crate) fn connect<R: Net>(rt: &R, host: &str, port: u16) -> io::Result<R::Stream> {
+// What one of so many addresses may take of a time.
+fn share(whole: Duration, addresses: usize) -> Duration {
+    whole / addresses.clamp(1, MOST_ADDRESSES) as u32
+}
+
+// A connection to the host's port, at the first of its addresses that answers. Those that were not tried yet share the
+// time that is left of a client's.
+pub(crate) fn connect<R: Net + Clock>(rt: &R, host: &str, port: u16) -> io::Result<R::Stream> {
+    let since = Instant::now(rt)?;
     let mut last = io::Error::from(io::ErrorKind::NotFound);
-    for address in (without_brackets(host), port).to_socket_addrs(rt)? {
-        match TcpStream::connect_timeout(rt, &address, Duration::from_secs(CLIENT_PATIENCE)) {
+    let addresses = (without_brackets(host), port).to_socket_addrs(rt)?;
+    let mut untried = addresses.size_hint().0;
+    for address in addresses {
+        let Some(left) = time_left(rt, since, Duration::from_secs(CLIENT_PATIENCE)) else {
+            return Err(last);
+        };
+        match TcpStream::connect_timeout(rt, &address, share(left, untried)) {
             Ok(stream) => return Ok(stream),
             Err(error) => last = error,
         }
+        untried = untried.saturating_sub(1);
     }
     Err(last)
 }
@@ -87,13 +102,13 @@ impl<S: Read + Write + OpenStream + Drop> Guest<S> {
 
     // What one system call gives, within the time that is left.
     pub(crate) fn receive<R: Clock>(&mut self, rt: &R, buf: &mut [u8]) -> Result<usize, Failed>
-        ensures { IfOk result (λ n. ReadsAtMost n buf.old buf.new) }
+        ensures { IfOk result (λ n. n ≤ length buf.old) }
     {
         let left = time_left(rt, self.since, Duration::from_secs(HOST_PATIENCE));
         if left.is_none() || self.stream.set_read_timeout(left).is_err() {
             return Err(Failed);
         }
-        match read_some(&mut self.stream, buf) {
+        match self.stream.read(buf) {
             Ok(n) => Ok(n),
             Err(_) => Err(Failed),
         }

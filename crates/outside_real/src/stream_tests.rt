@@ -1,6 +1,6 @@
 // What the standard streams' devices make of what a runtime answers.
 use crate::file_tests::said;
-use crate::std_source::read_some;
+use crate::std_source::read_kept;
 use crate::{Failure, StdSink, StdSource};
 use outside::{Failed, Sink, Source, write_all};
 use std::alloc::Allocator;
@@ -42,13 +42,12 @@ fn a_source_gives_what_one_read_gave(rt: HostRuntime) {
     assert_eq!(rt; source.faults(), 0);
 }
 
-// A reader that fails, and leaves bytes behind.
+// A reader that fails.
 #[derive(Drop)]
 struct Broken;
 
 impl Read for Broken {
-    fn read(&mut self, buf: &mut [u8]) -> io::Result<usize> {
-        buf.fill(b'x');
+    fn read(&mut self, _buf: &mut [u8]) -> io::Result<usize> {
         Err(io::Error::from(ErrorKind::Other))
     }
 }
@@ -56,8 +55,9 @@ impl Read for Broken {
 #[test]
 fn a_failed_read_fails(rt: HostRuntime) {
     let mut buf = *b"....";
-    assert_eq!(rt; read_some(&mut Broken, &mut buf).ok(), None);
-    assert_eq!(rt; buf, *b"....");
+    let mut why = None;
+    assert_eq!(rt; read_kept(&mut Broken, &mut why, &mut buf), Err(Failed));
+    assert!(rt; why.is_some());
 }
 
 // A runtime whose output takes two bytes, then one, then none, and then fails.

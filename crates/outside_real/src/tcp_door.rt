@@ -1,6 +1,6 @@
 // A host's connections over a network.
-ghost use Rattle.std.specs.Prelude.{◌≡◌, ◌<◌, [], length, take, IfOk, OnOk, OnErr};
-ghost use Rattle.outside.specs.Streams.{Causes, ReadsAtMost, TakesSome};
+ghost use Rattle.std.specs.Prelude.{◌≡◌, ◌<◌, ◌≤◌, [], length, take, IfOk, OnOk, OnErr};
+ghost use Rattle.outside.specs.Streams.{Causes, TakesSome};
 ghost use Rattle.connections.specs.Door.{Accepts, ReceivesOnLast, SendsOnLast};
 
 use crate::counted::counted;
@@ -151,7 +151,7 @@ fn receive<R: Net + Clock>(
     guest: &mut Option<Guest<R::Stream>>,
     buf: &mut [u8],
 ) -> Result<usize, Failed>
-    ensures { IfOk result (λ n. ReadsAtMost n buf.old buf.new) }
+    ensures { IfOk result (λ n. n ≤ length buf.old) }
 {
     match guest {
         Some(guest) => guest.receive(rt, buf),

@@ -1,30 +1,31 @@
 // A client's connections over a network.
-ghost use Rattle.std.specs.Prelude.{◌≡◌, ◌<◌, [], None, length, take, IfOk, OnOk, OnErr};
-ghost use Rattle.outside.specs.Streams.{Causes, ReadsAtMost, TakesSome};
+ghost use Rattle.std.specs.Prelude.{◌≡◌, ◌<◌, ◌≤◌, [], None, length, take, IfOk, OnOk, OnErr};
+ghost use Rattle.outside.specs.Streams.{Causes, TakesSome};
 ghost use Rattle.connections.specs.Wire.{Connects, Receives, Sends, all_sent};
 
 use crate::counted::counted;
-use crate::std_source::read_some;
 use crate::stream::{CLIENT_PATIENCE, connect, prepare, send_some};
 use connections::Wire;
 use outside::Failed;
 use small_types::Text;
 use std::io;
+use std::io::Read;
 use std::net::{Net, OpenStream};
+use std::rt::Clock;
 use std::time::Duration;
 
 /// The TCP connections of a client, over a runtime's network. It tells no content. A host is a name or an address. A
-/// connection to an address that does not answer for 30 seconds is a failed call, and so is one that waits that long
-/// for a byte to come or to be taken. A call that takes no byte is a failed one, and a peer that has gone is a fault
-/// and no signal.
+/// connection that is not made within 60 seconds is a failed call, and so is a call that waits that long for a byte to
+/// come or to be taken; the system's search for the addresses of a name has its own limits. A call that takes no byte is
+/// a failed one, and a peer that has gone is a fault and no signal.
 #[derive(Drop)]
-pub struct TcpWire<R: Net + Drop> {
+pub struct TcpWire<R: Net + Clock + Drop> {
     rt: R,
     stream: Option<R::Stream>,
     faults: u64,
 }
 
-impl<R: Net + Drop> TcpWire<R> {
+impl<R: Net + Clock + Drop> TcpWire<R> {
     ghost use Rattle.outside_real.specs.TcpWire.{tcp_wire_faults};
 
     /// It connects to nothing yet.
@@ -40,14 +41,14 @@ impl<R: Net + Drop> TcpWire<R> {
 }
 
 // A connection that waits no longer than the client's patience.
-fn patient<R: Net>(rt: &R, host: &str, port: u16) -> io::Result<R::Stream> {
+fn patient<R: Net + Clock>(rt: &R, host: &str, port: u16) -> io::Result<R::Stream> {
     let stream = connect(rt, host, port)?;
     prepare(&stream, CLIENT_PATIENCE)?;
     stream.set_read_timeout(Some(Duration::from_secs(CLIENT_PATIENCE)))?;
     Ok(stream)
 }
 
-fn replace<R: Net>(
+fn replace<R: Net + Clock>(
     rt: &R,
     stream: &mut Option<R::Stream>,
     host: &Text,
@@ -64,10 +65,10 @@ fn replace<R: Net>(
 }
 
 fn receive<R: Net>(stream: &mut Option<R::Stream>, buf: &mut [u8]) -> Result<usize, Failed>
-    ensures { IfOk result (λ n. ReadsAtMost n buf.old buf.new) }
+    ensures { IfOk result (λ n. n ≤ length buf.old) }
 {
     match stream {
-        Some(stream) => match read_some(stream, buf) {
+        Some(stream) => match stream.read(buf) {
             Ok(n) => Ok(n),
             Err(_) => Err(Failed),
         },
@@ -84,7 +85,7 @@ fn send<R: Net>(stream: &mut Option<R::Stream>, bytes: &[u8]) -> Result<usize, F
     }
 }
 
-impl<R: Net + Drop> Wire for TcpWire<R> {
+impl<R: Net + Clock + Drop> Wire for TcpWire<R> {
     ghost tells = { ⊥ };
 
     ghost over = { λ _. [] };
