@@ -25,8 +25,9 @@ STORE is the file of the store, and FOLDER a folder of published files, the
 site of each URL.
 
   format --blocks N            makes an empty store of N blocks, 1 to 65536
-  session --boot N --now N     answers the lines of the input: `require KEY V`,
-                               `install URL` and `at N`
+  session --boot N --now N     answers the lines of the input: `at N`,
+                               `require KEY V`, `install URL`, `launch KEY`,
+                               `read L NAME FROM COUNT` and `finish L`
   inspect deployment           says what the deployment manifest in the input says
   inspect application          the same for an application manifest
   publish --name N --release V --entry E --from F --to T MARK..

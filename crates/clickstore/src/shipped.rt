@@ -3,7 +3,7 @@ ghost use Rattle.std.specs.Prelude.{◌≡◌, ℕ, Some};
 ghost use Rattle.updater_cli.specs.declared.words.Request.TheVariants as asked;
 ghost use Rattle.updater_cli.specs.Devices.{devices_of};
 ghost use Rattle.updater_cli.specs.Format.{MakesStore};
-ghost use Rattle.updater_cli.specs.Headline.{Headline, HeadlineStop};
+ghost use Rattle.updater_cli.specs.Headline.{Headline, HeadlineLaunch, HeadlineLeased, HeadlineStop, HeadlineViews};
 ghost use Rattle.updater_cli.specs.Words.{request_of};
 ghost use Rattle.outside_real.specs.FileDisk.{DiskIsHonest};
 
@@ -32,7 +32,8 @@ pub(crate) fn run_over_file<S: Start>(
     links: &mut OneFolder,
     report: &mut Report,
 ) -> u8
-    // A session: its lines, their run, what its link did, and what a stop at any moment leaves.
+    // A session: its lines, their run, what its link did, what a stop at any moment leaves, which
+    // views its launches hand out and when, and what its reads show.
     ensures headline { (boot now : ℕ) → request_of words.now ≡ Some (asked.Session boot now)
         → Headline ⟦<StdSource<HostRuntime> as Source>⟧ ⟦<StdSink<HostRuntime> as Sink>⟧
         ⟦<FileDisk<HostRuntime, S> as Disk>⟧
@@ -44,6 +45,20 @@ pub(crate) fn run_over_file<S: Start>(
     ensures headline_stop { (boot now : ℕ) → request_of words.now ≡ Some (asked.Session boot now)
         → DiskIsHonest S.Start disk.new
         → HeadlineStop ⟦<FileDisk<HostRuntime, S> as Disk>⟧ now result disk.old disk.new report.new }
+
+    // And a launch hands out the current view, which is one whole release and not below a minimum;
+    // reads on its lease show parts of the same bytes; a launch where nothing is due and a lease is
+    // free is answered with one, or finds no memory; and what a stop leaves has the leased views,
+    // whole and unchanged.
+    ensures headline_views { (boot now : ℕ) → request_of words.now ≡ Some (asked.Session boot now)
+        → DiskIsHonest S.Start disk.new
+        → HeadlineViews ⟦<FileDisk<HostRuntime, S> as Disk>⟧ now disk.old report.new }
+    ensures headline_launch { (boot now : ℕ) → request_of words.now ≡ Some (asked.Session boot now)
+        → DiskIsHonest S.Start disk.new
+        → HeadlineLaunch ⟦<FileDisk<HostRuntime, S> as Disk>⟧ now disk.old report.new }
+    ensures headline_leased { (boot now : ℕ) → request_of words.now ≡ Some (asked.Session boot now)
+        → DiskIsHonest S.Start disk.new
+        → HeadlineLeased ⟦<FileDisk<HostRuntime, S> as Disk>⟧ now result disk.old disk.new report.new }
 
     // A new store stands, and a stop while it is made leaves what is said of it.
     ensures format { (blocks : ℕ) → request_of words.now ≡ Some (asked.Format blocks)
