@@ -19,9 +19,10 @@ use updater_cli::{Report, run};
 /// The one link of the program: a folder of published files. It tells nothing, as the folder does.
 pub(crate) type OneFolder = Single<FolderLink<RealFolder<HostRuntime>>>;
 
-/// Does what the words ask for over a store in a file, the standard input and output, a folder and a link to one, and
-/// answers the exit status. The start says what the file held when it was opened. What holds where the file's answers are honest
-/// (`DiskIsHonest`) holds at each start, since no code can read one.
+/// Does what the words ask for over a store in a file, the standard input and output, a folder and
+/// a link to one, and answers the exit status. The start says what the file held when it was
+/// opened. What holds where the file's answers are honest (`DiskIsHonest`) holds at each start,
+/// since no code can read one.
 pub(crate) fn run_over_file<S: Start>(
     alloc: Global,
     words: &[Word],

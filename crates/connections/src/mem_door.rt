@@ -120,8 +120,8 @@ impl Door for MemDoor {
         ensures requests_kept { OnErr result (door_requests self.new ≡ door_requests self.old) }
         ensures sent_kept { OnErr result (door_sent self.new ≡ door_sent self.old) }
 
-        // It fails where its number is in the list and where no request is left, else only for want of memory. The count
-        // rises by one where it fails, and else not.
+        // It fails where its number is in the list and where no request is left, else only for want
+        // of memory. The count rises by one where it fails, and else not.
         ensures fails { IsTrue (door_fails self.old) → IsErr result }
         ensures end { door_requests self.old ≡ [] → IsErr result }
         ensures calls { door_calls self.new ≡ total (door_calls self.old) 1 }
@@ -147,8 +147,8 @@ impl Door for MemDoor {
         ensures cause { Causes (door_faults self.old) (door_faults self.new) result }
         ensures misses_kept { door_missed self.new ≡ door_missed self.old }
 
-        // It fails exactly where its number is in the list and before the first connection. The count rises by one where
-        // it fails, and else not.
+        // It fails exactly where its number is in the list and before the first connection. The
+        // count rises by one where it fails, and else not.
         ensures fails { IsTrue (door_fails self.old) → IsErr result }
         ensures first { door_accepted self.old ≡ [] → IsErr result }
         ensures works { door_fails self.old ≡ false → door_accepted self.old ≢ [] → IsOk result }

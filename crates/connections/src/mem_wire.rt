@@ -169,8 +169,8 @@ impl Wire for MemWire {
         ensures over_kept { wire_over self.new ≡ wire_over self.old }
         ensures cause { Causes (wire_faults self.old) (wire_faults self.new) result }
 
-        // It fails exactly where its number is in the list and without a present connection. The count rises by one where
-        // it fails, and else not.
+        // It fails exactly where its number is in the list and without a present connection. The
+        // count rises by one where it fails, and else not.
         ensures fails { IsTrue (wire_fails self.old) → IsErr result }
         ensures alone { wire_present self.old ≡ None → IsErr result }
         ensures works { wire_fails self.old ≡ false → wire_present self.old ≢ None → IsOk result }
@@ -199,8 +199,8 @@ impl Wire for MemWire {
         ensures over_kept { wire_over self.new ≡ wire_over self.old }
         ensures cause { Causes (wire_faults self.old) (wire_faults self.new) result }
 
-        // It fails where its number is in the list and without a present connection, else only for want of memory. The
-        // count rises by one where it fails, and else not.
+        // It fails where its number is in the list and without a present connection, else only for
+        // want of memory. The count rises by one where it fails, and else not.
         ensures fails { IsTrue (wire_fails self.old) → IsErr result }
         ensures alone { wire_present self.old ≡ None → IsErr result }
         ensures answers_kept { wire_answers self.new ≡ wire_answers self.old }

@@ -6,8 +6,9 @@ ghost use Rattle.connections.specs.Wire.{Made, Connects, Receives, Sends, all_se
 use outside::Failed;
 use small_types::Text;
 
-/// The connections of a client, one at a time. One that tells says of the present connection where it leads, what the
-/// other side sends, what is left of that and what was sent, and of the connections that are over what was sent on each.
+/// The connections of a client, one at a time. One that tells says of the present connection where
+/// it leads, what the other side sends, what is left of that and what was sent, and of the
+/// connections that are over what was sent on each.
 pub trait Wire {
     /// Whether it tells the connections.
     ghost tells: { Type 0 };
@@ -29,8 +30,8 @@ pub trait Wire {
         ensures none { tells → OnErr result (present self.new ≡ None) }
         ensures cause { Causes (count self.old) (count self.new) result };
 
-    /// Puts the first bytes that are left to the front of the buffer, and answers how many. Zero is the end. Without a
-    /// present connection it fails.
+    /// Puts the first bytes that are left to the front of the buffer, and answers how many. Zero is
+    /// the end. Without a present connection it fails.
     fn receive(&mut self, buf: &mut [u8]) -> Result<usize, Failed>
         requires { 0 < length buf.old }
         ensures within { IfOk result (λ n. n ≤ length buf.old) }

@@ -33,7 +33,12 @@ link_fails l = fails_next l.failing
 -- it tells its site
 abbrev pub link_state : MemLink → LinkState
 link_state l =
-    record { tells = Unit {0}; site = λ target. page_in target l.site; rest = drop l.at l.body; count = l.failing.faults }
+    record {
+      tells = Unit {0};
+      site = λ target. page_in target l.site;
+      rest = drop l.at l.body;
+      count = l.failing.faults;
+    }
 
 -- A call is counted. It answers `Down` exactly where its number is in the list, and the count of
 -- faults rises by one there, and else not.

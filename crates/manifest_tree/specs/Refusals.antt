@@ -19,7 +19,8 @@ module _ (whole : List ℕ) where
   -- element is open, before the root. All before them is whole, and has no fault.
   pub data Stands : List OpenTree → List ℕ → Type 0 where
     outside : {b rest : List ℕ} → begin whole ≡ Ok b → Misc b rest → Stands [] rest
-    within : {around : List OpenTree} {b name after inner text rest : List ℕ} {attributes : List Attribute} {children : Trees}
+    within : {around : List OpenTree} {b name after inner text rest : List ℕ}
+        {attributes : List Attribute} {children : Trees}
         → Stands around (60 ∷ b) → suc (length around) ≤ LEVEL_LIMIT
         → IsStart b name attributes after → past white after ≡ 62 ∷ inner
         → Content (suc (suc (length around))) inner children text rest

@@ -24,11 +24,13 @@ module _ {R S Dir : Type 0} where
   abbrev pub disk_answers : FileDisk R S Dir → List Answer
   disk_answers d = d.told.answers.noted
 
-  -- a call that may have changed the file stands last among the answers, with its number; or no number was left for it, and
-  -- it was not made
+  -- a call that may have changed the file stands last among the answers, with its number; or no
+  -- number was left for it, and it was not made
   abbrev pub Notes : Move → FileDisk R S Dir → FileDisk R S Dir → Type 0
   Notes act old new =
-      ((disk_calls new ≡ disk_calls old + 1) × (disk_answers new ≡ disk_answers old ++ Changed (record { number = disk_calls new; act = act }) ∷ []))
+      ((disk_calls new ≡ disk_calls old + 1)
+      × (disk_answers new
+      ≡ disk_answers old ++ Changed (record { number = disk_calls new; act = act }) ∷ []))
       ⊎ ((disk_calls new ≡ disk_calls old) × (disk_answers new ≡ disk_answers old))
 
   -- the answers are those of a file that held the bytes of the start and keeps to the model

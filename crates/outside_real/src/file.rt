@@ -24,9 +24,10 @@ fn sync_entry<R: Files<File = File>>(rt: &R, path: &str) -> io::Result<()> {
     sync_folder(rt, folder)
 }
 
-// Has reads of the file give what is on the disk: what waits to be written is written, and then the system drops its
-// copies of the file's bytes, which a sync that failed earlier may have left other than the disk has them. POSIX knows
-// the second step as advice alone, so a system, or a file system, may answer that it is done and keep the copies.
+// Has reads of the file give what is on the disk: what waits to be written is written, and then the
+// system drops its copies of the file's bytes, which a sync that failed earlier may have left other
+// than the disk has them. POSIX knows the second step as advice alone, so a system, or a file
+// system, may answer that it is done and keep the copies.
 fn settle(file: &File) -> io::Result<()> {
     file.sync_all()?;
     match libc::posix_fadvise(file.as_raw_fd(), 0, 0, libc::POSIX_FADV_DONTNEED) {
@@ -35,8 +36,9 @@ fn settle(file: &File) -> io::Result<()> {
     }
 }
 
-// The file under a number that no standard stream has. Where one of the streams is closed, the system gives its number to
-// the next file that is opened, and what is then written to the stream would go to the file.
+// The file under a number that no standard stream has. Where one of the streams is closed, the
+// system gives its number to the next file that is opened, and what is then written to the stream
+// would go to the file.
 fn beside_streams(file: File) -> io::Result<File> {
     if file.as_raw_fd() > libc::STDERR_FILENO {
         Ok(file)
@@ -57,8 +59,8 @@ fn lock(file: &File) -> io::Result<()> {
     }
 }
 
-// Opens the file, or makes an empty one, takes its lock and settles it. An empty file may be a new one, so its entry is
-// made durable.
+// Opens the file, or makes an empty one, takes its lock and settles it. An empty file may be a new
+// one, so its entry is made durable.
 fn open<R: Files<File = File>>(rt: &R, path: &str) -> io::Result<File> {
     let mut options = OpenOptions::new();
     options.read(true).write(true).create(true);

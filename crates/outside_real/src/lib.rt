@@ -1,5 +1,6 @@
 //! The devices of a program: standard input, standard output, a disk in a file, a folder and the
-//! connections of a client and of a host. The file and the output tell by a record of their calls; the others tell no content.
+//! connections of a client and of a host. The file and the output tell by a record of their calls;
+//! the others tell no content.
 #![tactic(auto)]
 
 mod counted;

@@ -48,10 +48,11 @@ fn counted<T: Drop>(faults: &mut u64, done: Result<T, FolderFault>) -> Result<T,
     done
 }
 
-/// A folder of the file system and all folders below it, over a runtime's files. It tells no content. Names have `/`
-/// between their parts. It follows no symbolic link below the folder: a call that meets one fails, and so does one that
-/// meets anything else that is neither a file nor a folder. Whether a link stands at a part of a path is looked at
-/// before the path is used, so that a link which another process makes between the two may be followed.
+/// A folder of the file system and all folders below it, over a runtime's files. It tells no
+/// content. Names have `/` between their parts. It follows no symbolic link below the folder: a
+/// call that meets one fails, and so does one that meets anything else that is neither a file nor a
+/// folder. Whether a link stands at a part of a path is looked at before the path is used, so that
+/// a link which another process makes between the two may be followed.
 #[derive(Drop)]
 pub struct RealFolder<R: Files<File = File> + AllocGlobal + Clone + Drop> {
     rt: R,
@@ -135,13 +136,15 @@ impl<R: Files<File = File> + AllocGlobal + Clone + Drop> Folder for RealFolder<R
         counted(&mut self.faults, done)
     }
 
-    /// Makes these bytes the file of this name, and the folders that it wants. They are written beside it under its
-    /// name with `:unfinished` behind it, locked from others, and made durable, before the file gets its name, so that a stop leaves the
-    /// file as it was or as it is to be. A file that comes to stand there in the meantime is never replaced, where the
-    /// file system has hard links; one that stood there before is. An entry is made durable at once where it is the
-    /// first in its folder since a file went elsewhere or where it replaces one; else before a file goes to another
-    /// folder. A call that fails may leave new folders, and else leaves what stood; but where the file system has no hard
-    /// links, a file is replaced though its entry cannot be made durable and the call fails.
+    /// Makes these bytes the file of this name, and the folders that it wants. They are written
+    /// beside it under its name with `:unfinished` behind it, locked from others, and made durable,
+    /// before the file gets its name, so that a stop leaves the file as it was or as it is to be. A
+    /// file that comes to stand there in the meantime is never replaced, where the file system has
+    /// hard links; one that stood there before is. An entry is made durable at once where it is the
+    /// first in its folder since a file went elsewhere or where it replaces one; else before a file
+    /// goes to another folder. A call that fails may leave new folders, and else leaves what stood;
+    /// but where the file system has no hard links, a file is replaced though its entry cannot be
+    /// made durable and the call fails.
     fn put(&mut self, name: &Name, bytes: &[u8]) -> Result<(), FolderFault> {
         let alloc = self.rt.alloc();
         let path = self.path.as_str();

@@ -13,10 +13,11 @@ use std::net::{Ipv4Addr, Net, OpenListener, OpenStream, SocketAddr, TcpListener}
 use std::rt::Clock;
 use std::time::Instant;
 
-/// The TCP connections that a host accepts at a port of all its addresses of the fourth version, over a runtime's
-/// network. It tells no content. The other side has 10 seconds from the accept for all that it sends, an hour
-/// until it has all that is sent, and a call that waits 10 seconds for a byte to be taken fails. A call that takes no byte is a failed one, and a peer that has gone is
-/// a fault and no signal. Dropping the door ends the last connection as `accept` does.
+/// The TCP connections that a host accepts at a port of all its addresses of the fourth version,
+/// over a runtime's network. It tells no content. The other side has 10 seconds from the accept for
+/// all that it sends, an hour until it has all that is sent, and a call that waits 10 seconds for a
+/// byte to be taken fails. A call that takes no byte is a failed one, and a peer that has gone is a
+/// fault and no signal. Dropping the door ends the last connection as `accept` does.
 pub struct TcpDoor<R: Net + Clock + Drop> {
     rt: R,
     port: u16,
@@ -30,8 +31,8 @@ pub struct TcpDoor<R: Net + Clock + Drop> {
 impl<R: Net + Clock + Drop> TcpDoor<R> {
     ghost use Rattle.outside_real.specs.TcpDoor.{tcp_door_faults, tcp_door_missed};
 
-    /// The door at this port. It binds nothing: its first call of `accept` does. Where that is refused the call fails,
-    /// and the next one tries again.
+    /// The door at this port. It binds nothing: its first call of `accept` does. Where that is
+    /// refused the call fails, and the next one tries again.
     pub fn new(rt: R, port: u16) -> TcpDoor<R>
         ensures faults { tcp_door_faults result ≡ 0 }
         ensures missed { tcp_door_missed result ≡ 0 }

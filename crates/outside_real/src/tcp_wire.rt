@@ -14,10 +14,11 @@ use std::net::{Net, OpenStream};
 use std::rt::Clock;
 use std::time::Duration;
 
-/// The TCP connections of a client, over a runtime's network. It tells no content. A host is a name or an address. A
-/// connection that is not made within 60 seconds is a failed call, and so is a call that waits that long for a byte to
-/// come or to be taken; the system's search for the addresses of a name has its own limits. A call that takes no byte is
-/// a failed one, and a peer that has gone is a fault and no signal.
+/// The TCP connections of a client, over a runtime's network. It tells no content. A host is a name
+/// or an address. A connection that is not made within 60 seconds is a failed call, and so is a
+/// call that waits that long for a byte to come or to be taken; the system's search for the
+/// addresses of a name has its own limits. A call that takes no byte is a failed one, and a peer
+/// that has gone is a fault and no signal.
 #[derive(Drop)]
 pub struct TcpWire<R: Net + Clock + Drop> {
     rt: R,

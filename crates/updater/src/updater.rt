@@ -87,9 +87,10 @@ impl Updater {
         }
     }
 
-    /// Runs a command at a moment in seconds, at most 2^62. What it changes is durable once it is answered. The manifest
-    /// texts that it heard of the links are added. Want of memory is a reply. `Failed`: the disk failed; the store is
-    /// then that before or after the command, and is to be recovered anew.
+    /// Runs a command at a moment in seconds, at most 2^62. What it changes is durable once it is
+    /// answered. The manifest texts that it heard of the links are added. Want of memory is a
+    /// reply. `Failed`: the disk failed; the store is then that before or after the command, and is
+    /// to be recovered anew.
     pub fn apply<D: Disk, L: Links>(
         &mut self,
         alloc: Global,
@@ -122,7 +123,8 @@ impl Updater {
         }
     }
 
-    /// How many blocks the files of its views take: those of each content that program files share, and of each data file.
+    /// How many blocks the files of its views take: those of each content that program files share,
+    /// and of each data file.
     pub fn used_blocks(&self) -> u64
         ensures { (blocks : ℕ) (image : List ℕ) (store : Store)
             → Shows blocks (tables_of self.now) image store → Valid store
