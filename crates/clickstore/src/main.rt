@@ -5,12 +5,14 @@ mod other_words;
 mod shipped;
 
 use crate::other_words::{Misread, what_is_wrong};
-use crate::shipped::{OneFolder, run_over_file};
+use crate::shipped::run_over_file;
 use disks::{Start, Unknown};
 use fetcher::FolderLink;
-use links::Single;
+use http_link::HttpLink;
+use links::Link;
+use mirrors::Mirrors;
 use outside::{Failed, Sink, write_all};
-use outside_real::{Failure, FileDisk, RealFolder, StdSink, StdSource};
+use outside_real::{Failure, FileDisk, RealFolder, StdSink, StdSource, TcpWire};
 use small_types::{List, Word};
 use std::alloc::AllocError;
 use std::env;
@@ -21,8 +23,9 @@ use updater_cli::Report;
 
 const HELP: &[u8] = b"usage: clickstore STORE FOLDER COMMAND
 
-STORE is the file of the store, and FOLDER a folder of published files, the
-site of each URL.
+STORE is the file of the store, and FOLDER a folder of published files. What a
+URL names is asked of FOLDER first. What FOLDER does not give as it is wanted is
+asked of the URL's host over HTTP.
 
   format --blocks N            makes an empty store of N blocks, 1 to 65536
   session --boot N --now N     answers the lines of the input: `at N`,
@@ -138,29 +141,20 @@ fn explain(rt: &HostRuntime, status: u8, words: &[Word], failures: &Failures) {
     }
 }
 
-// A link to the folder at this path.
-fn link_to(rt: &HostRuntime, path: String) -> Result<OneFolder, AllocError> {
-    let alloc = rt.alloc();
-    let folder = RealFolder::new(rt.clone()?, path);
-    Ok(Single {
-        link: FolderLink::new(alloc, folder),
-        asked: List::from_vec(Vec::new(alloc)),
-    })
-}
-
-// Runs the words over the store and the folder at these paths, at any start of the store's file.
-fn run_words<S: Start>(
+// Runs the words over the store and the folder at these paths and over links, at any start of the
+// store's file.
+fn run_over_links<S: Start>(
     rt: &HostRuntime,
     store: String,
     start: S,
     folder: String,
+    links: &mut Mirrors,
     words: &[Word],
 ) -> Result<u8, AllocError> {
     let alloc = rt.alloc();
     let mut source = StdSource::new(rt.clone()?);
     let mut sink = StdSink::new(rt.clone()?);
     let mut disk = FileDisk::new(rt.clone()?, store, start);
-    let mut links = link_to(rt, folder.clone()?)?;
     let mut folder = RealFolder::new(rt.clone()?, folder);
     let mut report = Report {
         lines: List::from_vec(Vec::new(alloc)),
@@ -173,7 +167,7 @@ fn run_words<S: Start>(
         &mut sink,
         &mut disk,
         &mut folder,
-        &mut links,
+        links,
         &mut report,
     );
     let failures = Failures {
@@ -184,6 +178,24 @@ fn run_words<S: Start>(
     };
     explain(rt, status, words, &failures);
     Ok(status)
+}
+
+// Runs the words over the store and the folder at these paths. What a session fetches is asked of
+// the folder first, and then of the host over HTTP.
+fn run_words(
+    rt: &HostRuntime,
+    store: String,
+    folder: String,
+    words: &[Word],
+) -> Result<u8, AllocError> {
+    let alloc = rt.alloc();
+    let site = RealFolder::new(rt.clone()?, folder.clone()?);
+    let wire = TcpWire::new(rt.clone()?);
+    let mut boxes: Vec<Box<dyn Link>> = Vec::new(alloc);
+    boxes.push(Box::new(alloc, FolderLink::new(alloc, site))?)?;
+    boxes.push(Box::new(alloc, HttpLink::new(alloc, wire))?)?;
+    let mut links = Mirrors::new(alloc, boxes);
+    run_over_links(rt, store, Unknown, folder, &mut links, words)
 }
 
 fn run_args(rt: &HostRuntime) -> Result<u8, AllocError> {
@@ -198,7 +210,7 @@ fn run_args(rt: &HostRuntime) -> Result<u8, AllocError> {
             store,
             folder,
             words,
-        } => run_words(rt, store, Unknown, folder, &words),
+        } => run_words(rt, store, folder, &words),
     }
 }
 

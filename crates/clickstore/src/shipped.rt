@@ -8,19 +8,17 @@ ghost use Rattle.updater_cli.specs.Words.{request_of};
 ghost use Rattle.outside_real.specs.FileDisk.{DiskIsHonest};
 
 use disks::{Disk, Start};
-use fetcher::FolderLink;
-use links::{Links, Single};
+use links::Links;
+use mirrors::Mirrors;
 use outside::{Sink, Source};
 use outside_real::{FileDisk, RealFolder, StdSink, StdSource};
 use small_types::Word;
 use std::alloc::Global;
 use updater_cli::{Report, run};
 
-/// The one link of the program: a folder of published files. It tells nothing, as the folder does.
-pub(crate) type OneFolder = Single<FolderLink<RealFolder<HostRuntime>>>;
-
 /// Does what the words ask for over a store in a file, the standard input and output, a folder and
-/// a link to one, and answers the exit status. The start says what the file held when it was
+/// links, and answers the exit status. The program's links are one to that folder and one to the
+/// web; what holds is said of any links in boxes. The start says what the file held when it was
 /// opened. What holds where the file's answers are honest (`DiskIsHonest`) holds at each start,
 /// since no code can read one.
 pub(crate) fn run_over_file<S: Start>(
@@ -30,15 +28,14 @@ pub(crate) fn run_over_file<S: Start>(
     sink: &mut StdSink<HostRuntime>,
     disk: &mut FileDisk<HostRuntime, S>,
     folder: &mut RealFolder<HostRuntime>,
-    links: &mut OneFolder,
+    links: &mut Mirrors,
     report: &mut Report,
 ) -> u8
-    // A session: its lines, their run, what its link did, what a stop at any moment leaves, which
+    // A session: its lines, their run, what its links did, what a stop at any moment leaves, which
     // views its launches hand out and when, and what its reads show.
     ensures headline { (boot now : ℕ) → request_of words.now ≡ Some (asked.Session boot now)
         → Headline ⟦<StdSource<HostRuntime> as Source>⟧ ⟦<StdSink<HostRuntime> as Sink>⟧
-        ⟦<FileDisk<HostRuntime, S> as Disk>⟧
-        ⟦<Single<FolderLink<RealFolder<HostRuntime>>> as Links>⟧ boot now result
+        ⟦<FileDisk<HostRuntime, S> as Disk>⟧ ⟦<Mirrors as Links>⟧ boot now result
         (devices_of source.old sink.old disk.old links.old)
         (devices_of source.new sink.new disk.new links.new) report.new }
 
