@@ -1,15 +1,16 @@
 //! The client's program: `clickstore STORE FOLDER COMMAND`, over a store in a file.
 #![tactic(auto)]
 
+mod folder_site;
 mod other_words;
 mod shipped;
 
+use crate::folder_site::FolderSite;
 use crate::other_words::{Misread, what_is_wrong};
 use crate::shipped::run_over_file;
 use disks::{Start, Unknown};
-use fetcher::FolderLink;
 use http_link::HttpLink;
-use links::Link;
+use links::{Link, Links};
 use mirrors::Mirrors;
 use outside::{Failed, Sink, write_all};
 use outside_real::{Failure, FileDisk, RealFolder, StdSink, StdSource, TcpWire};
@@ -143,12 +144,12 @@ fn explain(rt: &HostRuntime, status: u8, words: &[Word], failures: &Failures) {
 
 // Runs the words over the store and the folder at these paths and over links, at any start of the
 // store's file.
-fn run_over_links<S: Start>(
+fn run_over_links<S: Start, L: Links>(
     rt: &HostRuntime,
     store: String,
     start: S,
     folder: String,
-    links: &mut Mirrors,
+    links: &mut L,
     words: &[Word],
 ) -> Result<u8, AllocError> {
     let alloc = rt.alloc();
@@ -192,7 +193,7 @@ fn run_words(
     let site = RealFolder::new(rt.clone()?, folder.clone()?);
     let wire = TcpWire::new(rt.clone()?);
     let mut boxes: Vec<Box<dyn Link>> = Vec::new(alloc);
-    boxes.push(Box::new(alloc, FolderLink::new(alloc, site))?)?;
+    boxes.push(Box::new(alloc, FolderSite::new(alloc, site))?)?;
     boxes.push(Box::new(alloc, HttpLink::new(alloc, wire))?)?;
     let mut links = Mirrors::new(alloc, boxes);
     run_over_links(rt, store, Unknown, folder, &mut links, words)

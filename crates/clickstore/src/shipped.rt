@@ -9,7 +9,6 @@ ghost use Rattle.outside_real.specs.FileDisk.{DiskIsHonest};
 
 use disks::{Disk, Start};
 use links::Links;
-use mirrors::Mirrors;
 use outside::{Sink, Source};
 use outside_real::{FileDisk, RealFolder, StdSink, StdSource};
 use small_types::Word;
@@ -17,25 +16,24 @@ use std::alloc::Global;
 use updater_cli::{Report, run};
 
 /// Does what the words ask for over a store in a file, the standard input and output, a folder and
-/// links, and answers the exit status. The program's links are one to that folder and one to the
-/// web; what holds is said of any links in boxes. The start says what the file held when it was
-/// opened. What holds where the file's answers are honest (`DiskIsHonest`) holds at each start,
-/// since no code can read one.
-pub(crate) fn run_over_file<S: Start>(
+/// any links, and answers the exit status. The start says what the file held when it was opened.
+/// What holds where the file's answers are honest (`DiskIsHonest`) holds at each start, since no
+/// code can read one.
+pub(crate) fn run_over_file<S: Start, L: Links>(
     alloc: Global,
     words: &[Word],
     source: &mut StdSource<HostRuntime>,
     sink: &mut StdSink<HostRuntime>,
     disk: &mut FileDisk<HostRuntime, S>,
     folder: &mut RealFolder<HostRuntime>,
-    links: &mut Mirrors,
+    links: &mut L,
     report: &mut Report,
 ) -> u8
     // A session: its lines, their run, what its links did, what a stop at any moment leaves, which
     // views its launches hand out and when, and what its reads show.
     ensures headline { (boot now : ℕ) → request_of words.now ≡ Some (asked.Session boot now)
         → Headline ⟦<StdSource<HostRuntime> as Source>⟧ ⟦<StdSink<HostRuntime> as Sink>⟧
-        ⟦<FileDisk<HostRuntime, S> as Disk>⟧ ⟦<Mirrors as Links>⟧ boot now result
+        ⟦<FileDisk<HostRuntime, S> as Disk>⟧ L.Links boot now result
         (devices_of source.old sink.old disk.old links.old)
         (devices_of source.new sink.new disk.new links.new) report.new }
 
