@@ -1,6 +1,6 @@
 // What each link was asked, and what came of it.
 use links::{LinkFault, Links, WantFault};
-use small_types::Target;
+use small_types::{Duplicate, Target, Text};
 use std::alloc::Global;
 
 /// A target that a link was asked for.
@@ -18,9 +18,9 @@ pub struct Note {
 #[derive(Drop)]
 pub struct Noted<L: Links> {
     pub links: L,
+    /// The paths of the targets.
+    pub paths: Vec<Text>,
     pub notes: Vec<Note>,
-    // How many targets there were.
-    targets: usize,
 }
 
 // Adds a piece to what was taken of the last answer.
@@ -35,8 +35,8 @@ impl<L: Links> Noted<L> {
     pub fn new(alloc: Global, links: L) -> Noted<L> {
         Noted {
             links,
+            paths: Vec::new(alloc),
             notes: Vec::new(alloc),
-            targets: 0,
         }
     }
 }
@@ -49,7 +49,7 @@ impl<L: Links> Links for Noted<L> {
     }
 
     fn want(&mut self, alloc: Global, target: &Target) -> Result<(), WantFault> {
-        self.targets = self.targets.saturating_add(1);
+        self.paths.push(target.path.copy(alloc)?)?;
         self.links.want(alloc, target)
     }
 
@@ -60,7 +60,7 @@ impl<L: Links> Links for Noted<L> {
         let answer = self.links.ask(alloc, place, target);
         self.notes.push_reserved(Note {
             place,
-            target: self.targets.saturating_sub(1),
+            target: self.paths.len().saturating_sub(1),
             answer,
             taken: 0,
         });

@@ -13,8 +13,6 @@ use std::alloc::{AllocError, Global};
 use std::io::{self, ErrorKind};
 use updater_cli::{Report, run};
 
-type Several = Noted<Mirrors>;
-
 fn none<T>(alloc: Global) -> List<T> {
     List::from_vec(Vec::new(alloc))
 }
@@ -40,12 +38,12 @@ fn tell(rt: &HostRuntime, status: u8, output: &[u8]) -> io::Result<()> {
 }
 
 // Runs the words over the devices with this input, and prints what they write.
-fn run_words(
+fn run_words<L: Links>(
     rt: &HostRuntime,
     words: &str,
     input: &str,
     disk: &mut MemDisk,
-    links: &mut Several,
+    links: &mut Noted<L>,
     report: &mut Report,
 ) -> io::Result<()> {
     let alloc = rt.alloc();
@@ -53,7 +51,8 @@ fn run_words(
     let input = Bytes::from_slice(alloc, input.as_bytes())?;
     let mut source = MemSource::new(alloc, input, none(alloc));
     let mut sink = MemSink::new(alloc, Bytes::from_vec(Vec::new(alloc)), none(alloc));
-    let mut folder = MemFolder::new(alloc, none(alloc), none(alloc));
+    let files = List::from_vec(Vec::new(alloc));
+    let mut folder = MemFolder::new(alloc, files, none(alloc));
     let status = run(
         alloc,
         &words,
@@ -84,20 +83,19 @@ fn print_note(rt: &HostRuntime, note: &Note, path: &str) -> io::Result<()> {
 }
 
 // Prints each time that a link was asked, and how many targets there were.
-fn print_notes(rt: &HostRuntime, links: &Several) -> io::Result<()> {
-    let asked = links.links.asked.as_slice();
+fn print_notes<L: Links>(rt: &HostRuntime, links: &Noted<L>) -> io::Result<()> {
     for note in links.notes.iter() {
-        let Some(target) = asked.get(note.target) else {
+        let Some(path) = links.paths.get(note.target) else {
             return Err(ErrorKind::NotFound.into());
         };
-        print_note(rt, note, target.path.as_str())?;
+        print_note(rt, note, path.as_str())?;
     }
-    let count = asked.len();
+    let count = links.paths.len();
     println!(rt; "  targets {count}")
 }
 
 // Prints how often each link failed.
-fn print_faults(rt: &HostRuntime, links: &Several) -> io::Result<()> {
+fn print_faults<L: Links>(rt: &HostRuntime, links: &Noted<L>) -> io::Result<()> {
     rt.print("  faults")?;
     for place in 0..links.sources() {
         let faults = links.faults(place);
@@ -117,11 +115,11 @@ fn print_failures(rt: &HostRuntime, report: &Report) -> io::Result<()> {
 }
 
 // Makes a store on the disk, runs the lines over it, and prints what the links did.
-fn run_lines(
+fn run_lines<L: Links>(
     rt: &HostRuntime,
     lines: &str,
     disk: &mut MemDisk,
-    links: &mut Several,
+    links: &mut Noted<L>,
     report: &mut Report,
 ) -> io::Result<()> {
     run_words(rt, "format --blocks 10", "", disk, links, report)?;
@@ -132,7 +130,7 @@ fn run_lines(
 }
 
 // The same over a new disk.
-fn run_anew(rt: &HostRuntime, lines: &str, links: &mut Several) -> io::Result<()> {
+fn run_anew<L: Links>(rt: &HostRuntime, lines: &str, links: &mut Noted<L>) -> io::Result<()> {
     let alloc = rt.alloc();
     let mut disk = MemDisk::new(alloc, Bytes::from_vec(Vec::new(alloc)), none(alloc));
     let mut report = Report {
