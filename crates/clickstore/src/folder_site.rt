@@ -5,8 +5,7 @@ use outside_real::RealFolder;
 use small_types::Target;
 use std::alloc::Global;
 
-// A link to a folder. It has no type parameter, since the prover takes none whose runtime allocates
-// into a box.
+// A link to a folder, as a type without parameters: a box of the link itself gets no proof yet.
 #[derive(Drop)]
 pub(crate) struct FolderSite {
     link: FolderLink<RealFolder<HostRuntime>>,
