@@ -1,9 +1,8 @@
 // A disk in a file.
-ghost use Rattle.std.specs.Prelude.{◌≡◌, ◌<◌, ◌≤◌, ◌+◌, ◌^◌, ◌↔◌, ◌++◌, ℕ, List, true, false, [], length, take, drop, min, is_ok, IfOk, IsErr, OnOk, OnErr, IsTrue};
-ghost use Rattle.outside.specs.Streams.{Causes};
+ghost use Rattle.std.specs.Prelude.{◌≡◌, ◌<◌, ◌≤◌, ◌+◌, ◌^◌, ◌++◌, ℕ, List, false, [], length, take, drop, is_ok, IfOk, OnOk};
 ghost use Rattle.small_types.specs.Bytes.{put};
 ghost use Rattle.disks.specs.Answers.{seen_after, IsHonest, LeftAfter};
-ghost use Rattle.disks.specs.Disk.{Torn, CutOff, Follows, Elapses, IsStill, Only, Ticks, Gives};
+ghost use Rattle.disks.specs.Disk.{Torn, CutOff, Follows, Only, Gives};
 ghost use Rattle.disks.specs.declared.call.Move.TheVariants.{Write, Cut, Sync};
 ghost use Rattle.outside_real.specs.Notes.{told_length, told_read};
 
@@ -74,7 +73,7 @@ impl<R: Files<File = File> + Drop, S: Start> FileDisk<R, S> {
 
 // Each method makes a call of the file and then notes it with its answer.
 impl<R: Files<File = File> + Drop, S: Start> Disk for FileDisk<R, S> {
-    ghost use Rattle.outside_real.specs.FileDisk.{disk_calls, disk_written, disk_faults, disk_answers, is_lost, DiskIsHonest, Notes, disk_seen, disk_left};
+    ghost use Rattle.outside_real.specs.FileDisk.{disk_calls, disk_answers, DiskIsHonest, MayChange, Notes, OnlyReads, disk_seen, disk_left};
     ghost use Rattle.disks.proofs.Replaying.{seen_is_left};
 
     ghost tells = { λ d. IsHonest S.Start.first d.told.answers.noted };
@@ -95,17 +94,7 @@ impl<R: Files<File = File> + Drop, S: Start> Disk for FileDisk<R, S> {
         ensures noted { disk_answers self.new ≡ disk_answers self.old ++ told_length result }
         ensures bytes { DiskIsHonest S.Start self.new
             → IfOk result (λ n. n ≡ length (disk_seen S.Start self.old)) }
-        ensures still { IsStill (disk_calls self.old) (disk_calls self.new)
-            (disk_written self.old) (disk_written self.new) }
-        ensures seen { disk_seen S.Start self.new ≡ disk_seen S.Start self.old }
-        ensures time { Elapses (disk_calls self.old) (disk_left S.Start self.old)
-            (disk_left S.Start self.new) }
-        ensures told { DiskIsHonest S.Start self.new → DiskIsHonest S.Start self.old }
-        ensures cause { Causes (disk_faults self.old) (disk_faults self.new) result }
-        ensures raised { OnErr result (disk_faults self.new
-            ≡ min (disk_faults self.old + 1) 0xffff_ffff_ffff_ffff) }
-        ensures lost { is_lost self.new ≡ is_lost self.old }
-        ensures stays { is_lost self.old ≡ true → IsErr result }
+        ensures reads { OnlyReads S.Start self.old self.new result }
     {
         let answer = self.file.length();
         self.told.length(answer);
@@ -119,17 +108,7 @@ impl<R: Files<File = File> + Drop, S: Start> Disk for FileDisk<R, S> {
         ensures rest { IfOk result (λ n. drop n buf.new ≡ drop n buf.old) }
         ensures bytes { DiskIsHonest S.Start self.new
             → IfOk result (λ n. Gives (disk_seen S.Start self.old) place buf.old buf.new n) }
-        ensures still { IsStill (disk_calls self.old) (disk_calls self.new)
-            (disk_written self.old) (disk_written self.new) }
-        ensures seen { disk_seen S.Start self.new ≡ disk_seen S.Start self.old }
-        ensures time { Elapses (disk_calls self.old) (disk_left S.Start self.old)
-            (disk_left S.Start self.new) }
-        ensures told { DiskIsHonest S.Start self.new → DiskIsHonest S.Start self.old }
-        ensures cause { Causes (disk_faults self.old) (disk_faults self.new) result }
-        ensures raised { OnErr result (disk_faults self.new
-            ≡ min (disk_faults self.old + 1) 0xffff_ffff_ffff_ffff) }
-        ensures lost { is_lost self.new ≡ is_lost self.old }
-        ensures stays { is_lost self.old ≡ true → IsErr result }
+        ensures reads { OnlyReads S.Start self.old self.new result }
     {
         let answer = self.file.read(place, buf);
         self.told.read(place, buf, answer);
@@ -146,18 +125,7 @@ impl<R: Files<File = File> + Drop, S: Start> Disk for FileDisk<R, S> {
         ensures stop { Follows (Torn place (length bytes.now))
             (disk_left S.Start self.old (disk_calls self.old))
             (disk_left S.Start self.new (disk_calls self.new)) }
-        ensures none { disk_calls self.new ≡ disk_calls self.old
-            → disk_seen S.Start self.new ≡ disk_seen S.Start self.old }
-        ensures tick { Ticks (disk_calls self.old) (disk_calls self.new)
-            (disk_written self.old) (disk_written self.new) (length bytes.now) result }
-        ensures time { Elapses (disk_calls self.old) (disk_left S.Start self.old)
-            (disk_left S.Start self.new) }
-        ensures told { DiskIsHonest S.Start self.new → DiskIsHonest S.Start self.old }
-        ensures cause { Causes (disk_faults self.old) (disk_faults self.new) result }
-        ensures raised { OnErr result (disk_faults self.new
-            ≡ min (disk_faults self.old + 1) 0xffff_ffff_ffff_ffff) }
-        ensures lost { IsErr result ↔ IsTrue (is_lost self.new) }
-        ensures stays { is_lost self.old ≡ true → IsErr result }
+        ensures changes { MayChange (length bytes.now) S.Start self.old self.new result }
     {
         if !self.told.count(bytes.len() as u64) {
             let done = self.file.refuse();
@@ -176,18 +144,7 @@ impl<R: Files<File = File> + Drop, S: Start> Disk for FileDisk<R, S> {
         ensures stop { Follows (CutOff size)
             (disk_left S.Start self.old (disk_calls self.old))
             (disk_left S.Start self.new (disk_calls self.new)) }
-        ensures none { disk_calls self.new ≡ disk_calls self.old
-            → disk_seen S.Start self.new ≡ disk_seen S.Start self.old }
-        ensures tick { Ticks (disk_calls self.old) (disk_calls self.new)
-            (disk_written self.old) (disk_written self.new) 0 result }
-        ensures time { Elapses (disk_calls self.old) (disk_left S.Start self.old)
-            (disk_left S.Start self.new) }
-        ensures told { DiskIsHonest S.Start self.new → DiskIsHonest S.Start self.old }
-        ensures cause { Causes (disk_faults self.old) (disk_faults self.new) result }
-        ensures raised { OnErr result (disk_faults self.new
-            ≡ min (disk_faults self.old + 1) 0xffff_ffff_ffff_ffff) }
-        ensures lost { IsErr result ↔ IsTrue (is_lost self.new) }
-        ensures stays { is_lost self.old ≡ true → IsErr result }
+        ensures changes { MayChange 0 S.Start self.old self.new result }
     {
         if !self.told.count(0) {
             let done = self.file.refuse();
@@ -205,18 +162,7 @@ impl<R: Files<File = File> + Drop, S: Start> Disk for FileDisk<R, S> {
         ensures seen { disk_seen S.Start self.new ≡ disk_seen S.Start self.old }
         ensures stop { (c : List ℕ) → disk_left S.Start self.new (disk_calls self.new) c
             → disk_left S.Start self.old (disk_calls self.old) c }
-        ensures none { disk_calls self.new ≡ disk_calls self.old
-            → disk_seen S.Start self.new ≡ disk_seen S.Start self.old }
-        ensures tick { Ticks (disk_calls self.old) (disk_calls self.new)
-            (disk_written self.old) (disk_written self.new) 0 result }
-        ensures time { Elapses (disk_calls self.old) (disk_left S.Start self.old)
-            (disk_left S.Start self.new) }
-        ensures told { DiskIsHonest S.Start self.new → DiskIsHonest S.Start self.old }
-        ensures cause { Causes (disk_faults self.old) (disk_faults self.new) result }
-        ensures raised { OnErr result (disk_faults self.new
-            ≡ min (disk_faults self.old + 1) 0xffff_ffff_ffff_ffff) }
-        ensures lost { IsErr result ↔ IsTrue (is_lost self.new) }
-        ensures stays { is_lost self.old ≡ true → IsErr result }
+        ensures changes { MayChange 0 S.Start self.old self.new result }
     {
         if !self.told.count(0) {
             let done = self.file.refuse();

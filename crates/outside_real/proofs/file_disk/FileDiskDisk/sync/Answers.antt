@@ -1,5 +1,6 @@
-use Rattle.std.proofs.Common.{inl}
+use Rattle.std.proofs.Common.{inl, rules}
 use Rattle.disks.specs.declared.call.Move.TheVariants.{Sync}
+use Rattle.outside_real.proofs.Calling.{called}
 use Rattle.outside_real.proofs.Telling.{where_ok, noted_last, sync_told}
 use Rattle.outside_real.proofs.file_disk.FileDiskDisk.sync.Goals as goal
 
@@ -19,15 +20,16 @@ returns-clause-stop g c =
     (sync_told g.S.Start.first g.S.Start.left c.args.self.now.told.answers.noted c.count.new.self.answers.noted c.sync.new.self.answers.noted c.args.self.now.told.calls c.count.new.self.calls c.sync.new.self.calls
     c.is_ok.result g.S.Start.first_left c.count.ensures.answers (c.count.ensures.counted c.if-not-count.false).0 c.sync.ensures.noted c.sync.ensures.calls c.args.self.now.told.numbered).stop
 
-pub returns-clause-time : goal.returns-clause-time
-returns-clause-time g c =
-    (sync_told g.S.Start.first g.S.Start.left c.args.self.now.told.answers.noted c.count.new.self.answers.noted c.sync.new.self.answers.noted c.args.self.now.told.calls c.count.new.self.calls c.sync.new.self.calls
-    c.is_ok.result g.S.Start.first_left c.count.ensures.answers (c.count.ensures.counted c.if-not-count.false).0 c.sync.ensures.noted c.sync.ensures.calls c.args.self.now.told.numbered).passes.time
-
-pub returns-clause-told : goal.returns-clause-told
-returns-clause-told g c =
-    (sync_told g.S.Start.first g.S.Start.left c.args.self.now.told.answers.noted c.count.new.self.answers.noted c.sync.new.self.answers.noted c.args.self.now.told.calls c.count.new.self.calls c.sync.new.self.calls
-    c.is_ok.result g.S.Start.first_left c.count.ensures.answers (c.count.ensures.counted c.if-not-count.false).0 c.sync.ensures.noted c.sync.ensures.calls c.args.self.now.told.numbered).passes.told
+pub returns-clause-changes : goal.returns-clause-changes
+returns-clause-changes g c =
+    let is = sync_told g.S.Start.first g.S.Start.left c.args.self.now.told.answers.noted c.count.new.self.answers.noted c.sync.new.self.answers.noted c.args.self.now.told.calls c.count.new.self.calls c.sync.new.self.calls
+    c.is_ok.result g.S.Start.first_left c.count.ensures.answers (c.count.ensures.counted c.if-not-count.false).0 c.sync.ensures.noted c.sync.ensures.calls c.args.self.now.told.numbered in
+    record {
+      call = called g.S.Start is.passes c.counted-2.ensures.cause c.counted-2.ensures.raised (search rules);
+      none = search rules;
+      tick = search rules;
+      lost = search rules;
+    }
 
 pub returns-clause-noted : goal.returns-clause-noted
 returns-clause-noted g c =
