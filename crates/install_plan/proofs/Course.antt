@@ -13,7 +13,8 @@ use Rattle.manifests.specs.Applications.{application_of}
 use Rattle.manifests.specs.Deployments.{deployment_of}
 use Rattle.machine.specs.declared.reply.Reply.{Reply}
 use Rattle.machine.specs.declared.reply.Reply.TheVariants as says
-use Rattle.machine.specs.Fields.{IsApplication, IsDeployment}
+use Rattle.machine.specs.Fields.{IsApplication}
+use Rattle.machine.specs.InstallRow.{base_of}
 use Rattle.machine.specs.Installed.{IsProvidedBy}
 use Rattle.machine.specs.Rows.{PassesAll}
 use Rattle.machine.specs.Shape.{Shape}
@@ -30,61 +31,54 @@ use Rattle.install_plan.specs.Judging.{Refused, address_checks, deployment_check
 use Rattle.install_plan.specs.Plans.{IsPlanned, IsRefused}
 use Rattle.install_plan.specs.Stages.{HearsOne, StopsOne}
 use Rattle.install_plan.proofs.Ends.{address_end, application_end, deployment_end, judged_end, memory_end, plan_end, release_end}
+use Rattle.install_plan.proofs.Told.{base_is}
 
 oks : (ws : List WantedFile) → ◌≡◌ {A = List (Result Target UrlFault)} (map Ok (map (λ file. file.target) ws)) (map (λ file. Ok file.target) ws)
 oks [] = refl
 oks (w ∷ ws) = ap (λ (rs : List (Result Target UrlFault)). Ok w.target ∷ rs) (oks ws)
 
--- what was heard may be held
-pub deployment_held : (Fits : List ℕ → Type 0) (target : Target) (a b : LinksState) (old new : List (List ℕ)) (d : Deployment) → HearsOne deployment_of Fits target a b old new d → IsDeployment d
-deployment_held Fits target a b old new d hears = deployment_read hears.text d hears.tells
+-- the size that was heard can be hashed
+pub size_below : {Fits : List ℕ → Type 0} {target : Target} {a b : LinksState} {old new : List (List ℕ)} {d : Deployment} → HearsOne deployment_of Fits target a b old new d → d.app_size < 2 ^ 61
+size_below {d = d} hears = let is = deployment_read hears.text d hears.tells in let most = is.facts.app_size in omega arith
 
--- so its size can be hashed
-pub size_below : (d : Deployment) → IsDeployment d → d.app_size < 2 ^ 61
-size_below d is = let most = is.facts.app_size in omega arith
+-- one text more stands at the end
+grown : (text : List ℕ) {front old new : List (List ℕ)} → new ≡ old ++ text ∷ [] → old ≡ front → new ≡ front ++ text ∷ []
+grown text noted same = noted ∙ ap (λ (ts : List (List ℕ)). ts ++ text ∷ []) same
 
-pub application_held : (Fits : List ℕ → Type 0) (target : Target) (a b : LinksState) (old new : List (List ℕ)) (app : Application) → HearsOne application_of Fits target a b old new app → IsApplication app
-application_held Fits target a b old new app hears = application_read hears.text app hears.tells
+module _ {shape : Shape} {url : List ℕ} {a : LinksState} {none : List (List ℕ)} (empty : none ≡ []) where
+  pub at_address : {reply : Reply} → Refused (address_checks (target_of_text url)) reply → IsRefused shape url none a a reply
+  at_address {reply = reply} refused = subst (λ (ts : List (List ℕ)). IsRefused shape url ts a a reply) (sym empty) (address_end shape url a reply refused)
 
-module _ (shape : Shape) (url : List ℕ) (a : LinksState) (none : List (List ℕ)) (empty : none ≡ []) where
-  pub at_address : (reply : Reply) → Refused (address_checks (target_of_text url)) reply → IsRefused shape url none a a reply
-  at_address reply refused = subst (λ (ts : List (List ℕ)). IsRefused shape url ts a a reply) (sym empty) (address_end shape url a reply refused)
-
-  module _ (target : Target) (read : target_of_text url ≡ Ok target) (b : LinksState) (one : Kept a b) (first : List (List ℕ)) where
-    pub at_deployment : (reply : Reply) → StopsOne deployment_of (IsTextCause MANIFEST_LIMIT target) (FitsText MANIFEST_LIMIT) target a b none first reply → IsRefused shape url first a b reply
-    at_deployment reply stops = deployment_end shape url target read a b one first reply
+  module _ {target : Target} (read : target_of_text url ≡ Ok target) {b : LinksState} (one : Kept a b) {first : List (List ℕ)} where
+    pub at_deployment : {reply : Reply} → StopsOne deployment_of (IsTextCause MANIFEST_LIMIT target) (FitsText MANIFEST_LIMIT) target a b none first reply → IsRefused shape url first a b reply
+    at_deployment {reply = reply} stops = deployment_end shape url target read a b one first reply
         (subst (λ (ts : List (List ℕ)). StopsOne deployment_of (IsTextCause MANIFEST_LIMIT target) (FitsText MANIFEST_LIMIT) target a b ts first reply) empty stops)
 
-    module _ (d : Deployment) (hears : HearsOne deployment_of (FitsText MANIFEST_LIMIT) target a b none first d) where
-      noted : first ≡ hears.text ∷ []
-      noted = hears.noted ∙ ap (λ (ts : List (List ℕ)). ts ++ hears.text ∷ []) empty
-
-      pub at_judgement : (reply : Reply) → Refused (deployment_checks shape d (app_target_of target d.codebase)) reply → IsRefused shape url first a b reply
-      at_judgement reply refused = subst (λ (ts : List (List ℕ)). IsRefused shape url ts a b reply) (sym noted)
+    module _ {d : Deployment} (hears : HearsOne deployment_of (FitsText MANIFEST_LIMIT) target a b none first d) where
+      pub at_judgement : {reply : Reply} → Refused (deployment_checks shape d (app_target_of target d.codebase)) reply → IsRefused shape url first a b reply
+      at_judgement {reply = reply} refused = subst (λ (ts : List (List ℕ)). IsRefused shape url ts a b reply) (sym (grown hears.text hears.noted empty))
           (judged_end shape url target read a b one hears.text d hears.got hears.tells reply refused)
 
-      module _ (base : Target) (joined : app_target_of target d.codebase ≡ Ok base) (passed : PassesAll (deployment_checks shape d (app_target_of target d.codebase)))
-          (c : LinksState) (two : Kept b c) (both : List (List ℕ)) where
-        pub at_application : (reply : Reply) → StopsOne application_of (IsFileCause d.app_list d.app_size base) (Matches d.app_list d.app_size) base b c first both reply → IsRefused shape url both a c reply
-        at_application reply stops = application_end shape url target read a b one hears.text d hears.got hears.tells base joined passed c two both reply
-            (subst (λ (ts : List (List ℕ)). StopsOne application_of (IsFileCause d.app_list d.app_size base) (Matches d.app_list d.app_size) base b c ts both reply) noted stops)
+      module _ {base : Target} (joined : app_target_of target d.codebase ≡ Ok base) (passed : PassesAll (deployment_checks shape d (app_target_of target d.codebase)))
+          {c : LinksState} (two : Kept b c) {both : List (List ℕ)} where
+        pub at_application : {reply : Reply} → StopsOne application_of (IsFileCause d.app_list d.app_size base) (Matches d.app_list d.app_size) base b c first both reply → IsRefused shape url both a c reply
+        at_application {reply = reply} stops = application_end shape url target read a b one hears.text d hears.got hears.tells base joined passed c two both reply
+            (subst (λ (ts : List (List ℕ)). StopsOne application_of (IsFileCause d.app_list d.app_size base) (Matches d.app_list d.app_size) base b c ts both reply) (grown hears.text hears.noted empty) stops)
 
-        module _ (app : Application) (second : HearsOne application_of (Matches d.app_list d.app_size) base b c first both app) where
-          noted_both : both ≡ hears.text ∷ second.text ∷ []
-          noted_both = second.noted ∙ ap (λ (ts : List (List ℕ)). ts ++ second.text ∷ []) noted
+        module _ {app : Application} (second : HearsOne application_of (Matches d.app_list d.app_size) base b c first both app) where
+          pub at_release : {reply : Reply} → (base_of url d ≡ Ok base → IsApplication app → Refused (release_checks url shape d app) reply) → IsRefused shape url both a c reply
+          at_release {reply = reply} refused = subst (λ (ts : List (List ℕ)). IsRefused shape url ts a c reply) (sym (grown second.text second.noted (grown hears.text hears.noted empty)))
+              (release_end shape url target read a b one hears.text d hears.got hears.tells base joined passed c two second.text second.got app second.tells reply (refused (base_is url d target (Ok base) read joined) (application_read second.text app second.tells)))
 
-          pub at_release : (reply : Reply) → Refused (release_checks url shape d app) reply → IsRefused shape url both a c reply
-          at_release reply refused = subst (λ (ts : List (List ℕ)). IsRefused shape url ts a c reply) (sym noted_both)
-              (release_end shape url target read a b one hears.text d hears.got hears.tells base joined passed c two second.text second.got app second.tells reply refused)
-
-          pub at_provider : (reply : Reply) → reply ≡ says.Memory → IsRefused shape url both a c reply
-          at_provider reply memory = subst (λ (ts : List (List ℕ)). IsRefused shape url ts a c reply) (sym noted_both)
+          pub at_provider : {reply : Reply} → reply ≡ says.Memory → IsRefused shape url both a c reply
+          at_provider {reply = reply} memory = subst (λ (ts : List (List ℕ)). IsRefused shape url ts a c reply) (sym (grown second.text second.noted (grown hears.text hears.noted empty)))
               (memory_end shape url target read a b one hears.text d hears.got hears.tells base joined passed c two second.text second.got reply memory)
 
-          pub at_plan : (plan : Plan) → plan.deployment ≡ d → plan.application ≡ app → plan.url ≡ target → plan.base ≡ base
-              → IsProvidedBy target d.provider plan.provider → map (λ file. slice_get app.files file.place) plan.wanted ≡ map Some (wanted shape.views app)
-              → map (λ entry. file_target_of base d.mapped entry.name) (wanted shape.views app) ≡ map (λ file. Ok file.target) plan.wanted
-              → PassesAll (release_checks url shape d app) → IsPlanned shape url both a c plan
-          at_plan plan same_d same_a same_url same_base provided places targets last =
-              subst (λ (ts : List (List ℕ)). IsPlanned shape url ts a c plan) (sym noted_both)
-              (plan_end shape url target read a b one hears.text d hears.got hears.tells base joined passed c two second.text second.got app second.tells plan same_d same_a same_url same_base provided places (targets ∙ sym (oks plan.wanted)) last)
+          pub at_plan : {provider : Target} {files : List WantedFile} → IsProvidedBy target d.provider provider
+              → map (λ file. slice_get app.files file.place) files ≡ map Some (wanted shape.views app)
+              → map (λ entry. file_target_of base d.mapped entry.name) (wanted shape.views app) ≡ map (λ file. Ok file.target) files
+              → (base_of url d ≡ Ok base → IsApplication app → PassesAll (release_checks url shape d app)) → IsPlanned shape url both a c (record { deployment = d; application = app; url = target; base = base; provider = provider; wanted = files })
+          at_plan {provider = provider} {files = files} provided places targets last =
+              let plan : Plan = record { deployment = d; application = app; url = target; base = base; provider = provider; wanted = files } in
+              subst (λ (ts : List (List ℕ)). IsPlanned shape url ts a c plan) (sym (grown second.text second.noted (grown hears.text hears.noted empty)))
+              (plan_end shape url target read a b one hears.text d hears.got hears.tells base joined passed c two second.text second.got app second.tells plan refl refl refl refl provided places (targets ∙ sym (oks files)) (last (base_is url d target (Ok base) read joined) (application_read second.text app second.tells)))
