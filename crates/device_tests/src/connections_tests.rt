@@ -1,9 +1,34 @@
 // What no clause says of the connections in memory: that calls succeed, and worked values.
+use crate::made::{numbers, same};
 use connections::{Door, MemDoor, MemWire, Wire};
 use outside::Failed;
 use small_types::{Bytes, List, Text};
 use std::alloc::{AllocError, Global};
+use std::process::Abort;
 use std::test::Fail;
+
+// A call of a client's or of a host's connections.
+#[derive(Drop)]
+enum Call {
+    // A new connection: made by a client, accepted by a host.
+    Begin,
+    Send([u8; 2]),
+    // Into a buffer of four bytes.
+    Receive,
+}
+
+// What happens on connections from which those texts come, where the call of that number fails. A call answers
+// how many bytes it took or gave; what was sent has a bar behind each connection.
+#[derive(Drop)]
+struct Case {
+    coming: &'static [&'static [u8]],
+    failing: u64,
+    calls: &'static [Call],
+    answers: &'static [Result<usize, Failed>],
+    sent: &'static [u8],
+    missed: u64,
+    faults: u64,
+}
 
 fn texts(alloc: Global, from: &[&[u8]]) -> Result<List<Bytes>, AllocError> {
     let mut made = Vec::new(alloc);
@@ -13,201 +38,269 @@ fn texts(alloc: Global, from: &[&[u8]]) -> Result<List<Bytes>, AllocError> {
     Ok(List::from_vec(made))
 }
 
-// The texts, each with a bar behind it.
-fn joined(alloc: Global, from: &List<Bytes>) -> Result<Vec<u8>, AllocError> {
+// Whether the texts, each with a bar behind it, are those bytes.
+fn are_joined(alloc: Global, from: &List<Bytes>, want: &[u8]) -> Result<bool, AllocError> {
     let mut made = Vec::new(alloc);
     for text in from.as_slice() {
         made.extend_from_slice(text.as_slice())?;
         made.push(b'|')?;
     }
-    Ok(made)
+    Ok(same(&made, want))
 }
 
-fn connect<W: Wire>(wire: &mut W, host: &Text) -> Result<usize, Failed> {
-    wire.connect(host, 80)?;
-    Ok(0)
-}
-
-fn receive<W: Wire>(wire: &mut W) -> Result<usize, Failed> {
-    let mut buf = *b"....";
-    wire.receive(&mut buf)
-}
-
-fn send<W: Wire>(wire: &mut W, text: &[u8; 2]) -> Result<usize, Failed> {
-    wire.send(text)
-}
-
-// What six calls over two answers give, with one call failing, and what is sent by then.
-fn wire_calls(
-    alloc: Global,
-    failing: u64,
-) -> Result<([Result<usize, Failed>; 6], Vec<u8>, u64), AllocError> {
-    let host = Text::from_string(String::from_str(alloc, "host")?);
-    let answers = texts(alloc, &[b"abcdef".as_slice(), b"xyz".as_slice()])?;
-    let mut wire = MemWire::new(alloc, answers, List::from_vec([failing].to_vec(alloc)?));
-    let results = [
-        connect(&mut wire, &host),
-        send(&mut wire, b"12"),
-        receive(&mut wire),
-        connect(&mut wire, &host),
-        send(&mut wire, b"34"),
-        receive(&mut wire),
-    ];
-    Ok((results, joined(alloc, wire.sent())?, wire.faults()))
-}
-
-#[test]
-fn wire_works_and_fails_by_number(rt: HostRuntime) -> Result<(), Fail> {
-    let e = Err(Failed);
-    let table = [
-        (
-            [Ok(0), Ok(2), Ok(4), Ok(0), Ok(2), Ok(3)],
-            b"12|34|".as_slice(),
-            0,
-        ),
-        ([e, e, e, Ok(0), Ok(2), Ok(4)], b"34|".as_slice(), 3),
-        (
-            [Ok(0), e, Ok(4), Ok(0), Ok(2), Ok(3)],
-            b"|34|".as_slice(),
-            1,
-        ),
-        (
-            [Ok(0), Ok(2), e, Ok(0), Ok(2), Ok(3)],
-            b"12|34|".as_slice(),
-            1,
-        ),
-        ([Ok(0), Ok(2), Ok(4), e, e, e], b"12|".as_slice(), 3),
-        (
-            [Ok(0), Ok(2), Ok(4), Ok(0), e, Ok(3)],
-            b"12||".as_slice(),
-            1,
-        ),
-        (
-            [Ok(0), Ok(2), Ok(4), Ok(0), Ok(2), e],
-            b"12|34|".as_slice(),
-            1,
-        ),
-    ];
-    let mut failing = 0;
-    for (results, sent, faults) in table {
-        let made = wire_calls(rt.alloc(), failing)?;
-        assert_eq!(rt; made.0, results);
-        assert_eq!(rt; made.1.as_slice(), sent);
-        assert_eq!(rt; made.2, faults);
-        failing = failing.saturating_add(1);
+// Whether the answer of that number is this one.
+fn is_answer(answers: &[Result<usize, Failed>], number: usize, got: Result<usize, Failed>) -> bool {
+    match answers.get(number) {
+        Some(want) => got == *want,
+        None => false,
     }
-    Ok(())
 }
 
-fn accept<D: Door>(door: &mut D) -> Result<usize, Failed> {
-    door.accept()?;
-    Ok(0)
-}
-
-fn receive_there<D: Door>(door: &mut D) -> Result<usize, Failed> {
-    let mut buf = *b"....";
-    door.receive(&mut buf)
-}
-
-fn send_there<D: Door>(door: &mut D, text: &[u8; 2]) -> Result<usize, Failed> {
-    door.send(text)
-}
-
-// What six calls over two requests give, with one call failing, and what is sent by then.
-fn door_calls(
-    alloc: Global,
-    failing: u64,
-) -> Result<([Result<usize, Failed>; 6], Vec<u8>, u64, u64), AllocError> {
-    let requests = texts(alloc, &[b"abcdef".as_slice(), b"xyz".as_slice()])?;
-    let mut door = MemDoor::new(alloc, requests, List::from_vec([failing].to_vec(alloc)?));
-    let results = [
-        accept(&mut door),
-        send_there(&mut door, b"12"),
-        receive_there(&mut door),
-        accept(&mut door),
-        send_there(&mut door, b"34"),
-        receive_there(&mut door),
-    ];
-    Ok((
-        results,
-        joined(alloc, door.sent())?,
-        door.missed(),
-        door.faults(),
-    ))
-}
-
-#[test]
-fn door_works_and_fails_by_number(rt: HostRuntime) -> Result<(), Fail> {
-    let e = Err(Failed);
-    let table = [
-        (
-            [Ok(0), Ok(2), Ok(4), Ok(0), Ok(2), Ok(3)],
-            b"12|34|".as_slice(),
-            0,
-            0,
-        ),
-        ([e, e, e, Ok(0), Ok(2), Ok(4)], b"34|".as_slice(), 1, 2),
-        (
-            [Ok(0), e, Ok(4), Ok(0), Ok(2), Ok(3)],
-            b"|34|".as_slice(),
-            0,
-            1,
-        ),
-        (
-            [Ok(0), Ok(2), e, Ok(0), Ok(2), Ok(3)],
-            b"12|34|".as_slice(),
-            0,
-            1,
-        ),
-        (
-            [Ok(0), Ok(2), Ok(4), e, Ok(2), Ok(2)],
-            b"1234|".as_slice(),
-            1,
-            0,
-        ),
-        (
-            [Ok(0), Ok(2), Ok(4), Ok(0), e, Ok(3)],
-            b"12||".as_slice(),
-            0,
-            1,
-        ),
-        (
-            [Ok(0), Ok(2), Ok(4), Ok(0), Ok(2), e],
-            b"12|34|".as_slice(),
-            0,
-            1,
-        ),
-    ];
-    let mut failing = 0;
-    for (results, sent, missed, faults) in table {
-        let made = door_calls(rt.alloc(), failing)?;
-        assert_eq!(rt; made.0, results);
-        assert_eq!(rt; made.1.as_slice(), sent);
-        assert_eq!(rt; made.2, missed);
-        assert_eq!(rt; made.3, faults);
-        failing = failing.saturating_add(1);
+fn call_wire<W: Wire>(wire: &mut W, host: &Text, call: &Call) -> Result<usize, Failed> {
+    match call {
+        Call::Begin => match wire.connect(host, 80) {
+            Ok(()) => Ok(0),
+            Err(fault) => Err(fault),
+        },
+        Call::Send(text) => wire.send(text),
+        Call::Receive => wire.receive(&mut [b'.'; 4]),
     }
-    Ok(())
 }
 
-#[test]
-fn connections_end(rt: HostRuntime) -> Result<(), Fail> {
+fn assert_wire(rt: &(impl Abort + AllocGlobal), case: &Case) -> Result<(), AllocError> {
     let alloc = rt.alloc();
     let host = Text::from_string(String::from_str(alloc, "host")?);
-    let none = List::from_vec(Vec::new(alloc));
-    let mut wire = MemWire::new(alloc, texts(alloc, &[b"abcd".as_slice()])?, none);
-    assert_eq!(rt; connect(&mut wire, &host), Ok(0));
-    assert_eq!(rt; receive(&mut wire), Ok(4));
-    assert_eq!(rt; receive(&mut wire), Ok(0));
-    assert_eq!(rt; connect(&mut wire, &host), Err(Failed));
-    assert_eq!(rt; receive(&mut wire), Err(Failed));
-    assert_eq!(rt; wire.faults(), 2);
-    let none = List::from_vec(Vec::new(alloc));
-    let mut door = MemDoor::new(alloc, texts(alloc, &[b"abcd".as_slice()])?, none);
-    assert_eq!(rt; accept(&mut door), Ok(0));
-    assert_eq!(rt; receive_there(&mut door), Ok(4));
-    assert_eq!(rt; receive_there(&mut door), Ok(0));
-    assert_eq!(rt; accept(&mut door), Err(Failed));
-    assert_eq!(rt; (door.missed(), door.faults()), (1, 0));
+    let failing = numbers(alloc, &[case.failing])?;
+    let mut wire = MemWire::new(alloc, texts(alloc, case.coming)?, failing);
+    for (number, call) in case.calls.iter().enumerate() {
+        let got = call_wire(&mut wire, &host, call);
+        assert!(rt;
+            is_answer(case.answers, number, got),
+            "{}: call {number}",
+            case.failing
+        );
+    }
+    assert!(rt;
+        are_joined(alloc, wire.sent(), case.sent)?,
+        "{}: sent",
+        case.failing
+    );
+    assert!(rt; wire.faults() == case.faults, "{}: faults", case.failing);
+    Ok(())
+}
+
+fn call_door<D: Door>(door: &mut D, call: &Call) -> Result<usize, Failed> {
+    match call {
+        Call::Begin => match door.accept() {
+            Ok(()) => Ok(0),
+            Err(fault) => Err(fault),
+        },
+        Call::Send(text) => door.send(text),
+        Call::Receive => door.receive(&mut [b'.'; 4]),
+    }
+}
+
+fn assert_door(rt: &(impl Abort + AllocGlobal), case: &Case) -> Result<(), AllocError> {
+    let alloc = rt.alloc();
+    let failing = numbers(alloc, &[case.failing])?;
+    let mut door = MemDoor::new(alloc, texts(alloc, case.coming)?, failing);
+    for (number, call) in case.calls.iter().enumerate() {
+        let got = call_door(&mut door, call);
+        assert!(rt;
+            is_answer(case.answers, number, got),
+            "{}: call {number}",
+            case.failing
+        );
+    }
+    assert!(rt;
+        are_joined(alloc, door.sent(), case.sent)?,
+        "{}: sent",
+        case.failing
+    );
+    assert!(rt; door.missed() == case.missed, "{}: missed", case.failing);
+    assert!(rt; door.faults() == case.faults, "{}: faults", case.failing);
+    Ok(())
+}
+
+const TWO: &[&[u8]] = &[b"abcdef", b"xyz"];
+
+const SIX: &[Call] = &[
+    Call::Begin,
+    Call::Send(*b"12"),
+    Call::Receive,
+    Call::Begin,
+    Call::Send(*b"34"),
+    Call::Receive,
+];
+
+// One connection, for calls past its end.
+const ONE: &[&[u8]] = &[b"abcd"];
+
+const E: Result<usize, Failed> = Err(Failed);
+
+const WIRES: &[Case] = &[
+    Case {
+        coming: TWO,
+        failing: 0,
+        calls: SIX,
+        answers: &[Ok(0), Ok(2), Ok(4), Ok(0), Ok(2), Ok(3)],
+        sent: b"12|34|",
+        missed: 0,
+        faults: 0,
+    },
+    Case {
+        coming: TWO,
+        failing: 1,
+        calls: SIX,
+        answers: &[E, E, E, Ok(0), Ok(2), Ok(4)],
+        sent: b"34|",
+        missed: 0,
+        faults: 3,
+    },
+    Case {
+        coming: TWO,
+        failing: 2,
+        calls: SIX,
+        answers: &[Ok(0), E, Ok(4), Ok(0), Ok(2), Ok(3)],
+        sent: b"|34|",
+        missed: 0,
+        faults: 1,
+    },
+    Case {
+        coming: TWO,
+        failing: 3,
+        calls: SIX,
+        answers: &[Ok(0), Ok(2), E, Ok(0), Ok(2), Ok(3)],
+        sent: b"12|34|",
+        missed: 0,
+        faults: 1,
+    },
+    Case {
+        coming: TWO,
+        failing: 4,
+        calls: SIX,
+        answers: &[Ok(0), Ok(2), Ok(4), E, E, E],
+        sent: b"12|",
+        missed: 0,
+        faults: 3,
+    },
+    Case {
+        coming: TWO,
+        failing: 5,
+        calls: SIX,
+        answers: &[Ok(0), Ok(2), Ok(4), Ok(0), E, Ok(3)],
+        sent: b"12||",
+        missed: 0,
+        faults: 1,
+    },
+    Case {
+        coming: TWO,
+        failing: 6,
+        calls: SIX,
+        answers: &[Ok(0), Ok(2), Ok(4), Ok(0), Ok(2), E],
+        sent: b"12|34|",
+        missed: 0,
+        faults: 1,
+    },
+    Case {
+        coming: ONE,
+        failing: 0,
+        calls: &[
+            Call::Begin,
+            Call::Receive,
+            Call::Receive,
+            Call::Begin,
+            Call::Receive,
+        ],
+        answers: &[Ok(0), Ok(4), Ok(0), E, E],
+        sent: b"|",
+        missed: 0,
+        faults: 2,
+    },
+];
+
+const DOORS: &[Case] = &[
+    Case {
+        coming: TWO,
+        failing: 0,
+        calls: SIX,
+        answers: &[Ok(0), Ok(2), Ok(4), Ok(0), Ok(2), Ok(3)],
+        sent: b"12|34|",
+        missed: 0,
+        faults: 0,
+    },
+    Case {
+        coming: TWO,
+        failing: 1,
+        calls: SIX,
+        answers: &[E, E, E, Ok(0), Ok(2), Ok(4)],
+        sent: b"34|",
+        missed: 1,
+        faults: 2,
+    },
+    Case {
+        coming: TWO,
+        failing: 2,
+        calls: SIX,
+        answers: &[Ok(0), E, Ok(4), Ok(0), Ok(2), Ok(3)],
+        sent: b"|34|",
+        missed: 0,
+        faults: 1,
+    },
+    Case {
+        coming: TWO,
+        failing: 3,
+        calls: SIX,
+        answers: &[Ok(0), Ok(2), E, Ok(0), Ok(2), Ok(3)],
+        sent: b"12|34|",
+        missed: 0,
+        faults: 1,
+    },
+    Case {
+        coming: TWO,
+        failing: 4,
+        calls: SIX,
+        answers: &[Ok(0), Ok(2), Ok(4), E, Ok(2), Ok(2)],
+        sent: b"1234|",
+        missed: 1,
+        faults: 0,
+    },
+    Case {
+        coming: TWO,
+        failing: 5,
+        calls: SIX,
+        answers: &[Ok(0), Ok(2), Ok(4), Ok(0), E, Ok(3)],
+        sent: b"12||",
+        missed: 0,
+        faults: 1,
+    },
+    Case {
+        coming: TWO,
+        failing: 6,
+        calls: SIX,
+        answers: &[Ok(0), Ok(2), Ok(4), Ok(0), Ok(2), E],
+        sent: b"12|34|",
+        missed: 0,
+        faults: 1,
+    },
+    Case {
+        coming: ONE,
+        failing: 0,
+        calls: &[Call::Begin, Call::Receive, Call::Receive, Call::Begin],
+        answers: &[Ok(0), Ok(4), Ok(0), E],
+        sent: b"|",
+        missed: 1,
+        faults: 0,
+    },
+];
+
+#[test]
+fn connections_work_and_fail_by_number(rt: HostRuntime) -> Result<(), Fail> {
+    for case in WIRES {
+        assert_wire(&rt, case)?;
+    }
+    for case in DOORS {
+        assert_door(&rt, case)?;
+    }
     Ok(())
 }

@@ -1,17 +1,33 @@
 // What no clause says of the folder in memory: that calls succeed, and worked values.
+use crate::made::{bytes, numbers, same};
 use folders::{Folder, FolderFault, Held, MemFolder, are_distinct};
 use small_types::{Bytes, List, Name};
 use std::alloc::Global;
+use std::process::Abort;
 use std::test::Fail;
+
+// A call of a folder and what it answers, or what is then found.
+#[derive(Drop)]
+enum Step {
+    // The names in the folder, each with a bar behind it.
+    List(Result<&'static [u8], FolderFault>),
+    // The bytes of the file, or a bar where there is none.
+    Get(&'static [u8], Result<&'static [u8], FolderFault>),
+    // Whether there is the file to read into the buffer, and what the buffer has where there is one.
+    GetInto(&'static [u8], Result<bool, FolderFault>),
+    Buffer(&'static [u8]),
+    Put(&'static [u8], &'static [u8], Result<(), FolderFault>),
+    Faults(u64),
+}
 
 fn named(alloc: Global, name: &[u8]) -> Result<Name, FolderFault> {
     Name::read(alloc, name).ok().ok_or(FolderFault::Failed)
 }
 
-fn held(alloc: Global, name: &[u8], bytes: &[u8]) -> Result<Held, FolderFault> {
+fn held(alloc: Global, name: &[u8], content: &[u8]) -> Result<Held, FolderFault> {
     Ok(Held {
         name: named(alloc, name)?,
-        bytes: Bytes::from_vec(bytes.to_vec(alloc)?),
+        bytes: bytes(alloc, content)?,
     })
 }
 
@@ -42,7 +58,6 @@ fn get<F: Folder>(alloc: Global, folder: &mut F, name: &[u8]) -> Result<Vec<u8>,
     }
 }
 
-// What reading the file into the buffer answers.
 fn get_into<F: Folder>(
     alloc: Global,
     folder: &mut F,
@@ -63,69 +78,84 @@ fn put<F: Folder>(
     folder.put(&name, bytes)
 }
 
-#[test]
-fn folder_works(rt: HostRuntime) -> Result<(), Fail> {
+fn gives(got: Result<Vec<u8>, FolderFault>, want: &Result<&'static [u8], FolderFault>) -> bool {
+    match (got, want) {
+        (Ok(bytes), Ok(want)) => same(&bytes, want),
+        (Err(fault), Err(want)) => fault == *want,
+        _ => false,
+    }
+}
+
+// Whether the step answers what it is to.
+fn answers<F: Folder>(alloc: Global, folder: &mut F, buffer: &mut Bytes, step: &Step) -> bool {
+    match step {
+        Step::List(want) => gives(list(alloc, folder), want),
+        Step::Get(name, want) => gives(get(alloc, folder, name), want),
+        Step::GetInto(name, want) => get_into(alloc, folder, name, buffer) == *want,
+        Step::Buffer(want) => same(buffer.as_slice(), want),
+        Step::Put(name, bytes, want) => put(alloc, folder, name, bytes) == *want,
+        Step::Faults(want) => folder.faults() == *want,
+    }
+}
+
+// Asserts each step of a folder with two files, of which the calls with those numbers fail.
+fn run(
+    rt: &(impl Abort + AllocGlobal),
+    name: &str,
+    failing: &[u64],
+    steps: &[Step],
+) -> Result<(), FolderFault> {
     let alloc = rt.alloc();
     let files = two_files(alloc)?;
     assert!(rt; are_distinct(files.as_slice()));
-    let mut folder = MemFolder::new(alloc, files, List::from_vec(Vec::new(alloc)));
-    assert_eq!(rt; list(alloc, &mut folder)?.as_slice(), b"a/x|b|".as_slice());
-    assert_eq!(rt; get(alloc, &mut folder, b"b")?.as_slice(), b"1".as_slice());
-    assert_eq!(rt; get(alloc, &mut folder, b"c")?.as_slice(), b"|".as_slice());
-    put(alloc, &mut folder, b"b", b"3")?;
-    put(alloc, &mut folder, b"a", b"")?;
-    assert_eq!(rt;
-        list(alloc, &mut folder)?.as_slice(),
-        b"a|a/x|b|".as_slice()
-    );
-    assert_eq!(rt; get(alloc, &mut folder, b"b")?.as_slice(), b"3".as_slice());
-    assert_eq!(rt; get(alloc, &mut folder, b"a")?.as_slice(), b"".as_slice());
-    assert_eq!(rt;
-        get(alloc, &mut folder, b"a/x")?.as_slice(),
-        b"2".as_slice()
-    );
-    assert_eq!(rt; folder.faults(), 0);
+    let mut folder = MemFolder::new(alloc, files, numbers(alloc, failing)?);
+    let mut buffer = bytes(alloc, b"before")?;
+    for (number, step) in steps.iter().enumerate() {
+        assert!(rt;
+            answers(alloc, &mut folder, &mut buffer, step),
+            "{name}: step {number}"
+        );
+    }
     Ok(())
 }
 
-#[test]
-fn folder_reads_into_a_buffer(rt: HostRuntime) -> Result<(), Fail> {
-    let alloc = rt.alloc();
-    let files = two_files(alloc)?;
-    assert!(rt; are_distinct(files.as_slice()));
-    let failing = List::from_vec([3].to_vec(alloc)?);
-    let mut folder = MemFolder::new(alloc, files, failing);
-    let mut into = Bytes::from_vec(b"before".to_vec(alloc)?);
-    assert_eq!(rt; get_into(alloc, &mut folder, b"b", &mut into), Ok(true));
-    assert_eq!(rt; into.as_slice(), b"1".as_slice());
-    assert_eq!(rt; get_into(alloc, &mut folder, b"c", &mut into), Ok(false));
-    assert_eq!(rt;
-        get_into(alloc, &mut folder, b"b", &mut into),
-        Err(FolderFault::Failed)
-    );
-    assert_eq!(rt; get_into(alloc, &mut folder, b"a/x", &mut into), Ok(true));
-    assert_eq!(rt; into.as_slice(), b"2".as_slice());
-    Ok(())
-}
+const FAILED: FolderFault = FolderFault::Failed;
+
+const WORKS: &[Step] = &[
+    Step::List(Ok(b"a/x|b|")),
+    Step::Get(b"b", Ok(b"1")),
+    Step::Get(b"c", Ok(b"|")),
+    Step::Put(b"b", b"3", Ok(())),
+    Step::Put(b"a", b"", Ok(())),
+    Step::List(Ok(b"a|a/x|b|")),
+    Step::Get(b"b", Ok(b"3")),
+    Step::Get(b"a", Ok(b"")),
+    Step::Get(b"a/x", Ok(b"2")),
+    Step::Faults(0),
+];
+
+const READS_INTO_A_BUFFER: &[Step] = &[
+    Step::GetInto(b"b", Ok(true)),
+    Step::Buffer(b"1"),
+    Step::GetInto(b"c", Ok(false)),
+    Step::GetInto(b"b", Err(FAILED)),
+    Step::GetInto(b"a/x", Ok(true)),
+    Step::Buffer(b"2"),
+];
+
+const FAILS: &[Step] = &[
+    Step::List(Err(FAILED)),
+    Step::List(Ok(b"a/x|b|")),
+    Step::Put(b"b", b"3", Err(FAILED)),
+    Step::Get(b"b", Ok(b"1")),
+    Step::Get(b"b", Err(FAILED)),
+    Step::Faults(3),
+];
 
 #[test]
-fn folder_fails_by_number(rt: HostRuntime) -> Result<(), Fail> {
-    let alloc = rt.alloc();
-    let failing = List::from_vec([1, 3, 5].to_vec(alloc)?);
-    let files = two_files(alloc)?;
-    assert!(rt; are_distinct(files.as_slice()));
-    let mut folder = MemFolder::new(alloc, files, failing);
-    assert_eq!(rt; list(alloc, &mut folder).err(), Some(FolderFault::Failed));
-    assert_eq!(rt; list(alloc, &mut folder)?.as_slice(), b"a/x|b|".as_slice());
-    assert_eq!(rt;
-        put(alloc, &mut folder, b"b", b"3"),
-        Err(FolderFault::Failed)
-    );
-    assert_eq!(rt; get(alloc, &mut folder, b"b")?.as_slice(), b"1".as_slice());
-    assert_eq!(rt;
-        get(alloc, &mut folder, b"b").err(),
-        Some(FolderFault::Failed)
-    );
-    assert_eq!(rt; folder.faults(), 3);
+fn folder_answers_step_by_step(rt: HostRuntime) -> Result<(), Fail> {
+    run(&rt, "works", &[], WORKS)?;
+    run(&rt, "buffer", &[3], READS_INTO_A_BUFFER)?;
+    run(&rt, "fails", &[1, 3, 5], FAILS)?;
     Ok(())
 }

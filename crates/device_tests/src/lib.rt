@@ -10,7 +10,7 @@ mod folders_tests;
 #[cfg(test)]
 mod links_tests;
 #[cfg(test)]
-mod outside_reading_tests;
+mod made;
 #[cfg(test)]
 mod outside_tests;
 #[cfg(test)]

@@ -1,9 +1,11 @@
 // What no clause says of links and baskets in memory: that calls succeed, and worked values.
+use crate::made::{bytes, numbers, same};
 use links::{
     Basket, BasketFault, Link, LinkFault, Links, MemBasket, MemLink, Page, Single, are_distinct,
 };
-use small_types::{Bytes, CopyFault, List, Target, Text};
+use small_types::{CopyFault, List, Target, Text};
 use std::alloc::{AllocError, Global};
+use std::process::Abort;
 use std::test::Fail;
 
 fn target(alloc: Global, path: &str) -> Result<Target, AllocError> {
@@ -14,10 +16,10 @@ fn target(alloc: Global, path: &str) -> Result<Target, AllocError> {
     })
 }
 
-fn page(alloc: Global, path: &str, bytes: &[u8]) -> Result<Page, AllocError> {
+fn page(alloc: Global, path: &str, content: &[u8]) -> Result<Page, AllocError> {
     Ok(Page {
         target: target(alloc, path)?,
-        bytes: Bytes::from_slice(alloc, bytes)?,
+        bytes: bytes(alloc, content)?,
     })
 }
 
@@ -34,8 +36,24 @@ fn two_pages(alloc: Global, failing: u64) -> Result<MemLink, LinkFault> {
     if !are_distinct(site.as_slice()) {
         return Err(LinkFault::Memory);
     }
-    Ok(MemLink::new(alloc, site, List::from_vec([failing].to_vec(alloc)?)))
+    Ok(MemLink::new(alloc, site, numbers(alloc, &[failing])?))
 }
+
+// A call of a link: asking for a path, or a piece of at most four bytes.
+#[derive(Drop)]
+enum Call {
+    Ask(&'static str),
+    Piece,
+}
+
+const CALLS: [Call; 6] = [
+    Call::Ask("/a"),
+    Call::Piece,
+    Call::Piece,
+    Call::Piece,
+    Call::Ask("/b"),
+    Call::Ask("/c"),
+];
 
 fn ask<K: Link>(alloc: Global, link: &mut K, path: &str) -> Result<u64, LinkFault> {
     let target = target(alloc, path)?;
@@ -43,26 +61,32 @@ fn ask<K: Link>(alloc: Global, link: &mut K, path: &str) -> Result<u64, LinkFaul
 }
 
 fn piece<K: Link>(link: &mut K) -> Result<u64, LinkFault> {
-    let mut buf = *b"....";
-    let n = link.piece(&mut buf)?;
+    let n = link.piece(&mut [b'.'; 4])?;
     Ok(n as u64)
 }
 
-// What six calls answer where one of them fails, and the count of faults by then.
-fn link_calls(
-    alloc: Global,
+fn answer_of<K: Link>(alloc: Global, link: &mut K, call: &Call) -> Result<u64, LinkFault> {
+    match call {
+        Call::Ask(path) => ask(alloc, link, path),
+        Call::Piece => piece(link),
+    }
+}
+
+// Asserts what six calls answer where the one of that number fails, and the count of faults by then.
+fn assert_link(
+    rt: &(impl Abort + AllocGlobal),
     failing: u64,
-) -> Result<([Result<u64, LinkFault>; 6], u64), LinkFault> {
+    answers: &[Result<u64, LinkFault>; 6],
+    faults: u64,
+) -> Result<(), LinkFault> {
+    let alloc = rt.alloc();
     let mut link = two_pages(alloc, failing)?;
-    let results = [
-        ask(alloc, &mut link, "/a"),
-        piece(&mut link),
-        piece(&mut link),
-        piece(&mut link),
-        ask(alloc, &mut link, "/b"),
-        ask(alloc, &mut link, "/c"),
-    ];
-    Ok((results, link.faults()))
+    for number in 0..6 {
+        let got = answer_of(alloc, &mut link, &CALLS[number]);
+        assert!(rt; got == answers[number], "{failing}: call {number}");
+    }
+    assert!(rt; link.faults() == faults, "{failing}: faults");
+    Ok(())
 }
 
 #[test]
@@ -70,36 +94,32 @@ fn link_works_and_fails_by_number(rt: HostRuntime) -> Result<(), Fail> {
     let down = Err(LinkFault::Down);
     let missing = Err(LinkFault::Missing);
     let table = [
-        ([Ok(5), Ok(4), Ok(1), Ok(0), Ok(0), missing], 0),
-        ([down, Ok(0), Ok(0), Ok(0), Ok(0), missing], 1),
-        ([Ok(5), down, Ok(0), Ok(0), Ok(0), missing], 1),
-        ([Ok(5), Ok(4), down, Ok(0), Ok(0), missing], 1),
-        ([Ok(5), Ok(4), Ok(1), down, Ok(0), missing], 1),
-        ([Ok(5), Ok(4), Ok(1), Ok(0), down, missing], 1),
-        ([Ok(5), Ok(4), Ok(1), Ok(0), Ok(0), down], 1),
+        (0, [Ok(5), Ok(4), Ok(1), Ok(0), Ok(0), missing], 0),
+        (1, [down, Ok(0), Ok(0), Ok(0), Ok(0), missing], 1),
+        (2, [Ok(5), down, Ok(0), Ok(0), Ok(0), missing], 1),
+        (3, [Ok(5), Ok(4), down, Ok(0), Ok(0), missing], 1),
+        (4, [Ok(5), Ok(4), Ok(1), down, Ok(0), missing], 1),
+        (5, [Ok(5), Ok(4), Ok(1), Ok(0), down, missing], 1),
+        (6, [Ok(5), Ok(4), Ok(1), Ok(0), Ok(0), down], 1),
     ];
-    let mut failing = 0;
-    for (results, faults) in table {
-        let made = link_calls(rt.alloc(), failing)?;
-        assert_eq!(rt; made.0, results);
-        assert_eq!(rt; made.1, faults);
-        failing = failing.saturating_add(1);
+    for (failing, answers, faults) in &table {
+        assert_link(&rt, *failing, answers, *faults)?;
     }
     Ok(())
 }
 
-// Asks the first link for the target, and takes a piece. The answers are the lengths of both.
+// Asks the first link for the path, and takes a piece. The answers are the lengths of both.
 fn ask_first<L: Links>(
     alloc: Global,
     links: &mut L,
-    target: &Target,
+    path: &str,
 ) -> Result<(u64, usize), LinkFault> {
-    if links.want(alloc, target).is_err() || links.sources() == 0 {
+    let target = target(alloc, path)?;
+    if links.want(alloc, &target).is_err() || links.sources() == 0 {
         return Err(LinkFault::Memory);
     }
-    let length = links.ask(alloc, 0, target)?;
-    let mut buf = *b"....";
-    let n = links.piece(0, &mut buf)?;
+    let length = links.ask(alloc, 0, &target)?;
+    let n = links.piece(0, &mut [b'.'; 4])?;
     Ok((length, n))
 }
 
@@ -109,51 +129,84 @@ fn failures_of<L: Links>(links: &mut L) -> (u32, u64, u64) {
     (count, first, links.failures())
 }
 
+// Whether the links were asked for a path at that place.
+fn was_asked(asked: &List<Target>, place: usize, path: &str) -> bool {
+    match asked.as_slice().get(place) {
+        Some(target) => target.path.as_str() == path,
+        None => false,
+    }
+}
+
 #[test]
 fn one_link_is_links(rt: HostRuntime) -> Result<(), Fail> {
     let alloc = rt.alloc();
-    let asked = List::from_vec(Vec::new(alloc));
     let mut links = Single {
         link: two_pages(alloc, 3)?,
-        asked,
+        asked: List::from_vec(Vec::new(alloc)),
     };
-    let first = target(alloc, "/a")?;
-    assert_eq!(rt; ask_first(alloc, &mut links, &first), Ok((5, 4)));
-    assert_eq!(rt; ask_first(alloc, &mut links, &first), Err(LinkFault::Down));
-    let other = target(alloc, "/c")?;
-    assert_eq!(rt;
-        ask_first(alloc, &mut links, &other),
-        Err(LinkFault::Missing)
-    );
-    assert_eq!(rt; failures_of(&mut links), (1, 1, 1));
-    let asked = links.asked.as_slice();
-    assert_eq!(rt; asked.len(), 3);
-    assert_eq!(rt; asked[1].path.as_str(), "/a");
-    assert_eq!(rt; asked[2].path.as_str(), "/c");
+    let table = [
+        ("/a", Ok((5, 4))),
+        ("/a", Err(LinkFault::Down)),
+        ("/c", Err(LinkFault::Missing)),
+    ];
+    for (path, want) in table {
+        assert!(rt; ask_first(alloc, &mut links, path) == want, "{path}");
+    }
+    assert!(rt; failures_of(&mut links) == (1, 1, 1));
+    for place in 0..3 {
+        assert!(rt;
+            was_asked(&links.asked, place, table[place].0),
+            "asked {place}"
+        );
+    }
+    assert!(rt; links.asked.as_slice().len() == 3);
     Ok(())
+}
+
+// A call of a basket and what it answers, or what the basket then has.
+#[derive(Drop)]
+enum Step {
+    Take(&'static [u8], Result<(), BasketFault>),
+    Restart,
+    Bytes(&'static [u8]),
 }
 
 fn take<B: Basket>(basket: &mut B, bytes: &[u8]) -> Result<(), BasketFault> {
     basket.take(bytes)
 }
 
-fn restart<B: Basket>(basket: &mut B) {
+fn restart<B: Basket>(basket: &mut B) -> bool {
     basket.restart();
+    true
 }
+
+// Whether the step answers what it is to.
+fn answers(basket: &mut MemBasket, step: &Step) -> bool {
+    match step {
+        Step::Take(bytes, want) => take(basket, bytes) == *want,
+        Step::Restart => restart(basket),
+        Step::Bytes(want) => same(basket.bytes(), want),
+    }
+}
+
+const BASKET: &[Step] = &[
+    Step::Take(b"cd", Ok(())),
+    Step::Bytes(b"abcd"),
+    Step::Restart,
+    Step::Bytes(b""),
+    Step::Take(b"e", Ok(())),
+    Step::Take(b"f", Err(BasketFault::Failed)),
+    Step::Take(b"g", Ok(())),
+    Step::Bytes(b"eg"),
+];
 
 #[test]
 fn basket_works_and_fails_by_number(rt: HostRuntime) -> Result<(), Fail> {
     let alloc = rt.alloc();
-    let failing = List::from_vec([3].to_vec(alloc)?);
-    let mut basket = MemBasket::new(alloc, Bytes::from_slice(alloc, b"ab")?, failing);
-    assert_eq!(rt; take(&mut basket, b"cd"), Ok(()));
-    assert_eq!(rt; basket.bytes(), b"abcd".as_slice());
-    restart(&mut basket);
-    assert_eq!(rt; basket.bytes(), b"".as_slice());
-    assert_eq!(rt; take(&mut basket, b"e"), Ok(()));
-    assert_eq!(rt; take(&mut basket, b"f"), Err(BasketFault::Failed));
-    assert_eq!(rt; take(&mut basket, b"g"), Ok(()));
-    assert_eq!(rt; basket.bytes(), b"eg".as_slice());
-    assert_eq!(rt; basket.faults(), 1);
+    let mut basket = MemBasket::new(alloc, bytes(alloc, b"ab")?, numbers(alloc, &[3])?);
+    for (number, step) in BASKET.iter().enumerate() {
+        assert!(rt; answers(&mut basket, step), "step {number}");
+    }
+    assert!(rt; basket.faults() == 1);
     Ok(())
 }

@@ -1,16 +1,14 @@
 ghost use Rattle.std.specs.Prelude.{◌≤◌};
 
+use crate::made::{bytes, numbers, same};
 use disks::MemDisk;
-use small_types::{Bytes, List};
 use std::alloc::{AllocError, Global};
 use std::test::Fail;
 use store_log::{Log, LogFault, Recovered};
 
 // A disk of these bytes, whose call of the number `failing`, counted from 1, fails.
-fn disk_of(alloc: Global, bytes: &[u8], failing: u64) -> Result<MemDisk, AllocError> {
-    let bytes = Bytes::from_vec(bytes.to_vec(alloc)?);
-    let failing = List::from_vec(vec![in alloc; failing]?);
-    Ok(MemDisk::new(alloc, bytes, failing))
+fn disk_of(alloc: Global, content: &[u8], failing: u64) -> Result<MemDisk, AllocError> {
+    Ok(MemDisk::new(alloc, bytes(alloc, content)?, numbers(alloc, &[failing])?))
 }
 
 fn recovered(alloc: Global, disk: &mut MemDisk) -> Result<Recovered, LogFault> {
@@ -50,22 +48,43 @@ fn layout_is_as_described(rt: HostRuntime) -> Result<(), Fail> {
     Ok(())
 }
 
-#[test]
-fn what_was_appended_is_recovered(rt: HostRuntime) -> Result<(), Fail> {
-    let mut disk = disk_of(rt.alloc(), &[], 0)?;
-    Log::format(rt.alloc(), &mut disk, 65_536, 0, &[])?;
-    let (mut log, none) = Log::recover(rt.alloc(), &mut disk)?;
-    assert_eq!(rt; none.changes.as_slice().len(), 0);
+// A disk with a journal of two changes, and how many there were before them.
+fn two_changes(alloc: Global) -> Result<(MemDisk, usize), LogFault> {
+    let mut disk = disk_of(alloc, &[], 0)?;
+    Log::format(alloc, &mut disk, 65_536, 0, &[])?;
+    let (mut log, none) = Log::recover(alloc, &mut disk)?;
     log.append(&mut disk, &mut [0, 0, 0, 0, 0, 1, 0])?;
     log.append(&mut disk, &mut [1, 1, 1, 1, 1, 2, 3, 1])?;
+    Ok((disk, none.changes.as_slice().len()))
+}
+
+// The journal's blocks and half, how long its tables are, and how many changes it has.
+fn counts(found: &Recovered) -> (u64, u64, usize, usize) {
+    let tables = found.tables.as_slice().len();
+    (
+        found.blocks,
+        found.half,
+        tables,
+        found.changes.as_slice().len(),
+    )
+}
+
+// Whether the change at the place has these bytes.
+fn is_change(found: &Recovered, place: usize, want: &[u8]) -> bool {
+    match found.changes.as_slice().get(place) {
+        Some(change) => same(change.as_slice(), want),
+        None => false,
+    }
+}
+
+#[test]
+fn what_was_appended_is_recovered(rt: HostRuntime) -> Result<(), Fail> {
+    let (mut disk, before) = two_changes(rt.alloc())?;
+    assert!(rt; before == 0);
     let found = recovered(rt.alloc(), &mut disk)?;
-    let changes = found.changes.as_slice();
-    assert_eq!(rt; found.blocks, 65_536);
-    assert_eq!(rt; found.half, 0);
-    assert_eq!(rt; found.tables.as_slice().len(), 0);
-    assert_eq!(rt; changes.len(), 2);
-    assert_eq!(rt; changes[0].as_slice(), [1u8].as_slice());
-    assert_eq!(rt; changes[1].as_slice(), [2u8, 3].as_slice());
+    assert!(rt; counts(&found) == (65_536, 0, 0, 2));
+    assert!(rt; is_change(&found, 0, &[1]));
+    assert!(rt; is_change(&found, 1, &[2, 3]));
     Ok(())
 }
 
