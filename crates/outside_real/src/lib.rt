@@ -13,18 +13,12 @@ mod folder_get;
 mod folder_list;
 mod folder_path;
 mod folder_put;
-#[cfg(test)]
-mod folder_tests;
 mod real_folder;
 mod reason;
 mod std_sink;
 mod std_source;
 mod stream;
-#[cfg(test)]
-mod stream_tests;
 mod tcp_door;
-#[cfg(test)]
-mod tcp_tests;
 mod tcp_wire;
 mod told;
 
