@@ -1,6 +1,7 @@
 // What no clause says of fetching: that it succeeds, and worked values.
 ghost use Rattle.links.specs.Link.{LinkState};
 
+use crate::made::{bytes, failing, same};
 use causes::Cause;
 use digest_list::{Algorithm, Difference, Digest, DigestList};
 use fetcher::{FetchFault, FolderLink, fetch_file, fetch_text};
@@ -9,6 +10,7 @@ use links::{Link, LinkFault, MemBasket, MemLink, Page, Single};
 use outside::copy_from;
 use small_types::{Bytes, CopyFault, List, Name, Target, Text};
 use std::alloc::{AllocError, Global};
+use std::process::Abort;
 use std::test::Fail;
 
 // What a fetch said, in short.
@@ -53,27 +55,27 @@ fn target(alloc: Global, path: &str) -> Result<Target, AllocError> {
     })
 }
 
-fn page(alloc: Global, path: &str, bytes: &[u8]) -> Result<Page, AllocError> {
+fn page(alloc: Global, path: &str, content: &[u8]) -> Result<Page, AllocError> {
     Ok(Page {
         target: target(alloc, path)?,
-        bytes: Bytes::from_slice(alloc, bytes)?,
+        bytes: bytes(alloc, content)?,
     })
 }
 
-fn one_page(alloc: Global, bytes: &[u8]) -> Result<List<Page>, CopyFault> {
+fn one_page(alloc: Global, content: &[u8]) -> Result<List<Page>, CopyFault> {
     let mut made = Vec::new(alloc);
-    made.push(page(alloc, "/a", bytes)?)?;
+    made.push(page(alloc, "/a", content)?)?;
     Ok(List::from_vec(made))
 }
 
 // A link that has bytes at one target, of which one call fails.
-fn link_of(alloc: Global, bytes: &[u8], failing: u64) -> Result<Single<MemLink>, LinkFault> {
-    let site = one_page(alloc, bytes)?;
+fn link_of(alloc: Global, content: &[u8], number: u64) -> Result<Single<MemLink>, LinkFault> {
+    let site = one_page(alloc, content)?;
     if !links::are_distinct(site.as_slice()) {
         return Err(LinkFault::Memory);
     }
     Ok(Single {
-        link: MemLink::new(alloc, site, List::from_vec([failing].to_vec(alloc)?)),
+        link: MemLink::new(alloc, site, failing(alloc, number)?),
         asked: List::from_vec(Vec::new(alloc)),
     })
 }
@@ -104,162 +106,299 @@ impl Link for LooseLink {
     }
 }
 
-fn loose(alloc: Global, length: u64, bytes: &[u8]) -> Result<Single<LooseLink>, AllocError> {
+fn loose(alloc: Global, length: u64, content: &[u8]) -> Result<Single<LooseLink>, AllocError> {
     Ok(Single {
         link: LooseLink {
             length,
-            bytes: Bytes::from_slice(alloc, bytes)?,
+            bytes: bytes(alloc, content)?,
             at: 0,
         },
         asked: List::from_vec(Vec::new(alloc)),
     })
 }
 
-fn text<K: Link>(
-    alloc: Global,
-    links: &mut Single<K>,
-    path: &str,
-    limit: u64,
-) -> Result<Said, AllocError> {
-    let target = target(alloc, path)?;
-    Ok(match fetch_text(alloc, links, &target, limit) {
+// What the fetch of a text says.
+fn text<K: Link>(alloc: Global, links: &mut Single<K>, path: &str, limit: u64) -> Said {
+    let Ok(target) = target(alloc, path) else {
+        return Said::Memory;
+    };
+    match fetch_text(alloc, links, &target, limit) {
         Ok(bytes) => Said::Given(bytes.as_slice().len() as u64),
         Err(fault) => said_fault(&fault),
-    })
+    }
+}
+
+// A text that is asked of a link, of which one call fails, and what the fetch says.
+#[derive(Drop)]
+struct Asking {
+    path: &'static str,
+    limit: u64,
+    failing: u64,
+    said: Said,
+}
+
+const TEXTS: &[Asking] = &[
+    Asking {
+        path: "/a",
+        limit: 5,
+        failing: 0,
+        said: Said::Given(5),
+    },
+    Asking {
+        path: "/a",
+        limit: 4,
+        failing: 0,
+        said: Said::TooLong(5, 4),
+    },
+    Asking {
+        path: "/b",
+        limit: 5,
+        failing: 0,
+        said: Said::Missing,
+    },
+    Asking {
+        path: "/a",
+        limit: 5,
+        failing: 1,
+        said: Said::Down,
+    },
+    Asking {
+        path: "/a",
+        limit: 5,
+        failing: 2,
+        said: Said::Down,
+    },
+    Asking {
+        path: "/a",
+        limit: 4,
+        failing: 2,
+        said: Said::TooLong(5, 4),
+    },
+];
+
+// What is said of a link that has `hello`, and how often it was asked.
+fn said_text(alloc: Global, case: &Asking) -> Result<(Said, usize), LinkFault> {
+    let mut links = link_of(alloc, b"hello", case.failing)?;
+    let said = text(alloc, &mut links, case.path, case.limit);
+    Ok((said, links.asked.as_slice().len()))
 }
 
 #[test]
 fn texts_are_fetched(rt: HostRuntime) -> Result<(), Fail> {
-    let alloc = rt.alloc();
-    let table = [
-        ("/a", 5, 0, Said::Given(5)),
-        ("/a", 4, 0, Said::TooLong(5, 4)),
-        ("/b", 5, 0, Said::Missing),
-        ("/a", 5, 1, Said::Down),
-        ("/a", 5, 2, Said::Down),
-        ("/a", 4, 2, Said::TooLong(5, 4)),
-    ];
-    for (path, limit, failing, said) in table {
-        let mut links = link_of(alloc, b"hello", failing)?;
-        assert_eq!(rt; text(alloc, &mut links, path, limit)?, said);
-        assert_eq!(rt; links.asked.as_slice().len(), 1);
+    for (number, case) in TEXTS.iter().enumerate() {
+        let (said, asked) = said_text(rt.alloc(), case)?;
+        assert!(rt; said == case.said && asked == 1, "case {number}");
     }
-    let mut early = loose(alloc, 5, b"abc")?;
-    assert_eq!(rt; text(alloc, &mut early, "/a", 5)?, Said::Given(3));
-    let mut more = loose(alloc, 2, b"abc")?;
-    assert_eq!(rt; text(alloc, &mut more, "/a", 5)?, Said::Given(2));
     Ok(())
 }
 
-fn digest(alloc: Global, algorithm: Algorithm, text: &[u8]) -> Result<Digest, Fail> {
-    Ok(Digest::read(alloc, algorithm, text)?)
+// What is said of a loose link that has `abc` and answers that length.
+fn said_loose(alloc: Global, length: u64) -> Result<Said, AllocError> {
+    let mut links = loose(alloc, length, b"abc")?;
+    Ok(text(alloc, &mut links, "/a", 5))
 }
 
-// Two digests of `abc`, or one of it and one of `abd`.
-fn listed(alloc: Global, second: &[u8]) -> Result<DigestList, Fail> {
-    let mut digests = Vec::new(alloc);
-    digests.push(digest(alloc, Algorithm::Sha1, b"qZk+NkcGgWq6PiVxeFDCbJzQ2J0=")?)?;
-    digests.push(digest(alloc, Algorithm::Sha256, second)?)?;
-    Ok(DigestList::from_list(List::from_vec(digests)).ok_or("no list")?)
+#[test]
+fn loose_links_give_texts(rt: HostRuntime) -> Result<(), Fail> {
+    for (length, given) in [(5, 3), (2, 2)] {
+        let said = said_loose(rt.alloc(), length)?;
+        assert!(rt; said == Said::Given(given), "{length}");
+    }
+    Ok(())
 }
 
-fn both_of_abc(alloc: Global) -> Result<DigestList, Fail> {
-    listed(alloc, b"ungWv48Bz+pBQUDeXa4iI7ADYaOWF3qctBD/YfIAFa0=")
+const OF_ABC: &[u8] = b"ungWv48Bz+pBQUDeXa4iI7ADYaOWF3qctBD/YfIAFa0=";
+
+const OF_ABD: &[u8] = b"pS0VnyYrLG3bckphhAvvw26zDIiHekAwtly+himESck=";
+
+fn digest(alloc: Global, algorithm: Algorithm, text: &[u8]) -> Result<Digest, CopyFault> {
+    Digest::read(alloc, algorithm, text)
+        .ok()
+        .ok_or(CopyFault::Memory)
 }
 
-fn basket_of(alloc: Global, failing: u64) -> Result<MemBasket, AllocError> {
-    let before = Bytes::from_slice(alloc, b"before")?;
-    Ok(MemBasket::new(alloc, before, List::from_vec([failing].to_vec(alloc)?)))
+// Two digests: the first one of `abc`, the second one of that text.
+fn listed(alloc: Global, second: &[u8]) -> Result<DigestList, CopyFault> {
+    let first = digest(alloc, Algorithm::Sha1, b"qZk+NkcGgWq6PiVxeFDCbJzQ2J0=")?;
+    let second = digest(alloc, Algorithm::Sha256, second)?;
+    let digests = List::from_vec(vec![in alloc; first, second]?);
+    DigestList::from_list(digests).ok_or(CopyFault::Memory)
 }
 
+// A basket with bytes from before, of which one call fails.
+fn basket_of(alloc: Global, number: u64) -> Result<MemBasket, AllocError> {
+    let before = bytes(alloc, b"before")?;
+    Ok(MemBasket::new(alloc, before, failing(alloc, number)?))
+}
+
+// What the fetch of a file of three bytes says.
 fn file<K: Link>(
     alloc: Global,
     links: &mut Single<K>,
     path: &str,
     list: &DigestList,
     basket: &mut MemBasket,
-) -> Result<Said, AllocError> {
-    let target = target(alloc, path)?;
-    Ok(match fetch_file(alloc, links, &target, 3, list, basket) {
+) -> Said {
+    let Ok(target) = target(alloc, path) else {
+        return Said::Memory;
+    };
+    match fetch_file(alloc, links, &target, 3, list, basket) {
         Ok(()) => Said::Given(basket.bytes().len() as u64),
         Err(fault) => said_fault(&fault),
-    })
+    }
+}
+
+// A file that is asked of a link with those bytes, of which one call fails, into a basket, of which one call fails,
+// and what the fetch says. The second digest is that one.
+#[derive(Drop)]
+struct Fetching {
+    path: &'static str,
+    bytes: &'static [u8],
+    digest: &'static [u8],
+    failing: u64,
+    full: u64,
+    said: Said,
+}
+
+const FILES: &[Fetching] = &[
+    Fetching {
+        path: "/a",
+        bytes: b"abc",
+        digest: OF_ABC,
+        failing: 0,
+        full: 0,
+        said: Said::Given(3),
+    },
+    Fetching {
+        path: "/b",
+        bytes: b"abc",
+        digest: OF_ABC,
+        failing: 0,
+        full: 0,
+        said: Said::Missing,
+    },
+    Fetching {
+        path: "/a",
+        bytes: b"abcd",
+        digest: OF_ABC,
+        failing: 0,
+        full: 0,
+        said: Said::Size(3, 4),
+    },
+    Fetching {
+        path: "/a",
+        bytes: b"abd",
+        digest: OF_ABC,
+        failing: 0,
+        full: 0,
+        said: Said::OtherDigest,
+    },
+    Fetching {
+        path: "/a",
+        bytes: b"abc",
+        digest: OF_ABC,
+        failing: 1,
+        full: 0,
+        said: Said::Down,
+    },
+    Fetching {
+        path: "/a",
+        bytes: b"abc",
+        digest: OF_ABC,
+        failing: 2,
+        full: 0,
+        said: Said::Down,
+    },
+    Fetching {
+        path: "/a",
+        bytes: b"abc",
+        digest: OF_ABC,
+        failing: 0,
+        full: 1,
+        said: Said::Basket,
+    },
+    // One digest of two is not enough.
+    Fetching {
+        path: "/a",
+        bytes: b"abc",
+        digest: OF_ABD,
+        failing: 0,
+        full: 0,
+        said: Said::OtherDigest,
+    },
+];
+
+// What is said, and how often the link was asked.
+fn said_file(alloc: Global, case: &Fetching) -> Result<(Said, usize), LinkFault> {
+    let list = listed(alloc, case.digest)?;
+    let mut basket = basket_of(alloc, case.full)?;
+    let mut links = link_of(alloc, case.bytes, case.failing)?;
+    let said = file(alloc, &mut links, case.path, &list, &mut basket);
+    Ok((said, links.asked.as_slice().len()))
 }
 
 #[test]
 fn files_are_fetched(rt: HostRuntime) -> Result<(), Fail> {
-    let alloc = rt.alloc();
-    let list = both_of_abc(alloc)?;
-    let table = [
-        ("/a", b"abc".as_slice(), 0, 0, Said::Given(3)),
-        ("/b", b"abc".as_slice(), 0, 0, Said::Missing),
-        ("/a", b"abcd".as_slice(), 0, 0, Said::Size(3, 4)),
-        ("/a", b"abd".as_slice(), 0, 0, Said::OtherDigest),
-        ("/a", b"abc".as_slice(), 1, 0, Said::Down),
-        ("/a", b"abc".as_slice(), 2, 0, Said::Down),
-        ("/a", b"abc".as_slice(), 0, 1, Said::Basket),
-    ];
-    for (path, bytes, failing, full, said) in table {
-        let mut links = link_of(alloc, bytes, failing)?;
-        let mut basket = basket_of(alloc, full)?;
-        assert_eq!(rt; file(alloc, &mut links, path, &list, &mut basket)?, said);
-        assert_eq!(rt; links.asked.as_slice().len(), 1);
+    for (number, case) in FILES.iter().enumerate() {
+        let (said, asked) = said_file(rt.alloc(), case)?;
+        assert!(rt; said == case.said && asked == 1, "case {number}");
     }
     Ok(())
 }
 
-#[test]
-fn one_digest_of_two_is_not_enough(rt: HostRuntime) -> Result<(), Fail> {
-    let alloc = rt.alloc();
-    let list = listed(alloc, b"pS0VnyYrLG3bckphhAvvw26zDIiHekAwtly+himESck=")?;
-    let mut links = link_of(alloc, b"abc", 0)?;
-    let mut basket = basket_of(alloc, 0)?;
-    assert_eq!(rt;
-        file(alloc, &mut links, "/a", &list, &mut basket)?,
-        Said::OtherDigest
-    );
+// What is said of a loose link that has those bytes and answers that there are three.
+fn said_loose_file(
+    alloc: Global,
+    content: &[u8],
+    basket: &mut MemBasket,
+) -> Result<Said, LinkFault> {
+    let list = listed(alloc, OF_ABC)?;
+    let mut links = loose(alloc, 3, content)?;
+    Ok(file(alloc, &mut links, "/a", &list, basket))
+}
+
+// Two fetches into one basket.
+fn fetch_loosely(rt: &(impl Abort + AllocGlobal), basket: &mut MemBasket) -> Result<(), LinkFault> {
+    let early = said_loose_file(rt.alloc(), b"ab", basket)?;
+    assert!(rt; early == Said::Size(3, 2));
+    let more = said_loose_file(rt.alloc(), b"abcdef", basket)?;
+    assert!(rt; more == Said::Given(3));
     Ok(())
 }
 
 #[test]
 fn loose_links_give_files_that_match(rt: HostRuntime) -> Result<(), Fail> {
-    let alloc = rt.alloc();
-    let list = both_of_abc(alloc)?;
-    let mut basket = basket_of(alloc, 0)?;
-    let mut early = loose(alloc, 3, b"ab")?;
-    assert_eq!(rt;
-        file(alloc, &mut early, "/a", &list, &mut basket)?,
-        Said::Size(3, 2)
-    );
-    let mut more = loose(alloc, 3, b"abcdef")?;
-    assert_eq!(rt;
-        file(alloc, &mut more, "/a", &list, &mut basket)?,
-        Said::Given(3)
-    );
-    assert_eq!(rt; basket.bytes(), b"abc".as_slice());
-    Ok(())
+    let mut basket = basket_of(rt.alloc(), 0)?;
+    let done = fetch_loosely(&rt, &mut basket);
+    assert!(rt; same(basket.bytes(), b"abc"));
+    drop(basket);
+    Ok(done?)
 }
 
-fn named(alloc: Global, name: &[u8], bytes: &[u8]) -> Result<Held, AllocError> {
+fn named(alloc: Global, name: &[u8], content: &[u8]) -> Result<Held, AllocError> {
     let Ok(name) = Name::read(alloc, name) else {
         return Err(AllocError);
     };
     Ok(Held {
         name,
-        bytes: Bytes::from_slice(alloc, bytes)?,
+        bytes: bytes(alloc, content)?,
     })
 }
 
-// A link to a folder of two files, of which one call fails.
-fn folder_of(alloc: Global, failing: u64) -> Result<Single<FolderLink<MemFolder>>, CopyFault> {
+fn two_files(alloc: Global) -> Result<List<Held>, CopyFault> {
     let mut files = Vec::new(alloc);
     files.push(named(alloc, b"one/a b", b"12345")?)?;
     files.push(named(alloc, b"two", b"")?)?;
-    let files = List::from_vec(files);
+    Ok(List::from_vec(files))
+}
+
+// A link to a folder of two files, of which one call fails.
+fn folder_of(alloc: Global, number: u64) -> Result<Single<FolderLink<MemFolder>>, CopyFault> {
+    let files = two_files(alloc)?;
     if !folders::are_distinct(files.as_slice()) {
         return Err(CopyFault::Memory);
     }
-    let folder = MemFolder::new(alloc, files, List::from_vec([failing].to_vec(alloc)?));
+    let folder = MemFolder::new(alloc, files, failing(alloc, number)?);
     Ok(Single {
         link: FolderLink::new(alloc, folder),
         asked: List::from_vec(Vec::new(alloc)),
@@ -270,22 +409,71 @@ fn count_of<K: Link>(links: &Single<K>) -> u64 {
     links.link.faults()
 }
 
+// A text that is asked of a folder, of which one call fails, what the fetch says, and the count of faults by then.
+#[derive(Drop)]
+struct InFolder {
+    path: &'static str,
+    failing: u64,
+    said: Said,
+    faults: u64,
+}
+
+const IN_FOLDER: &[InFolder] = &[
+    InFolder {
+        path: "/one/a%20b?x=1",
+        failing: 0,
+        said: Said::Given(5),
+        faults: 0,
+    },
+    InFolder {
+        path: "/one%2Fa b",
+        failing: 0,
+        said: Said::Given(5),
+        faults: 0,
+    },
+    InFolder {
+        path: "/two",
+        failing: 0,
+        said: Said::Given(0),
+        faults: 0,
+    },
+    InFolder {
+        path: "/three",
+        failing: 0,
+        said: Said::Missing,
+        faults: 1,
+    },
+    InFolder {
+        path: "/one/../two",
+        failing: 0,
+        said: Said::Missing,
+        faults: 1,
+    },
+    InFolder {
+        path: "two",
+        failing: 0,
+        said: Said::Missing,
+        faults: 1,
+    },
+    InFolder {
+        path: "/two",
+        failing: 1,
+        said: Said::Down,
+        faults: 1,
+    },
+];
+
+fn said_in_folder(alloc: Global, case: &InFolder) -> Result<(Said, u64), CopyFault> {
+    let mut links = folder_of(alloc, case.failing)?;
+    let said = text(alloc, &mut links, case.path, 5);
+    Ok((said, count_of(&links)))
+}
+
 #[test]
 fn folders_are_links(rt: HostRuntime) -> Result<(), Fail> {
-    let alloc = rt.alloc();
-    let table = [
-        ("/one/a%20b?x=1", 0, Said::Given(5), 0),
-        ("/one%2Fa b", 0, Said::Given(5), 0),
-        ("/two", 0, Said::Given(0), 0),
-        ("/three", 0, Said::Missing, 1),
-        ("/one/../two", 0, Said::Missing, 1),
-        ("two", 0, Said::Missing, 1),
-        ("/two", 1, Said::Down, 1),
-    ];
-    for (path, failing, said, count) in table {
-        let mut links = folder_of(alloc, failing)?;
-        assert_eq!(rt; text(alloc, &mut links, path, 5)?, said);
-        assert_eq!(rt; count_of(&links), count);
+    for (number, case) in IN_FOLDER.iter().enumerate() {
+        let (said, faults) = said_in_folder(rt.alloc(), case)?;
+        assert!(rt; said == case.said && faults == case.faults, "case {number}");
     }
     Ok(())
 }

@@ -1,9 +1,11 @@
 // What no clause says: that calls succeed, and worked values.
+use crate::made::{bytes, failing, same};
 use connections::{MemWire, Wire};
-use http_plain::{Demand, ExchangeFault, ask_wire, demand_in, read_request};
+use http_plain::{Begun, Demand, ExchangeFault, ask_wire, demand_in, read_request};
 use outside::Failed;
-use small_types::{Bytes, List, Target, Text};
+use small_types::{List, Target, Text};
 use std::alloc::{AllocError, Global};
+use std::process::Abort;
 use std::test::Fail;
 
 // What a request asks for, in words.
@@ -37,65 +39,105 @@ fn repeated(
     Ok(made)
 }
 
+// Whether a text is that one.
+fn is_text(shown: &String, wanted: &str) -> bool {
+    same(shown.as_bytes(), wanted.as_bytes())
+}
+
+// Requests, and what they ask for.
+const REQUESTS: &[(&str, &str)] = &[
+    ("", "silent"),
+    ("G", "400"),
+    (
+        "GET /App.application HTTP/1.1\r\nHost: h\r\n\r\n",
+        "App.application true",
+    ),
+    (
+        "HEAD /App.application HTTP/1.1\r\nhOST: h\r\n\r\nmore",
+        "App.application false",
+    ),
+    ("POST /App.application HTTP/1.1\r\nHost: h\r\n\r\n", "405"),
+    ("get /App.application HTTP/1.1\r\nHost: h\r\n\r\n", "405"),
+    ("GET /a/b?c=/../ HTTP/1.1\r\nHost: h\r\n\r\n", "a/b true"),
+    ("GET /%41pp%5Cx HTTP/1.0\r\n\r\n", "App/x true"),
+    ("GET /../x HTTP/1.1\r\nHost: h\r\n\r\n", "400"),
+    ("GET / HTTP/1.1\r\nHost: h\r\n\r\n", "400"),
+    ("GET a HTTP/1.1\r\nHost: h\r\n\r\n", "400"),
+    ("GET /a HTTP/1.1\r\n\r\n", "400"),
+    ("POST /a HTTP/1.1\r\nHost: h\r\nHost: h\r\n\r\n", "400"),
+    ("GET /a HTTP/1.1\nHost: h\n\n", "400"),
+    ("GET /a HTTP/1.1\nHost: h\n\nx\r\n\r\n", "400"),
+];
+
 #[test]
 fn requests_ask(rt: HostRuntime) -> Result<(), Fail> {
-    let alloc = rt.alloc();
-    let table = [
-        ("", "silent"),
-        ("G", "400"),
-        (
-            "GET /App.application HTTP/1.1\r\nHost: h\r\n\r\n",
-            "App.application true",
-        ),
-        (
-            "HEAD /App.application HTTP/1.1\r\nhOST: h\r\n\r\nmore",
-            "App.application false",
-        ),
-        ("POST /App.application HTTP/1.1\r\nHost: h\r\n\r\n", "405"),
-        ("get /App.application HTTP/1.1\r\nHost: h\r\n\r\n", "405"),
-        ("GET /a/b?c=/../ HTTP/1.1\r\nHost: h\r\n\r\n", "a/b true"),
-        ("GET /%41pp%5Cx HTTP/1.0\r\n\r\n", "App/x true"),
-        ("GET /../x HTTP/1.1\r\nHost: h\r\n\r\n", "400"),
-        ("GET / HTTP/1.1\r\nHost: h\r\n\r\n", "400"),
-        ("GET a HTTP/1.1\r\nHost: h\r\n\r\n", "400"),
-        ("GET /a HTTP/1.1\r\n\r\n", "400"),
-        ("POST /a HTTP/1.1\r\nHost: h\r\nHost: h\r\n\r\n", "400"),
-        ("GET /a HTTP/1.1\nHost: h\n\n", "400"),
-        ("GET /a HTTP/1.1\nHost: h\n\nx\r\n\r\n", "400"),
-    ];
-    for (request, wanted) in table {
-        let shown = shown_demand(alloc, request.as_bytes())?;
-        assert_eq!(rt; shown.as_str(), wanted, "{request}");
+    for (request, wanted) in REQUESTS {
+        let shown = shown_demand(rt.alloc(), request.as_bytes())?;
+        assert!(rt; is_text(&shown, wanted), "{request}");
     }
     Ok(())
 }
 
+// So many copies of a text between two others, and what that comes to.
+#[derive(Drop)]
+struct Long {
+    start: &'static [u8],
+    text: &'static [u8],
+    count: usize,
+    end: &'static [u8],
+    wanted: &'static str,
+}
+
+const LONG_REQUESTS: &[Long] = &[
+    Long {
+        start: b"GET /a HTTP/1.0\r\n",
+        text: b"x: y\r\n",
+        count: 64,
+        end: b"\r\n",
+        wanted: "a true",
+    },
+    Long {
+        start: b"GET /a HTTP/1.0\r\n",
+        text: b"x: y\r\n",
+        count: 65,
+        end: b"\r\n",
+        wanted: "400",
+    },
+    // 65,536 bytes.
+    Long {
+        start: b"GET /a HTTP/1.0\r\nx:",
+        text: b"y",
+        count: 65_513,
+        end: b"\r\n\r\n",
+        wanted: "a true",
+    },
+    Long {
+        start: b"GET /a HTTP/1.0\r\nx:",
+        text: b"y",
+        count: 65_514,
+        end: b"\r\n\r\n",
+        wanted: "431",
+    },
+    Long {
+        start: b"",
+        text: b"y",
+        count: 65_535,
+        end: b"",
+        wanted: "400",
+    },
+];
+
+fn asks(alloc: Global, case: &Long) -> Result<bool, AllocError> {
+    let request = repeated(alloc, case.start, case.text, case.count, case.end)?;
+    let shown = shown_demand(alloc, &request)?;
+    Ok(is_text(&shown, case.wanted))
+}
+
 #[test]
 fn long_requests_ask(rt: HostRuntime) -> Result<(), Fail> {
-    let alloc = rt.alloc();
-    let start = b"GET /a HTTP/1.0\r\n".as_slice();
-    let fields = repeated(alloc, start, b"x: y\r\n", 64, b"\r\n")?;
-    assert_eq!(rt; shown_demand(alloc, &fields)?.as_str(), "a true");
-    let fields = repeated(alloc, start, b"x: y\r\n", 65, b"\r\n")?;
-    assert_eq!(rt; shown_demand(alloc, &fields)?.as_str(), "400");
-    let longest = repeated(
-        alloc,
-        b"GET /a HTTP/1.0\r\nx:",
-        b"y",
-        65536 - 23,
-        b"\r\n\r\n",
-    )?;
-    assert_eq!(rt; shown_demand(alloc, &longest)?.as_str(), "a true");
-    let longer = repeated(
-        alloc,
-        b"GET /a HTTP/1.0\r\nx:",
-        b"y",
-        65536 - 22,
-        b"\r\n\r\n",
-    )?;
-    assert_eq!(rt; shown_demand(alloc, &longer)?.as_str(), "431");
-    let shorter = repeated(alloc, b"", b"y", 65535, b"")?;
-    assert_eq!(rt; shown_demand(alloc, &shorter)?.as_str(), "400");
+    for (number, case) in LONG_REQUESTS.iter().enumerate() {
+        assert!(rt; asks(rt.alloc(), case)?, "case {number}");
+    }
     Ok(())
 }
 
@@ -113,23 +155,24 @@ fn shown_request(alloc: Global, bytes: &[u8]) -> Result<String, AllocError> {
     format!(in alloc; "{method} {target} {version} {hosts}")
 }
 
+// Requests, and what their heads say.
+const HEADS: &[(&str, &str)] = &[
+    (
+        "GET /a?b HTTP/1.1\r\nhost: h\r\nA: c\r\nHOST: i\r\n\r\n",
+        "GET /a?b 1 2",
+    ),
+    ("A * HTTP/1.0\r\n\r\n", "A * 0 0"),
+    ("A * HTTP/1.0\r\n\r\nx", "malformed"),
+    ("A * HTTP/1.0\r\n", "malformed"),
+    ("A * HTTP/2.0\r\n\r\n", "malformed"),
+    ("A * HTTP/1.1\r\nHost : h\r\n\r\n", "malformed"),
+];
+
 #[test]
 fn requests_are_read(rt: HostRuntime) -> Result<(), Fail> {
-    let alloc = rt.alloc();
-    let table = [
-        (
-            "GET /a?b HTTP/1.1\r\nhost: h\r\nA: c\r\nHOST: i\r\n\r\n",
-            "GET /a?b 1 2",
-        ),
-        ("A * HTTP/1.0\r\n\r\n", "A * 0 0"),
-        ("A * HTTP/1.0\r\n\r\nx", "malformed"),
-        ("A * HTTP/1.0\r\n", "malformed"),
-        ("A * HTTP/2.0\r\n\r\n", "malformed"),
-        ("A * HTTP/1.1\r\nHost : h\r\n\r\n", "malformed"),
-    ];
-    for (request, wanted) in table {
-        let shown = shown_request(alloc, request.as_bytes())?;
-        assert_eq!(rt; shown.as_str(), wanted, "{request}");
+    for (request, wanted) in HEADS {
+        let shown = shown_request(rt.alloc(), request.as_bytes())?;
+        assert!(rt; is_text(&shown, wanted), "{request}");
     }
     Ok(())
 }
@@ -178,186 +221,274 @@ fn target(alloc: Global, port: u16) -> Result<Target, AllocError> {
     })
 }
 
+// What an answer gave, in words.
+fn shown_begun(alloc: Global, begun: Begun) -> Result<String, AllocError> {
+    let length = begun.length;
+    let early = String::from_utf8(begun.early.into_vec()).unwrap_or(String::new(alloc));
+    let early = early.as_str();
+    format!(in alloc; "{length} {early}")
+}
+
 // What an exchange comes to over a wire, in words.
 fn shown_exchange<W: Wire>(alloc: Global, wire: &mut W, port: u16) -> Result<String, AllocError> {
     let target = target(alloc, port)?;
     match ask_wire(alloc, wire, &target) {
-        Ok(begun) => {
-            let length = begun.length;
-            let early = String::from_utf8(begun.early.into_vec()).unwrap_or(String::new(alloc));
-            let early = early.as_str();
-            format!(in alloc; "{length} {early}")
-        }
+        Ok(begun) => shown_begun(alloc, begun),
         Err(ExchangeFault::Memory) => Err(AllocError),
         Err(fault) => format!(in alloc; "{fault:?}"),
     }
 }
 
 // A wire of one answer, one of whose calls fails.
-fn wire_of(alloc: Global, answer: &[u8], failing: u64) -> Result<MemWire, AllocError> {
-    let answers = List::from_vec(vec![in alloc; Bytes::from_vec(answer.to_vec(alloc)?)]?);
-    Ok(MemWire::new(alloc, answers, List::from_vec([failing].to_vec(alloc)?)))
+fn wire_of(alloc: Global, answer: &[u8], number: u64) -> Result<MemWire, AllocError> {
+    let answers = List::from_vec(vec![in alloc; bytes(alloc, answer)?]?);
+    Ok(MemWire::new(alloc, answers, failing(alloc, number)?))
 }
 
-// What an answer comes to, whole and byte by byte.
-fn both_ways(alloc: Global, answer: &[u8]) -> Result<(String, String), AllocError> {
+// What an answer comes to whole.
+fn at_once(alloc: Global, answer: &[u8]) -> Result<String, AllocError> {
     let mut wire = wire_of(alloc, answer, 0)?;
-    let at_once = shown_exchange(alloc, &mut wire, 80)?;
+    shown_exchange(alloc, &mut wire, 80)
+}
+
+// What an answer comes to byte by byte.
+fn slowly(alloc: Global, answer: &[u8]) -> Result<String, AllocError> {
     let mut wire = OneByte {
         wire: wire_of(alloc, answer, 0)?,
     };
-    let slowly = shown_exchange(alloc, &mut wire, 80)?;
-    Ok((at_once, slowly))
+    shown_exchange(alloc, &mut wire, 80)
 }
+
+// Answers, and what they come to whole and byte by byte.
+const ANSWERS: &[(&str, &str, &str)] = &[
+    (
+        "HTTP/1.1 200 OK\r\nContent-Length: 3\r\n\r\nab",
+        "3 ab",
+        "3 ",
+    ),
+    (
+        "HTTP/1.0 200\r\ncontent-length: 03 \r\nCONTENT-LENGTH: 3\r\n\r\nabcd",
+        "3 abc",
+        "3 ",
+    ),
+    (
+        "HTTP/1.1 200 OK\r\nContent-Length: 3\r\nContent-Length: 4\r\n\r\nabcd",
+        "Malformed",
+        "Malformed",
+    ),
+    (
+        "HTTP/1.1 404 No\r\nContent-Length: 3\r\nContent-Length: 4\r\n\r\n",
+        "Malformed",
+        "Malformed",
+    ),
+    (
+        "HTTP/1.1 200 OK\r\nContent-Length: 00000000000000000003\r\n\r\n",
+        "Malformed",
+        "Malformed",
+    ),
+    (
+        "HTTP/1.1 200 OK\r\nContent-Length: 9999999999999999999\r\n\r\nx",
+        "9999999999999999999 x",
+        "9999999999999999999 ",
+    ),
+    (
+        "HTTP/1.1 200 OK\r\nContent-Length: +3\r\n\r\n",
+        "Malformed",
+        "Malformed",
+    ),
+    (
+        "HTTP/1.1 404 Not Found\r\nTransfer-Encoding: chunked\r\n\r\n",
+        "Missing",
+        "Missing",
+    ),
+    (
+        "HTTP/1.1 206 Partial\r\nContent-Length: 3\r\n\r\nabc",
+        "Status { code: 206 }",
+        "Status { code: 206 }",
+    ),
+    (
+        "HTTP/1.1 200 OK\r\nContent-Encoding: gzip\r\nContent-Length: 3\r\n\r\nabc",
+        "Encoded",
+        "Encoded",
+    ),
+    (
+        "HTTP/1.1 200 OK\r\ncontent-encoding: identity\r\nContent-Length: 0\r\n\r\nabc",
+        "0 ",
+        "0 ",
+    ),
+    (
+        "HTTP/1.1 200 OK\r\ntransfer-encoding: chunked\r\nContent-Length: 3\r\n\r\n3\r\nabc\r\n",
+        "Encoded",
+        "Encoded",
+    ),
+    ("HTTP/1.1 200 OK\r\n\r\nabc", "NoLength", "NoLength"),
+    ("HTTP/1.1 200 OK\r\nContent-Length: 3\r\n", "Cut", "Cut"),
+    ("", "Cut", "Cut"),
+    (
+        "\r\n\r\nHTTP/1.1 200 OK\r\nContent-Length: 3\r\n\r\n",
+        "Malformed",
+        "Malformed",
+    ),
+    (
+        "HTTP/1.1 200 OK\nContent-Length: 3\n\nab\r\n\r\n",
+        "Malformed",
+        "Malformed",
+    ),
+];
 
 #[test]
 fn answers_give(rt: HostRuntime) -> Result<(), Fail> {
-    let alloc = rt.alloc();
-    let table = [
-        (
-            "HTTP/1.1 200 OK\r\nContent-Length: 3\r\n\r\nab",
-            "3 ab",
-            "3 ",
-        ),
-        (
-            "HTTP/1.0 200\r\ncontent-length: 03 \r\nCONTENT-LENGTH: 3\r\n\r\nabcd",
-            "3 abc",
-            "3 ",
-        ),
-        (
-            "HTTP/1.1 200 OK\r\nContent-Length: 3\r\nContent-Length: 4\r\n\r\nabcd",
-            "Malformed",
-            "Malformed",
-        ),
-        (
-            "HTTP/1.1 404 No\r\nContent-Length: 3\r\nContent-Length: 4\r\n\r\n",
-            "Malformed",
-            "Malformed",
-        ),
-        (
-            "HTTP/1.1 200 OK\r\nContent-Length: 00000000000000000003\r\n\r\n",
-            "Malformed",
-            "Malformed",
-        ),
-        (
-            "HTTP/1.1 200 OK\r\nContent-Length: 9999999999999999999\r\n\r\nx",
-            "9999999999999999999 x",
-            "9999999999999999999 ",
-        ),
-        (
-            "HTTP/1.1 200 OK\r\nContent-Length: +3\r\n\r\n",
-            "Malformed",
-            "Malformed",
-        ),
-        (
-            "HTTP/1.1 404 Not Found\r\nTransfer-Encoding: chunked\r\n\r\n",
-            "Missing",
-            "Missing",
-        ),
-        (
-            "HTTP/1.1 206 Partial\r\nContent-Length: 3\r\n\r\nabc",
-            "Status { code: 206 }",
-            "Status { code: 206 }",
-        ),
-        (
-            "HTTP/1.1 200 OK\r\nContent-Encoding: gzip\r\nContent-Length: 3\r\n\r\nabc",
-            "Encoded",
-            "Encoded",
-        ),
-        (
-            "HTTP/1.1 200 OK\r\ncontent-encoding: identity\r\nContent-Length: 0\r\n\r\nabc",
-            "0 ",
-            "0 ",
-        ),
-        (
-            "HTTP/1.1 200 OK\r\ntransfer-encoding: chunked\r\nContent-Length: 3\r\n\r\n3\r\nabc\r\n",
-            "Encoded",
-            "Encoded",
-        ),
-        ("HTTP/1.1 200 OK\r\n\r\nabc", "NoLength", "NoLength"),
-        ("HTTP/1.1 200 OK\r\nContent-Length: 3\r\n", "Cut", "Cut"),
-        ("", "Cut", "Cut"),
-        (
-            "\r\n\r\nHTTP/1.1 200 OK\r\nContent-Length: 3\r\n\r\n",
-            "Malformed",
-            "Malformed",
-        ),
-        (
-            "HTTP/1.1 200 OK\nContent-Length: 3\n\nab\r\n\r\n",
-            "Malformed",
-            "Malformed",
-        ),
-    ];
-    for (answer, wanted, slow) in table {
-        let (at_once, slowly) = both_ways(alloc, answer.as_bytes())?;
-        assert_eq!(rt; at_once.as_str(), wanted, "{answer}");
-        assert_eq!(rt; slowly.as_str(), slow, "{answer}");
+    for (answer, wanted, _) in ANSWERS {
+        let shown = at_once(rt.alloc(), answer.as_bytes())?;
+        assert!(rt; is_text(&shown, wanted), "{answer}");
     }
     Ok(())
+}
+
+#[test]
+fn answers_give_byte_by_byte(rt: HostRuntime) -> Result<(), Fail> {
+    for (answer, _, wanted) in ANSWERS {
+        let shown = slowly(rt.alloc(), answer.as_bytes())?;
+        assert!(rt; is_text(&shown, wanted), "{answer}");
+    }
+    Ok(())
+}
+
+const LONG_ANSWERS: &[Long] = &[
+    Long {
+        start: b"HTTP/1.1 200 OK\r\nContent-Length: 3\r\n",
+        text: b"x: y\r\n",
+        count: 63,
+        end: b"\r\nab",
+        wanted: "3 ab",
+    },
+    Long {
+        start: b"HTTP/1.1 200 OK\r\nContent-Length: 3\r\n",
+        text: b"x: y\r\n",
+        count: 64,
+        end: b"\r\nab",
+        wanted: "Malformed",
+    },
+    Long {
+        start: b"",
+        text: b"\r\n",
+        count: 32_768,
+        end: b"\r\n\r\n",
+        wanted: "Malformed",
+    },
+    Long {
+        start: b"",
+        text: b"y",
+        count: 65_536,
+        end: b"\r\n\r\n",
+        wanted: "HeadTooLong",
+    },
+    Long {
+        start: b"",
+        text: b"y",
+        count: 65_535,
+        end: b"",
+        wanted: "Cut",
+    },
+];
+
+fn gives(alloc: Global, case: &Long) -> Result<bool, AllocError> {
+    let answer = repeated(alloc, case.start, case.text, case.count, case.end)?;
+    let shown = at_once(alloc, &answer)?;
+    Ok(is_text(&shown, case.wanted))
 }
 
 #[test]
 fn long_answers_give(rt: HostRuntime) -> Result<(), Fail> {
-    let alloc = rt.alloc();
-    let start = b"HTTP/1.1 200 OK\r\nContent-Length: 3\r\n".as_slice();
-    let table = [
-        (repeated(alloc, start, b"x: y\r\n", 63, b"\r\nab")?, "3 ab"),
-        (
-            repeated(alloc, start, b"x: y\r\n", 64, b"\r\nab")?,
-            "Malformed",
-        ),
-        (
-            repeated(alloc, b"", b"\r\n", 32768, b"\r\n\r\n")?,
-            "Malformed",
-        ),
-        (
-            repeated(alloc, b"", b"y", 65536, b"\r\n\r\n")?,
-            "HeadTooLong",
-        ),
-        (repeated(alloc, b"", b"y", 65535, b"")?, "Cut"),
-    ];
-    for (answer, wanted) in table {
-        let mut wire = wire_of(alloc, &answer, 0)?;
-        let shown = shown_exchange(alloc, &mut wire, 80)?;
-        assert_eq!(rt; shown.as_str(), wanted);
+    for (number, case) in LONG_ANSWERS.iter().enumerate() {
+        assert!(rt; gives(rt.alloc(), case)?, "case {number}");
     }
     Ok(())
 }
 
-// What an exchange comes to, the faults, and what was sent.
-fn failing_exchange(
-    alloc: Global,
+// An exchange with that port over a wire of which one call fails: what it comes to, the count of faults by then,
+// and what was sent.
+#[derive(Drop)]
+struct Failing {
     port: u16,
     failing: u64,
-) -> Result<(String, u64, String), AllocError> {
-    let answer = b"HTTP/1.1 200 OK\r\nContent-Length: 3\r\n\r\nabc".as_slice();
-    let mut wire = wire_of(alloc, answer, failing)?;
-    let shown = shown_exchange(alloc, &mut wire, port)?;
-    let mut sent = String::new(alloc);
+    wanted: &'static str,
+    faults: u64,
+    sent: &'static str,
+}
+
+const ASKED: &str =
+    "GET /a?b HTTP/1.1\r\nHost: h.example\r\nAccept-Encoding: identity\r\nConnection: close\r\n\r\n";
+
+const ASKED_ELSEWHERE: &str =
+    "GET /a?b HTTP/1.1\r\nHost: h.example:8080\r\nAccept-Encoding: identity\r\nConnection: close\r\n\r\n";
+
+const FAILING: &[Failing] = &[
+    Failing {
+        port: 80,
+        failing: 0,
+        wanted: "3 abc",
+        faults: 0,
+        sent: ASKED,
+    },
+    Failing {
+        port: 8080,
+        failing: 0,
+        wanted: "3 abc",
+        faults: 0,
+        sent: ASKED_ELSEWHERE,
+    },
+    Failing {
+        port: 80,
+        failing: 1,
+        wanted: "ReadFault",
+        faults: 1,
+        sent: "",
+    },
+    Failing {
+        port: 80,
+        failing: 2,
+        wanted: "WriteFault",
+        faults: 1,
+        sent: "",
+    },
+    Failing {
+        port: 80,
+        failing: 3,
+        wanted: "ReadFault",
+        faults: 1,
+        sent: ASKED,
+    },
+];
+
+// Whether that was sent, over all connections.
+fn was_sent(alloc: Global, wire: &MemWire, wanted: &str) -> Result<bool, AllocError> {
+    let mut sent = Vec::new(alloc);
     for text in wire.sent().as_slice() {
-        sent.push_str(str::from_utf8(text.as_slice()).unwrap_or("?"))?;
+        sent.extend_from_slice(text.as_slice())?;
     }
-    Ok((shown, wire.faults(), sent))
+    Ok(same(&sent, wanted.as_bytes()))
+}
+
+fn assert_failing(
+    rt: &(impl Abort + AllocGlobal),
+    number: usize,
+    case: &Failing,
+) -> Result<(), AllocError> {
+    let alloc = rt.alloc();
+    let answer = b"HTTP/1.1 200 OK\r\nContent-Length: 3\r\n\r\nabc";
+    let mut wire = wire_of(alloc, answer, case.failing)?;
+    let shown = shown_exchange(alloc, &mut wire, case.port)?;
+    assert!(rt; is_text(&shown, case.wanted), "case {number}");
+    assert!(rt; wire.faults() == case.faults, "case {number}: faults");
+    assert!(rt; was_sent(alloc, &wire, case.sent)?, "case {number}: sent");
+    Ok(())
 }
 
 #[test]
 fn wires_fail(rt: HostRuntime) -> Result<(), Fail> {
-    let asked =
-        "GET /a?b HTTP/1.1\r\nHost: h.example\r\nAccept-Encoding: identity\r\nConnection: close\r\n\r\n";
-    let elsewhere =
-        "GET /a?b HTTP/1.1\r\nHost: h.example:8080\r\nAccept-Encoding: identity\r\nConnection: close\r\n\r\n";
-    let table = [
-        (80, 0, "3 abc", 0, asked),
-        (8080, 0, "3 abc", 0, elsewhere),
-        (80, 1, "ReadFault", 1, ""),
-        (80, 2, "WriteFault", 1, ""),
-        (80, 3, "ReadFault", 1, asked),
-    ];
-    for (port, failing, wanted, faults, text) in table {
-        let (shown, count, sent) = failing_exchange(rt.alloc(), port, failing)?;
-        assert_eq!(rt; shown.as_str(), wanted);
-        assert_eq!(rt; count, faults);
-        assert_eq!(rt; sent.as_str(), text);
+    for (number, case) in FAILING.iter().enumerate() {
+        assert_failing(&rt, number, case)?;
     }
     Ok(())
 }

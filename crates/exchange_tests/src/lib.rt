@@ -8,6 +8,8 @@ mod host_cli_tests;
 #[cfg(test)]
 mod http_plain_tests;
 #[cfg(test)]
+mod made;
+#[cfg(test)]
 mod plain_host_tests;
 #[cfg(test)]
 mod publisher_tests;

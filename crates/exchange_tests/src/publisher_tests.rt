@@ -34,15 +34,16 @@ fn fits(alloc: Global, rule: Rule) -> Result<bool, Fail> {
         mapped: true,
         marks: List::from_vec(Vec::new(alloc)),
     };
-    Ok(is_publishable(alloc, &options)?)
+    let fits = is_publishable(alloc, &options);
+    drop(options);
+    Ok(fits?)
 }
 
 #[test]
 fn an_age_has_whole_hours(rt: HostRuntime) -> Result<(), Fail> {
-    let alloc = rt.alloc();
-    let whole = fits(alloc, Rule::Age { seconds: 7200 })?;
-    assert!(rt; whole);
-    let broken = fits(alloc, Rule::Age { seconds: 7201 })?;
-    assert!(rt; !broken);
+    for (seconds, whole) in [(7200, true), (7201, false)] {
+        let fits = fits(rt.alloc(), Rule::Age { seconds })?;
+        assert!(rt; fits == whole, "{seconds}");
+    }
     Ok(())
 }
