@@ -5,193 +5,239 @@ use identity::{Key, Version};
 use machine::{Command, LineFault, Reply};
 use outside::{Failed, MemSink, Sink};
 use small_types::limits::NUMBER_LIMIT;
-use small_types::{Bytes, Limit, List, Text};
+use small_types::{Bytes, Limit, List};
 use std::alloc::{AllocError, Global};
+use std::process::Abort;
 use std::test::Fail;
 
-fn text(alloc: Global, text: &str) -> Result<Text, AllocError> {
-    Ok(Text::from_string(String::from_str(alloc, text)?))
+fn same(a: &[u8], b: &[u8]) -> bool {
+    a == b
 }
 
-#[test]
-fn commands_are_read(rt: HostRuntime) -> Result<(), Fail> {
-    let alloc = rt.alloc();
-    let wanted = Command::Require {
-        key: Key {
-            name: text(alloc, "org.example/app")?,
-            token: text(alloc, "b77a")?,
-            language: text(alloc, "en")?,
-            architecture: text(alloc, "x86 64")?,
-        },
-        version: Version {
-            a: 1,
-            b: 2,
-            c: 0,
-            d: 65_535,
-        },
-    };
-    let read = read_line(
-        alloc,
-        b"require org.example%2Fapp,b77a,en,x86%2064 01.2.0.65535",
-    );
-    assert_eq!(rt; read, Ok(wanted));
-    let cases: [(&str, u64); 3] = [
-        ("at 0", 0),
-        ("at 0001700000000", 1_700_000_000),
-        ("at 4611686018427387904", NUMBER_LIMIT),
-    ];
-    for (line, now) in cases {
-        assert_eq!(rt;
-            read_line(alloc, line.as_bytes()),
-            Ok(Command::At { now }),
-            "at {line}"
-        );
-    }
-    Ok(())
+// A key by its parts.
+#[derive(Drop)]
+struct Parts {
+    name: &'static str,
+    token: &'static str,
+    language: &'static str,
+    architecture: &'static str,
 }
+
+fn is_key(key: &Key, parts: &Parts) -> bool {
+    same(key.name.as_bytes(), parts.name.as_bytes())
+        && same(key.token.as_bytes(), parts.token.as_bytes())
+        && same(key.language.as_bytes(), parts.language.as_bytes())
+        && same(key.architecture.as_bytes(), parts.architecture.as_bytes())
+}
+
+// What a line is to be read as.
+#[derive(Drop)]
+enum Wanted {
+    At(u64),
+    Require(Parts, Version),
+    Fault(LineFault),
+}
+
+fn is_wanted(read: &Result<Command, LineFault>, wanted: &Wanted) -> bool {
+    match (read, wanted) {
+        (Ok(Command::At { now }), Wanted::At(want)) => *now == *want,
+        (Ok(Command::Require { key, version }), Wanted::Require(parts, want)) => {
+            is_key(key, parts) && *version == *want
+        }
+        (Err(fault), Wanted::Fault(want)) => *fault == *want,
+        _ => false,
+    }
+}
+
+// Whether the line is read as that. It promises nothing, so that what a test asks is tried and not proved.
+fn reads(alloc: Global, line: &[u8], wanted: &Wanted) -> bool {
+    let read = read_line(alloc, line);
+    let is = is_wanted(&read, wanted);
+    drop(read);
+    is
+}
+
+const COMMANDS: &[(&str, Wanted)] = &[
+    (
+        "require org.example%2Fapp,b77a,en,x86%2064 01.2.0.65535",
+        Wanted::Require(
+            Parts {
+                name: "org.example/app",
+                token: "b77a",
+                language: "en",
+                architecture: "x86 64",
+            },
+            Version {
+                a: 1,
+                b: 2,
+                c: 0,
+                d: 65_535,
+            },
+        ),
+    ),
+    ("at 0", Wanted::At(0)),
+    ("at 0001700000000", Wanted::At(1_700_000_000)),
+    ("at 4611686018427387904", Wanted::At(NUMBER_LIMIT)),
+];
+
+#[test]
+fn commands_are_read(rt: HostRuntime) {
+    for (line, wanted) in COMMANDS {
+        assert!(rt; reads(rt.alloc(), line.as_bytes(), wanted), "at {line}");
+    }
+}
+
+const FAULTS: &[(&str, LineFault)] = &[
+    ("", LineFault::NoSuchCommand),
+    (" ", LineFault::NoSuchCommand),
+    ("frob", LineFault::NoSuchCommand),
+    ("frob a b c d", LineFault::NoSuchCommand),
+    ("Require a,b,c,d 1.0.0.0", LineFault::NoSuchCommand),
+    (" require a,b,c,d 1.0.0.0", LineFault::NoSuchCommand),
+    ("requires a,b,c,d 1.0.0.0", LineFault::NoSuchCommand),
+    ("require\ta,b,c,d 1.0.0.0", LineFault::NoSuchCommand),
+    ("At 1", LineFault::NoSuchCommand),
+    ("at1", LineFault::NoSuchCommand),
+    ("at", LineFault::WordCount),
+    ("at 1 ", LineFault::WordCount),
+    ("at x y", LineFault::WordCount),
+    ("at ", LineFault::BadWord { place: 1 }),
+    ("at x", LineFault::BadWord { place: 1 }),
+    ("at 4611686018427387905", LineFault::BadWord { place: 1 }),
+    ("at 00000000000000000001", LineFault::BadWord { place: 1 }),
+    ("require", LineFault::WordCount),
+    ("require ", LineFault::WordCount),
+    ("require a,b,c,d", LineFault::WordCount),
+    ("require a,b,c,d 1.0.0.0 ", LineFault::WordCount),
+    ("require a,b,c,d 1.0.0.0 x", LineFault::WordCount),
+    ("require  a,b,c,d 1.0.0.0", LineFault::WordCount),
+    ("require  ", LineFault::BadWord { place: 1 }),
+    ("require x 1.0.0.0", LineFault::BadWord { place: 1 }),
+    ("require x 1.0", LineFault::BadWord { place: 1 }),
+    ("require a,b,c,d 1.0", LineFault::BadWord { place: 2 }),
+    ("require a,b,c,d 1.0.0.0\r", LineFault::BadWord { place: 2 }),
+    ("installs a", LineFault::NoSuchCommand),
+    ("Install a", LineFault::NoSuchCommand),
+    ("install", LineFault::WordCount),
+    ("install a b", LineFault::WordCount),
+    ("install a ", LineFault::WordCount),
+    ("install ", LineFault::BadWord { place: 1 }),
+    ("install a\tb", LineFault::BadWord { place: 1 }),
+    ("install a\r", LineFault::BadWord { place: 1 }),
+    ("install a\u{7f}", LineFault::BadWord { place: 1 }),
+    ("install h\u{e9}", LineFault::BadWord { place: 1 }),
+];
 
 #[test]
 fn faults_come_in_order(rt: HostRuntime) {
-    let cases: [(&str, LineFault); 38] = [
-        ("", LineFault::NoSuchCommand),
-        (" ", LineFault::NoSuchCommand),
-        ("frob", LineFault::NoSuchCommand),
-        ("frob a b c d", LineFault::NoSuchCommand),
-        ("Require a,b,c,d 1.0.0.0", LineFault::NoSuchCommand),
-        (" require a,b,c,d 1.0.0.0", LineFault::NoSuchCommand),
-        ("requires a,b,c,d 1.0.0.0", LineFault::NoSuchCommand),
-        ("require\ta,b,c,d 1.0.0.0", LineFault::NoSuchCommand),
-        ("At 1", LineFault::NoSuchCommand),
-        ("at1", LineFault::NoSuchCommand),
-        ("at", LineFault::WordCount),
-        ("at 1 ", LineFault::WordCount),
-        ("at x y", LineFault::WordCount),
-        ("at ", LineFault::BadWord { place: 1 }),
-        ("at x", LineFault::BadWord { place: 1 }),
-        ("at 4611686018427387905", LineFault::BadWord { place: 1 }),
-        ("at 00000000000000000001", LineFault::BadWord { place: 1 }),
-        ("require", LineFault::WordCount),
-        ("require ", LineFault::WordCount),
-        ("require a,b,c,d", LineFault::WordCount),
-        ("require a,b,c,d 1.0.0.0 ", LineFault::WordCount),
-        ("require a,b,c,d 1.0.0.0 x", LineFault::WordCount),
-        ("require  a,b,c,d 1.0.0.0", LineFault::WordCount),
-        ("require  ", LineFault::BadWord { place: 1 }),
-        ("require x 1.0.0.0", LineFault::BadWord { place: 1 }),
-        ("require x 1.0", LineFault::BadWord { place: 1 }),
-        ("require a,b,c,d 1.0", LineFault::BadWord { place: 2 }),
-        ("require a,b,c,d 1.0.0.0\r", LineFault::BadWord { place: 2 }),
-        ("installs a", LineFault::NoSuchCommand),
-        ("Install a", LineFault::NoSuchCommand),
-        ("install", LineFault::WordCount),
-        ("install a b", LineFault::WordCount),
-        ("install a ", LineFault::WordCount),
-        ("install ", LineFault::BadWord { place: 1 }),
-        ("install a\tb", LineFault::BadWord { place: 1 }),
-        ("install a\r", LineFault::BadWord { place: 1 }),
-        ("install a\u{7f}", LineFault::BadWord { place: 1 }),
-        ("install h\u{e9}", LineFault::BadWord { place: 1 }),
-    ];
-    for (line, wanted) in cases {
-        assert_eq!(rt;
-            read_line(rt.alloc(), line.as_bytes()),
-            Err(wanted),
-            "at {line}"
-        );
+    for (line, fault) in FAULTS {
+        let wanted = Wanted::Fault(*fault);
+        assert!(rt; reads(rt.alloc(), line.as_bytes(), &wanted), "at {line}");
     }
 }
 
 #[test]
 fn long_lines_are_refused(rt: HostRuntime) -> Result<(), Fail> {
-    let alloc = rt.alloc();
-    let longest = vec![in alloc; b'x'; 65_536]?;
-    assert_eq!(rt; read_line(alloc, &longest), Err(LineFault::NoSuchCommand));
-    let longer = vec![in alloc; b'x'; 65_537]?;
-    assert_eq!(rt; read_line(alloc, &longer), Err(LineFault::LineTooLong));
+    let table = [
+        (65_536, LineFault::NoSuchCommand),
+        (65_537, LineFault::LineTooLong),
+    ];
+    for (length, fault) in table {
+        let line = vec![in rt.alloc(); b'x'; length]?;
+        let wanted = Wanted::Fault(fault);
+        assert!(rt; reads(rt.alloc(), &line, &wanted), "{length}");
+    }
     Ok(())
+}
+
+const SOME: Version = Version {
+    a: 1,
+    b: 2,
+    c: 0,
+    d: 0,
+};
+
+const MOST: Version = Version {
+    a: 65_535,
+    b: 65_535,
+    c: 65_535,
+    d: 65_535,
+};
+
+// A reply that holds plain values.
+#[derive(Drop)]
+enum Plain {
+    At(u64),
+    Minimum(Version),
+    // Too many applications.
+    TooMany(u64),
+    Line(LineFault),
+    Memory,
+}
+
+fn reply_of(plain: &Plain) -> Reply {
+    match plain {
+        Plain::At(now) => Reply::At { now: *now },
+        Plain::Minimum(version) => Reply::Minimum { version: *version },
+        Plain::TooMany(limit) => Reply::TooMany {
+            what: Limit::Applications,
+            limit: *limit,
+        },
+        Plain::Line(fault) => Reply::Line { fault: *fault },
+        Plain::Memory => Reply::Memory,
+    }
+}
+
+const REPLIES: &[(Plain, &str)] = &[
+    (Plain::At(0), "ok at 0\n"),
+    (Plain::At(NUMBER_LIMIT), "ok at 4611686018427387904\n"),
+    (Plain::Minimum(SOME), "ok minimum 1.2.0.0\n"),
+    (Plain::Minimum(MOST), "ok minimum 65535.65535.65535.65535\n"),
+    (Plain::TooMany(256), "no too-many applications 256\n"),
+    (
+        Plain::TooMany(u64::MAX),
+        "no too-many applications 18446744073709551615\n",
+    ),
+    (
+        Plain::Line(LineFault::BadWord { place: 1 }),
+        "no line word 1\n",
+    ),
+    (
+        Plain::Line(LineFault::BadWord { place: 255 }),
+        "no line word 255\n",
+    ),
+    (Plain::Line(LineFault::NoSuchCommand), "no line command\n"),
+    (Plain::Line(LineFault::WordCount), "no line words\n"),
+    (Plain::Line(LineFault::LineTooLong), "no line too-long\n"),
+    (Plain::Line(LineFault::Memory), "no memory\n"),
+    (Plain::Memory, "no memory\n"),
+];
+
+// Prints the reply. It promises nothing, so that what a test asks is tried and not proved.
+fn print<K: Sink>(plain: &Plain, sink: &mut K) -> Result<(), Failed> {
+    let reply = reply_of(plain);
+    let printed = print_reply(&reply, sink);
+    drop(reply);
+    printed
+}
+
+// An empty sink, of which one call fails.
+fn sink_of(alloc: Global, failing: u64) -> Result<MemSink, AllocError> {
+    let failing = List::from_vec([failing].to_vec(alloc)?);
+    Ok(MemSink::new(alloc, Bytes::from_vec(Vec::new(alloc)), failing))
+}
+
+// Whether the reply is printed so.
+fn prints(alloc: Global, reply: &Plain, wanted: &str) -> Result<bool, AllocError> {
+    let mut sink = sink_of(alloc, 0)?;
+    let printed = print(reply, &mut sink);
+    Ok(printed.is_ok() && same(sink.taken(), wanted.as_bytes()))
 }
 
 #[test]
 fn replies_are_printed(rt: HostRuntime) -> Result<(), Fail> {
-    let version = Version {
-        a: 1,
-        b: 2,
-        c: 0,
-        d: 0,
-    };
-    let most = Version {
-        a: 65_535,
-        b: 65_535,
-        c: 65_535,
-        d: 65_535,
-    };
-    let what = Limit::Applications;
-    let cases: [(Reply, &str); 13] = [
-        (Reply::At { now: 0 }, "ok at 0\n"),
-        (
-            Reply::At { now: NUMBER_LIMIT },
-            "ok at 4611686018427387904\n",
-        ),
-        (Reply::Minimum { version }, "ok minimum 1.2.0.0\n"),
-        (
-            Reply::Minimum { version: most },
-            "ok minimum 65535.65535.65535.65535\n",
-        ),
-        (
-            Reply::TooMany { what, limit: 256 },
-            "no too-many applications 256\n",
-        ),
-        (
-            Reply::TooMany {
-                what,
-                limit: u64::MAX,
-            },
-            "no too-many applications 18446744073709551615\n",
-        ),
-        (
-            Reply::Line {
-                fault: LineFault::BadWord { place: 1 },
-            },
-            "no line word 1\n",
-        ),
-        (
-            Reply::Line {
-                fault: LineFault::BadWord { place: 255 },
-            },
-            "no line word 255\n",
-        ),
-        (
-            Reply::Line {
-                fault: LineFault::NoSuchCommand,
-            },
-            "no line command\n",
-        ),
-        (
-            Reply::Line {
-                fault: LineFault::WordCount,
-            },
-            "no line words\n",
-        ),
-        (
-            Reply::Line {
-                fault: LineFault::LineTooLong,
-            },
-            "no line too-long\n",
-        ),
-        (
-            Reply::Line {
-                fault: LineFault::Memory,
-            },
-            "no memory\n",
-        ),
-        (Reply::Memory, "no memory\n"),
-    ];
-    let alloc = rt.alloc();
-    for (reply, wanted) in cases {
-        let none = List::from_vec(Vec::new(alloc));
-        let mut sink = MemSink::new(alloc, Bytes::from_vec(Vec::new(alloc)), none);
-        assert_eq!(rt; print_reply(&reply, &mut sink), Ok(()));
-        assert_eq!(rt; sink.taken(), wanted.as_bytes());
+    for (reply, wanted) in REPLIES {
+        assert!(rt; prints(rt.alloc(), reply, wanted)?, "{wanted}");
     }
     Ok(())
 }
@@ -218,62 +264,87 @@ impl Sink for Narrow {
     }
 }
 
-// Each call fails once: what was taken is what stands before it, and the line is whole again after that.
-#[test]
-fn a_failing_sink_takes_a_first_part(rt: HostRuntime) -> Result<(), Fail> {
-    let alloc = rt.alloc();
-    let line = "no too-many applications 256\n".as_bytes();
-    let reply = Reply::TooMany {
-        what: Limit::Applications,
-        limit: 256,
-    };
-    for (calls, _) in line.iter().enumerate() {
-        let failing = List::from_vec([calls as u64 + 1].to_vec(alloc)?);
-        let inner = MemSink::new(alloc, Bytes::from_vec(Vec::new(alloc)), failing);
-        let mut sink = Narrow { inner };
-        assert_eq!(rt; print_reply(&reply, &mut sink), Err(Failed));
-        assert_eq!(rt; sink.inner.taken(), &line[..calls]);
-        assert_eq!(rt; sink.faults(), 1);
-        assert_eq!(rt; print_reply(&reply, &mut sink), Ok(()));
-        assert_eq!(rt; &sink.inner.taken()[calls..], line);
-        assert_eq!(rt; sink.faults(), 1);
+const LINE: &[u8] = b"no too-many applications 256\n";
+
+// Whether the sink took so many bytes of the line, and then those.
+fn has_taken(sink: &Narrow, calls: usize, then: &[u8]) -> bool {
+    let taken = sink.inner.taken();
+    calls <= taken.len()
+        && calls <= LINE.len()
+        && same(&taken[..calls], &LINE[..calls])
+        && same(&taken[calls..], then)
+}
+
+// Prints into a sink whose call after that many fails, and prints again.
+fn assert_first_part(
+    rt: &(impl Abort + AllocGlobal),
+    calls: usize,
+    failing: u64,
+) -> Result<(), AllocError> {
+    let inner = sink_of(rt.alloc(), failing)?;
+    let mut sink = Narrow { inner };
+    for (wanted, then) in [(Err(Failed), b"".as_slice()), (Ok(()), LINE)] {
+        let printed = print(&Plain::TooMany(256), &mut sink);
+        assert!(rt; printed == wanted, "after {calls}");
+        assert!(rt; has_taken(&sink, calls, then), "after {calls}: taken");
+        assert!(rt; sink.faults() == 1, "after {calls}: faults");
     }
     Ok(())
 }
 
+// Each call fails once: what was taken is what stands before it, and the line is whole again after that.
+#[test]
+fn a_failing_sink_takes_a_first_part(rt: HostRuntime) -> Result<(), Fail> {
+    for calls in 0..LINE.len() {
+        let failing = (calls as u64).saturating_add(1);
+        assert_first_part(&rt, calls, failing)?;
+    }
+    Ok(())
+}
+
+fn number_of(text: &str) -> Option<u64> {
+    read_number(text.as_bytes())
+}
+
+const NUMBERS: &[(&str, Option<u64>)] = &[
+    ("0", Some(0)),
+    ("007", Some(7)),
+    ("1700000000", Some(1_700_000_000)),
+    ("0000000000000000001", Some(1)),
+    ("4611686018427387904", Some(NUMBER_LIMIT)),
+    ("4611686018427387905", None),
+    ("9999999999999999999", None),
+    ("00000000000000000001", None),
+    ("", None),
+    ("+1", None),
+    ("-1", None),
+    ("1 ", None),
+    ("0x1", None),
+];
+
 #[test]
 fn numbers_are_read(rt: HostRuntime) {
-    let cases: [(&str, Option<u64>); 13] = [
-        ("0", Some(0)),
-        ("007", Some(7)),
-        ("1700000000", Some(1_700_000_000)),
-        ("0000000000000000001", Some(1)),
-        ("4611686018427387904", Some(NUMBER_LIMIT)),
-        ("4611686018427387905", None),
-        ("9999999999999999999", None),
-        ("00000000000000000001", None),
-        ("", None),
-        ("+1", None),
-        ("-1", None),
-        ("1 ", None),
-        ("0x1", None),
-    ];
-    for (bytes, wanted) in cases {
-        assert_eq!(rt; read_number(bytes.as_bytes()), wanted, "at {bytes}");
+    for (text, wanted) in NUMBERS {
+        assert!(rt; number_of(text) == *wanted, "at {text}");
     }
 }
 
+fn strips(line: &str, wanted: &str) -> bool {
+    same(strip_carriage_return(line.as_bytes()), wanted.as_bytes())
+}
+
+const STRIPPED: &[(&str, &str)] = &[
+    ("", ""),
+    ("\r", ""),
+    ("a", "a"),
+    ("a\r", "a"),
+    ("a\r\r", "a\r"),
+    ("\ra", "\ra"),
+];
+
 #[test]
 fn one_carriage_return_is_stripped(rt: HostRuntime) {
-    let cases: [(&str, &str); 6] = [
-        ("", ""),
-        ("\r", ""),
-        ("a", "a"),
-        ("a\r", "a"),
-        ("a\r\r", "a\r"),
-        ("\ra", "\ra"),
-    ];
-    for (line, wanted) in cases {
-        assert_eq!(rt; strip_carriage_return(line.as_bytes()), wanted.as_bytes());
+    for (line, wanted) in STRIPPED {
+        assert!(rt; strips(line, wanted), "at {line}");
     }
 }

@@ -3,14 +3,13 @@ ghost use Rattle.record_codec.specs.Codec.{IsChange};
 
 use identity::{Key, Version};
 use record_codec::{CodecFault, decode_change, encode_change, encoded_length};
-use std::alloc::Global;
-use std::process::Abort;
+use std::alloc::{AllocError, Global};
 use std::test::Fail;
 use store_state::Change;
 
-const BOOT_ONE: [u8; 9] = [0, 0, 0, 0, 0, 0, 0, 0, 1];
+const BOOT_ONE: &[u8] = &[0, 0, 0, 0, 0, 0, 0, 0, 1];
 
-const REQUIRE: [u8; 29] = [
+const REQUIRE: &[u8] = &[
     1, 0, 0, 0, 1, b'n', 0, 0, 0, 1, b't', 0, 0, 0, 1, b'l', 0, 0, 0, 1, b'a', 0, 1, 0, 2, 0, 3, 0,
     4,
 ];
@@ -73,97 +72,126 @@ fn read(alloc: Global, bytes: &[u8]) -> Said {
     }
 }
 
-fn fails(rt: &impl Abort, alloc: Global, bytes: &[u8], place: u64) {
-    assert_eq!(rt; read(alloc, bytes), Said::Bad(place));
+fn same(a: &[u8], b: &[u8]) -> bool {
+    a == b
+}
+
+fn are_sevens(bytes: &[u8]) -> bool {
+    for byte in bytes {
+        if *byte != 7 {
+            return false;
+        }
+    }
+    true
+}
+
+// Whether the change is written as that, into a buffer whose other bytes stay.
+fn writes(change: &Change, wanted: &[u8]) -> bool
+    requires { IsChange change.now }
+{
+    let length = encoded_length(change);
+    if length > 32 || length != wanted.len() as u64 {
+        return false;
+    }
+    let mut out = [7; 32];
+    let written = encode_change(change, &mut out);
+    written == wanted.len() && same(&out[..written], wanted) && are_sevens(&out[written..])
 }
 
 #[test]
-fn changes_of_one_number(rt: HostRuntime) -> Result<(), Fail> {
-    let mut out = [7; 32];
-    let boot = Change::Boot { boot: 1 };
-    assert_eq!(rt; encoded_length(&boot), 9);
-    assert_eq!(rt; encode_change(&boot, &mut out), 9);
-    assert_eq!(rt; &out[..9], BOOT_ONE.as_slice());
-    assert_eq!(rt; &out[9..], [7; 23].as_slice());
-    drop(boot);
-    assert_eq!(rt; read(rt.alloc(), &BOOT_ONE), Said::Boot(1));
-    let wide = [0, 1, 2, 3, 4, 5, 6, 7, 8];
-    assert_eq!(rt; read(rt.alloc(), &wide), Said::Boot(0x0102_0304_0506_0708));
-    assert_eq!(rt; read(rt.alloc(), &[7, 0, 0, 1, 2]), Said::Launch(258));
-    let wide = [8, 1, 2, 3, 4, 5, 6, 7, 8];
-    assert_eq!(rt;
-        read(rt.alloc(), &wide),
-        Said::Finish(0x0102_0304_0506_0708)
-    );
-    Ok(())
+fn a_change_of_one_number_is_written(rt: HostRuntime) {
+    assert!(rt; writes(&Change::Boot { boot: 1 }, BOOT_ONE));
 }
 
 #[test]
-fn a_requirement(rt: HostRuntime) -> Result<(), Fail> {
-    let mut out = [7; 32];
+fn a_requirement_is_written(rt: HostRuntime) -> Result<(), Fail> {
     let key = Key::read(rt.alloc(), b"n,t,l,a")?;
     let change = requirement(key);
-    assert_eq!(rt; encoded_length(&change), 29);
-    assert_eq!(rt; encode_change(&change, &mut out), 29);
-    let mut wanted = [7; 32];
-    wanted[..29].copy_from_slice(&REQUIRE);
-    assert_eq!(rt; out, wanted);
+    let is_written = writes(&change, REQUIRE);
     drop(change);
-    assert_eq!(rt;
-        read(rt.alloc(), &REQUIRE),
-        Said::Require(1, 4, [1, 1, 1, 1])
-    );
+    assert!(rt; is_written);
     Ok(())
 }
 
-#[test]
-fn what_is_no_encoding(rt: HostRuntime) -> Result<(), Fail> {
-    fails(&rt, rt.alloc(), &[], 0);
-    fails(&rt, rt.alloc(), &[3], 0);
-    fails(&rt, rt.alloc(), &[9], 0);
+// Bytes, and what they are read as.
+const READ: &[(&[u8], Said)] = &[
+    (BOOT_ONE, Said::Boot(1)),
+    (
+        &[0, 1, 2, 3, 4, 5, 6, 7, 8],
+        Said::Boot(0x0102_0304_0506_0708),
+    ),
+    (&[7, 0, 0, 1, 2], Said::Launch(258)),
+    (
+        &[8, 1, 2, 3, 4, 5, 6, 7, 8],
+        Said::Finish(0x0102_0304_0506_0708),
+    ),
+    (REQUIRE, Said::Require(1, 4, [1, 1, 1, 1])),
+    // Parts may be empty.
+    (
+        &[
+            1, 0, 0, 0, 0, 0, 0, 0, 0, 0, 0, 0, 0, 0, 0, 0, 0, 0, 0, 0, 0, 0, 0, 0, 9,
+        ],
+        Said::Require(0, 9, [0, 0, 0, 0]),
+    ),
+    (&[], Said::Bad(0)),
+    (&[3], Said::Bad(0)),
+    (&[9], Said::Bad(0)),
     // It ends too soon.
-    fails(&rt, rt.alloc(), &[0], 1);
-    fails(&rt, rt.alloc(), &[2], 1);
-    fails(&rt, rt.alloc(), &[7, 0, 0, 1], 1);
-    fails(&rt, rt.alloc(), &BOOT_ONE[..8], 1);
-    fails(&rt, rt.alloc(), &REQUIRE[..1], 1);
-    fails(&rt, rt.alloc(), &REQUIRE[..5], 1);
-    fails(&rt, rt.alloc(), &REQUIRE[..20], 16);
-    fails(&rt, rt.alloc(), &REQUIRE[..28], 27);
+    (&[0], Said::Bad(1)),
+    (&[2], Said::Bad(1)),
+    (&[7, 0, 0, 1], Said::Bad(1)),
     // A byte is left over.
-    fails(&rt, rt.alloc(), &[0, 0, 0, 0, 0, 0, 0, 0, 1, 0], 9);
+    (&[0, 0, 0, 0, 0, 0, 0, 0, 1, 0], Said::Bad(9)),
     // The name is no UTF-8.
-    fails(&rt, rt.alloc(), &[1, 0, 0, 0, 1, 0xff, 0, 0, 0, 1, b't'], 1);
-    Ok(())
+    (&[1, 0, 0, 0, 1, 0xff, 0, 0, 0, 1, b't'], Said::Bad(1)),
+];
+
+#[test]
+fn changes_are_read(rt: HostRuntime) {
+    for (number, (bytes, wanted)) in READ.iter().enumerate() {
+        assert!(rt; read(rt.alloc(), bytes) == *wanted, "case {number}");
+    }
+}
+
+// Changes that are cut after so many bytes, and where that is found.
+const CUT: &[(&[u8], usize, u64)] = &[
+    (BOOT_ONE, 8, 1),
+    (REQUIRE, 1, 1),
+    (REQUIRE, 5, 1),
+    (REQUIRE, 20, 16),
+    (REQUIRE, 28, 27),
+];
+
+fn is_cut(alloc: Global, bytes: &[u8], length: usize, place: u64) -> bool {
+    length <= bytes.len() && read(alloc, &bytes[..length]) == Said::Bad(place)
+}
+
+#[test]
+fn a_change_that_is_cut_is_none(rt: HostRuntime) {
+    for (bytes, length, place) in CUT {
+        assert!(rt;
+            is_cut(rt.alloc(), bytes, *length, *place),
+            "after {length}"
+        );
+    }
 }
 
 // The encoding of a key with a token of that many bytes.
-fn with_token(alloc: Global, length: u8) -> Result<Vec<u8>, Fail> {
+fn with_token(alloc: Global, length: u8) -> Result<Vec<u8>, AllocError> {
     let mut bytes = Vec::from_slice(alloc, &[1, 0, 0, 0, 1, b'n', 0, 0, 0, length])?;
     for _ in 0..length {
         bytes.push(b't')?;
     }
-    bytes.extend_from_slice(&REQUIRE[11..])?;
+    bytes.extend_from_slice(&[0, 0, 0, 1, b'l', 0, 0, 0, 1, b'a', 0, 1, 0, 2, 0, 3, 0, 4])?;
     Ok(bytes)
 }
 
 #[test]
 fn parts_have_limits(rt: HostRuntime) -> Result<(), Fail> {
-    let longest = with_token(rt.alloc(), 64)?;
-    assert_eq!(rt;
-        read(rt.alloc(), longest.as_slice()),
-        Said::Require(1, 4, [1, 64, 1, 1])
-    );
-    let longer = with_token(rt.alloc(), 65)?;
-    fails(&rt, rt.alloc(), longer.as_slice(), 6);
-    Ok(())
-}
-
-#[test]
-fn parts_may_be_empty(rt: HostRuntime) -> Result<(), Fail> {
-    let mut bytes = [0; 25];
-    bytes[0] = 1;
-    bytes[24] = 9;
-    assert_eq!(rt; read(rt.alloc(), &bytes), Said::Require(0, 9, [0, 0, 0, 0]));
+    let table = [(64, Said::Require(1, 4, [1, 64, 1, 1])), (65, Said::Bad(6))];
+    for (length, wanted) in table {
+        let bytes = with_token(rt.alloc(), length)?;
+        assert!(rt; read(rt.alloc(), &bytes) == wanted, "{length}");
+    }
     Ok(())
 }

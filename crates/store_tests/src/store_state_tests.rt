@@ -50,15 +50,23 @@ fn minimum(alloc: Global, state: &StoreState, word: &str) -> Result<Option<Versi
     }
 }
 
+// The numbers of the store, and its counts.
+fn numbers(state: &StoreState) -> ([u64; 3], [u64; 4]) {
+    (
+        [state.boot, state.next_view, state.next_lease],
+        [
+            state.count() as u64,
+            state.view_count() as u64,
+            state.file_count() as u64,
+            state.used_blocks() as u64,
+        ],
+    )
+}
+
 fn is_empty(rt: &impl Abort, alloc: Global, state: &mut StoreState) -> Result<(), Fail> {
-    assert_eq!(rt; state.boot, 0);
-    assert_eq!(rt; state.next_view, 1);
-    assert_eq!(rt; state.next_lease, 1);
-    assert_eq!(rt; state.count(), 0);
-    assert_eq!(rt; state.view_count(), 0);
-    assert_eq!(rt; state.file_count(), 0);
-    assert_eq!(rt; state.used_blocks(), 0);
-    assert_eq!(rt; minimum(alloc, state, "n,t,l,a")?, None);
+    assert!(rt; numbers(state) == ([0, 1, 1], [0, 0, 0, 0]));
+    let minimum = minimum(alloc, state, "n,t,l,a")?;
+    assert!(rt; minimum.is_none());
     Ok(())
 }
 
@@ -70,17 +78,23 @@ fn the_empty_store(rt: HostRuntime) -> Result<(), Fail> {
     done
 }
 
-fn keep_order(rt: &impl Abort, alloc: Global, state: &mut StoreState) -> Result<(), Fail> {
-    // `,` is below `b`, and both below the `~` that stands for itself.
-    for word in ["b,t,l,a", "ab,t,l,a", "a~,t,l,a", "a,t,l,a"] {
-        assert!(rt; require(alloc, state, word, version(1, 0))?);
-    }
+// The names of the applications, each with a blank behind it.
+fn names(alloc: Global, state: &StoreState) -> Result<String, Fail> {
     let mut names = String::new(alloc);
     for app in state.apps.as_slice() {
         names.push_str(app.key.name.as_str())?;
         names.push(' ')?;
     }
-    assert_eq!(rt; names.as_str(), "a ab a~ b ");
+    Ok(names)
+}
+
+fn keep_order(rt: &impl Abort, alloc: Global, state: &mut StoreState) -> Result<(), Fail> {
+    // `,` is below `b`, and both below the `~` that stands for itself.
+    for word in ["b,t,l,a", "ab,t,l,a", "a~,t,l,a", "a,t,l,a"] {
+        assert!(rt; require(alloc, state, word, version(1, 0))?, "{word}");
+    }
+    let names = names(alloc, state)?;
+    assert!(rt; names.as_str() == "a ab a~ b ");
     Ok(())
 }
 
@@ -92,13 +106,26 @@ fn applications_stand_in_order(rt: HostRuntime) -> Result<(), Fail> {
     done
 }
 
+// Requires the version, and answers the minimum that then holds, where the change was made.
+fn raised(
+    alloc: Global,
+    state: &mut StoreState,
+    word: &str,
+    version: Version,
+) -> Result<Option<Version>, Fail> {
+    if !require(alloc, state, word, version)? {
+        return Ok(None);
+    }
+    minimum(alloc, state, word)
+}
+
 fn only_rises(rt: &impl Abort, alloc: Global, state: &mut StoreState) -> Result<(), Fail> {
     for (a, b, held) in [(1, 5, 5), (1, 4, 5), (1, 6, 6)] {
-        assert!(rt; require(alloc, state, "n,t,l,a", version(a, b))?);
-        assert_eq!(rt; minimum(alloc, state, "n,t,l,a")?, Some(version(1, held)));
+        let minimum = raised(alloc, state, "n,t,l,a", version(a, b))?;
+        assert!(rt; minimum == Some(version(1, held)), "{a}.{b}");
     }
-    assert_eq!(rt; minimum(alloc, state, "n,t,l,b")?, None);
-    assert_eq!(rt; state.count(), 1);
+    let other = minimum(alloc, state, "n,t,l,b")?;
+    assert!(rt; other.is_none() && state.count() == 1);
     Ok(())
 }
 
@@ -111,12 +138,13 @@ fn a_minimum_only_rises(rt: HostRuntime) -> Result<(), Fail> {
 }
 
 fn take_boot_numbers(rt: &impl Abort, alloc: Global, state: &mut StoreState) -> Result<(), Fail> {
-    assert!(rt; make(alloc, state, Change::Boot { boot: NUMBER_LIMIT })?);
-    assert_eq!(rt; state.boot, 4_611_686_018_427_387_904);
-    let above = Change::Boot {
-        boot: 4_611_686_018_427_387_905,
-    };
-    assert!(rt; !make(alloc, state, above)?);
+    for (boot, fits) in [(NUMBER_LIMIT, true), (4_611_686_018_427_387_905, false)] {
+        let made = make(alloc, state, Change::Boot { boot })?;
+        assert!(rt;
+            made == fits && state.boot == 4_611_686_018_427_387_904,
+            "{boot}"
+        );
+    }
     Ok(())
 }
 
@@ -128,15 +156,20 @@ fn boot_numbers(rt: HostRuntime) -> Result<(), Fail> {
     done
 }
 
+fn require_number(alloc: Global, state: &mut StoreState, number: u32) -> Result<bool, Fail> {
+    let word = format!(in alloc; "k{number},t,l,a")?;
+    require(alloc, state, word.as_str(), version(1, 0))
+}
+
 fn take_256(rt: &impl Abort, alloc: Global, state: &mut StoreState) -> Result<(), Fail> {
-    for i in 0..256u32 {
-        let word = format!(in alloc; "k{i},t,l,a")?;
-        assert!(rt; require(alloc, state, word.as_str(), version(1, 0))?);
+    for number in 0..256u32 {
+        assert!(rt; require_number(alloc, state, number)?, "{number}");
     }
-    assert_eq!(rt; state.count(), 256);
-    assert!(rt; !require(alloc, state, "k256,t,l,a", version(1, 0))?);
-    assert!(rt; require(alloc, state, "k255,t,l,a", version(2, 0))?);
-    assert_eq!(rt; minimum(alloc, state, "k255,t,l,a")?, Some(version(2, 0)));
+    assert!(rt; state.count() == 256);
+    let one_more = require_number(alloc, state, 256)?;
+    assert!(rt; !one_more);
+    let minimum = raised(alloc, state, "k255,t,l,a", version(2, 0))?;
+    assert!(rt; minimum == Some(version(2, 0)));
     Ok(())
 }
 
