@@ -10,7 +10,6 @@ use machine::{Command, Heard, Reply};
 use outside::Failed;
 use small_types::{Bytes, List};
 use std::alloc::Global;
-use std::process::Abort;
 use std::test::Fail;
 use store_log::Log;
 use updater::{RecoverFault, Updater};
@@ -41,11 +40,13 @@ fn version(a: u16) -> Version
     }
 }
 
-// The command that requires that version of the key.
-fn require(alloc: Global, key: &str, a: u16) -> Result<Command, Fail>
+// The command that requires that version of an application.
+fn require(alloc: Global, a: u16) -> Result<Command, Failed>
     ensures { IfOk result IsCommand }
 {
-    let key = Key::read(alloc, key.as_bytes())?;
+    let Ok(key) = Key::read(alloc, b"demo,0000,neutral,msil") else {
+        return Err(Failed);
+    };
     Ok(Command::Require {
         key,
         version: version(a),
@@ -86,48 +87,96 @@ fn run(
     updater.apply(alloc, disk, &mut links, 1000, command, &mut heard)
 }
 
-// Requires the version, and expects that minimum and so many calls of the disk.
-fn shows(
-    rt: &impl Abort,
+// The minimum that a reply gives.
+fn minimum_of(reply: &Reply) -> Option<Version> {
+    match reply {
+        Reply::Minimum { version } => Some(*version),
+        _ => None,
+    }
+}
+
+// Requires the version. The answer is the minimum that the reply gives.
+fn required(
     alloc: Global,
     updater: &mut Updater,
     disk: &mut MemDisk,
     a: u16,
-    minimum: u16,
-    calls: u64,
-) -> Result<(), Fail> {
-    let before = disk.calls();
-    let command = require(alloc, "demo,0000,neutral,msil", a)?;
-    let reply = run(alloc, updater, disk, &command)?;
-    let want = Reply::Minimum {
-        version: version(minimum),
-    };
-    assert_eq!(rt; reply, want);
-    assert_eq!(rt; disk.calls().checked_sub(before), Some(calls));
-    Ok(())
+) -> Result<Option<Version>, Failed> {
+    let command = require(alloc, a)?;
+    match run(alloc, updater, disk, &command) {
+        Ok(reply) => {
+            let minimum = minimum_of(&reply);
+            drop(reply);
+            Ok(minimum)
+        }
+        Err(fault) => Err(fault),
+    }
 }
 
-// Opens the store, and expects that answer, that boot number and so many applications. A store that is open is dropped
-// here alone: its proof then has one place where all of the tables go.
-fn opens(
-    rt: &impl Abort,
+// What is done with a store that is open.
+#[derive(Drop)]
+enum Step {
+    // Requiring the version with the first number replies the minimum with the second, and calls the disk so often.
+    Shows(u16, u16, u64),
+    // Requiring the version succeeds.
+    Runs(u16),
+}
+
+// Whether the step goes as it is to.
+fn goes(alloc: Global, updater: &mut Updater, disk: &mut MemDisk, step: &Step) -> bool {
+    let before = disk.calls();
+    match step {
+        Step::Shows(a, minimum, calls) => {
+            required(alloc, updater, disk, *a) == Ok(Some(version(*minimum)))
+                && disk.calls().checked_sub(before) == Some(*calls)
+        }
+        Step::Runs(a) => required(alloc, updater, disk, *a).is_ok(),
+    }
+}
+
+// How many steps go as they are to, one after another.
+fn count_steps(alloc: Global, updater: &mut Updater, disk: &mut MemDisk, steps: &[Step]) -> usize {
+    for (number, step) in steps.iter().enumerate() {
+        if !goes(alloc, updater, disk, step) {
+            return number;
+        }
+    }
+    steps.len()
+}
+
+// What is seen of a store that was open: whether its boot number was another one, its boot number, how many
+// applications it has, and how many steps went as they were to.
+#[derive(Clone, Copy, Debug, PartialEq, Eq)]
+struct Seen {
+    other: bool,
+    boot: u64,
+    count: usize,
+    steps: usize,
+}
+
+// Opens the store with that boot number, and does the steps. A store that is open is dropped here alone: its proof
+// then has one place where all of the tables go.
+fn session(
     alloc: Global,
     disk: &mut MemDisk,
     boot: u64,
-    other: bool,
-    count: usize,
-) -> Result<(), Fail>
+    steps: &[Step],
+) -> Result<Seen, RecoverFault>
     requires { boot ≤ NUMBER_LIMIT }
 {
     match open(alloc, disk, boot) {
-        Ok((updater, answer)) => {
-            let kept = updater.state().boot;
-            let found = updater.state().count();
+        Ok((mut updater, other)) => {
+            let steps = count_steps(alloc, &mut updater, disk, steps);
+            let seen = Seen {
+                other,
+                boot: updater.state().boot,
+                count: updater.state().count(),
+                steps,
+            };
             drop(updater);
-            assert_eq!(rt; (answer, kept, found), (other, boot, count));
-            Ok(())
+            Ok(seen)
         }
-        Err(fault) => Err(fault.into()),
+        Err(fault) => Err(fault),
     }
 }
 
@@ -135,112 +184,102 @@ fn opens(
 fn a_boot_number_is_kept(rt: HostRuntime) -> Result<(), Fail> {
     let mut disk = new_disk(rt.alloc())?;
     for (boot, other) in [(1, true), (1, false), (7, true), (7, false)] {
-        opens(&rt, rt.alloc(), &mut disk, boot, other, 0)?;
+        let seen = session(rt.alloc(), &mut disk, boot, &[])?;
+        let want = Seen {
+            other,
+            boot,
+            count: 0,
+            steps: 0,
+        };
+        assert!(rt; seen == want, "{boot} {other}");
     }
     Ok(())
 }
 
 // The minimum rises, and only then the disk is called.
-fn rises(
-    rt: &impl Abort,
-    alloc: Global,
-    updater: &mut Updater,
-    disk: &mut MemDisk,
-) -> Result<(), Fail> {
-    shows(rt, alloc, updater, disk, 2, 2, 4)?;
-    shows(rt, alloc, updater, disk, 1, 2, 0)?;
-    shows(rt, alloc, updater, disk, 3, 3, 4)
-}
+const RISES: &[Step] = &[
+    Step::Shows(2, 2, 4),
+    Step::Shows(1, 2, 0),
+    Step::Shows(3, 3, 4),
+];
 
-// Opens the store with boot number 1, and lets the minimum rise.
-fn rises_in(rt: &impl Abort, alloc: Global, disk: &mut MemDisk) -> Result<(), Fail> {
-    match open(alloc, disk, 1) {
-        Ok((mut updater, _)) => {
-            let done = rises(rt, alloc, &mut updater, disk);
-            drop(updater);
-            done
-        }
-        Err(fault) => Err(fault.into()),
-    }
-}
-
-// Opens the store anew, and expects the minimum that was kept.
-fn shows_in(rt: &impl Abort, alloc: Global, disk: &mut MemDisk) -> Result<(), Fail> {
-    match open(alloc, disk, 1) {
-        Ok((mut updater, _)) => {
-            let done = shows(rt, alloc, &mut updater, disk, 1, 3, 0);
-            drop(updater);
-            done
-        }
-        Err(fault) => Err(fault.into()),
-    }
-}
+// It is what it was before the store was opened again.
+const STAYS: &[Step] = &[Step::Shows(1, 3, 0)];
 
 #[test]
 fn a_minimum_is_raised_and_kept(rt: HostRuntime) -> Result<(), Fail> {
     let mut disk = new_disk(rt.alloc())?;
-    rises_in(&rt, rt.alloc(), &mut disk)?;
-    shows_in(&rt, rt.alloc(), &mut disk)
+    for (steps, count) in [(RISES, 3), (STAYS, 1)] {
+        let seen = session(rt.alloc(), &mut disk, 1, steps)?;
+        assert!(rt; seen.steps == count, "step {}", seen.steps);
+    }
+    Ok(())
 }
 
 // Whether the disk holds no store.
 fn is_no_store(alloc: Global, disk: &mut MemDisk) -> bool {
-    match open(alloc, disk, 1) {
-        Ok((updater, _)) => {
-            drop(updater);
-            false
-        }
-        Err(fault) => fault == RecoverFault::NotAStore,
-    }
+    session(alloc, disk, 1, &[]) == Err(RecoverFault::NotAStore)
+}
+
+// A disk with a journal whose only change is none.
+fn other_journal(alloc: Global) -> Result<MemDisk, Fail> {
+    let mut disk = new_disk(alloc)?;
+    let (mut log, _) = Log::recover(alloc, &mut disk)?;
+    log.append(&mut disk, &mut [0, 0, 0, 0, 0, 9, 0])?;
+    Ok(disk)
 }
 
 #[test]
 fn other_bytes_are_no_store(rt: HostRuntime) -> Result<(), Fail> {
     let mut disk = disk_of(rt.alloc(), &[0; 10], 0)?;
     assert!(rt; is_no_store(rt.alloc(), &mut disk));
-    // A journal whose only change is none.
-    let mut disk = new_disk(rt.alloc())?;
-    let (mut log, _) = Log::recover(rt.alloc(), &mut disk)?;
-    log.append(&mut disk, &mut [0, 0, 0, 0, 0, 9, 0])?;
+    drop(disk);
+    let mut disk = other_journal(rt.alloc())?;
     assert!(rt; is_no_store(rt.alloc(), &mut disk));
     Ok(())
 }
 
 // Opens the store with boot number 2, and requires a version. Answers whether both succeeded.
-fn runs(alloc: Global, disk: &mut MemDisk) -> Result<bool, Fail> {
-    let command = require(alloc, "demo,0000,neutral,msil", 1)?;
-    match open(alloc, disk, 2) {
+fn runs(alloc: Global, disk: &mut MemDisk) -> Result<bool, RecoverFault> {
+    match session(alloc, disk, 2, &[Step::Runs(1)]) {
+        Ok(seen) => Ok(seen.steps == 1),
         Err(RecoverFault::DiskFault) => Ok(false),
-        Err(fault) => Err(fault.into()),
-        Ok((mut updater, _)) => {
-            let ran = run(alloc, &mut updater, disk, &command).is_ok();
-            drop(updater);
-            Ok(ran)
-        }
+        Err(fault) => Err(fault),
     }
+}
+
+// The bytes of a disk with a store that was opened with boot number 1.
+fn opened(alloc: Global) -> Result<Vec<u8>, Fail> {
+    let mut disk = new_disk(alloc)?;
+    let _ = session(alloc, &mut disk, 1, &[])?;
+    Ok(disk.bytes().to_vec(alloc)?)
+}
+
+// What running on these bytes comes to where the call of that number fails, and what is seen behind it.
+fn run_and_see(alloc: Global, bytes: &[u8], failing: u64) -> Result<(bool, Seen), Fail> {
+    let mut disk = disk_of(alloc, bytes, failing)?;
+    let ran = runs(alloc, &mut disk)?;
+    let seen = session(alloc, &mut disk, 2, &[])?;
+    Ok((ran, seen))
 }
 
 #[test]
 fn a_call_that_fails_leaves_the_store_before_or_after(rt: HostRuntime) -> Result<(), Fail> {
-    let mut disk = new_disk(rt.alloc())?;
-    opens(&rt, rt.alloc(), &mut disk, 1, true, 0)?;
-    let bytes = disk.bytes().to_vec(rt.alloc())?;
+    let bytes = opened(rt.alloc())?;
     // A sync, a read of the bytes and one of the end, and four calls each of the boot number and of the minimum.
     // With 0 none fails.
     for failing in 0..12u64 {
-        let mut disk = disk_of(rt.alloc(), &bytes, failing)?;
-        assert_eq!(rt; runs(rt.alloc(), &mut disk)?, failing == 0, "at {failing}");
         // A change is there once its gate is written, also where the last sync failed.
         let has_boot = failing == 0 || failing >= 7;
         let has_minimum = failing == 0 || failing >= 11;
-        opens(
-            &rt,
-            rt.alloc(),
-            &mut disk,
-            2,
-            !has_boot,
-            has_minimum as usize,
-        )?;
+        let want = Seen {
+            other: !has_boot,
+            boot: 2,
+            count: has_minimum as usize,
+            steps: 0,
+        };
+        let made = run_and_see(rt.alloc(), &bytes, failing)?;
+        assert!(rt; made == (failing == 0, want), "at {failing}");
     }
     Ok(())
 }
