@@ -1,7 +1,6 @@
 use addresses::{UrlFault, app_target, file_target, target_of};
 use small_types::{Name, Target, Text};
 use std::alloc::{AllocError, Global};
-use std::process::Abort;
 use std::test::Fail;
 
 // What a call answers, as a line.
@@ -22,50 +21,37 @@ fn read(alloc: Global, bytes: &[u8]) -> Result<String, Fail> {
     told(alloc, target_of(alloc, bytes))
 }
 
-fn reads(rt: &impl Abort, alloc: Global, text: &str, wanted: &str) -> Result<(), Fail> {
-    let line = read(alloc, text.as_bytes())?;
-    assert_eq!(rt; line.as_str(), wanted);
-    Ok(())
-}
-
-#[test]
-fn texts_are_read(rt: HostRuntime) -> Result<(), Fail> {
-    let alloc = rt.alloc();
-    reads(
-        &rt,
-        alloc,
-        "http://demo.test/one/demo.application",
+const TEXTS: &[(&[u8], &str)] = &[
+    (
+        b"http://demo.test/one/demo.application",
         "demo.test 80 /one/demo.application",
-    )?;
-    reads(
-        &rt,
-        alloc,
-        "HTTP://Demo.Test:8080/a?b#c",
-        "demo.test 8080 /a?b",
-    )?;
-    reads(&rt, alloc, "http://h", "h 80 /")?;
-    reads(&rt, alloc, "http://h:80/", "h 80 /")?;
-    reads(&rt, alloc, "http://h:0/", "h 0 /")?;
-    reads(&rt, alloc, "http://h/?", "h 80 /?")?;
-    reads(&rt, alloc, "http://@h/", "h 80 /")?;
-    reads(&rt, alloc, "http://[::1]:81/a b", "[::1] 81 /a%20b")?;
-    reads(&rt, alloc, " http:\\\\h\\a\n/../b ", "h 80 /b")
-}
+    ),
+    (b"HTTP://Demo.Test:8080/a?b#c", "demo.test 8080 /a?b"),
+    (b"http://h", "h 80 /"),
+    (b"http://h:80/", "h 80 /"),
+    (b"http://h:0/", "h 0 /"),
+    (b"http://h/?", "h 80 /?"),
+    (b"http://@h/", "h 80 /"),
+    (b"http://[::1]:81/a b", "[::1] 81 /a%20b"),
+    (b" http:\\\\h\\a\n/../b ", "h 80 /b"),
+    (b"https://h/", "not http https"),
+    (b"ftp://h:21/a", "not http ftp"),
+    (b"https://u@h/", "bad"),
+    (b"http://:p@h/", "bad"),
+    (b"file:///x", "bad"),
+    (b"mailto:x", "bad"),
+    (b"http://h:99999/", "bad"),
+    (b"http://", "bad"),
+    (b"/one", "bad"),
+    (b"http://h/\xff", "bad"),
+];
 
 #[test]
-fn other_texts_are_refused(rt: HostRuntime) -> Result<(), Fail> {
-    let alloc = rt.alloc();
-    reads(&rt, alloc, "https://h/", "not http https")?;
-    reads(&rt, alloc, "ftp://h:21/a", "not http ftp")?;
-    reads(&rt, alloc, "https://u@h/", "bad")?;
-    reads(&rt, alloc, "http://:p@h/", "bad")?;
-    reads(&rt, alloc, "file:///x", "bad")?;
-    reads(&rt, alloc, "mailto:x", "bad")?;
-    reads(&rt, alloc, "http://h:99999/", "bad")?;
-    reads(&rt, alloc, "http://", "bad")?;
-    reads(&rt, alloc, "/one", "bad")?;
-    let line = read(alloc, b"http://h/\xff")?;
-    assert_eq!(rt; line.as_str(), "bad");
+fn texts_are_read_or_refused(rt: HostRuntime) -> Result<(), Fail> {
+    for (text, wanted) in TEXTS {
+        let line = read(rt.alloc(), text)?;
+        assert!(rt; line.as_str() == *wanted, "{line} for {wanted}");
+    }
     Ok(())
 }
 
@@ -83,26 +69,31 @@ fn long(
     Ok(bytes)
 }
 
-// Whether the text is an address.
-fn is_read(alloc: Global, bytes: &[u8]) -> bool {
-    target_of(alloc, bytes).is_ok()
+// Whether that text is an address.
+fn is_read(
+    alloc: Global,
+    first: &[u8],
+    count: usize,
+    byte: u8,
+    last: &[u8],
+) -> Result<bool, AllocError> {
+    Ok(target_of(alloc, &long(alloc, first, count, byte, last)?).is_ok())
 }
 
 #[test]
 fn the_limit_counts_both_texts(rt: HostRuntime) -> Result<(), Fail> {
-    let alloc = rt.alloc();
-    let at = long(alloc, b"http://h/", 2_039, b'a', b"")?;
-    assert!(rt; is_read(alloc, &at));
-    let above = long(alloc, b"http://h/", 2_040, b'a', b"")?;
-    assert!(rt; !is_read(alloc, &above));
-    let spaces = long(alloc, b"  http://h/", 2_038, b'a', b"")?;
-    assert!(rt; !is_read(alloc, &spaces));
-    let escaped = long(alloc, b"http://h/", 679, b' ', b"aa")?;
-    assert!(rt; is_read(alloc, &escaped));
-    let longer = long(alloc, b"http://h/", 679, b' ', b"aaa")?;
-    assert!(rt; !is_read(alloc, &longer));
-    let fragment = long(alloc, b"http://h/#", 679, b' ', b"aa")?;
-    assert!(rt; !is_read(alloc, &fragment));
+    let table: [(&[u8], usize, u8, &[u8], bool); 6] = [
+        (b"http://h/", 2_039, b'a', b"", true),
+        (b"http://h/", 2_040, b'a', b"", false),
+        (b"  http://h/", 2_038, b'a', b"", false),
+        (b"http://h/", 679, b' ', b"aa", true),
+        (b"http://h/", 679, b' ', b"aaa", false),
+        (b"http://h/#", 679, b' ', b"aa", false),
+    ];
+    for (first, count, byte, last, wanted) in table {
+        let read = is_read(rt.alloc(), first, count, byte, last)?;
+        assert!(rt; read == wanted, "{count}");
+    }
     Ok(())
 }
 
@@ -123,107 +114,120 @@ fn name(alloc: Global, from: &str) -> Result<Name, Fail> {
     Ok(Name::read(alloc, from.as_bytes())?)
 }
 
-fn joined(alloc: Global, base: &Target, codebase: &str) -> Result<String, Fail> {
-    told(alloc, app_target(alloc, base, &text(alloc, codebase)?))
-}
+// A base's host, port and path, a codebase, and what both are joined to.
+type Codebase = (&'static str, u16, &'static str, &'static str, &'static str);
 
-fn joins(
-    rt: &impl Abort,
+const BASE: &str = "/one/demo.application";
+
+const CODEBASES: &[Codebase] = &[
+    (
+        "demo.test",
+        80,
+        BASE,
+        "Application Files\\demo_1_0_0_0\\app.exe.manifest",
+        "demo.test 80 /one/Application%20Files/demo_1_0_0_0/app.exe.manifest",
+    ),
+    ("demo.test", 80, BASE, "../two?q#f", "demo.test 80 /two?q"),
+    (
+        "demo.test",
+        80,
+        BASE,
+        "",
+        "demo.test 80 /one/demo.application",
+    ),
+    ("demo.test", 80, BASE, "//other:81", "other 81 /"),
+    ("demo.test", 80, BASE, "https://x/", "not http https"),
+    ("demo.test", 80, BASE, "https://u@x/", "bad"),
+    ("demo.test", 80, BASE, "mailto:x", "bad"),
+    ("demo.test", 80, BASE, "//h:99999/", "bad"),
+    ("a b", 80, "/", "http://h/", "bad"),
+    ("u@h", 80, "/", "x", "bad"),
+    ("h", 0, "/?q", "x", "h 0 /x"),
+];
+
+fn joined(
     alloc: Global,
-    base: &Target,
+    host: &str,
+    port: u16,
+    path: &str,
     codebase: &str,
-    wanted: &str,
-) -> Result<(), Fail> {
-    let line = joined(alloc, base, codebase)?;
-    assert_eq!(rt; line.as_str(), wanted);
-    Ok(())
+) -> Result<String, Fail> {
+    let base = target(alloc, host, port, path)?;
+    told(alloc, app_target(alloc, &base, &text(alloc, codebase)?))
 }
 
 #[test]
 fn codebases_are_joined(rt: HostRuntime) -> Result<(), Fail> {
-    let alloc = rt.alloc();
-    let base = target(alloc, "demo.test", 80, "/one/demo.application")?;
-    joins(
-        &rt,
-        alloc,
-        &base,
-        "Application Files\\demo_1_0_0_0\\app.exe.manifest",
-        "demo.test 80 /one/Application%20Files/demo_1_0_0_0/app.exe.manifest",
-    )?;
-    joins(&rt, alloc, &base, "../two?q#f", "demo.test 80 /two?q")?;
-    joins(&rt, alloc, &base, "", "demo.test 80 /one/demo.application")?;
-    joins(&rt, alloc, &base, "//other:81", "other 81 /")?;
-    joins(&rt, alloc, &base, "https://x/", "not http https")?;
-    joins(&rt, alloc, &base, "https://u@x/", "bad")?;
-    joins(&rt, alloc, &base, "mailto:x", "bad")?;
-    joins(&rt, alloc, &base, "//h:99999/", "bad")
+    for (host, port, path, codebase, wanted) in CODEBASES {
+        let line = joined(rt.alloc(), host, *port, path, codebase)?;
+        assert!(rt; line.as_str() == *wanted, "{line} for {wanted}");
+    }
+    Ok(())
 }
 
-#[test]
-fn bases_are_urls(rt: HostRuntime) -> Result<(), Fail> {
-    let alloc = rt.alloc();
-    let no_host = target(alloc, "a b", 80, "/")?;
-    joins(&rt, alloc, &no_host, "http://h/", "bad")?;
-    let user = target(alloc, "u@h", 80, "/")?;
-    joins(&rt, alloc, &user, "x", "bad")?;
-    let query = target(alloc, "h", 0, "/?q")?;
-    joins(&rt, alloc, &query, "x", "h 0 /x")
-}
+// The host, port and path of a manifest, whether files are mapped, a file's name, and where that is.
+type Place = (
+    &'static str,
+    u16,
+    &'static str,
+    bool,
+    &'static str,
+    &'static str,
+);
 
-fn reached(alloc: Global, base: &Target, mapped: bool, from: &str) -> Result<String, Fail> {
-    told(alloc, file_target(alloc, base, mapped, &name(alloc, from)?))
-}
+const MANIFEST: &str = "/one/Application%20Files/demo_1_0_0_0/app.exe.manifest";
 
-fn reaches(
-    rt: &impl Abort,
+const PLACES: &[Place] = &[
+    (
+        "demo.test",
+        80,
+        MANIFEST,
+        true,
+        "app.exe",
+        "demo.test 80 /one/Application%20Files/demo_1_0_0_0/app.exe.deploy",
+    ),
+    (
+        "demo.test",
+        80,
+        MANIFEST,
+        false,
+        "app.exe",
+        "demo.test 80 /one/Application%20Files/demo_1_0_0_0/app.exe",
+    ),
+    (
+        "demo.test",
+        80,
+        MANIFEST,
+        true,
+        "en\\a b#c?%41.txt",
+        "demo.test 80 /one/Application%20Files/demo_1_0_0_0/en/a%20b%23c%3F%2541.txt.deploy",
+    ),
+    ("a b", 80, "/", false, "x", "bad"),
+    ("u@h", 0, "", false, "\u{e9}", "h 0 /%C3%A9"),
+];
+
+fn reached(
     alloc: Global,
-    base: &Target,
+    host: &str,
+    port: u16,
+    path: &str,
     mapped: bool,
     from: &str,
-    wanted: &str,
-) -> Result<(), Fail> {
-    let line = reached(alloc, base, mapped, from)?;
-    assert_eq!(rt; line.as_str(), wanted);
-    Ok(())
+) -> Result<String, Fail> {
+    let base = target(alloc, host, port, path)?;
+    told(
+        alloc,
+        file_target(alloc, &base, mapped, &name(alloc, from)?),
+    )
 }
 
 #[test]
 fn names_are_joined(rt: HostRuntime) -> Result<(), Fail> {
-    let alloc = rt.alloc();
-    let base = target(
-        alloc,
-        "demo.test",
-        80,
-        "/one/Application%20Files/demo_1_0_0_0/app.exe.manifest",
-    )?;
-    reaches(
-        &rt,
-        alloc,
-        &base,
-        true,
-        "app.exe",
-        "demo.test 80 /one/Application%20Files/demo_1_0_0_0/app.exe.deploy",
-    )?;
-    reaches(
-        &rt,
-        alloc,
-        &base,
-        false,
-        "app.exe",
-        "demo.test 80 /one/Application%20Files/demo_1_0_0_0/app.exe",
-    )?;
-    reaches(
-        &rt,
-        alloc,
-        &base,
-        true,
-        "en\\a b#c?%41.txt",
-        "demo.test 80 /one/Application%20Files/demo_1_0_0_0/en/a%20b%23c%3F%2541.txt.deploy",
-    )?;
-    let no_host = target(alloc, "a b", 80, "/")?;
-    reaches(&rt, alloc, &no_host, false, "x", "bad")?;
-    let user = target(alloc, "u@h", 0, "")?;
-    reaches(&rt, alloc, &user, false, "\u{e9}", "h 0 /%C3%A9")
+    for (host, port, path, mapped, from, wanted) in PLACES {
+        let line = reached(rt.alloc(), host, *port, path, *mapped, from)?;
+        assert!(rt; line.as_str() == *wanted, "{line} for {wanted}");
+    }
+    Ok(())
 }
 
 // Whether a file whose address has a directory of that length is reached.

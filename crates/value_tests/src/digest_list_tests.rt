@@ -1,4 +1,4 @@
-ghost use Rattle.std.specs.Prelude.{◌≡◌, ◌+◌, ◌<◌, ◌^◌, length};
+ghost use Rattle.std.specs.Prelude.{◌≡◌, ◌+◌, ◌<◌, ◌^◌};
 ghost use Rattle.digest_list.specs.Checker.{count_of};
 
 use digest_list::{
@@ -6,7 +6,6 @@ use digest_list::{
 };
 use small_types::{Bytes, Duplicate, List};
 use std::alloc::Global;
-use std::process::Abort;
 use std::test::Fail;
 
 // A message of the standard's examples.
@@ -95,43 +94,43 @@ fn all_four(alloc: Global, message: Message) -> Result<DigestList, Fail> {
     list_of(alloc, &listed)
 }
 
-fn says(rt: &impl Abort, list: &DigestList, size: u64, bytes: &[u8], wanted: bool)
-    requires { length bytes.now < 2 ^ 61 }
-{
-    assert_eq!(rt; matches(list, size, bytes), wanted);
+// Whether bytes, fewer than ten, match the list or not, as is wanted.
+fn says(list: &DigestList, size: u64, bytes: &[u8], wanted: bool) -> bool {
+    bytes.len() < 10 && matches(list, size, bytes) == wanted
 }
+
+const EXAMPLES: &[(Message, u64, &[u8], bool)] = &[
+    (Message::Abc, 3, b"abc", true),
+    (Message::Abc, 3, b"abd", false),
+    (Message::Abc, 4, b"abc", false),
+    (Message::Empty, 0, b"", true),
+    (Message::Empty, 0, b"a", false),
+];
 
 #[test]
 fn examples_match(rt: HostRuntime) -> Result<(), Fail> {
-    let abc = all_four(rt.alloc(), Message::Abc)?;
-    says(&rt, &abc, 3, b"abc", true);
-    says(&rt, &abc, 3, b"abd", false);
-    says(&rt, &abc, 4, b"abc", false);
-    let empty = all_four(rt.alloc(), Message::Empty)?;
-    says(&rt, &empty, 0, b"", true);
-    says(&rt, &empty, 0, b"a", false);
+    for (message, size, bytes, wanted) in EXAMPLES {
+        let list = all_four(rt.alloc(), *message)?;
+        assert!(rt; says(&list, *size, bytes, *wanted), "{size}");
+    }
     Ok(())
 }
 
+const RIGHT: (Message, Algorithm) = (Message::Abc, Algorithm::Sha1);
+
+const WRONG: (Message, Algorithm) = (Message::Empty, Algorithm::Sha256);
+
 #[test]
 fn one_right_digest_is_not_enough(rt: HostRuntime) -> Result<(), Fail> {
-    let right = (Message::Abc, Algorithm::Sha1);
-    let wrong = (Message::Empty, Algorithm::Sha256);
-    says(
-        &rt,
-        &list_of(rt.alloc(), &[right, wrong])?,
-        3,
-        b"abc",
-        false,
-    );
-    says(
-        &rt,
-        &list_of(rt.alloc(), &[wrong, right])?,
-        3,
-        b"abc",
-        false,
-    );
-    says(&rt, &list_of(rt.alloc(), &[right, right])?, 3, b"abc", true);
+    let table = [
+        ([RIGHT, WRONG], false),
+        ([WRONG, RIGHT], false),
+        ([RIGHT, RIGHT], true),
+    ];
+    for (listed, wanted) in &table {
+        let list = list_of(rt.alloc(), listed)?;
+        assert!(rt; says(&list, 3, b"abc", *wanted));
+    }
     Ok(())
 }
 
@@ -157,15 +156,11 @@ fn finish_million(mut checker: Checker) -> Result<(), CheckFault>
     checker.finish()
 }
 
-fn answers(rt: &impl Abort, answer: &Result<(), CheckFault>, wanted: &Result<(), CheckFault>) {
-    assert_eq!(rt; answer, wanted);
-}
-
 #[test]
 fn a_million_bytes_come_in_pieces(rt: HostRuntime) -> Result<(), Fail> {
     let list = all_four(rt.alloc(), Message::Million)?;
     let checker = Checker::new(rt.alloc(), &list, 1_000_000)?;
-    answers(&rt, &finish_million(checker), &Ok(()));
+    assert!(rt; finish_million(checker) == Ok(()));
     Ok(())
 }
 
@@ -191,111 +186,116 @@ fn other_digest(alloc: Global, algorithm: Algorithm) -> Result<Result<(), CheckF
     Ok(Err(CheckFault::Differs { difference }))
 }
 
-#[test]
-fn the_first_difference_is_told(rt: HostRuntime) -> Result<(), Fail> {
-    let alloc = rt.alloc();
-    let mixed = [
+// The digests of two messages, of which three are of the empty text.
+fn mixed(alloc: Global) -> Result<DigestList, Fail> {
+    let listed = [
         (Message::Abc, Algorithm::Sha1),
         (Message::Empty, Algorithm::Sha256),
         (Message::Abc, Algorithm::Sha384),
         (Message::Empty, Algorithm::Sha512),
         (Message::Empty, Algorithm::Sha256),
     ];
-    let list = list_of(alloc, &mixed)?;
-    answers(&rt, &check_abc(alloc, &list, 4), &other_size(4, 3));
-    answers(
-        &rt,
-        &check_abc(alloc, &list, 3),
-        &other_digest(alloc, Algorithm::Sha256)?,
-    );
+    list_of(alloc, &listed)
+}
+
+// Whether `abc`, said to have a size, has another digest first of those in the list.
+fn has_other_digest(alloc: Global, list: &DigestList, algorithm: Algorithm) -> Result<bool, Fail> {
+    Ok(check_abc(alloc, list, 3) == other_digest(alloc, algorithm)?)
+}
+
+#[test]
+fn the_first_difference_is_told(rt: HostRuntime) -> Result<(), Fail> {
+    let alloc = rt.alloc();
+    let list = mixed(alloc)?;
+    assert!(rt; check_abc(alloc, &list, 4) == other_size(4, 3));
+    assert!(rt; has_other_digest(alloc, &list, Algorithm::Sha256)?);
     let right = all_four(alloc, Message::Abc)?;
-    answers(&rt, &check_abc(alloc, &right.copy(alloc)?, 3), &Ok(()));
+    assert!(rt; check_abc(alloc, &right.copy(alloc)?, 3) == Ok(()));
     Ok(())
 }
 
 // The digest of `abc` is printed, written as base64, and read back from that and from the text with white space in it.
-fn goes_round(
-    rt: &impl Abort,
-    alloc: Global,
-    algorithm: Algorithm,
-    text: &str,
-    spaced: &str,
-) -> Result<(), Fail> {
+fn goes_round(alloc: Global, algorithm: Algorithm, text: &str, spaced: &str) -> Result<bool, Fail> {
     let wanted = digest(alloc, Message::Abc, algorithm)?;
-    assert_eq!(rt;
-        wanted.print(alloc)?.as_str(),
-        example(Message::Abc, algorithm)
-    );
-    assert_eq!(rt; wanted.to_base64(alloc)?.as_str(), text);
-    assert_eq!(rt; Digest::read(alloc, algorithm, text.as_bytes())?, wanted);
-    assert_eq!(rt; Digest::read(alloc, algorithm, spaced.as_bytes())?, wanted);
-    Ok(())
+    Ok(
+        wanted.print(alloc)?.as_str() == example(Message::Abc, algorithm)
+            && wanted.to_base64(alloc)?.as_str() == text
+            && Digest::read(alloc, algorithm, text.as_bytes())? == wanted
+            && Digest::read(alloc, algorithm, spaced.as_bytes())? == wanted,
+    )
 }
 
 #[test]
 fn digests_go_round(rt: HostRuntime) -> Result<(), Fail> {
-    let text = "qZk+NkcGgWq6PiVxeFDCbJzQ2J0=";
-    let spaced = " qZk+NkcGgW\tq6PiVxeF\r\nDCbJzQ2J0 =\n";
-    goes_round(&rt, rt.alloc(), Algorithm::Sha1, text, spaced)?;
-    let text = "ungWv48Bz+pBQUDeXa4iI7ADYaOWF3qctBD/YfIAFa0=";
-    let spaced = "\n  ungWv48Bz+pBQUDeXa4iI7ADYaOWF3qctBD/YfIAFa0=\n";
-    goes_round(&rt, rt.alloc(), Algorithm::Sha256, text, spaced)
+    for (algorithm, text, spaced) in [
+        (
+            Algorithm::Sha1,
+            "qZk+NkcGgWq6PiVxeFDCbJzQ2J0=",
+            " qZk+NkcGgW\tq6PiVxeF\r\nDCbJzQ2J0 =\n",
+        ),
+        (
+            Algorithm::Sha256,
+            "ungWv48Bz+pBQUDeXa4iI7ADYaOWF3qctBD/YfIAFa0=",
+            "\n  ungWv48Bz+pBQUDeXa4iI7ADYaOWF3qctBD/YfIAFa0=\n",
+        ),
+    ] {
+        assert!(rt; goes_round(rt.alloc(), algorithm, text, spaced)?, "{text}");
+    }
+    Ok(())
 }
 
-fn is_refused(rt: &impl Abort, alloc: Global, text: &str) {
-    let read = Digest::read(alloc, Algorithm::Sha1, text.as_bytes());
-    assert_eq!(rt; read, Err(DigestFault::Bad), "{text}");
-}
+// No padding, bits left over, too much padding, the other alphabet, and more after the padding; a vertical tab, and
+// values of 19 and 32 bytes.
+const NO_DIGESTS: &[&str] = &[
+    "",
+    "qZk+NkcGgWq6PiVxeFDCbJzQ2J0",
+    "qZk+NkcGgWq6PiVxeFDCbJzQ2J1=",
+    "qZk+NkcGgWq6PiVxeFDCbJzQ2J0==",
+    "qZk-NkcGgWq6PiVxeFDCbJzQ2J0=",
+    "qZk+NkcGgWq6PiVxeFDCbJzQ2J0=AAAA",
+    "qZk+\u{b}NkcGgWq6PiVxeFDCbJzQ2J0=",
+    "qZk+NkcGgWq6PiVxeFDCbJzQ2A==",
+    "ungWv48Bz+pBQUDeXa4iI7ADYaOWF3qctBD/YfIAFa0=",
+];
 
 #[test]
 fn other_texts_are_refused(rt: HostRuntime) {
-    let alloc = rt.alloc();
-    is_refused(&rt, alloc, "");
-    // No padding, bits left over, too much padding, the other alphabet, and more after the padding.
-    is_refused(&rt, alloc, "qZk+NkcGgWq6PiVxeFDCbJzQ2J0");
-    is_refused(&rt, alloc, "qZk+NkcGgWq6PiVxeFDCbJzQ2J1=");
-    is_refused(&rt, alloc, "qZk+NkcGgWq6PiVxeFDCbJzQ2J0==");
-    is_refused(&rt, alloc, "qZk-NkcGgWq6PiVxeFDCbJzQ2J0=");
-    is_refused(&rt, alloc, "qZk+NkcGgWq6PiVxeFDCbJzQ2J0=AAAA");
-    // A vertical tab, and values of 19 and 32 bytes.
-    is_refused(&rt, alloc, "qZk+\u{b}NkcGgWq6PiVxeFDCbJzQ2J0=");
-    is_refused(&rt, alloc, "qZk+NkcGgWq6PiVxeFDCbJzQ2A==");
-    is_refused(&rt, alloc, "ungWv48Bz+pBQUDeXa4iI7ADYaOWF3qctBD/YfIAFa0=");
+    for text in NO_DIGESTS {
+        let read = Digest::read(rt.alloc(), Algorithm::Sha1, text.as_bytes());
+        assert!(rt; read == Err(DigestFault::Bad), "{text}");
+    }
 }
 
-fn names(rt: &impl Abort, uri: &str, wanted: Option<Algorithm>) {
-    assert_eq!(rt; Algorithm::from_uri(uri.as_bytes()), wanted, "{uri}");
-}
+const NAMES: &[(&str, Option<Algorithm>)] = &[
+    (
+        "http://www.w3.org/2000/09/xmldsig#sha1",
+        Some(Algorithm::Sha1),
+    ),
+    (
+        "http://www.w3.org/2000/09/xmldsig#sha256",
+        Some(Algorithm::Sha256),
+    ),
+    (
+        "http://www.w3.org/2001/04/xmlenc#sha256",
+        Some(Algorithm::Sha256),
+    ),
+    (
+        "http://www.w3.org/2001/04/xmldsig-more#sha384",
+        Some(Algorithm::Sha384),
+    ),
+    (
+        "http://www.w3.org/2001/04/xmlenc#sha512",
+        Some(Algorithm::Sha512),
+    ),
+    ("http://www.w3.org/2001/04/xmlenc#sha1", None),
+    ("HTTP://www.w3.org/2000/09/xmldsig#sha1", None),
+];
 
 #[test]
 fn algorithms_are_named(rt: HostRuntime) {
-    names(
-        &rt,
-        "http://www.w3.org/2000/09/xmldsig#sha1",
-        Some(Algorithm::Sha1),
-    );
-    names(
-        &rt,
-        "http://www.w3.org/2000/09/xmldsig#sha256",
-        Some(Algorithm::Sha256),
-    );
-    names(
-        &rt,
-        "http://www.w3.org/2001/04/xmlenc#sha256",
-        Some(Algorithm::Sha256),
-    );
-    names(
-        &rt,
-        "http://www.w3.org/2001/04/xmldsig-more#sha384",
-        Some(Algorithm::Sha384),
-    );
-    names(
-        &rt,
-        "http://www.w3.org/2001/04/xmlenc#sha512",
-        Some(Algorithm::Sha512),
-    );
-    names(&rt, "http://www.w3.org/2001/04/xmlenc#sha1", None);
-    names(&rt, "HTTP://www.w3.org/2000/09/xmldsig#sha1", None);
+    for (uri, wanted) in NAMES {
+        assert!(rt; Algorithm::from_uri(uri.as_bytes()) == *wanted, "{uri}");
+    }
 }
 
 fn has_room(alloc: Global, count: usize) -> Result<bool, Fail> {
@@ -308,10 +308,8 @@ fn has_room(alloc: Global, count: usize) -> Result<bool, Fail> {
 
 #[test]
 fn lists_have_one_to_eight_digests(rt: HostRuntime) -> Result<(), Fail> {
-    let alloc = rt.alloc();
-    assert!(rt; !has_room(alloc, 0)?);
-    assert!(rt; has_room(alloc, 1)?);
-    assert!(rt; has_room(alloc, 8)?);
-    assert!(rt; !has_room(alloc, 9)?);
+    for (count, wanted) in [(0, false), (1, true), (8, true), (9, false)] {
+        assert!(rt; has_room(rt.alloc(), count)? == wanted, "{count}");
+    }
     Ok(())
 }

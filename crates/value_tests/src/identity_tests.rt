@@ -2,77 +2,94 @@ use identity::{Identity, Key, KeyFault, Version, VersionFault, word_escape};
 use small_types::{Duplicate, Text};
 use std::alloc::{AllocError, Global};
 use std::cmp::Ordering;
-use std::process::Abort;
 use std::test::Fail;
 
 fn version(a: u16, b: u16, c: u16, d: u16) -> Version {
     Version { a, b, c, d }
 }
 
-fn spells(rt: &impl Abort, text: &str, wanted: Version) {
-    assert_eq!(rt; Version::read(text.as_bytes()), Ok(wanted));
+// The parts of the version that a text is.
+fn parts(text: &str) -> Result<[u16; 4], VersionFault> {
+    let read = Version::read(text.as_bytes())?;
+    Ok([read.a, read.b, read.c, read.d])
 }
 
-fn fails(rt: &impl Abort, text: &str, wanted: VersionFault) {
-    assert_eq!(rt; Version::read(text.as_bytes()), Err(wanted));
-}
+const TEXTS: &[(&str, Result<[u16; 4], VersionFault>)] = &[
+    ("1.2.3.4", Ok([1, 2, 3, 4])),
+    ("01.0.0.0", Ok([1, 0, 0, 0])),
+    ("1.2.3.65535", Ok([1, 2, 3, 65_535])),
+    ("00000.1.2.3", Ok([0, 1, 2, 3])),
+    // The parts are counted first.
+    ("", Err(VersionFault::PartCount)),
+    ("1.2.3", Err(VersionFault::PartCount)),
+    ("1.2.3.4.5", Err(VersionFault::PartCount)),
+    ("a.b", Err(VersionFault::PartCount)),
+    // The first bad part is named.
+    ("1.2.3.65536", Err(VersionFault::TooLarge { part: 4 })),
+    ("123456.0.0.0", Err(VersionFault::TooLarge { part: 1 })),
+    ("000001.0.0.0", Err(VersionFault::TooLarge { part: 1 })),
+    ("1.99999.x.0", Err(VersionFault::TooLarge { part: 2 })),
+    ("1..0.0", Err(VersionFault::NotDigits { part: 2 })),
+    ("+1.0.0.0", Err(VersionFault::NotDigits { part: 1 })),
+    ("1.0.0.", Err(VersionFault::NotDigits { part: 4 })),
+];
 
 #[test]
 fn versions_are_read(rt: HostRuntime) {
-    spells(&rt, "1.2.3.4", version(1, 2, 3, 4));
-    spells(&rt, "01.0.0.0", version(1, 0, 0, 0));
-    spells(&rt, "1.2.3.65535", version(1, 2, 3, 65_535));
-    spells(&rt, "00000.1.2.3", version(0, 1, 2, 3));
+    for (text, wanted) in TEXTS {
+        assert!(rt; parts(text) == *wanted, "{text}");
+    }
 }
 
-#[test]
-fn parts_are_counted(rt: HostRuntime) {
-    fails(&rt, "", VersionFault::PartCount);
-    fails(&rt, "1.2.3", VersionFault::PartCount);
-    fails(&rt, "1.2.3.4.5", VersionFault::PartCount);
-    fails(&rt, "a.b", VersionFault::PartCount);
+// Whether the version is printed as that text, and written in front of what a buffer has.
+fn prints(alloc: Global, version: Version, text: &str) -> Result<bool, Fail> {
+    let mut out = [b'x'; 23];
+    let n = version.write(&mut out);
+    let (written, rest) = out.split_at(n.min(23));
+    Ok(
+        version.print(alloc)?.as_str() == text
+            && same(written, text.as_bytes())
+            && rest.iter().all(|byte| *byte == b'x'),
+    )
 }
 
-#[test]
-fn the_first_bad_part_is_named(rt: HostRuntime) {
-    fails(&rt, "1.2.3.65536", VersionFault::TooLarge { part: 4 });
-    fails(&rt, "123456.0.0.0", VersionFault::TooLarge { part: 1 });
-    fails(&rt, "000001.0.0.0", VersionFault::TooLarge { part: 1 });
-    fails(&rt, "1.99999.x.0", VersionFault::TooLarge { part: 2 });
-    fails(&rt, "1..0.0", VersionFault::NotDigits { part: 2 });
-    fails(&rt, "+1.0.0.0", VersionFault::NotDigits { part: 1 });
-    fails(&rt, "1.0.0.", VersionFault::NotDigits { part: 4 });
+fn same(a: &[u8], b: &[u8]) -> bool {
+    a == b
 }
 
 #[test]
 fn versions_are_printed(rt: HostRuntime) -> Result<(), Fail> {
     let first = Version::read(b"01.0.0.0").ok().ok_or("no version")?;
-    let text = first.print(rt.alloc())?;
-    assert_eq!(rt; text.as_str(), "1.0.0.0");
-    let mut out = [b'x'; 23];
-    assert_eq!(rt; first.write(&mut out), 7);
-    assert_eq!(rt; out.as_slice(), b"1.0.0.0xxxxxxxxxxxxxxxx".as_slice());
+    assert!(rt; prints(rt.alloc(), first, "1.0.0.0")?);
     let last = version(65_535, 65_535, 65_535, 65_535);
-    assert_eq!(rt; last.write(&mut out), 23);
-    assert_eq!(rt; out.as_slice(), b"65535.65535.65535.65535".as_slice());
+    assert!(rt; prints(rt.alloc(), last, "65535.65535.65535.65535")?);
     Ok(())
 }
 
-#[test]
-fn versions_are_ordered_from_the_left(rt: HostRuntime) {
-    let small = version(1, 2, 9, 9);
-    let large = version(1, 3, 0, 0);
-    assert!(rt; small.is_below(&large));
-    assert!(rt; !large.is_below(&small));
-    assert!(rt; !small.is_below(&small));
-}
+const SMALL: Version = Version {
+    a: 1,
+    b: 2,
+    c: 9,
+    d: 9,
+};
+
+const LARGE: Version = Version {
+    a: 1,
+    b: 3,
+    c: 0,
+    d: 0,
+};
 
 #[test]
-fn the_greater_is_kept(rt: HostRuntime) {
-    let small = version(1, 2, 9, 9);
-    let large = version(1, 3, 0, 0);
-    assert_eq!(rt; small.greater(large), large);
-    assert_eq!(rt; large.greater(small), large);
+fn versions_are_ordered_from_the_left(rt: HostRuntime) {
+    for (one, other, below, greater) in [
+        (SMALL, LARGE, true, LARGE),
+        (LARGE, SMALL, false, LARGE),
+        (SMALL, SMALL, false, SMALL),
+    ] {
+        assert!(rt; one.is_below(&other) == below);
+        assert!(rt; one.greater(other) == greater);
+    }
 }
 
 fn text(alloc: Global, from: &str) -> Result<Text, AllocError> {
@@ -94,55 +111,59 @@ fn key(
     })
 }
 
-fn goes_round(rt: &impl Abort, alloc: Global, key: &Key, wanted: &str) -> Result<(), Fail> {
+// Whether the key is printed as that text and read back from it.
+fn goes_round(alloc: Global, key: &Key, wanted: &str) -> Result<bool, Fail> {
     let printed = key.print(alloc)?;
-    assert_eq!(rt; printed.as_str(), wanted);
-    assert_eq!(rt; &Key::read(alloc, printed.as_bytes())?, key);
-    Ok(())
+    Ok(printed.as_str() == wanted && &Key::read(alloc, printed.as_bytes())? == key)
 }
 
 #[test]
 fn keys_are_printed(rt: HostRuntime) -> Result<(), Fail> {
     let alloc = rt.alloc();
-    let plain = key(
-        alloc,
-        "demo.application",
-        "0000000000000000",
-        "neutral",
-        "msil",
-    )?;
-    goes_round(
-        &rt,
-        alloc,
-        &plain,
-        "demo.application,0000000000000000,neutral,msil",
-    )
+    for (name, token, language, architecture, wanted) in [
+        (
+            "demo.application",
+            "0000000000000000",
+            "neutral",
+            "msil",
+            "demo.application,0000000000000000,neutral,msil",
+        ),
+        (
+            "a b/c,d%e\u{e9}",
+            "~-._",
+            "x",
+            "y",
+            "a%20b%2Fc%2Cd%25e%C3%A9,~-._,x,y",
+        ),
+    ] {
+        let key = key(alloc, name, token, language, architecture)?;
+        assert!(rt; goes_round(alloc, &key, wanted)?, "{wanted}");
+    }
+    Ok(())
 }
 
-#[test]
-fn other_bytes_are_escaped(rt: HostRuntime) -> Result<(), Fail> {
-    let alloc = rt.alloc();
-    let odd = key(alloc, "a b/c,d%e\u{e9}", "~-._", "x", "y")?;
-    goes_round(&rt, alloc, &odd, "a%20b%2Fc%2Cd%25e%C3%A9,~-._,x,y")
-}
-
-// How the key's text compares with another.
-fn compares(rt: &impl Abort, key: &Key, text: &[u8], wanted: Ordering) {
-    assert_eq!(rt; key.cmp_printed(text), wanted);
-    assert_eq!(rt; key.is_printed(text), wanted == Ordering::Equal);
-}
+// Texts, and how a key's text compares with each.
+const COMPARED: &[(&[u8], Ordering)] = &[
+    (b"a%20b,t,l,%C3%A9", Ordering::Equal),
+    (b"a%20b,t,l,%C3%A9x", Ordering::Less),
+    (b"a%20b,t,l,%C3%A8", Ordering::Greater),
+    (b"a b,t,l,%C3%A9", Ordering::Greater),
+    (b"a%20b,t,l,%c3%a9", Ordering::Less),
+    (b"a%20b,t", Ordering::Greater),
+    (b"a%20b-", Ordering::Less),
+    (b"", Ordering::Greater),
+];
 
 #[test]
 fn texts_of_keys_are_compared(rt: HostRuntime) -> Result<(), Fail> {
     let odd = key(rt.alloc(), "a b", "t", "l", "\u{e9}")?;
-    compares(&rt, &odd, b"a%20b,t,l,%C3%A9", Ordering::Equal);
-    compares(&rt, &odd, b"a%20b,t,l,%C3%A9x", Ordering::Less);
-    compares(&rt, &odd, b"a%20b,t,l,%C3%A8", Ordering::Greater);
-    compares(&rt, &odd, b"a b,t,l,%C3%A9", Ordering::Greater);
-    compares(&rt, &odd, b"a%20b,t,l,%c3%a9", Ordering::Less);
-    compares(&rt, &odd, b"a%20b,t", Ordering::Greater);
-    compares(&rt, &odd, b"a%20b-", Ordering::Less);
-    compares(&rt, &odd, b"", Ordering::Greater);
+    for (number, (text, wanted)) in COMPARED.iter().enumerate() {
+        assert!(rt; odd.cmp_printed(text) == *wanted, "{number}");
+        assert!(rt;
+            odd.is_printed(text) == (*wanted == Ordering::Equal),
+            "{number}"
+        );
+    }
     Ok(())
 }
 
@@ -173,37 +194,61 @@ fn fault_of(alloc: Global, word: &[u8]) -> Option<KeyFault> {
     Key::read(alloc, word).err()
 }
 
-fn refuses(rt: &impl Abort, alloc: Global, word: &[u8], part: u8) {
-    assert_eq!(rt; fault_of(alloc, word), Some(KeyFault::BadPart { part }));
-}
+const NO_KEYS: &[(&[u8], KeyFault)] = &[
+    (b"a,b,c", KeyFault::PartCount),
+    (b"a,b,c,d,e", KeyFault::PartCount),
+    (b"", KeyFault::PartCount),
+    (b"a,,c,d", KeyFault::BadPart { part: 2 }),
+    (b"a,,%ff,", KeyFault::BadPart { part: 2 }),
+    (b"%ff,b,c,d", KeyFault::BadPart { part: 1 }),
+    (b"a,b,c,", KeyFault::BadPart { part: 4 }),
+];
 
 #[test]
-fn other_words_are_no_keys(rt: HostRuntime) -> Result<(), Fail> {
-    let alloc = rt.alloc();
-    assert_eq!(rt; fault_of(alloc, b"a,b,c"), Some(KeyFault::PartCount));
-    assert_eq!(rt; fault_of(alloc, b"a,b,c,d,e"), Some(KeyFault::PartCount));
-    assert_eq!(rt; fault_of(alloc, b""), Some(KeyFault::PartCount));
-    refuses(&rt, alloc, b"a,,c,d", 2);
-    refuses(&rt, alloc, b"a,,%ff,", 2);
-    refuses(&rt, alloc, b"%ff,b,c,d", 1);
-    refuses(&rt, alloc, b"a,b,c,", 4);
-    Ok(())
+fn other_words_are_no_keys(rt: HostRuntime) {
+    for (number, (word, fault)) in NO_KEYS.iter().enumerate() {
+        assert!(rt; fault_of(rt.alloc(), word) == Some(*fault), "{number}");
+    }
+}
+
+// What is wrong with a word of these texts and so many times a byte between them, if it is no key.
+fn fault_of_long(
+    alloc: Global,
+    first: &[u8],
+    byte: u8,
+    count: usize,
+    last: &[u8],
+) -> Result<Option<KeyFault>, AllocError> {
+    let mut word = first.to_vec(alloc)?;
+    word.extend_from_slice(&vec![in alloc; byte; count]?)?;
+    word.extend_from_slice(last)?;
+    Ok(fault_of(alloc, &word))
 }
 
 #[test]
 fn parts_have_limits(rt: HostRuntime) -> Result<(), Fail> {
-    let alloc = rt.alloc();
-    let mut long = vec![in alloc; b'n'; 240]?;
-    long.extend_from_slice(b",t,l,a")?;
-    assert!(rt; Key::read(alloc, &long).is_ok());
-    let mut over = vec![in alloc; b'n'; 241]?;
-    over.extend_from_slice(b",t,l,a")?;
-    refuses(&rt, alloc, &over, 1);
-    let mut short = Vec::from_slice(alloc, b"n,t,l,")?;
-    short.extend_from_slice(&vec![in alloc; b'a'; 64]?)?;
-    assert!(rt; Key::read(alloc, &short).is_ok());
-    short.push(b'a')?;
-    refuses(&rt, alloc, &short, 4);
+    let table: [(&[u8], u8, usize, &[u8], Option<KeyFault>); 4] = [
+        (b"", b'n', 240, b",t,l,a", None),
+        (
+            b"",
+            b'n',
+            241,
+            b",t,l,a",
+            Some(KeyFault::BadPart { part: 1 }),
+        ),
+        (b"n,t,l,", b'a', 64, b"", None),
+        (
+            b"n,t,l,",
+            b'a',
+            65,
+            b"",
+            Some(KeyFault::BadPart { part: 4 }),
+        ),
+    ];
+    for (first, byte, count, last, wanted) in table {
+        let fault = fault_of_long(rt.alloc(), first, byte, count, last)?;
+        assert!(rt; fault == wanted, "{count}");
+    }
     Ok(())
 }
 
