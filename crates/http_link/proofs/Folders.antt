@@ -1,5 +1,5 @@
 -- From what a host of files answers to what a link over HTTP gives.
-use Rattle.std.proofs.Common.{◌≡◌, ◌<◌, ◌^◌, ℕ, List, length, take, Some, Ok, IfOk, ap, subst, ◌∙◌}
+use Rattle.std.proofs.Common.{◌≡◌, ℕ, List, length, take, Some, Ok, IfOk, ap, subst, ◌∙◌}
 use Rattle.std.specs.Prelude.{Result}
 use Rattle.std.proofs.Math.Seq.{take-length}
 use Rattle.small_types.specs.declared.target.Target.{Target}
@@ -9,8 +9,8 @@ use Rattle.http_plain.specs.declared.fault.ExchangeFault.{ExchangeFault}
 use Rattle.http_plain.specs.Exchange.{Gives}
 use Rattle.http_plain.specs.Head.{behind_head}
 use Rattle.http_plain.specs.Reading.{Fetches, IsPlain, ReadsAs}
-use Rattle.http_plain.specs.Served.{Answer, Serves}
-use Rattle.http_plain.specs.Sites.{file_named, served}
+use Rattle.http_plain.specs.Served.{Serves}
+use Rattle.http_plain.specs.Sites.{file_named}
 use Rattle.http_plain.proofs.Determined.{one_outcome}
 use Rattle.http_plain.proofs.Requested.{fetches}
 use Rattle.links.specs.declared.link.LinkFault.{LinkFault}
