@@ -111,7 +111,7 @@ impl<W: Wire + Drop> Link for HttpLink<W> {
     ghost use Rattle.links.specs.Link.{LinkState, Asks, Takes};
     ghost use Rattle.http_link.specs.Counts.{CountsAsk, Unraised};
     ghost use Rattle.http_link.specs.Hearing.{Hears, Owes};
-    ghost use Rattle.http_link.specs.Pieces.{GivesPiece, Stops};
+    ghost use Rattle.http_link.specs.Pieces.{GivesPiece, ReceivesAtMost, Stops};
     ghost use Rattle.http_link.specs.States.{body_left, coming, http_state, left_on, owed, tally};
 
     ghost state = { λ l. record {
@@ -163,6 +163,8 @@ impl<W: Wire + Drop> Link for HttpLink<W> {
             (body_left (W.present self.new.wire) self.new) buf.new n) }
         ensures behind { W.tells → IfOk result (λ n. coming (W.present self.old.wire) self.old
             ≡ take n buf.new ++ coming (W.present self.new.wire) self.new) }
+        ensures ahead { W.tells → IfOk result
+            (ReceivesAtMost (W.present self.old.wire) (W.present self.new.wire)) }
         ensures sent { W.tells → all_sent (W.over self.new.wire) (W.present self.new.wire)
             ≡ all_sent (W.over self.old.wire) (W.present self.old.wire) }
 

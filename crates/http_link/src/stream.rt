@@ -2,6 +2,7 @@
 ghost use Rattle.std.specs.Prelude.{◌≡◌, ◌<◌, ◌≤◌, ◌++◌, length, drop, IfOk};
 ghost use Rattle.outside.specs.Streams.{Causes, Consumes};
 ghost use Rattle.connections.specs.Wire.{all_sent};
+ghost use Rattle.http_link.specs.Pieces.{ReceivesAtMost};
 ghost use Rattle.http_link.specs.States.{left_on};
 
 use connections::Wire;
@@ -20,6 +21,8 @@ fn receive_next<W: Wire>(
     ensures bytes { W.tells → IfOk result (λ n. Consumes
         (drop at.old early.now ++ left_on (W.present wire.old))
         (drop at.new early.now ++ left_on (W.present wire.new)) buf.new n) }
+    ensures ahead { W.tells
+        → IfOk result (ReceivesAtMost (W.present wire.old) (W.present wire.new)) }
     ensures sent { W.tells → all_sent (W.over wire.new) (W.present wire.new)
         ≡ all_sent (W.over wire.old) (W.present wire.old) }
     ensures cause { Causes (W.count wire.old) (W.count wire.new) result }
@@ -45,6 +48,8 @@ pub(crate) fn receive_most<W: Wire>(
     ensures bytes { W.tells → IfOk result (λ n. Consumes
         (drop at.old early.now ++ left_on (W.present wire.old))
         (drop at.new early.now ++ left_on (W.present wire.new)) buf.new n) }
+    ensures ahead { W.tells
+        → IfOk result (ReceivesAtMost (W.present wire.old) (W.present wire.new)) }
     ensures sent { W.tells → all_sent (W.over wire.new) (W.present wire.new)
         ≡ all_sent (W.over wire.old) (W.present wire.old) }
     ensures cause { Causes (W.count wire.old) (W.count wire.new) result }
