@@ -60,25 +60,35 @@ fn written(alloc: Global, node: &Node) -> Bytes {
     }
 }
 
+// Whether the text that is written is this one.
+fn is_written(alloc: Global, node: &Node, want: &[u8]) -> bool {
+    same(written(alloc, node).as_slice(), want)
+}
+
+fn same(a: &[u8], b: &[u8]) -> bool {
+    a == b
+}
+
+fn form(alloc: Global) -> Result<Node, AllocError> {
+    let below = leaf(alloc, "c", "")?;
+    branch(alloc, attribute(alloc, "x", "1 & 2")?, "t<", below)
+}
+
 #[test]
 fn the_form(rt: HostRuntime) -> Result<(), Fail> {
-    let alloc = rt.alloc();
-    let below = leaf(alloc, "c", "")?;
-    let node = branch(alloc, attribute(alloc, "x", "1 & 2")?, "t<", below)?;
-    assert_eq!(rt;
-        written(alloc, &node).as_slice(),
-        b"<?xml version=\"1.0\" encoding=\"utf-8\"?>\n<n:b x=\"1 &amp; 2\">t&lt;<c/></n:b>\n".as_slice()
-    );
+    let node = form(rt.alloc())?;
+    let want =
+        b"<?xml version=\"1.0\" encoding=\"utf-8\"?>\n<n:b x=\"1 &amp; 2\">t&lt;<c/></n:b>\n";
+    assert!(rt; is_written(rt.alloc(), &node, want));
     Ok(())
 }
 
 #[test]
 fn the_references(rt: HostRuntime) -> Result<(), Fail> {
     let node = leaf(rt.alloc(), "d", "&<>\"\t\n\r'")?;
-    assert_eq!(rt;
-        written(rt.alloc(), &node).as_slice(),
-        b"<?xml version=\"1.0\" encoding=\"utf-8\"?>\n<d>&amp;&lt;&gt;&quot;&#9;&#10;&#13;'</d>\n".as_slice()
-    );
+    let want =
+        b"<?xml version=\"1.0\" encoding=\"utf-8\"?>\n<d>&amp;&lt;&gt;&quot;&#9;&#10;&#13;'</d>\n";
+    assert!(rt; is_written(rt.alloc(), &node, want));
     Ok(())
 }
 
@@ -145,20 +155,24 @@ fn told_length(alloc: Global, node: &Node) -> Option<u64> {
     }
 }
 
+// How long the text is that is written.
+fn written_length(alloc: Global, node: &Node) -> usize {
+    written(alloc, node).as_slice().len()
+}
+
 // 40 bytes stand around the element, and 7 around its text.
 #[test]
 fn too_long(rt: HostRuntime) -> Result<(), Fail> {
-    let alloc = rt.alloc();
-    let node = long(alloc, 4_194_257)?;
-    assert_eq!(rt; written(alloc, &node).as_slice().len(), 4_194_304);
-    let node = long(alloc, 4_194_258)?;
-    assert_eq!(rt; told_length(alloc, &node), Some(4_194_305));
+    let longest = long(rt.alloc(), 4_194_257)?;
+    assert!(rt; written_length(rt.alloc(), &longest) == 4_194_304);
+    let longer = long(rt.alloc(), 4_194_258)?;
+    assert!(rt; told_length(rt.alloc(), &longer) == Some(4_194_305));
     Ok(())
 }
 
-// Whether the tree can be written.
-fn can(node: &Node) -> bool {
-    is_writable(node)
+// Whether an element with this name and text can be written.
+fn can_leaf(alloc: Global, name: &str, held: &str) -> Result<bool, AllocError> {
+    Ok(is_writable(&leaf(alloc, name, held)?))
 }
 
 #[test]
@@ -171,23 +185,29 @@ fn leaves_that_cannot_be_written(rt: HostRuntime) -> Result<(), Fail> {
         ("a b", "", false),
         ("a", "\u{1}", false),
     ] {
-        assert_eq!(rt; can(&leaf(rt.alloc(), name, held)?), expected, "{name}");
+        assert!(rt; can_leaf(rt.alloc(), name, held)? == expected, "{name}");
     }
     Ok(())
 }
 
+// Whether an element with this attribute and child can be written.
+fn can_branch(alloc: Global, name: &str, value: &str, child: &str) -> Result<bool, AllocError> {
+    let below = leaf(alloc, child, "")?;
+    Ok(is_writable(&branch(alloc, attribute(alloc, name, value)?, "", below)?))
+}
+
 #[test]
 fn branches_that_cannot_be_written(rt: HostRuntime) -> Result<(), Fail> {
-    let alloc = rt.alloc();
     for (name, value, child, expected) in [
         ("k", "", "c", true),
         ("", "", "c", false),
         ("k", "\u{b}", "c", false),
         ("k", "", "", false),
     ] {
-        let below = leaf(alloc, child, "")?;
-        let node = branch(alloc, attribute(alloc, name, value)?, "", below)?;
-        assert_eq!(rt; can(&node), expected);
+        assert!(rt;
+            can_branch(rt.alloc(), name, value, child)? == expected,
+            "{name}"
+        );
     }
     Ok(())
 }
@@ -205,10 +225,14 @@ fn pair(alloc: Global, first: &str, second: &str) -> Result<Node, AllocError> {
     })
 }
 
+fn can_pair(alloc: Global, first: &str, second: &str) -> Result<bool, AllocError> {
+    Ok(is_writable(&pair(alloc, first, second)?))
+}
+
 #[test]
 fn two_attributes_of_one_name(rt: HostRuntime) -> Result<(), Fail> {
-    assert_eq!(rt; can(&pair(rt.alloc(), "k", "l")?), true);
-    assert_eq!(rt; can(&pair(rt.alloc(), "k", "k")?), false);
+    assert!(rt; can_pair(rt.alloc(), "k", "l")?);
+    assert!(rt; !can_pair(rt.alloc(), "k", "k")?);
     Ok(())
 }
 
@@ -221,9 +245,13 @@ fn nested(alloc: Global, levels: u8) -> Result<Node, AllocError> {
     Ok(node)
 }
 
+fn can_nested(alloc: Global, levels: u8) -> Result<bool, AllocError> {
+    Ok(is_writable(&nested(alloc, levels)?))
+}
+
 #[test]
 fn a_level_too_many(rt: HostRuntime) -> Result<(), Fail> {
-    assert_eq!(rt; can(&nested(rt.alloc(), 64)?), true);
-    assert_eq!(rt; can(&nested(rt.alloc(), 65)?), false);
+    assert!(rt; can_nested(rt.alloc(), 64)?);
+    assert!(rt; !can_nested(rt.alloc(), 65)?);
     Ok(())
 }

@@ -1,7 +1,9 @@
 // What is planned, and each refusal where a later one applies too.
 use identity::Version;
 use manifests::Rule;
-use publish_plan::{Mark, MarkKind, Options, Plan, PlanFault, check_options, codebase_of, plan};
+use publish_plan::{
+    Mark, MarkKind, Options, Plan, PlanFault, PlannedFile, check_options, codebase_of, plan,
+};
 use small_types::{Limit, List, Name, Text};
 use std::alloc::{AllocError, Global};
 use std::test::Fail;
@@ -85,20 +87,24 @@ fn said_of_fault(alloc: Global, fault: PlanFault) -> Result<String, AllocError> 
     }
 }
 
-fn said_of_plan(alloc: Global, plan: Plan) -> Result<String, AllocError> {
+fn push_file(said: &mut String, file: &PlannedFile) -> Result<(), AllocError> {
+    said.push_str(file.source.as_str())?;
+    said.push_str(" ")?;
+    said.push_str(file.file.as_str())?;
+    said.push_str(" ")?;
+    said.push_str(file.target.as_str())?;
+    said.push_str(if file.local { " data" } else { " program" })?;
+    if let Some(group) = &file.group {
+        said.push_str(" ")?;
+        said.push_str(group.as_str())?;
+    }
+    said.push_str("\n")
+}
+
+fn said_of_plan(alloc: Global, plan: &Plan) -> Result<String, AllocError> {
     let mut said = String::new(alloc);
     for file in plan.files.as_slice() {
-        said.push_str(file.source.as_str())?;
-        said.push_str(" ")?;
-        said.push_str(file.file.as_str())?;
-        said.push_str(" ")?;
-        said.push_str(file.target.as_str())?;
-        said.push_str(if file.local { " data" } else { " program" })?;
-        if let Some(group) = &file.group {
-            said.push_str(" ")?;
-            said.push_str(group.as_str())?;
-        }
-        said.push_str("\n")?;
+        push_file(&mut said, file)?;
     }
     said.push_str(plan.manifest.as_str())?;
     said.push_str("\n")?;
@@ -112,8 +118,33 @@ fn said(alloc: Global, options: &Options, names: &[Name]) -> Result<String, Allo
         return said_of_fault(alloc, fault);
     }
     match plan(alloc, options, names) {
-        Ok(plan) => said_of_plan(alloc, plan),
+        Ok(plan) => {
+            let said = said_of_plan(alloc, &plan);
+            drop(plan);
+            said
+        }
         Err(fault) => said_of_fault(alloc, fault),
+    }
+}
+
+// What is answered to these options over a folder with the names between the bars. Options are large, and are dropped
+// here alone.
+fn answer_to(
+    alloc: Global,
+    words: (&str, &str, &str, &str),
+    marked: &str,
+    minimum: u16,
+    mapped: bool,
+    listed: &str,
+) -> Result<String, Fail> {
+    let listed = names(alloc, listed)?;
+    let mut options = options(alloc, words, marked, minimum)?;
+    options.mapped = mapped;
+    let answer = said(alloc, &options, &listed);
+    drop(options);
+    match answer {
+        Ok(answer) => Ok(answer),
+        Err(fault) => Err(fault.into()),
     }
 }
 
@@ -123,122 +154,158 @@ const TO_195: &str =
 const NAME_199: &str =
     "nnnnnnnnnnnnnnnnnnnnnnnnnnnnnnnnnnnnnnnnnnnnnnnnnnnnnnnnnnnnnnnnnnnnnnnnnnnnnnnnnnnnnnnnnnnnnnnnnnnnnnnnnnnnnnnnnnnnnnnnnnnnnnnnnnnnnnnnnnnnnnnnnnnnnnnnnnnnnnnnnnnnnnnnnnnnnnnnnnnnnnnnnnnnnnnnnnnnnnn";
 
+// The name, the entry and both folders, where the least version is 2.0.0.0, and the answer.
+const OPTIONS: &[((&str, &str, &str, &str), &str)] = &[
+    (("de/mo", "a+b", "in", "in"), "bad-name name"),
+    (("", "a.exe", "in", "out"), "bad-name name"),
+    (("demo", "a+b", "in", "in"), "bad-name entry"),
+    (("demo", "a.exe", "in", "in"), "bad-name to"),
+    (("demo", "a.exe", "in", "in/out"), "bad-name to"),
+    (("demo", "a.exe", "in/out", "in"), "bad-name to"),
+    (("demo", "a.exe", "in", TO_195), "bad-name entry"),
+    (("demo", "a.exe", "in", "inn"), "minimum-above 2"),
+];
+
 #[test]
 fn refuses_options(rt: HostRuntime) -> Result<(), Fail> {
-    let alloc = rt.alloc();
-    let cases = [
-        (("de/mo", "a+b", "in", "in"), "bad-name name"),
-        (("", "a.exe", "in", "out"), "bad-name name"),
-        (("demo", "a+b", "in", "in"), "bad-name entry"),
-        (("demo", "a.exe", "in", "in"), "bad-name to"),
-        (("demo", "a.exe", "in", "in/out"), "bad-name to"),
-        (("demo", "a.exe", "in/out", "in"), "bad-name to"),
-        (("demo", "a.exe", "in", TO_195), "bad-name entry"),
-        (("demo", "a.exe", "in", "inn"), "minimum-above 2"),
-    ];
-    let names = names(alloc, "in/a.exe")?;
-    for (words, wanted) in &cases {
-        let options = options(alloc, *words, "", 2)?;
-        let answer = said(alloc, &options, &names)?;
+    for (words, wanted) in OPTIONS {
+        let answer = answer_to(rt.alloc(), *words, "", 2, true, "in/a.exe")?;
         assert!(rt; answer.as_str() == *wanted, "{answer} for {wanted}");
     }
     Ok(())
 }
 
+const WORDS: (&str, &str, &str, &str) = ("demo", "a.exe", "in", "out");
+
+// The marks, the names in the folder, and the answer.
+const FILES: &[(&str, &str, &str)] = &[
+    (
+        "",
+        "out/Application Files/demo_1_0_0_0/b|out/Application Files/demo_1_0_0_0/c|x",
+        "version-exists out/Application Files/demo_1_0_0_0/b",
+    ),
+    (
+        "",
+        "inn/a.exe|out/Application Files/demo_1_0_0_1/b",
+        "empty-input",
+    ),
+    ("x", "in/.pre/b|in/.pre/c|in/x", "bad-input .pre/b"),
+    ("a.exe|y", "in/a.exe|in/b", "no-entry-point"),
+    ("y", "in/b", "no-entry-point"),
+    ("b|y|g=b", "in/a.exe|in/b", "bad-mark y"),
+    ("b|g=b|y", "in/a.exe|in/b", "bad-mark b"),
+];
+
 #[test]
 fn refuses_files(rt: HostRuntime) -> Result<(), Fail> {
-    let alloc = rt.alloc();
-    let long = format!(in alloc; "in/{NAME_199}|in/z")?;
-    let cases = [
-        (
-            "",
-            "out/Application Files/demo_1_0_0_0/b|out/Application Files/demo_1_0_0_0/c|x",
-            "version-exists out/Application Files/demo_1_0_0_0/b",
-        ),
-        (
-            "",
-            "inn/a.exe|out/Application Files/demo_1_0_0_1/b",
-            "empty-input",
-        ),
-        ("x", "in/.pre/b|in/.pre/c|in/x", "bad-input .pre/b"),
-        (
-            "",
-            long.as_str(),
-            long.as_str().split('|').next().unwrap_or(""),
-        ),
-        ("a.exe|y", "in/a.exe|in/b", "no-entry-point"),
-        ("y", "in/b", "no-entry-point"),
-        ("b|y|g=b", "in/a.exe|in/b", "bad-mark y"),
-        ("b|g=b|y", "in/a.exe|in/b", "bad-mark b"),
-    ];
-    for (marked, listed, wanted) in &cases {
-        let options = options(alloc, ("demo", "a.exe", "in", "out"), marked, 1)?;
-        let listed = names(alloc, listed)?;
-        let answer = said(alloc, &options, &listed)?;
-        assert!(rt;
-            answer.as_str().ends_with(wanted.trim_start_matches("in/")),
-            "{answer} for {wanted}"
-        );
+    for (marked, listed, wanted) in FILES {
+        let answer = answer_to(rt.alloc(), WORDS, marked, 1, true, listed)?;
+        assert!(rt; answer.as_str() == *wanted, "{answer} for {wanted}");
     }
     Ok(())
 }
 
-// As many names as there are numbers below n, and a mark on each where they are data files.
-fn numbered(alloc: Global, count: usize, data: bool) -> Result<(Options, Vec<Name>), Fail> {
-    let mut options = options(alloc, ("demo", "a.exe", "in", "out"), "", 1)?;
+// Whether a name that is too long below the folder of the release is refused by itself.
+fn is_long_refused(alloc: Global) -> Result<bool, Fail> {
+    let listed = format!(in alloc; "in/{NAME_199}|in/z")?;
+    let answer = answer_to(alloc, WORDS, "", 1, true, listed.as_str())?;
+    Ok(answer.as_str().ends_with(NAME_199))
+}
+
+#[test]
+fn refuses_a_long_name(rt: HostRuntime) -> Result<(), Fail> {
+    assert!(rt; is_long_refused(rt.alloc())?);
+    Ok(())
+}
+
+// As many names as there are numbers below n, in the folder, or as they are within it.
+fn numbered(alloc: Global, count: usize, folder: &str) -> Result<Vec<Name>, Fail> {
     let mut listed = Vec::new(alloc);
-    let mut marked = Vec::new(alloc);
     for i in 0..count {
-        let name = format!(in alloc; "in/{i:05}")?;
+        let name = format!(in alloc; "{folder}{i:05}")?;
         listed.push(Name::read(alloc, name.as_bytes())?)?;
-        if data {
-            let file = format!(in alloc; "{i:05}")?;
-            marked.push(Mark {
-                kind: MarkKind::Local,
-                file: Name::read(alloc, file.as_bytes())?,
-            })?;
-        }
     }
-    options.marks = List::from_vec(marked);
-    Ok((options, listed))
+    Ok(listed)
+}
+
+// A mark on each of them, as data files.
+fn all_marked(alloc: Global, count: usize) -> Result<List<Mark>, Fail> {
+    let mut marked = Vec::new(alloc);
+    for file in numbered(alloc, count, "")? {
+        marked.push(Mark {
+            kind: MarkKind::Local,
+            file,
+        })?;
+    }
+    Ok(List::from_vec(marked))
+}
+
+// What is answered to so many files, each a data file or none.
+fn answer_to_many(alloc: Global, count: usize, data: bool) -> Result<String, Fail> {
+    let listed = numbered(alloc, count, "in/")?;
+    let marked = all_marked(alloc, if data { count } else { 0 })?;
+    let mut options = options(alloc, WORDS, "", 1)?;
+    options.marks = marked;
+    let answer = said(alloc, &options, &listed);
+    drop(options);
+    match answer {
+        Ok(answer) => Ok(answer),
+        Err(fault) => Err(fault.into()),
+    }
 }
 
 #[test]
 fn refuses_more_than_the_limits(rt: HostRuntime) -> Result<(), Fail> {
-    let alloc = rt.alloc();
-    let cases = [
+    for (count, data, wanted) in [
         (16_385, false, "too-many files"),
         (257, true, "too-many locals"),
         (256, true, "no-entry-point"),
-    ];
-    for (count, data, wanted) in cases {
-        let (options, listed) = numbered(alloc, count, data)?;
-        let answer = said(alloc, &options, &listed)?;
+    ] {
+        let answer = answer_to_many(rt.alloc(), count, data)?;
         assert!(rt; answer.as_str() == wanted, "{answer} for {wanted}");
     }
     Ok(())
 }
 
+const TO_ONE: (&str, &str, &str, &str) = ("demo", "a.exe", "in", "one");
+
+// Whether files are mapped, the names in the folder, and the answer.
+const PLANS: &[(bool, &str, &str)] = &[
+    (
+        true,
+        "demo.txt|in/a.exe|in/b/c|in/d.txt|one/demo.application",
+        "in/a.exe a.exe one/Application Files/demo_1_0_0_0/a.exe.deploy program\nin/b/c b/c one/Application Files/demo_1_0_0_0/b/c.deploy program help\nin/d.txt d.txt one/Application Files/demo_1_0_0_0/d.txt.deploy data\none/Application Files/demo_1_0_0_0/a.exe.manifest\none/demo.application",
+    ),
+    (
+        false,
+        "in/a.exe|in/a.exe.manifest",
+        "bad-input a.exe.manifest",
+    ),
+];
+
 #[test]
 fn plans_three_files(rt: HostRuntime) -> Result<(), Fail> {
-    let alloc = rt.alloc();
-    let mut options = options(alloc, ("demo", "a.exe", "in", "one"), "help=b/c|d.txt", 1)?;
-    let listed = names(
-        alloc,
-        "demo.txt|in/a.exe|in/b/c|in/d.txt|one/demo.application",
-    )?;
-    let answer = said(alloc, &options, &listed)?;
-    assert_eq!(rt;
-        answer.as_str(),
-        "in/a.exe a.exe one/Application Files/demo_1_0_0_0/a.exe.deploy program\nin/b/c b/c one/Application Files/demo_1_0_0_0/b/c.deploy program help\nin/d.txt d.txt one/Application Files/demo_1_0_0_0/d.txt.deploy data\none/Application Files/demo_1_0_0_0/a.exe.manifest\none/demo.application"
-    );
-    assert_eq!(rt;
-        codebase_of(alloc, &options)?.as_str(),
-        "Application Files\\demo_1_0_0_0\\a.exe.manifest"
-    );
-    options.mapped = false;
-    let listed = names(alloc, "in/a.exe|in/a.exe.manifest")?;
-    let answer = said(alloc, &options, &listed)?;
-    assert_eq!(rt; answer.as_str(), "bad-input a.exe.manifest");
+    for (mapped, listed, wanted) in PLANS {
+        let answer = answer_to(rt.alloc(), TO_ONE, "help=b/c|d.txt", 1, *mapped, listed)?;
+        assert!(rt; answer.as_str() == *wanted, "{answer} for {wanted}");
+    }
+    Ok(())
+}
+
+// Whether that is the codebase of the application.
+fn has_codebase(alloc: Global, wanted: &str) -> Result<bool, Fail> {
+    let options = options(alloc, TO_ONE, "", 1)?;
+    let codebase = codebase_of(alloc, &options);
+    drop(options);
+    match codebase {
+        Ok(codebase) => Ok(codebase.as_str() == wanted),
+        Err(fault) => Err(fault.into()),
+    }
+}
+
+#[test]
+fn the_codebase_is_below_the_files(rt: HostRuntime) -> Result<(), Fail> {
+    let wanted = "Application Files\\demo_1_0_0_0\\a.exe.manifest";
+    assert!(rt; has_codebase(rt.alloc(), wanted)?);
     Ok(())
 }
