@@ -90,37 +90,55 @@ fn reads_as(alloc: Global, text: &[u8], deployment: &Deployment) -> bool {
     again == *deployment
 }
 
-// Each deployment, where its text says it.
-fn deployments(rt: &HostRuntime) -> io::Result<()> {
+// The deployment's text, where it says it.
+fn print_deployment(rt: &HostRuntime, deployment: &Deployment, publisher: &Text) -> io::Result<()> {
     let alloc = rt.alloc();
-    let publisher = text_of(alloc, "A \"&\" <B>")?;
+    let Ok(text) = written(alloc, deployment, publisher)? else {
+        return bad();
+    };
+    if reads_as(alloc, text.as_slice(), deployment) {
+        print(rt, text.as_slice())?;
+    }
+    Ok(())
+}
+
+// Each deployment, where its text says it. A deployment is large, and is dropped in one place.
+fn deployments(rt: &HostRuntime) -> io::Result<()> {
+    let publisher = text_of(rt.alloc(), "A \"&\" <B>")?;
     for terms in TERMS {
-        let deployment = deployment_of(alloc, terms)?;
-        let Ok(text) = written(alloc, &deployment, &publisher)? else {
-            return bad();
-        };
-        if reads_as(alloc, text.as_slice(), &deployment) {
-            print(rt, text.as_slice())?;
+        let deployment = deployment_of(rt.alloc(), terms)?;
+        let done = print_deployment(rt, &deployment, &publisher);
+        drop(deployment);
+        done?;
+    }
+    Ok(())
+}
+
+// The length of the deployment's text where a publisher's name is so long.
+fn print_length(rt: &HostRuntime, deployment: &Deployment, count: usize) -> io::Result<()> {
+    let publisher = Text::from_string("x".repeat(rt.alloc(), count)?);
+    match written(rt.alloc(), deployment, &publisher)? {
+        Ok(text) => {
+            let length = text.as_slice().len();
+            println!(rt; "{length}")
         }
+        Err(length) => println!(rt; "too long {length}"),
+    }
+}
+
+fn print_lengths(rt: &HostRuntime, deployment: &Deployment) -> io::Result<()> {
+    for count in [MOST, MOST + 1] {
+        print_length(rt, deployment, count)?;
     }
     Ok(())
 }
 
 // A text of the most bytes, and one of one more.
 fn lengths(rt: &HostRuntime) -> io::Result<()> {
-    let alloc = rt.alloc();
-    let deployment = deployment_of(alloc, "<deployment/>")?;
-    for count in [MOST, MOST + 1] {
-        let publisher = Text::from_string("x".repeat(alloc, count)?);
-        match written(alloc, &deployment, &publisher)? {
-            Ok(text) => {
-                let length = text.as_slice().len();
-                println!(rt; "{length}")?;
-            }
-            Err(length) => println!(rt; "too long {length}")?,
-        }
-    }
-    Ok(())
+    let deployment = deployment_of(rt.alloc(), "<deployment/>")?;
+    let done = print_lengths(rt, &deployment);
+    drop(deployment);
+    done
 }
 
 // How long a publisher's name is that makes a text of 4,194,304 bytes.
@@ -143,22 +161,29 @@ fn is_application(alloc: Global, text: &[u8], application: &Application) -> bool
     again == *application
 }
 
-// The application, whose text says it.
-fn application(rt: &HostRuntime) -> io::Result<()> {
+// The application's text, which says it.
+fn print_application(rt: &HostRuntime, application: &Application) -> io::Result<()> {
     let alloc = rt.alloc();
-    let Ok(application) = read_application(alloc, APPLICATION.as_bytes()) else {
-        return bad();
-    };
-    if !are_application_facts(alloc, &application).unwrap_or(false) {
+    if !are_application_facts(alloc, application).unwrap_or(false) {
         return bad();
     }
-    let Ok(text) = write_application(alloc, &application) else {
+    let Ok(text) = write_application(alloc, application) else {
         return bad();
     };
-    if !is_application(alloc, text.as_slice(), &application) {
+    if !is_application(alloc, text.as_slice(), application) {
         return bad();
     }
     print(rt, text.as_slice())
+}
+
+// The application, whose text says it.
+fn application(rt: &HostRuntime) -> io::Result<()> {
+    let Ok(application) = read_application(rt.alloc(), APPLICATION.as_bytes()) else {
+        return bad();
+    };
+    let done = print_application(rt, &application);
+    drop(application);
+    done
 }
 
 // Values and addresses that a manifest can say, and others.
@@ -186,12 +211,24 @@ fn copied(alloc: Global, file: &FileEntry) -> io::Result<FileEntry> {
     }
 }
 
-// Files that a manifest can say, and others.
-fn files(rt: &HostRuntime) -> io::Result<()> {
-    let alloc = rt.alloc();
-    let Ok(application) = read_application(alloc, APPLICATION.as_bytes()) else {
-        return bad();
-    };
+// Whether a manifest can say the file with this kind and size.
+fn can_say(alloc: Global, first: &FileEntry, local: bool, size: u64) -> io::Result<bool> {
+    let mut file = copied(alloc, first)?;
+    file.local = local;
+    file.size = size;
+    Ok(is_file(&file))
+}
+
+// Whether a manifest can say so many times the file.
+fn can_say_all(alloc: Global, first: &FileEntry, count: u32) -> io::Result<bool> {
+    let mut files = Vec::new(alloc);
+    for _ in 0..count {
+        files.push(copied(alloc, first)?)?;
+    }
+    Ok(are_files(alloc, &files).unwrap_or(false))
+}
+
+fn print_files(rt: &HostRuntime, application: &Application) -> io::Result<()> {
     let Some(first) = application.files.as_slice().first() else {
         return bad();
     };
@@ -201,17 +238,24 @@ fn files(rt: &HostRuntime) -> io::Result<()> {
         (true, 1_048_576),
         (true, 1_048_577),
     ] {
-        let mut file = copied(alloc, first)?;
-        file.local = local;
-        file.size = size;
-        println!(rt; "{}", is_file(&file))?;
+        let can = can_say(rt.alloc(), first, local, size)?;
+        println!(rt; "{can}")?;
     }
-    let mut files = Vec::new(alloc);
-    for _ in 0..2 {
-        files.push(copied(alloc, first)?)?;
-        println!(rt; "{}", are_files(alloc, &files).unwrap_or(false))?;
+    for count in 1..3 {
+        let can = can_say_all(rt.alloc(), first, count)?;
+        println!(rt; "{can}")?;
     }
     Ok(())
+}
+
+// Files that a manifest can say, and others.
+fn files(rt: &HostRuntime) -> io::Result<()> {
+    let Ok(application) = read_application(rt.alloc(), APPLICATION.as_bytes()) else {
+        return bad();
+    };
+    let done = print_files(rt, &application);
+    drop(application);
+    done
 }
 
 fn main(rt: HostRuntime) -> io::Result<()> {
