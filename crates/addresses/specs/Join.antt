@@ -13,7 +13,8 @@ use Rattle.addresses.specs.Address.{address, http, is_too_long, target_of_url, u
 
 -- `http://HOST:PORT` and the path
 unfoldable pub target_text : Target → List ℕ
-target_text target = codes "http://" ++ target.host ++ codes ":" ++ decimal target.port ++ target.path
+target_text target = codes "http://" ++ target.host ++ codes ":" ++ decimal target.port
+    ++ target.path
 
 -- the URL of an address
 abbrev pub base_of : Target → Result Parts UrlFault
@@ -21,7 +22,8 @@ base_of target = url_of (parse_url None (target_text target))
 
 -- the URL of a reference that stands in a document at the base
 unfoldable pub resolved : Target → List ℕ → Result Parts UrlFault
-resolved base reference = base_of base >>= (λ document. url_of (parse_url (Some document) reference))
+resolved base reference =
+    base_of base >>= (λ document. url_of (parse_url (Some document) reference))
 
 -- the address of the codebase that stands in a deployment manifest at the base
 unfoldable pub app_target_of : Target → List ℕ → Result Target UrlFault
@@ -43,14 +45,18 @@ file_target_of base mapped name = resolved base (file_reference mapped name) >>=
 abbrev pub IsUnreachable : Target → Bool → List ℕ → Type 0
 IsUnreachable base mapped name =
     (base_of base ≡ Err BadUrl)
-    ⊎ ((url : Parts) × (resolved base (file_reference mapped name) ≡ Ok url) × (URL_LIMIT < length (serialize url)))
+    ⊎ ((url : Parts) × (resolved base (file_reference mapped name) ≡ Ok url)
+    × (URL_LIMIT < length (serialize url)))
 
 -- each name is joined to every base that is a URL, and stays on its host
 abbrev pub NamesAreJoined : Type 0
 NamesAreJoined =
-    (base : Target) (document : Parts) (mapped : Bool) (name : List ℕ) → base_of base ≡ Ok document → IsName name
-    → (url : Parts) × (resolved base (file_reference mapped name) ≡ Ok url) × HasSameHost document url
+    (base : Target) (document : Parts) (mapped : Bool) (name : List ℕ) → base_of base ≡ Ok document
+    → IsName name
+    → (url : Parts) × (resolved base (file_reference mapped name) ≡ Ok url)
+    × HasSameHost document url
 
 -- the URL of an address has the scheme of addresses
 abbrev pub BasesAreHttp : Type 0
-BasesAreHttp = (base : Target) (document : Parts) → base_of base ≡ Ok document → document.scheme ≡ http
+BasesAreHttp = (base : Target) (document : Parts) → base_of base ≡ Ok document
+    → document.scheme ≡ http

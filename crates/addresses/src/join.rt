@@ -108,7 +108,8 @@ pub fn file_target(
     ensures exact { Gives result (file_target_of base.now mapped name.now) }
     ensures address { IfOk result IsAddress }
     ensures refused { result ≡ Err BadUrl → IsUnreachable base.now mapped name.now }
-    ensures unreachable { IsUnreachable base.now mapped name.now → (result ≡ Err BadUrl) ⊎ (result ≡ Err Memory) }
+    ensures unreachable { IsUnreachable base.now mapped name.now
+        → (result ≡ Err BadUrl) ⊎ (result ≡ Err Memory) }
     ensures http { (scheme : List ℕ) → result ≢ Err (NotHttp scheme) }
 {
     file_address(alloc, base, mapped, name.as_bytes())

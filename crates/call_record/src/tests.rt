@@ -26,7 +26,8 @@ struct Device {
 
 impl Device {
     fn new() -> Device
-        ensures { (result.called.noted ≡ []) × (result.taken.noted ≡ []) × (result.failing ≡ false) }
+        ensures { (result.called.noted ≡ []) × (result.taken.noted ≡ [])
+            × (result.failing ≡ false) }
     {
         Device {
             failing: false,
@@ -36,7 +37,8 @@ impl Device {
     }
 
     fn write(&mut self, place: u64, bytes: &[u8]) -> bool
-        ensures called { self.new.called.noted ≡ self.old.called.noted ++ (place, length bytes.now, result) ∷ [] }
+        ensures called { self.new.called.noted
+            ≡ self.old.called.noted ++ (place, length bytes.now, result) ∷ [] }
         ensures taken { result ≡ true → self.new.taken.noted ≡ self.old.taken.noted ++ bytes.now }
         ensures refused { result ≡ false → self.new.taken.noted ≡ self.old.taken.noted }
         ensures done { result ≡ not self.old.failing }

@@ -26,4 +26,5 @@ pub record ReceivesAt (requests : List (List ℕ)) (old new buf : List ℕ) (n :
   pub next : ℕ
   pub before : old ≡ earlier ++ place ∷ []
   pub after : new ≡ earlier ++ next ∷ []
-  pub given : Consumes (drop place (last_request requests earlier)) (drop next (last_request requests earlier)) buf n
+  pub given : Consumes (drop place (last_request requests earlier))
+      (drop next (last_request requests earlier)) buf n

@@ -2,7 +2,8 @@
 use Rattle.std.specs.Prelude.{◌≡◌, ℕ, List, [], ◌∷◌, ◌++◌, Option, Some, None}
 use Rattle.outside.specs.Streams.{Consumes}
 
--- a connection: where it leads, all that the other side sends, what is left of that to receive, and what was sent
+-- a connection: where it leads, all that the other side sends, what is left of that to receive, and
+-- what was sent
 pub record Made : Type 0 where
   pub host : List ℕ
   pub port : ℕ

@@ -13,7 +13,8 @@ is_other bytes digest = not (bytes_eq digest.value (hash_of digest.algorithm byt
 
 -- the digest beside that of the bytes
 abbrev pub other_digest : List ℕ → Digest → Difference
-other_digest bytes digest = OtherDigest digest.algorithm digest.value (hash_of digest.algorithm bytes)
+other_digest bytes digest =
+    OtherDigest digest.algorithm digest.value (hash_of digest.algorithm bytes)
 
 -- the sizes where they differ, else the first digest that is not that of the bytes
 unfoldable pub difference_of : List Digest → ℕ → List ℕ → Option Difference

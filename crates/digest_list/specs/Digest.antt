@@ -24,7 +24,8 @@ IsSized digest = length digest.value ≡ size_of digest.algorithm
 -- the digest of that value, where its length is right
 abbrev pub digest_of_value : Algorithm → Result (List ℕ) DecodeError → Result Digest DigestFault
 digest_of_value algorithm (Ok value) =
-    if length value == size_of algorithm then Ok (record { algorithm = algorithm; value = value }) else Err Bad
+    if length value == size_of algorithm then Ok (record { algorithm = algorithm; value = value })
+    else Err Bad
 digest_of_value algorithm (Err _) = Err Bad
 
 -- what reading the text gives

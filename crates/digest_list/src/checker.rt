@@ -112,9 +112,11 @@ impl Checker {
     /// Whether the bytes that came, as one, match the size and the list. If not, `Differs` shows the sizes where they
     /// differ, else the first digest of the list that is not that of the bytes. It takes no memory.
     pub fn finish(self) -> Result<(), CheckFault>
-        ensures exact { (list : List Digest) (size : ℕ) (bytes : List ℕ) → IsFed self list size bytes
+        ensures exact { (list : List Digest) (size : ℕ) (bytes : List ℕ)
+            → IsFed self list size bytes
             → result ≡ check_of (difference_of list size bytes) }
-        ensures matches { (list : List Digest) (size : ℕ) (bytes : List ℕ) → IsFed self list size bytes
+        ensures matches { (list : List Digest) (size : ℕ) (bytes : List ℕ)
+            → IsFed self list size bytes
             → IsOk result ↔ Matches list size bytes }
         ensures shown { IfErr result ShowsDifference }
     {

@@ -85,7 +85,8 @@ fn decode_here(size: usize, text: &[u8], out: &mut [u8]) -> bool
     requires room { length out.old ≡ 66 }
     requires small { size ≤ 64 }
     ensures value { IsTrue result → decode_of standard text.now ≡ Ok (take size out.new) }
-    ensures other { result ≡ false → IfOk (decode_of standard text.now) (λ value. length value ≢ size) }
+    ensures other { result ≡ false
+        → IfOk (decode_of standard text.now) (λ value. length value ≢ size) }
     ensures room { length out.new ≡ 66 }
 {
     match STANDARD.decode_slice_unchecked(text, out) {
@@ -103,7 +104,8 @@ impl Digest {
         ensures sized { IfOk result IsSized }
         ensures spelled { IfOk result (λ d. without_space text.now ≡ encode_of standard d.value) }
         ensures refused { result ≡ Err DigestFault.Bad
-            → (b : List ℕ) → IsBytes b → length b ≡ size_of algorithm → without_space text.now ≢ encode_of standard b }
+            → (b : List ℕ) → IsBytes b → length b ≡ size_of algorithm
+            → without_space text.now ≢ encode_of standard b }
         ensures memory { result ≡ Err DigestFault.Memory → IsOk (digest_of algorithm text.now) }
     {
         let Some(kept) = dense_text(text) else {
@@ -133,7 +135,8 @@ impl Digest {
     /// as this digest. It fails only for want of memory.
     pub fn to_base64(&self, alloc: Global) -> Result<Text, PrintFault>
         ensures text { IfOk result (λ t. t ≡ encode_of standard self.now.value) }
-        ensures again { IsSized self.now → IfOk result (λ t. digest_of self.now.algorithm t ≡ Ok self.now) }
+        ensures again { IsSized self.now
+            → IfOk result (λ t. digest_of self.now.algorithm t ≡ Ok self.now) }
     {
         let text = STANDARD.encode(alloc, self.value.as_slice())?;
         Ok(Text::from_string(text))

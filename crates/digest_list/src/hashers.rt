@@ -62,7 +62,8 @@ fn feed<H: Hash>(hasher: &mut Option<H>, bytes: &[u8])
 // The digest of the message, where there is a hasher.
 fn sum<H: Hash>(hasher: Option<H>) -> Option<H::Output>
     ensures present { is_some result ≡ is_some hasher }
-    ensures value { (m : List ℕ) → IfSome hasher (λ h. H.holds h m) → IfSome result (λ d. H.digest_of m d) }
+    ensures value { (m : List ℕ) → IfSome hasher (λ h. H.holds h m)
+        → IfSome result (λ d. H.digest_of m d) }
 {
     match hasher {
         Some(hasher) => Some(hasher.finalize()),
@@ -100,7 +101,8 @@ impl Hashers {
 
     // Adds bytes to the message.
     pub(crate) fn update(&mut self, bytes: &[u8])
-        ensures { (list : List Digest) (m : List ℕ) → Hold self.old list m → Hold self.new list (m ++ bytes.now) }
+        ensures { (list : List Digest) (m : List ℕ) → Hold self.old list m
+            → Hold self.new list (m ++ bytes.now) }
     {
         feed(&mut self.sha1, bytes);
         feed(&mut self.sha256, bytes);

@@ -34,6 +34,8 @@ changes (Measured n ∷ answers) = changes answers
 changes (Gave place room given ∷ answers) = changes answers
 changes (Changed call ∷ answers) = call ∷ changes answers
 
--- what a stop at a moment may leave of a file that held the first bytes, where a stop then could leave any of `left`
+-- what a stop at a moment may leave of a file that held the first bytes, where a stop then could
+-- leave any of `left`
 abbrev pub LeftAfter : List ℕ → (List ℕ → Type 0) → List Answer → ℕ → List ℕ → Type 0
-LeftAfter first left answers t c = (image : List ℕ) × left image × IsImage first image (until t (changes answers)) c
+LeftAfter first left answers t c = (image : List ℕ) × left image
+    × IsImage first image (until t (changes answers)) c

@@ -1,7 +1,8 @@
 -- What the calls of a disk do, and what a stop may leave.
 use Rattle.std.specs.Prelude.{◌≡◌, ◌⊎◌, ℕ, ◌+◌, ◌-◌, ◌<◌, ◌≤◌, min, max, List, ◌++◌, length, take, drop, Result, OnOk}
 
--- after a write of n bytes that a stop cuts short: any bytes in the range and past the old end, the same elsewhere
+-- after a write of n bytes that a stop cuts short: any bytes in the range and past the old end, the
+-- same elsewhere
 pub record Torn (place n : ℕ) (old new : List ℕ) : Type 0 where
   pub before : take (min place (length old)) new ≡ take place old
   pub after : drop (place + n) new ≡ drop (place + n) old
@@ -25,8 +26,10 @@ pub record Elapses (before : ℕ) (past since : ℕ → List ℕ → Type 0) : T
   pub same : (t : ℕ) (c : List ℕ) → t ≤ before → since t c → past t c
   pub keeps : (t : ℕ) (c : List ℕ) → t ≤ before → past t c → since t c
 
--- the count of calls goes on by one and that of bytes by n, where neither passes its end; else both stay
-pub record Ticks {T E : Type 0} (old new total_old total_new n : ℕ) (result : Result T E) : Type 0 where
+-- the count of calls goes on by one and that of bytes by n, where neither passes its end; else both
+-- stay
+pub record Ticks {T E : Type 0} (old new total_old total_new n : ℕ) (result : Result T E)
+    : Type 0 where
   pub later : old ≤ new
   pub once : new ≤ old + 1
   pub ok : OnOk result (new ≡ old + 1)

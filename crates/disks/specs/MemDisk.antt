@@ -36,10 +36,11 @@ left_of m t c = IsImage (first_of m.history) (first_of m.history) (until t m.his
 
 -- what a stop at that moment leaves with a pick
 abbrev pub picked_of : Pick → MemDisk → ℕ → List ℕ
-picked_of pick m t = picked_after pick (first_of m.history) (first_of m.history) (until t m.history.moves.items)
+picked_of pick m t =
+    picked_after pick (first_of m.history) (first_of m.history) (until t m.history.moves.items)
 
--- A call took its turn, and the numbers of those that are to fail stay. The count of faults rises by
--- one where it failed, and stays where it did not.
+-- A call took its turn, and the numbers of those that are to fail stay. The count of faults rises
+-- by one where it failed, and stays where it did not.
 pub record TakesTurn {T : Type 0} (old new : MemDisk) (result : Result T Failed) : Type 0 where
   pub turns : turns_of new ≡ min (turns_of old + 1) 0xffff_ffff_ffff_ffff
   pub failing : failing_of new ≡ failing_of old

@@ -3,8 +3,10 @@ use Rattle.std.specs.Prelude.{◌≡◌, ℕ, ◌≤◌, List}
 use Rattle.disks.specs.Disk.{Elapses}
 use Rattle.disks.specs.declared.disk.Disk.{Ghosts}
 
--- Each image that a stop may leave, at each moment from old's to new's, has P. Before old nothing changed.
-pub record LeavesOnly {D : Type 0} (on : Ghosts D) (old new : D) (P : List ℕ → Type 0) : Type 0 where
+-- Each image that a stop may leave, at each moment from old's to new's, has P. Before old nothing
+-- changed.
+pub record LeavesOnly {D : Type 0} (on : Ghosts D) (old new : D) (P : List ℕ → Type 0)
+    : Type 0 where
   pub later : on.moment old ≤ on.moment new
   pub past : (t : ℕ) (c : List ℕ) → t ≤ on.moment old → on.left_at new t c → on.left_at old t c
   pub each : (t : ℕ) (c : List ℕ) → on.moment old ≤ t → t ≤ on.moment new → on.left_at new t c → P c

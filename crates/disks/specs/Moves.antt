@@ -31,7 +31,8 @@ Leaves (Sync false) reads old new = new ≡ old
 -- what a stop after all of these calls may leave
 abbrev pub IsImage : List ℕ → List ℕ → List Move → List ℕ → Type 0
 IsImage reads image [] c = c ≡ image
-IsImage reads image (m ∷ moves) c = (d : List ℕ) × Leaves m reads image d × IsImage (moved m reads) d moves c
+IsImage reads image (m ∷ moves) c = (d : List ℕ) × Leaves m reads image d
+    × IsImage (moved m reads) d moves c
 
 -- an image with the range of a call filled with one byte
 abbrev pub filled : ℕ → Move → List ℕ → List ℕ
@@ -39,7 +40,8 @@ filled byte (Write place bytes done) image = fill place (length bytes) byte imag
 filled byte (Cut n done) image = take n image ++ replicate (length image - n) byte
 filled byte (Sync done) image = image
 
--- what a pick makes of an image in a call that is not synced: its range is kept as it was written, lost, or filled
+-- what a pick makes of an image in a call that is not synced: its range is kept as it was written,
+-- lost, or filled
 abbrev pub unsynced : Pick → Move → List ℕ → List ℕ
 unsynced Kept m image = moved m image
 unsynced Lost m image = image
@@ -55,7 +57,8 @@ picked pick (Sync false) reads image = image
 -- and in all of these
 abbrev pub picked_after : Pick → List ℕ → List ℕ → List Move → List ℕ
 picked_after pick reads image [] = image
-picked_after pick reads image (m ∷ moves) = picked_after pick (moved m reads) (picked pick m reads image) moves
+picked_after pick reads image (m ∷ moves) =
+    picked_after pick (moved m reads) (picked pick m reads image) moves
 
 -- a write ends where a place can be named
 abbrev pub fits : Move → Bool

@@ -33,7 +33,8 @@ torn_with place n d middle size =
     let grouped : c ≡ (take place d ++ middle) ++ drop (place + n) d =
     sym (append_assoc (take place d) middle (drop (place + n) d)) in
     record {
-      before = take_at (take place d) (middle ++ drop (place + n) d) (min place (length d)) (length-take place d);
+      before = take_at (take place d) (middle ++ drop (place + n) d) (min place (length d))
+          (length-take place d);
       after = ap (drop (place + n)) grouped
           ∙ drop_at (take place d
           ++ middle) (drop (place + n) d) (place + n) (length-append (take place d) middle ∙ size);
@@ -51,7 +52,13 @@ pub torn_put : (place : ℕ) (bytes d : List ℕ) → Torn place (length bytes) 
 torn_put place bytes d =
     let zeros = replicate (place - length d) 0 in
     let size : length (take place d) + length (zeros ++ bytes) ≡ place + length bytes =
-    omega (arith, length-take place d, length-append zeros bytes, length-replicate {A = ℕ} (place - length d) 0) in
+    omega (
+      arith,
+      length-take place d,
+      length-append zeros bytes,
+      length-replicate {A = ℕ}
+          (place - length d) 0,
+    ) in
     subst (λ (m : List ℕ). Torn place (length bytes) d (take place d
     ++ m)) (append_assoc zeros bytes (drop (place + length bytes) d))
     (torn_with place (length bytes) d (zeros ++ bytes) size)
@@ -63,13 +70,15 @@ cut_take n d = record {
 }
 
 -- what reads give is what a stop may leave
-pub reads_left : (reads : List ℕ) (moves : List Move) → IsImage reads reads moves (reads_after reads moves)
+pub reads_left : (reads : List ℕ) (moves : List Move)
+    → IsImage reads reads moves (reads_after reads moves)
 reads_left reads [] = refl
 reads_left reads (Write place bytes true ∷ moves) =
     (put place bytes reads, torn_put place bytes reads, reads_left (put place bytes reads) moves)
 reads_left reads (Write place bytes false ∷ moves) =
     (reads, torn_same place (length bytes) reads, reads_left reads moves)
-reads_left reads (Cut n true ∷ moves) = (take n reads, cut_take n reads, reads_left (take n reads) moves)
+reads_left reads (Cut n true ∷ moves) =
+    (take n reads, cut_take n reads, reads_left (take n reads) moves)
 reads_left reads (Cut n false ∷ moves) = (reads, cut_same n reads, reads_left reads moves)
 reads_left reads (Sync true ∷ moves) = (reads, refl, reads_left reads moves)
 reads_left reads (Sync false ∷ moves) = (reads, refl, reads_left reads moves)
@@ -79,4 +88,5 @@ pub reads_are_left : (first : List ℕ) (calls : List Call) (t : ℕ) (bytes : L
     → IsImage first first (until t calls) bytes
 reads_are_left first calls t bytes is all =
     subst (λ (ms : List Move). IsImage first first ms bytes) (sym (until_all t calls all))
-    (subst (λ (b : List ℕ). IsImage first first (acts calls) b) (sym is) (reads_left first (acts calls)))
+    (subst (λ (b : List ℕ). IsImage first first (acts calls) b) (sym is)
+    (reads_left first (acts calls)))

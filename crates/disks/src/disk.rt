@@ -30,7 +30,8 @@ pub trait Disk {
     /// The length that reads give.
     fn length(&mut self) -> Result<u64, Failed>
         ensures bytes { tells self.new → IfOk result (λ n. n ≡ length (seen self.old)) }
-        ensures still { IsStill (moment self.old) (moment self.new) (total self.old) (total self.new) }
+        ensures still { IsStill (moment self.old) (moment self.new) (total self.old)
+            (total self.new) }
         ensures seen { seen self.new ≡ seen self.old }
         ensures time { Elapses (moment self.old) (left_at self.old) (left_at self.new) }
         ensures told { tells self.new → tells self.old }
@@ -39,8 +40,10 @@ pub trait Disk {
     /// As many bytes as stand there, at most the buffer's length.
     fn read(&mut self, place: u64, buf: &mut [u8]) -> Result<usize, Failed>
         ensures within { IfOk result (λ n. n ≤ length buf.old) }
-        ensures bytes { tells self.new → IfOk result (λ n. Gives (seen self.old) place buf.old buf.new n) }
-        ensures still { IsStill (moment self.old) (moment self.new) (total self.old) (total self.new) }
+        ensures bytes { tells self.new
+            → IfOk result (λ n. Gives (seen self.old) place buf.old buf.new n) }
+        ensures still { IsStill (moment self.old) (moment self.new) (total self.old)
+            (total self.new) }
         ensures seen { seen self.new ≡ seen self.old }
         ensures time { Elapses (moment self.old) (left_at self.old) (left_at self.new) }
         ensures told { tells self.new → tells self.old }
@@ -65,9 +68,11 @@ pub trait Disk {
         requires { tells self.old → size ≤ length (seen self.old) }
         ensures seen { CutOff size (seen self.old) (seen self.new) }
         ensures written { OnOk result (seen self.new ≡ take size (seen self.old)) }
-        ensures stop { Follows (CutOff size) (left_at self.old (moment self.old)) (left_at self.new (moment self.new)) }
+        ensures stop { Follows (CutOff size) (left_at self.old (moment self.old))
+            (left_at self.new (moment self.new)) }
         ensures none { moment self.new ≡ moment self.old → seen self.new ≡ seen self.old }
-        ensures tick { Ticks (moment self.old) (moment self.new) (total self.old) (total self.new) 0 result }
+        ensures tick { Ticks (moment self.old) (moment self.new) (total self.old) (total self.new) 0
+            result }
         ensures time { Elapses (moment self.old) (left_at self.old) (left_at self.new) }
         ensures told { tells self.new → tells self.old }
         ensures cause { Causes (count self.old) (count self.new) result };
@@ -76,9 +81,11 @@ pub trait Disk {
     fn sync(&mut self) -> Result<(), Failed>
         ensures durable { OnOk result (Only (seen self.old) (left_at self.new (moment self.new))) }
         ensures seen { seen self.new ≡ seen self.old }
-        ensures stop { (c : List ℕ) → left_at self.new (moment self.new) c → left_at self.old (moment self.old) c }
+        ensures stop { (c : List ℕ) → left_at self.new (moment self.new) c
+            → left_at self.old (moment self.old) c }
         ensures none { moment self.new ≡ moment self.old → seen self.new ≡ seen self.old }
-        ensures tick { Ticks (moment self.old) (moment self.new) (total self.old) (total self.new) 0 result }
+        ensures tick { Ticks (moment self.old) (moment self.new) (total self.old) (total self.new) 0
+            result }
         ensures time { Elapses (moment self.old) (left_at self.old) (left_at self.new) }
         ensures told { tells self.new → tells self.old }
         ensures cause { Causes (count self.old) (count self.new) result };

@@ -51,14 +51,16 @@ impl MemDisk {
     /// The disk that a stop at that moment leaves with this pick. No call of it is to fail. It answers `LaterThanNow`
     /// exactly where the moment has not come.
     pub fn stop(&self, alloc: Global, moment: u64, pick: Pick) -> Result<MemDisk, StopFault>
-        ensures image { IfOk result (λ disk. (moment ≤ calls_of self.now) × left_of self.now moment (disk_bytes disk)) }
+        ensures image { IfOk result
+            (λ disk. (moment ≤ calls_of self.now) × left_of self.now moment (disk_bytes disk)) }
         ensures bytes { IfOk result (λ disk. disk_bytes disk ≡ picked_of pick self.now moment) }
         ensures calls { IfOk result (λ disk. calls_of disk ≡ 0) }
         ensures failing { IfOk result (λ disk. failing_of disk ≡ []) }
         ensures turns { IfOk result (λ disk. turns_of disk ≡ 0) }
         ensures later { IfErr result (λ e. e ≢ Memory
             → (e ≡ LaterThanNow (calls_of self.now)) × (calls_of self.now < moment)) }
-        ensures too_late { calls_of self.now < moment → result ≡ Err (LaterThanNow (calls_of self.now)) }
+        ensures too_late { calls_of self.now < moment
+            → result ≡ Err (LaterThanNow (calls_of self.now)) }
     {
         if moment > self.calls {
             return Err(StopFault::LaterThanNow { calls: self.calls });
@@ -110,7 +112,8 @@ impl Disk for MemDisk {
 
     ghost moment = { λ m. m.calls };
 
-    ghost left_at = { λ m t c. IsImage (first_of m.history) (first_of m.history) (until t m.history.moves.items) c };
+    ghost left_at = { λ m t c. IsImage (first_of m.history) (first_of m.history) (until t m.history.moves.items)
+        c };
 
     ghost total = { λ m. m.written };
 
@@ -121,7 +124,8 @@ impl Disk for MemDisk {
 
     fn length(&mut self) -> Result<u64, Failed>
         ensures bytes { IfOk result (λ n. n ≡ length (disk_bytes self.old)) }
-        ensures still { IsStill (calls_of self.old) (calls_of self.new) (written_of self.old) (written_of self.new) }
+        ensures still { IsStill (calls_of self.old) (calls_of self.new) (written_of self.old)
+            (written_of self.new) }
         ensures seen { disk_bytes self.new ≡ disk_bytes self.old }
         ensures time { Elapses (calls_of self.old) (left_of self.old) (left_of self.new) }
         ensures cause { Causes (faults_of self.old) (faults_of self.new) result }
@@ -138,7 +142,8 @@ impl Disk for MemDisk {
     fn read(&mut self, place: u64, buf: &mut [u8]) -> Result<usize, Failed>
         ensures within { IfOk result (λ n. n ≤ length buf.old) }
         ensures bytes { IfOk result (λ n. Gives (disk_bytes self.old) place buf.old buf.new n) }
-        ensures still { IsStill (calls_of self.old) (calls_of self.new) (written_of self.old) (written_of self.new) }
+        ensures still { IsStill (calls_of self.old) (calls_of self.new) (written_of self.old)
+            (written_of self.new) }
         ensures seen { disk_bytes self.new ≡ disk_bytes self.old }
         ensures time { Elapses (calls_of self.old) (left_of self.old) (left_of self.new) }
         ensures cause { Causes (faults_of self.old) (faults_of self.new) result }
@@ -159,10 +164,12 @@ impl Disk for MemDisk {
     fn write_at(&mut self, place: u64, bytes: &[u8]) -> Result<(), Failed>
         ensures fits { OnOk result (place + length bytes.now < 2 ^ 64) }
         ensures seen { Torn place (length bytes.now) (disk_bytes self.old) (disk_bytes self.new) }
-        ensures written { OnOk result (disk_bytes self.new ≡ put place bytes.now (disk_bytes self.old)) }
+        ensures written { OnOk result
+            (disk_bytes self.new ≡ put place bytes.now (disk_bytes self.old)) }
         ensures stop { Follows (Torn place (length bytes.now))
             (left_of self.old (calls_of self.old)) (left_of self.new (calls_of self.new)) }
-        ensures none { calls_of self.new ≡ calls_of self.old → disk_bytes self.new ≡ disk_bytes self.old }
+        ensures none { calls_of self.new ≡ calls_of self.old
+            → disk_bytes self.new ≡ disk_bytes self.old }
         ensures tick { Ticks (calls_of self.old) (calls_of self.new) (written_of self.old)
             (written_of self.new) (length bytes.now) result }
         ensures time { Elapses (calls_of self.old) (left_of self.old) (left_of self.new) }
@@ -194,7 +201,8 @@ impl Disk for MemDisk {
         ensures written { OnOk result (disk_bytes self.new ≡ take size (disk_bytes self.old)) }
         ensures stop { Follows (CutOff size) (left_of self.old (calls_of self.old))
             (left_of self.new (calls_of self.new)) }
-        ensures none { calls_of self.new ≡ calls_of self.old → disk_bytes self.new ≡ disk_bytes self.old }
+        ensures none { calls_of self.new ≡ calls_of self.old
+            → disk_bytes self.new ≡ disk_bytes self.old }
         ensures tick { Ticks (calls_of self.old) (calls_of self.new) (written_of self.old)
             (written_of self.new) 0 result }
         ensures time { Elapses (calls_of self.old) (left_of self.old) (left_of self.new) }
@@ -218,10 +226,13 @@ impl Disk for MemDisk {
     }
 
     fn sync(&mut self) -> Result<(), Failed>
-        ensures durable { OnOk result (Only (disk_bytes self.old) (left_of self.new (calls_of self.new))) }
+        ensures durable { OnOk result
+            (Only (disk_bytes self.old) (left_of self.new (calls_of self.new))) }
         ensures seen { disk_bytes self.new ≡ disk_bytes self.old }
-        ensures stop { (c : List ℕ) → left_of self.new (calls_of self.new) c → left_of self.old (calls_of self.old) c }
-        ensures none { calls_of self.new ≡ calls_of self.old → disk_bytes self.new ≡ disk_bytes self.old }
+        ensures stop { (c : List ℕ) → left_of self.new (calls_of self.new) c
+            → left_of self.old (calls_of self.old) c }
+        ensures none { calls_of self.new ≡ calls_of self.old
+            → disk_bytes self.new ≡ disk_bytes self.old }
         ensures tick { Ticks (calls_of self.old) (calls_of self.new) (written_of self.old)
             (written_of self.new) 0 result }
         ensures time { Elapses (calls_of self.old) (left_of self.old) (left_of self.new) }

@@ -108,7 +108,8 @@ pub(crate) fn replay(
     pick: Pick,
 ) -> Result<Bytes, AllocError>
     requires { all_fit calls.now ≡ true }
-    ensures { IfOk result (λ made. made ≡ picked_after pick first.now first.now (until moment calls.now)) }
+    ensures { IfOk result
+        (λ made. made ≡ picked_after pick first.now first.now (until moment calls.now)) }
 {
     let mut reads = Bytes::from_slice(alloc, first)?;
     let mut image = Bytes::from_slice(alloc, first)?;

@@ -11,8 +11,8 @@ use Rattle.links.specs.Links.{LinksState}
 use Rattle.causes.specs.declared.cause.Cause.{Cause}
 use Rattle.causes.specs.declared.cause.Cause.TheVariants.{Down, Missing, TooLong, Differs}
 
--- a length above the limit; over a link that tells it is that of its site's bytes, of which none was
--- taken
+-- a length above the limit; over a link that tells it is that of its site's bytes, of which none
+-- was taken
 pub record IsTooLong (limit : ℕ) (target : Target) (old new : LinkState)
     (length_shown limit_shown : ℕ) : Type 0 where
   pub limited : limit_shown ≡ limit
@@ -20,8 +20,8 @@ pub record IsTooLong (limit : ℕ) (target : Target) (old new : LinkState)
   pub told : old.tells → option_map length (old.site target) ≡ Some length_shown
   pub untaken : old.tells → old.site target ≡ Some new.rest
 
--- bytes differ so from what is listed; over a link that tells, so do those of its site, and of bytes of
--- another size none was taken
+-- bytes differ so from what is listed; over a link that tells, so do those of its site, and of
+-- bytes of another size none was taken
 pub record IsOther (list : List Digest) (size : ℕ) (target : Target) (old new : LinkState)
     (difference : Difference) : Type 0 where
   pub bytes : List ℕ

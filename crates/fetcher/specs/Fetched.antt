@@ -40,8 +40,8 @@ Asked target old new = new.asked ≡ old.asked ++ target ∷ []
 abbrev pub MayAsk : Target → LinksState → LinksState → Type 0
 MayAsk target old new = (new.asked ≡ old.asked) ⊎ Asked target old new
 
--- the bytes are those of the link at a place, which did not fail; each before it has its cause, and none
--- behind it was asked
+-- the bytes are those of the link at a place, which did not fail; each before it has its cause, and
+-- none behind it was asked
 pub record IsServed (IsCause : LinkState → LinkState → Cause → Type 0) (target : Target)
     (old new : LinksState) (bytes : List ℕ) : Type 0 where
   pub place : ℕ
@@ -52,7 +52,8 @@ pub record IsServed (IsCause : LinkState → LinkState → Cause → Type 0) (ta
       → (cause : Cause) × IsCause (old.link k) (new.link k) cause
   pub behind : (k : ℕ) → place < k → k < old.sources → Stays (old.link k) (new.link k)
 
--- where bytes are given by links of which those up to the one that has them are quiet, they are these
+-- where bytes are given by links of which those up to the one that has them are quiet, they are
+-- these
 abbrev pub AreGiven : (List ℕ → Type 0) → Target → LinksState → LinksState → List ℕ → Type 0
 AreGiven Fits target old new bytes =
     (given : List ℕ) (first : IsFirst Fits old target given) → AreQuietTo first.place old new
@@ -80,8 +81,8 @@ pub record IsFile (list : List Digest) (size : ℕ) (target : Target) (old new :
   pub site : AllTell old → IsOfSite old target bytes
   pub given : AreQuiet old new → GivenFile list size old target (Some bytes)
 
--- no link gave it, each for its cause; where they are quiet none has it, and a link that has it is not
--- quiet or is behind one that is not
+-- no link gave it, each for its cause; where they are quiet none has it, and a link that has it is
+-- not quiet or is behind one that is not
 pub record NoneGave (IsCause : LinkState → LinkState → Cause → Type 0) (Fits : List ℕ → Type 0)
     (target : Target) (old new : LinksState) (named : Target) (reasons : List Cause) : Type 0 where
   pub asked : Asked target old new
@@ -104,7 +105,8 @@ pub record BasketFailed (target : Target) (old new : LinksState) (before after :
   pub rose : Rose before after
 
 -- why no file was fetched, by the counts of the basket before and after
-abbrev pub IsFileFault : List Digest → ℕ → Target → LinksState → LinksState → ℕ → ℕ → FetchFault → Type 0
+abbrev pub IsFileFault : List Digest → ℕ → Target → LinksState → LinksState → ℕ → ℕ → FetchFault
+    → Type 0
 IsFileFault list size target old new before after (AllLinks shown causes) =
     NoneGave (IsFileCause list size target) (Matches list size) target old new shown causes
 IsFileFault list size target old new before after BasketFault =

@@ -17,4 +17,10 @@ folder_unread link = link.unread
 -- the link, by whether its folder tells, what stands in it and how often it failed
 abbrev pub folder_state : {F : Type 0} → Type 0 → List Held → ℕ → FolderLink F → LinkState
 folder_state tells files count link =
-    record { tells = tells; site = served files; rest = folder_rest link; count = total count (folder_unread link) }
+    record {
+      tells = tells;
+      site = served files;
+      rest = folder_rest link;
+      count =
+          total count (folder_unread link);
+    }

@@ -78,8 +78,8 @@ AddsCause (By cause) old new = new ≡ old ++ cause ∷ []
 AddsCause Basket old new = ⊥
 AddsCause Memory old new = ⊥
 
--- how a fetch ends that does not ask the next link: there was no memory to note the cause, or else what
--- stopped it
+-- how a fetch ends that does not ask the next link: there was no memory to note the cause, or else
+-- what stopped it
 abbrev pub end_of : Stopped → FetchFault
 end_of (By cause) = OutOfMemory
 end_of Basket = BasketFailed

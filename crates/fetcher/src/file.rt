@@ -29,10 +29,13 @@ fn pour_piece<L: Links, B: Basket>(
     ensures within { IfOk result (λ n. n ≤ length buf.old) }
     ensures size { IfOk result (λ n. count_of checker.new ≡ count_of checker.old + n) }
     ensures poured { IfOk result (λ n.
-        PoursPiece checker.old checker.new B.tells (B.taken basket.old) (B.taken basket.new) (take n buf.new)) }
+        PoursPiece checker.old checker.new B.tells (B.taken basket.old) (B.taken basket.new)
+        (take n buf.new)) }
     ensures told { ((L.links links.old).link place).tells → IfOk result (λ n.
-        Consumes ((L.links links.old).link place).rest ((L.links links.new).link place).rest buf.new n) }
-    ensures stop { IfErr result (IsPourStop ((L.links links.old).link place) ((L.links links.new).link place)
+        Consumes ((L.links links.old).link place).rest ((L.links links.new).link place).rest buf.new
+        n) }
+    ensures stop { IfErr result
+        (IsPourStop ((L.links links.old).link place) ((L.links links.new).link place)
         (B.count basket.old) (B.count basket.new)) }
     ensures quiet { OnOk result
         (((L.links links.new).link place).count ≡ ((L.links links.old).link place).count) }
@@ -63,9 +66,11 @@ fn pour<L: Links, B: Basket>(
 ) -> Result<(), Stopped>
     requires place { place < (L.links links.old).sources }
     requires count { count_of checker.old + size < 2 ^ 61 }
-    ensures poured { OnOk result (Pours size ((L.links links.old).link place) checker.old checker.new
+    ensures poured { OnOk result
+        (Pours size ((L.links links.old).link place) checker.old checker.new
         B.tells (B.taken basket.old) (B.taken basket.new)) }
-    ensures stop { IfErr result (IsPourStop ((L.links links.old).link place) ((L.links links.new).link place)
+    ensures stop { IfErr result
+        (IsPourStop ((L.links links.old).link place) ((L.links links.new).link place)
         (B.count basket.old) (B.count basket.new)) }
     ensures quiet { OnOk result
         (((L.links links.new).link place).count ≡ ((L.links links.old).link place).count) }
@@ -102,7 +107,8 @@ fn file_of<L: Links, B: Basket>(
     requires wanted { IsLast target.now (L.links links.old).asked }
     requires below { size < 2 ^ 61 }
     ensures file { OnOk result (IsFileOf list.now size target.now
-        ((L.links links.old).link place) ((L.links links.new).link place) B.tells (B.taken basket.new)) }
+        ((L.links links.old).link place) ((L.links links.new).link place) B.tells
+        (B.taken basket.new)) }
     ensures stop { IfErr result (IsFileStop list.now size target.now
         ((L.links links.old).link place) ((L.links links.new).link place)
         (B.count basket.old) (B.count basket.new)) }
@@ -146,9 +152,11 @@ pub fn fetch_file<L: Links, B: Basket>(
     basket: &mut B,
 ) -> Result<(), FetchFault>
     requires below { size < 2 ^ 61 }
-    ensures file { OnOk result (IsFile list.now size target.now (L.links links.old) (L.links links.new)
+    ensures file { OnOk result
+        (IsFile list.now size target.now (L.links links.old) (L.links links.new)
         B.tells (B.taken basket.new)) }
-    ensures fault { IfErr result (IsFileFault list.now size target.now (L.links links.old) (L.links links.new)
+    ensures fault { IfErr result
+        (IsFileFault list.now size target.now (L.links links.old) (L.links links.new)
         (B.count basket.old) (B.count basket.new)) }
     ensures kept { Kept (L.links links.old) (L.links links.new) }
     ensures later { B.count basket.old ≤ B.count basket.new }

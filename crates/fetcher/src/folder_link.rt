@@ -108,7 +108,8 @@ impl<F: Folder + Drop> Link for FolderLink<F> {
     fn ask(&mut self, alloc: Global, target: &Target) -> Result<u64, LinkFault>
         ensures asks { Asks target.now
             (folder_state F.tells (F.held self.old.folder) (F.count self.old.folder) self.old)
-            (folder_state F.tells (F.held self.new.folder) (F.count self.new.folder) self.new) result }
+            (folder_state F.tells (F.held self.new.folder) (F.count self.new.folder) self.new)
+            result }
 
         // Each target that is missing is counted once. It fails only where the folder does.
         ensures missed { result ≡ Err Missing

@@ -25,7 +25,8 @@ fn read_rest<L: Links>(
         → IfOk result (λ v. v.items ≡ take most ((L.links links.old).link place).rest) }
     ensures within { IfOk result (λ v. length v.items ≤ most) }
     ensures there { result ≢ Err Missing }
-    ensures counts { Counts ((L.links links.old).link place) ((L.links links.new).link place) result }
+    ensures counts { Counts ((L.links links.old).link place) ((L.links links.new).link place)
+        result }
     ensures moves { Moves place (L.links links.old) (L.links links.new) }
 {
     let mut bytes: Vec<u8> = Vec::new(alloc);
@@ -85,7 +86,8 @@ pub fn fetch_text<L: Links>(
     limit: u64,
 ) -> Result<Bytes, FetchFault>
     ensures text { IfOk result (IsText limit target.now (L.links links.old) (L.links links.new)) }
-    ensures fault { IfErr result (IsTextFault limit target.now (L.links links.old) (L.links links.new)) }
+    ensures fault { IfErr result
+        (IsTextFault limit target.now (L.links links.old) (L.links links.new)) }
     ensures kept { Kept (L.links links.old) (L.links links.new) }
 {
     let Ok(()) = links.want(alloc, target) else {

@@ -129,7 +129,8 @@ impl MemFolder {
 
     // Puts a copy of the bytes under the name, if there is memory. Else nothing changes.
     fn put_copy(&mut self, name: &Name, bytes: &[u8]) -> Result<(), FolderFault>
-        ensures put { OnOk result (Puts (folder_held self.old) (folder_held self.new) name.now bytes.now) }
+        ensures put { OnOk result
+            (Puts (folder_held self.old) (folder_held self.new) name.now bytes.now) }
         ensures kept { OnErr result (folder_held self.new ≡ folder_held self.old) }
         ensures memory { OnErr result (result ≡ Err Memory) }
         ensures uncounted { self.new.failing ≡ self.old.failing }
@@ -181,7 +182,8 @@ impl Folder for MemFolder {
     }
 
     fn put(&mut self, name: &Name, bytes: &[u8]) -> Result<(), FolderFault>
-        ensures put { OnOk result (Puts (folder_held self.old) (folder_held self.new) name.now bytes.now) }
+        ensures put { OnOk result
+            (Puts (folder_held self.old) (folder_held self.new) name.now bytes.now) }
         ensures kept { OnErr result (folder_held self.new ≡ folder_held self.old) }
         ensures cause { FailsCounted (folder_faults self.old) (folder_faults self.new) result }
         ensures counted { CountsCall self.old self.new result }

@@ -13,7 +13,8 @@ abbrev pub AllBut : {A : Type 0} → (A → Type 0) → List A → ℕ → Type 
 AllBut P [] n = Unit {0}
 AllBut P (x ∷ xs) n = (P x × AllBut P xs n) ⊎ ((m : ℕ) × (n ≡ m + 1) × AllBut P xs m)
 
--- of the connection's request no more was received than a head may have, and no piece once the end of its head had come
+-- of the connection's request no more was received than a head may have, and no piece once the end
+-- of its head had come
 pub record IsHeard (connection : Accepted) : Type 0 where
   pub front : List ℕ
   pub heard : connection.request ≡ front ++ connection.left
@@ -49,8 +50,8 @@ pub record AcceptsOne (old new : List Accepted) : Type 0 where
   pub connection : Accepted
   pub after : new ≡ old ++ connection ∷ []
 
--- one more connection was accepted, whose request asks for a file, and nothing was sent on it; its request was received
--- as far as a host may
+-- one more connection was accepted, whose request asks for a file, and nothing was sent on it; its
+-- request was received as far as a host may
 pub record AcceptsAsking (old new : List Accepted) : Type 0 where
   pub connection : Accepted
   pub after : new ≡ old ++ connection ∷ []

@@ -4,8 +4,8 @@ use Rattle.outside.specs.Streams.{Rose, total}
 use Rattle.links.specs.declared.link.LinkFault.{LinkFault}
 use Rattle.links.specs.declared.link.LinkFault.TheVariants.{Missing, Down, Memory}
 
--- how often the wire failed, and how often an answer was of no use: it was refused, or its body ended
--- early
+-- how often the wire failed, and how often an answer was of no use: it was refused, or its body
+-- ended early
 pub record Tally : Type 0 where
   pub wire : ℕ
   pub unread : ℕ

@@ -34,9 +34,9 @@ abbrev pub heard : Result ℕ ExchangeFault → Result ℕ LinkFault
 heard (Ok n) = Ok n
 heard (Err fault) = Err (fault_of fault)
 
--- exactly the request for the target was sent on this connection, to its host and port; the result is
--- what the answer gives, and where that is a length, what stands behind the answer's head, up to this
--- length, is the rest; no piece of the answer was received once the end of its head had come
+-- exactly the request for the target was sent on this connection, to its host and port; the result
+-- is what the answer gives, and where that is a length, what stands behind the answer's head, up to
+-- this length, is the rest; no piece of the answer was received once the end of its head had come
 pub record IsHeard (target : Target) (rest : List ℕ) (result : Result ℕ LinkFault) (made : Made)
     : Type 0 where
   pub asked : IsAsked target made
@@ -47,8 +47,8 @@ pub record IsHeard (target : Target) (rest : List ℕ) (result : Result ℕ Link
   pub near : IfSome (head_end made.answer)
       (λ end. length made.answer < length made.left + end + ANSWER_PIECE)
 
--- the wire failed: no connection was made, or the request was sent in part, or the head did not come
--- whole
+-- the wire failed: no connection was made, or the request was sent in part, or the head did not
+-- come whole
 pub record IsLost (target : Target) (present : Option Made) (old new : Tally) : Type 0 where
   pub raised : IsOfWire old new
   pub cut : ExchangesBy target present (Err ReadFault) ⊎ ExchangesBy target present (Err WriteFault)
@@ -59,8 +59,8 @@ pub record IsRefused (target : Target) (present : Option Made) (rest : List ℕ)
   pub raised : IsOfAnswer old new
   pub heard : IsMade (IsHeard target rest (Err Down)) present
 
--- what comes of asking for a target over a wire that tells: by the present connection and what is left
--- of the body afterwards, and by what was counted before and after
+-- what comes of asking for a target over a wire that tells: by the present connection and what is
+-- left of the body afterwards, and by what was counted before and after
 abbrev pub Hears : Target → Option Made → List ℕ → Tally → Tally → Result ℕ LinkFault → Type 0
 Hears target present rest old new (Ok n) = IsMade (IsHeard target rest (Ok n)) present
 Hears target present rest old new (Err Missing) = IsMade (IsHeard target rest (Err Missing)) present

@@ -19,8 +19,8 @@ pub record IsShort (tells : Type 0) (rest : List ℕ) (left : ℕ) (old new : Ta
   pub none : tells → rest ≡ []
   pub raised : IsOfAnswer old new
 
--- why no piece was given, by what was left of the body and how many bytes were to come; none are to come
--- afterwards
+-- why no piece was given, by what was left of the body and how many bytes were to come; none are to
+-- come afterwards
 pub record Stops (tells : Type 0) (rest : List ℕ) (before after : ℕ) (old new : Tally)
     : Type 0 where
   pub why : IsOfWire old new ⊎ IsShort tells rest before old new

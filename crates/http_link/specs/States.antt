@@ -22,8 +22,8 @@ owed link = link.left
 abbrev pub unread_of : {W : Type 0} → HttpLink W → ℕ
 unread_of link = link.unread
 
--- what is to be had next, by the present connection of the wire: the bytes of the body that came early
--- and were not given yet, and then what the connection has left
+-- what is to be had next, by the present connection of the wire: the bytes of the body that came
+-- early and were not given yet, and then what the connection has left
 abbrev pub coming : {W : Type 0} → Option Made → HttpLink W → List ℕ
 coming present link = drop link.at link.early ++ left_on present
 

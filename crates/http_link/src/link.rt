@@ -131,13 +131,15 @@ impl<W: Wire + Drop> Link for HttpLink<W> {
         // Over a wire that tells, each result comes exactly where the answer gives it.
         ensures hears { W.tells → Hears target.now (W.present self.new.wire)
             (body_left (W.present self.new.wire) self.new)
-            (tally (W.count self.old.wire) self.old) (tally (W.count self.new.wire) self.new) result }
+            (tally (W.count self.old.wire) self.old) (tally (W.count self.new.wire) self.new)
+            result }
         ensures one { W.tells → result ≢ Err no_memory → W.over self.new.wire
             ≡ all_sent (W.over self.old.wire) (W.present self.old.wire) }
 
         // An answer that is refused is counted once, and a fault of the wire by the wire alone.
         ensures counts { CountsAsk
-            (tally (W.count self.old.wire) self.old) (tally (W.count self.new.wire) self.new) result }
+            (tally (W.count self.old.wire) self.old) (tally (W.count self.new.wire) self.new)
+            result }
         ensures owes { Owes (owed self.new) result }
         ensures memory { result ≡ Err no_memory → self.new ≡ self.old }
     {

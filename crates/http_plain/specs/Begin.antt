@@ -11,7 +11,8 @@ use Rattle.http_plain.specs.Head.{behind_head, head_end, IsEnough, IsNear}
 use Rattle.http_plain.specs.declared.exchange.TheConstants.{ANSWER_PIECE}
 use Rattle.http_plain.specs.declared.head.TheConstants.{HEAD_LIMIT}
 
--- the connection leads to the target's host and port, and exactly the request for the target was sent there
+-- the connection leads to the target's host and port, and exactly the request for the target was
+-- sent there
 pub record IsAsked (target : Target) (made : Made) : Type 0 where
   pub host : made.host ≡ target.host
   pub port : made.port ≡ target.port
@@ -27,8 +28,8 @@ pub record IsHalfAsked (target : Target) (made : Made) : Type 0 where
   pub sent : request_text target ≡ made.sent ++ rest
   pub none : made.left ≡ made.answer
 
--- receiving failed: the whole request was sent, and what was received of the answer is shorter than a
--- head may be, and has no end of one
+-- receiving failed: the whole request was sent, and what was received of the answer is shorter than
+-- a head may be, and has no end of one
 pub record IsHalfHeard (target : Target) (made : Made) : Type 0 where
   pub asked : IsAsked target made
   pub front : List ℕ
@@ -46,7 +47,8 @@ pub record Comes (answer left : List ℕ) (begun : Begun) : Type 0 where
   pub within : length begun.early ≤ begun.length
   pub body : take begun.length (begun.early ++ left) ≡ take begun.length (behind_head answer)
 
--- a refusal is what the answer gives; a fault of the wire and want of memory say nothing of the answer
+-- a refusal is what the answer gives; a fault of the wire and want of memory say nothing of the
+-- answer
 abbrev pub IsRefusedBy : List ℕ → ExchangeFault → Type 0
 IsRefusedBy answer ReadFault = Unit {0}
 IsRefusedBy answer WriteFault = Unit {0}
@@ -79,7 +81,8 @@ ExchangesBy target present (Err WriteFault) = IsMade (IsHalfAsked target) presen
 ExchangesBy target present (Err Memory) = Unit {0}
 ExchangesBy target present result = Exchanges target present result
 
--- a count of faults never falls; the two faults of a wire come only where it rose, and all else leaves it
+-- a count of faults never falls; the two faults of a wire come only where it rose, and all else
+-- leaves it
 pub record FailsCounted {T : Type 0} (old new : ℕ) (result : Result T ExchangeFault) : Type 0 where
   pub later : old ≤ new
   pub read : IfErr result (λ e. e ≡ ReadFault → Rose old new)

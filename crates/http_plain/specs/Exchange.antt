@@ -46,7 +46,8 @@ abbrev pub IsHeadBy : List ℕ → Option ResponseHead → Type 0
 IsHeadBy bytes None = IsNoResponse bytes
 IsHeadBy bytes (Some h) = IsResponse bytes h
 
--- the length that values name: none, one, or none that can be told, since one of them is no number or two differ
+-- the length that values name: none, one, or none that can be told, since one of them is no number
+-- or two differ
 abbrev pub joined : Option ℕ → Named → Named
 joined None named = Unclear
 joined (Some n) Nothing = Length n

@@ -14,8 +14,8 @@ head_end (b ∷ rest) =
     if starts_with nat_eq (b ∷ rest) head_mark then Some 4
     else option_map (λ n. n + 1) (head_end rest)
 
--- what the first bytes of a message say of its head: it is whole, up to and including its end; there is no end within
--- the limit; or the message is shorter than the limit and has none
+-- what the first bytes of a message say of its head: it is whole, up to and including its end;
+-- there is no end within the limit; or the message is shorter than the limit and has none
 pub data Front : Type 0 where
   Whole : List ℕ → Front
   TooLong Short : Front
@@ -27,15 +27,15 @@ front_at bytes (Some end) = Whole (take end bytes)
 unfoldable pub front_of : List ℕ → Front
 front_of bytes = front_at bytes (head_end (take HEAD_LIMIT bytes))
 
--- the front bytes of a message and what is left of it: the message ends there, or they reach the limit, or they hold
--- the end of the head
+-- the front bytes of a message and what is left of it: the message ends there, or they reach the
+-- limit, or they hold the end of the head
 abbrev pub IsEnough : List ℕ → List ℕ → Type 0
 IsEnough front left =
     (left ≡ [])
     ⊎ ((length front ≡ HEAD_LIMIT) ⊎ ((length front ≤ HEAD_LIMIT) × IsSome (head_end front)))
 
--- where the front bytes hold the end of the head, fewer than so many stand behind it: no piece of at most so many came
--- once the end had come
+-- where the front bytes hold the end of the head, fewer than so many stand behind it: no piece of
+-- at most so many came once the end had come
 abbrev pub IsNear : ℕ → List ℕ → Type 0
 IsNear piece front = IfSome (head_end front) (λ end. length front < end + piece)
 

@@ -38,7 +38,8 @@ pub record Fetches (files : List Held) (target : Target) (answer : List ℕ) : T
   pub held : file_in name files ≡ Some bytes
   pub read : length bytes < 10 ^ 19 → ReadsAs answer bytes
 
--- an answer of status 200 of a host of these files to a client's request is read as the file that the path names
+-- an answer of status 200 of a host of these files to a client's request is read as the file that
+-- the path names
 abbrev pub HostsAreFolders : Type 0
 HostsAreFolders = (files : List Held) (target : Target) (answer : List ℕ) → IsPlain target
     → Serves files (request_text target) (record { code = Some 200; bytes = answer })

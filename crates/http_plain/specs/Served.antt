@@ -84,8 +84,8 @@ status_line code reason = codes "HTTP/1.1 " ++ decimal code ++ codes " " ++ reas
 abbrev pub length_line : ℕ → List ℕ
 length_line count = codes "Content-Length: " ++ decimal count
 
--- the head of an answer: its code and the reason, the lines of its own, and how many bytes of a file
--- there are
+-- the head of an answer: its code and the reason, the lines of its own, and how many bytes of a
+-- file there are
 unfoldable pub answer_head : ℕ → List ℕ → List (List ℕ) → ℕ → List ℕ
 answer_head code reason own count =
     head_text (

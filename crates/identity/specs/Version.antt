@@ -50,7 +50,8 @@ version_of bytes = version_of_parts (parts_between dot bytes)
 -- of the first numbers that differ, from the left, the one of the first version is smaller
 abbrev pub IsBelow : Version → Version → Type 0
 IsBelow v w =
-    (v.a < w.a) ⊎ ((v.a ≡ w.a) × ((v.b < w.b) ⊎ ((v.b ≡ w.b) × ((v.c < w.c) ⊎ ((v.c ≡ w.c) × (v.d < w.d))))))
+    (v.a < w.a) ⊎ ((v.a ≡ w.a)
+    × ((v.b < w.b) ⊎ ((v.b ≡ w.b) × ((v.c < w.c) ⊎ ((v.c ≡ w.c) × (v.d < w.d))))))
 
 -- the order by the four numbers, from the left
 abbrev pub version_cmp : Version → Version → Ordering

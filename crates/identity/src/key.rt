@@ -136,9 +136,13 @@ fn text_of(alloc: Global, bytes: &[u8]) -> Result<Text, AllocError>
 #[tactic(auto, unfolding(crate::specs::Key::key_of_parts))]
 fn read_parts(alloc: Global, parts: &FourParts) -> Result<Key, KeyFault>
     ensures exact { Gives result
-        (key_of_parts (parts.now.first.now ∷ parts.now.second.now ∷ parts.now.third.now ∷ parts.now.fourth.now ∷ [])) }
+        (key_of_parts
+        (parts.now.first.now ∷ parts.now.second.now ∷ parts.now.third.now ∷ parts.now.fourth.now
+        ∷ [])) }
     ensures memory { result ≡ Err Memory → IsOk
-        (key_of_parts (parts.now.first.now ∷ parts.now.second.now ∷ parts.now.third.now ∷ parts.now.fourth.now ∷ [])) }
+        (key_of_parts
+        (parts.now.first.now ∷ parts.now.second.now ∷ parts.now.third.now ∷ parts.now.fourth.now
+        ∷ [])) }
 {
     let name = part_here(1, NAME_LIMIT, parts.first)?;
     let token = part_here(2, IDENTITY_PART_LIMIT, parts.second)?;

@@ -48,7 +48,9 @@ impl Error for VersionFault {}
 fn parse_short(digits: &[u8]) -> Option<u16>
     requires digits { IsTrue (list_all is_ascii_digit digits.now) }
     requires some { 0 < length digits.now }
-    ensures { result ≡ (if nat_lt 65535 (digits_value 10 digits.now) then None else Some (digits_value 10 digits.now)) }
+    ensures { result
+        ≡ (if nat_lt 65535 (digits_value 10 digits.now) then None else Some
+        (digits_value 10 digits.now)) }
 {
     match parse_digits(digits) {
         Some(number) if number <= 65_535 => Some(number as u16),

@@ -36,7 +36,8 @@ pub record IsFacts {A : Type 0} (facts : Tree → Read A) (text : A
   pub status_is : status ≡ 0
 
 -- the line is that of the bytes' refusal, and the status is 7
-pub record IsRefusal {A : Type 0} (facts : Tree → Read A) (bytes lines : List ℕ) (status : ℕ) : Type 0 where
+pub record IsRefusal {A : Type 0} (facts : Tree → Read A) (bytes lines : List ℕ) (status : ℕ)
+    : Type 0 where
   pub refusal : ManifestFault
   pub told : Answers facts bytes (Err refusal)
   pub not_memory : refusal ≢ Memory
@@ -44,7 +45,8 @@ pub record IsRefusal {A : Type 0} (facts : Tree → Read A) (bytes lines : List 
   pub status_is : status ≡ 7
 
 abbrev pub SaysFor : {A : Type 0} → (Tree → Read A) → (A → List ℕ) → List ℕ → List ℕ → ℕ → Type 0
-SaysFor facts text bytes lines status = IsFacts facts text bytes lines status ⊎ IsRefusal facts bytes lines status
+SaysFor facts text bytes lines status = IsFacts facts text bytes lines status
+    ⊎ IsRefusal facts bytes lines status
 
 -- what is said of the bytes as a manifest of a kind, with which status
 abbrev pub Says : Kind → List ℕ → List ℕ → ℕ → Type 0
@@ -52,21 +54,24 @@ Says Deployment bytes lines status = SaysFor deployment_of deployment_text bytes
 Says Application bytes lines status = SaysFor application_of application_text bytes lines status
 
 -- the lines for the input were written whole
-pub record Written (kind : Kind) (source_tells sink_tells : Type 0) (input old new : List ℕ) (status : ℕ) : Type 0 where
+pub record Written (kind : Kind) (source_tells sink_tells : Type 0) (input old new : List ℕ)
+    (status : ℕ) : Type 0 where
   pub lines : List ℕ
   pub said : source_tells → Says kind (take most input) lines status
   pub taken : sink_tells → Appends old new lines
 
 -- a first part of them was, and not all
-pub record CutOff (kind : Kind) (source_tells sink_tells : Type 0) (input old new : List ℕ) : Type 0 where
+pub record CutOff (kind : Kind) (source_tells sink_tells : Type 0) (input old new : List ℕ)
+    : Type 0 where
   pub lines : List ℕ
   pub status : ℕ
   pub said : source_tells → Says kind (take most input) lines status
   pub taken : sink_tells → AppendsPart old new lines
 
--- What inspecting the input does. With status 0 the lines of its facts were written and with 7 its refusal; with 3 a
--- first part of them.
+-- What inspecting the input does. With status 0 the lines of its facts were written and with 7 its
+-- refusal; with 3 a first part of them.
 pub record Inspects (kind : Kind) (source_tells sink_tells : Type 0) (input old new : List ℕ)
     (status : ℕ) : Type 0 where
-  pub whole : (status ≡ 0) ⊎ (status ≡ 7) → Written kind source_tells sink_tells input old new status
+  pub whole : (status ≡ 0) ⊎ (status ≡ 7)
+      → Written kind source_tells sink_tells input old new status
   pub part : status ≡ 3 → CutOff kind source_tells sink_tells input old new

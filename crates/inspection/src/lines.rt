@@ -25,7 +25,8 @@ fn refused(alloc: Global, fault: &ManifestFault) -> Option<(Bytes, End)>
 }
 
 fn deployment_lines(alloc: Global, bytes: &[u8]) -> Option<(Bytes, End)>
-    ensures { IfSome result (λ x. SaysFor deployment_of deployment_text bytes.now x.0 (code_of x.1)) }
+    ensures { IfSome result
+        (λ x. SaysFor deployment_of deployment_text bytes.now x.0 (code_of x.1)) }
 {
     match read_deployment(alloc, bytes) {
         Err(fault) => refused(alloc, &fault),
@@ -38,7 +39,8 @@ fn deployment_lines(alloc: Global, bytes: &[u8]) -> Option<(Bytes, End)>
 }
 
 fn application_lines(alloc: Global, bytes: &[u8]) -> Option<(Bytes, End)>
-    ensures { IfSome result (λ x. SaysFor application_of application_text bytes.now x.0 (code_of x.1)) }
+    ensures { IfSome result
+        (λ x. SaysFor application_of application_text bytes.now x.0 (code_of x.1)) }
 {
     match read_application(alloc, bytes) {
         Err(fault) => refused(alloc, &fault),

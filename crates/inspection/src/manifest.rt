@@ -61,7 +61,8 @@ pub fn inspect<S: Source, K: Sink>(alloc: Global, kind: Kind, source: &mut S, si
     ensures nothing { (result ≡ ends.SourceFault) ⊎ (result ≡ ends.Memory) → sink.new ≡ sink.old }
     ensures source_count { S.count source.old ≤ S.count source.new }
     ensures sink_count { K.count sink.old ≤ K.count sink.new }
-    ensures source_cause { result ≡ ends.SourceFault → Rose (S.count source.old) (S.count source.new) }
+    ensures source_cause { result ≡ ends.SourceFault
+        → Rose (S.count source.old) (S.count source.new) }
     ensures sink_cause { result ≡ ends.SinkFault → Rose (K.count sink.old) (K.count sink.new) }
     ensures source_quiet { result ≢ ends.SourceFault → S.count source.new ≡ S.count source.old }
     ensures sink_quiet { result ≢ ends.SinkFault → K.count sink.new ≡ K.count sink.old }

@@ -5,8 +5,8 @@ use Rattle.small_types.specs.declared.target.Target.{Target}
 use Rattle.links.specs.declared.link.LinkFault.{LinkFault}
 use Rattle.links.specs.declared.link.LinkFault.TheVariants.{Missing, Down, Memory}
 
--- a link: whether it tells its site, the bytes that its site has for each target, what is left of the
--- body that was asked for last, and how often it failed
+-- a link: whether it tells its site, the bytes that its site has for each target, what is left of
+-- the body that was asked for last, and how often it failed
 pub record LinkState : Type 1 where
   pub tells : Type 0
   pub site : Target → Option (List ℕ)

@@ -5,8 +5,8 @@ use Rattle.small_types.specs.declared.target.Target.{Target}
 use Rattle.links.specs.declared.links.WantFault.{WantFault}
 use Rattle.links.specs.Link.{LinkState, Stays}
 
--- links: how many there are, each of them by its place, how often those failed that are gone, and the
--- targets that were asked for
+-- links: how many there are, each of them by its place, how often those failed that are gone, and
+-- the targets that were asked for
 pub record LinksState : Type 1 where
   pub sources : ℕ
   pub link : ℕ → LinkState

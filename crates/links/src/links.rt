@@ -61,14 +61,16 @@ pub trait Links {
     fn ask(&mut self, alloc: Global, place: u32, target: &Target) -> Result<u64, LinkFault>
         requires place { place < (links self.old).sources }
         requires wanted { IsLast target.now (links self.old).asked }
-        ensures asks { Asks target.now ((links self.old).link place) ((links self.new).link place) result }
+        ensures asks { Asks target.now ((links self.old).link place) ((links self.new).link place)
+            result }
         ensures only { ChangesOnly place (links self.old) (links self.new) };
 
     /// Takes a piece of the rest of the link at the place. See `Link::piece`.
     fn piece(&mut self, place: u32, buf: &mut [u8]) -> Result<usize, LinkFault>
         requires place { place < (links self.old).sources }
         requires room { 0 < length buf.old }
-        ensures takes { Takes ((links self.old).link place) ((links self.new).link place) buf.old buf.new result }
+        ensures takes { Takes ((links self.old).link place) ((links self.new).link place) buf.old
+            buf.new result }
         ensures only { ChangesOnly place (links self.old) (links self.new) };
 
     /// How often the link at the place failed. The count never falls.
@@ -90,7 +92,8 @@ pub struct Single<K: Link> {
 }
 
 impl<K: Link> Links for Single<K> {
-    ghost links = { λ s. record { sources = 1; link = λ _. K.state s.link; gone = 0; asked = s.asked } };
+    ghost links = { λ s.
+        record { sources = 1; link = λ _. K.state s.link; gone = 0; asked = s.asked } };
 
     fn sources(&self) -> u32 {
         1

@@ -59,7 +59,8 @@ impl Basket for MemBasket {
     }
 
     fn take(&mut self, bytes: &[u8]) -> Result<(), BasketFault>
-        ensures bytes { OnOk result (Appends (basket_taken self.old) (basket_taken self.new) bytes.now) }
+        ensures bytes { OnOk result
+            (Appends (basket_taken self.old) (basket_taken self.new) bytes.now) }
         ensures counts { BasketCounts (basket_faults self.old) (basket_faults self.new) result }
         ensures kept { OnErr result (basket_taken self.new ≡ basket_taken self.old) }
         ensures counted { CountsTake self.old self.new result }

@@ -34,7 +34,8 @@ is_attribute wanted a = not (declares a.name) && bytes_eq (local a.name) wanted
 
 -- the value of the first such attribute
 unfoldable pub value_of : List ℕ → List Attribute → Option (List ℕ)
-value_of wanted attributes = option_map (λ (a : Attribute). a.value) (find (is_attribute wanted) attributes)
+value_of wanted attributes =
+    option_map (λ (a : Attribute). a.value) (find (is_attribute wanted) attributes)
 
 -- ---- elements
 
@@ -85,7 +86,8 @@ once what t = one_of what (children_called what t)
 -- an element with the local name stands in the tree, which may be the root itself
 abbrev mutual
   pub has_called : List ℕ → Tree → Bool
-  has_called wanted (tree name attributes children text) = bytes_eq (local name) wanted || any_called wanted children
+  has_called wanted (tree name attributes children text) =
+      bytes_eq (local name) wanted || any_called wanted children
 
   pub any_called : List ℕ → Trees → Bool
   any_called wanted none = false

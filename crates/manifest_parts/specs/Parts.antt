@@ -1,4 +1,5 @@
--- What both kinds of manifests have: identities and digest lists; and what reading a manifest answers.
+-- What both kinds of manifests have: identities and digest lists; and what reading a manifest
+-- answers.
 use Rattle.std.specs.Prelude.{◌≡◌, ℕ, Bool, true, false, ◌&&◌, ◌||◌, not, ◌==◌, nat_lt, List, [], ◌∷◌, ◌++◌, length, codes, Option, Some, None, Result, Ok, Err, if◌then◌else◌}
 use Rattle.std.specs.List.{flat_map, list_all}
 use Rattle.std.specs.Str.{bytes_eq}
@@ -31,7 +32,8 @@ unfoldable pub named : Tree → Read (List ℕ)
 named t = needed (codes "name") (attribute (codes "name") t) >>= filled NAME_LIMIT (codes "name")
 
 unfoldable pub versioned : Tree → Read Version
-versioned t = needed (codes "version") (attribute (codes "version") t) >>= version_value (codes "version")
+versioned t = needed (codes "version") (attribute (codes "version") t) >>= version_value
+    (codes "version")
 
 -- another attribute: at most 64 bytes, absent or empty the default
 unfoldable pub short_of : List ℕ → List ℕ → Tree → Read (List ℕ)
@@ -62,15 +64,18 @@ identity_in t = once (codes "assemblyIdentity") t >>= identity_of
 
 -- the transforms of a hash: the elements `Transform` of its elements `Transforms`
 abbrev pub transforms_of : Tree → List Tree
-transforms_of hash = flat_map (children_called (codes "Transform")) (children_called (codes "Transforms") hash)
+transforms_of hash =
+    flat_map (children_called (codes "Transform")) (children_called (codes "Transforms") hash)
 
 -- the only transform that is known leaves the bytes as they are
 abbrev pub is_identity : Option (List ℕ) → Bool
 is_identity None = false
-is_identity (Some algorithm) = bytes_eq algorithm (codes "urn:schemas-microsoft-com:HashTransforms.Identity")
+is_identity (Some algorithm) =
+    bytes_eq algorithm (codes "urn:schemas-microsoft-com:HashTransforms.Identity")
 
 abbrev pub all_plain : List Tree → Bool
-all_plain transforms = list_all (λ transform. is_identity (attribute (codes "Algorithm") transform)) transforms
+all_plain transforms =
+    list_all (λ transform. is_identity (attribute (codes "Algorithm") transform)) transforms
 
 unfoldable pub is_plain : Tree → Bool
 is_plain hash = all_plain (transforms_of hash)
@@ -82,7 +87,8 @@ as_value (Err e) = Err (BadValue (codes "DigestValue"))
 
 abbrev pub digest_by : Option Algorithm → List ℕ → Read (Option Digest)
 digest_by None value = Ok None
-digest_by (Some algorithm) value = as_value (digest_of algorithm value) >>= λ digest. Ok (Some digest)
+digest_by (Some algorithm) value =
+    as_value (digest_of algorithm value) >>= λ digest. Ok (Some digest)
 
 abbrev pub method_of : Option (List ℕ) → Option Algorithm
 method_of None = None
@@ -113,7 +119,8 @@ added digests found = found >>= λ digest. Ok (and_digest digests digest)
 
 abbrev pub hashes : List Tree → Read (List Digest)
 hashes [] = Ok []
-hashes (hash ∷ others) = hash_of hash >>= λ digest. hashes others >>= λ digests. Ok (with_digest digest digests)
+hashes (hash ∷ others) =
+    hash_of hash >>= λ digest. hashes others >>= λ digests. Ok (with_digest digest digests)
 
 abbrev pub some_digest : List ℕ → List Digest → Read (List Digest)
 some_digest file [] = Err (NoDigest file)
@@ -140,7 +147,8 @@ unfoldable pub manifest_of : {A : Type 0} → (Tree → Read A) → Tree → Rea
 manifest_of facts t = root_of t >>= facts
 
 -- the bytes spell a tree of which this is read
-pub record Tells {A : Type 0} (facts : Tree → Read A) (bytes : List ℕ) (read : Read A) : Type 0 where
+pub record Tells {A : Type 0} (facts : Tree → Read A) (bytes : List ℕ) (read : Read A)
+    : Type 0 where
   pub tree : Tree
   pub spelled : SpellsTree bytes tree
   pub facts_are : facts tree ≡ read

@@ -31,7 +31,8 @@ filled limit what value =
 -- a value of at most so many bytes; absent it is empty
 unfoldable pub within : ℕ → List ℕ → Option (List ℕ) → Read (List ℕ)
 within limit what None = Ok []
-within limit what (Some value) = if nat_le (length value) limit then Ok value else Err (BadValue what)
+within limit what (Some value) =
+    if nat_le (length value) limit then Ok value else Err (BadValue what)
 
 -- a value of at most so many bytes, where absent or empty the default
 abbrev pub or_default : List ℕ → List ℕ → List ℕ
@@ -39,7 +40,8 @@ or_default [] default = default
 or_default (c ∷ cs) default = c ∷ cs
 
 unfoldable pub defaulted : ℕ → List ℕ → List ℕ → Option (List ℕ) → Read (List ℕ)
-defaulted limit what default value = within limit what value >>= λ given. Ok (or_default given default)
+defaulted limit what default value =
+    within limit what value >>= λ given. Ok (or_default given default)
 
 -- `true` and `1`, `false` and `0`
 unfoldable pub truth_of : List ℕ → Option Bool

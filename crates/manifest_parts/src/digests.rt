@@ -119,7 +119,8 @@ fn hash_of(alloc: Global, hash: &Node) -> Result<Option<Digest>, ManifestFault>
 
 // Adds what the `hash` says.
 fn add_hash(alloc: Global, digests: &mut Vec<Digest>, hash: &Node) -> Result<(), ManifestFault>
-    ensures { Gives (λ _. digests.new.items) result (added digests.old.items (hash_read (tree_of hash.now))) }
+    ensures { Gives (λ _. digests.new.items) result
+        (added digests.old.items (hash_read (tree_of hash.now))) }
 {
     if let Some(digest) = hash_of(alloc, hash)? {
         digests.push(digest)?;
@@ -143,7 +144,8 @@ fn count_hashes(node: &Node) -> usize
 
 // The digests of the elements `hash`, in order.
 fn hashes_of(alloc: Global, node: &Node) -> Result<Vec<Digest>, ManifestFault>
-    ensures { Gives (λ v. v.items) result (hashes (children_called (codes "hash") (tree_of node.now))) }
+    ensures { Gives (λ v. v.items) result
+        (hashes (children_called (codes "hash") (tree_of node.now))) }
 {
     let nodes = children(node);
     let mut digests = Vec::new(alloc);
@@ -158,7 +160,8 @@ fn hashes_of(alloc: Global, node: &Node) -> Result<Vec<Digest>, ManifestFault>
 
 // The same, where there are at most eight.
 fn counted(alloc: Global, node: &Node) -> Result<Vec<Digest>, ManifestFault>
-    ensures digests { Gives (λ v. v.items) result (counted_hashes (children_called (codes "hash") (tree_of node.now))) }
+    ensures digests { Gives (λ v. v.items) result
+        (counted_hashes (children_called (codes "hash") (tree_of node.now))) }
     ensures few { IfOk result (λ v. length v.items ≤ HASH_LIMIT) }
 {
     if count_hashes(node) > HASH_LIMIT {

@@ -65,7 +65,8 @@ pub fn defaulted(
     default: &str,
     value: Option<&Text>,
 ) -> Result<Text, ManifestFault>
-    ensures { Gives (λ t. t) result (defaulted_value limit what.now default.now (maybe_text value.entry)) }
+    ensures { Gives (λ t. t) result
+        (defaulted_value limit what.now default.now (maybe_text value.entry)) }
 {
     let given = within(alloc, limit, what, value)?;
     if given.as_bytes().is_empty() {

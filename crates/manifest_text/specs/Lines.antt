@@ -50,7 +50,8 @@ abbrev pub identity_text : Identity → List ℕ
 identity_text identity = two (key_text identity.key) (version_text identity.version)
 
 abbrev pub digest_line : Digest → List ℕ
-digest_line digest = line (codes "digest") (two (name_of digest.algorithm) (encode_lower digest.value))
+digest_line digest =
+    line (codes "digest") (two (name_of digest.algorithm) (encode_lower digest.value))
 
 -- the lines of a deployment manifest
 abbrev pub deployment_text : Deployment → List ℕ
@@ -102,7 +103,8 @@ kind_text kind.TooLong = codes "too-long"
 
 -- want of memory is no refusal of a manifest; no program writes it so
 abbrev pub cause_text : ManifestFault → List ℕ
-cause_text (fault.Tree error) = two (codes "tree") (two (kind_text error.kind) (decimal error.place))
+cause_text (fault.Tree error) =
+    two (codes "tree") (two (kind_text error.kind) (decimal error.place))
 cause_text (fault.Missing what) = two (codes "missing") (word_text what)
 cause_text (fault.Twice what) = two (codes "twice") (word_text what)
 cause_text (fault.BadValue what) = two (codes "bad-value") (word_text what)

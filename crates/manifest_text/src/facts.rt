@@ -23,7 +23,8 @@ fn truth(value: bool) -> &'static [u8]
 }
 
 fn minimum_line(out: &mut Bytes, minimum: Option<Version>) -> Result<(), PrintFault>
-    ensures { OnOk result (out.new ≡ out.old ++ spec.line (codes "minimum") (spec.version_or_none minimum)) }
+    ensures { OnOk result
+        (out.new ≡ out.old ++ spec.line (codes "minimum") (spec.version_or_none minimum)) }
 {
     let Some(version) = minimum else {
         return line(out, b"minimum", b"-");

@@ -109,7 +109,8 @@ pub(crate) fn identity_line(
     word: &[u8],
     identity: &Identity,
 ) -> Result<(), PrintFault>
-    ensures { OnOk result (out.new ≡ out.old ++ spec.line word.now (spec.identity_text identity.now)) }
+    ensures { OnOk result
+        (out.new ≡ out.old ++ spec.line word.now (spec.identity_text identity.now)) }
 {
     let key = identity.key.print(alloc)?;
     begin(out, word)?;

@@ -59,7 +59,8 @@ fn tree(alloc: Global, fault: TreeFault) -> Result<Bytes, PrintFault>
 
 fn minimum_above(alloc: Global, minimum: Version, version: Version) -> Result<Bytes, PrintFault>
     ensures { IfOk result (λ b. b
-        ≡ spec.two (codes "minimum-above") (spec.two (version_text minimum) (version_text version))) }
+        ≡ spec.two (codes "minimum-above")
+        (spec.two (version_text minimum) (version_text version))) }
 {
     let minimum = minimum.print(alloc)?;
     let version = version.print(alloc)?;

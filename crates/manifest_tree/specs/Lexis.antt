@@ -1,5 +1,5 @@
--- The small parts of a text. Each takes the bytes from a place on and gives what stands behind the part, or the part's
--- fault: its kind, and how many bytes stand from its place on.
+-- The small parts of a text. Each takes the bytes from a place on and gives what stands behind the
+-- part, or the part's fault: its kind, and how many bytes stand from its place on.
 use Rattle.std.specs.Prelude.{ℕ, zero, suc, ◌+◌, ◌-◌, ◌*◌, Bool, true, false, ◌&&◌, ◌||◌, not, ◌==◌, nat_eq, nat_le, List, [], ◌∷◌, length, drop, Option, Some, None, Result, Ok, Err, if◌then◌else◌, option_and_then, encode_utf8}
 use lib.Utf8.{scalar}
 use Rattle.std.specs.List.{list_any, starts_with}
@@ -31,7 +31,9 @@ allowed c = nat_le 32 c || c == 9 || c == 10 || c == 13
 
 -- letters, `_`, `:` and bytes of 128 and more
 unfoldable pub name_first : ℕ → Bool
-name_first c = nat_le 128 c || c == 95 || c == 58 || (nat_le 97 c && nat_le c 122) || (nat_le 65 c && nat_le c 90)
+name_first c =
+    nat_le 128 c || c == 95 || c == 58 || (nat_le 97 c && nat_le c 122) ||
+    (nat_le 65 c && nat_le c 90)
 
 -- those, digits, `-` and `.`
 unfoldable pub name_byte : ℕ → Bool
@@ -66,7 +68,8 @@ expect [] bytes = Ok bytes
 expect (m ∷ ms) [] = Err (Syntax, 0)
 expect (m ∷ ms) (c ∷ cs) = if c == m then expect ms cs else Err (Syntax, length (c ∷ cs))
 
--- Behind the first mark, and anything before it. The fault is a byte that no text may hold, or the end.
+-- Behind the first mark, and anything before it. The fault is a byte that no text may hold, or the
+-- end.
 abbrev pub upto : List ℕ → List ℕ → Read (List ℕ)
 upto mark [] = Err (Syntax, 0)
 upto mark (c ∷ cs) =
@@ -103,15 +106,18 @@ abbrev pub past_mark : List ℕ → Read (List ℕ)
 past_mark [] = Ok []
 past_mark (c ∷ cs) = if c == 239 then expect (187 ∷ 191 ∷ []) cs else Ok (c ∷ cs)
 
--- behind the white space that `<?xml` is followed by and all up to the first `?>`, if white space follows
+-- behind the white space that `<?xml` is followed by and all up to the first `?>`, if white space
+-- follows
 abbrev pub past_white_mark : List ℕ → List ℕ → Read (List ℕ)
 past_white_mark bytes [] = Ok bytes
 past_white_mark bytes (c ∷ cs) = if white c then upto (63 ∷ 62 ∷ []) cs else Ok bytes
 
--- behind the declaration, where one stands: `<?xml`, white space, then anything up to the first `?>`
+-- behind the declaration, where one stands: `<?xml`, white space, then anything up to the first
+-- `?>`
 unfoldable pub past_declaration : List ℕ → Read (List ℕ)
 past_declaration bytes =
-    if starts_with nat_eq bytes (60 ∷ 63 ∷ 120 ∷ 109 ∷ 108 ∷ []) then past_white_mark bytes (drop 5 bytes) else Ok bytes
+    if starts_with nat_eq bytes (60 ∷ 63 ∷ 120 ∷ 109 ∷ 108 ∷ []) then past_white_mark bytes
+    (drop 5 bytes) else Ok bytes
 
 -- behind what a text may begin with: a byte order mark, then a declaration
 unfoldable pub begin : List ℕ → Read (List ℕ)
@@ -129,7 +135,8 @@ digit_of hexadecimal c =
 abbrev pub base_of : Bool → ℕ
 base_of hexadecimal = if hexadecimal then 16 else 10
 
--- at most so many digits more and then a `;`, behind digits that stand for n: what all stand for, and what follows
+-- at most so many digits more and then a `;`, behind digits that stand for n: what all stand for,
+-- and what follows
 abbrev pub digits_on : Bool → ℕ → ℕ → List ℕ → Option (ℕ × List ℕ)
 digits_on hexadecimal zero n [] = None
 digits_on hexadecimal zero n (c ∷ cs) = if c == 59 then Some (n, cs) else None
@@ -141,7 +148,8 @@ digits_on hexadecimal (suc more) n (c ∷ cs) =
 -- one to eight digits and then a `;`
 abbrev pub number_at : Bool → List ℕ → Option (ℕ × List ℕ)
 number_at hexadecimal [] = None
-number_at hexadecimal (c ∷ cs) = option_and_then (λ d. digits_on hexadecimal 7 d cs) (digit_of hexadecimal c)
+number_at hexadecimal (c ∷ cs) =
+    option_and_then (λ d. digits_on hexadecimal 7 d cs) (digit_of hexadecimal c)
 
 -- a character that a text may hold: tab, line feed, carriage return, or one of at least 32
 unfoldable pub is_character : ℕ → Bool
@@ -163,7 +171,8 @@ named_at bytes =
     if starts_with nat_eq bytes (103 ∷ 116 ∷ 59 ∷ []) then Some (62, drop 3 bytes) else
     if starts_with nat_eq bytes (97 ∷ 109 ∷ 112 ∷ 59 ∷ []) then Some (38, drop 4 bytes) else
     if starts_with nat_eq bytes (113 ∷ 117 ∷ 111 ∷ 116 ∷ 59 ∷ []) then Some (34, drop 5 bytes) else
-    if starts_with nat_eq bytes (97 ∷ 112 ∷ 111 ∷ 115 ∷ 59 ∷ []) then Some (39, drop 5 bytes) else None
+    if starts_with nat_eq bytes (97 ∷ 112 ∷ 111 ∷ 115 ∷ 59 ∷ []) then Some (39, drop 5 bytes) else
+    None
 
 -- the reference behind its `&`: the character that it names, and what follows it
 unfoldable pub reference_at : List ℕ → Option (ℕ × List ℕ)
@@ -187,14 +196,16 @@ abbrev pub referred : ℕ → Option (ℕ × List ℕ) → Read (List ℕ × Lis
 referred left None = Err (Entity, left)
 referred left (Some found) = Ok (encode_utf8 found.0, found.1)
 
--- One byte, line end or reference at the front: what it stands for, and what follows it. A carriage return, with a line
--- feed behind it or without, is a line feed. `<` is never a unit, and an `&` that begins no reference is a fault.
+-- One byte, line end or reference at the front: what it stands for, and what follows it. A carriage
+-- return, with a line feed behind it or without, is a line feed. `<` is never a unit, and an `&`
+-- that begins no reference is a fault.
 abbrev pub unit_at : Bool → List ℕ → Read (List ℕ × List ℕ)
 unit_at quoted [] = Err (Syntax, 0)
 unit_at quoted (c ∷ cs) =
     if c == 38 then referred (length (c ∷ cs)) (reference_at cs) else
     if c == 13 then Ok (plain quoted 10 ∷ [], past_line_feed cs) else
-    if c == 60 || not (allowed c) then Err (Syntax, length (c ∷ cs)) else Ok (plain quoted c ∷ [], cs)
+    if c == 60 || not (allowed c) then Err (Syntax, length (c ∷ cs)) else Ok
+    (plain quoted c ∷ [], cs)
 
 -- ---- tags
 
@@ -236,7 +247,8 @@ turn_at names bare (c ∷ cs) =
 abbrev pub tag_turn : List (List ℕ) → List ℕ → Read (TagTurn × List ℕ)
 tag_turn names bytes = turn_at names (length (past white bytes) == length bytes) (past white bytes)
 
--- behind the end tag of an element of this name, whose own name begins here; so many bytes stand from the tag's `<` on
+-- behind the end tag of an element of this name, whose own name begins here; so many bytes stand
+-- from the tag's `<` on
 unfoldable pub end_at : List ℕ → ℕ → List ℕ → Read (List ℕ)
 end_at name left bytes =
     if has_name bytes then

@@ -56,7 +56,8 @@ mutual
     loose_child : {bytes after rest : List ℕ} → LooseElement bytes after → LooseContent after rest
         → LooseContent bytes rest
 
--- a byte order mark and a declaration or none, white space, comments and instructions, one element, and again those
+-- a byte order mark and a declaration or none, white space, comments and instructions, one element,
+-- and again those
 pub record LooseText (bytes : List ℕ) : Type 0 where
   pub start : List ℕ
   pub begun : begin bytes ≡ Ok start
@@ -71,9 +72,11 @@ pub record Begins (bytes : List ℕ) : Type 0 where
   pub more : List ℕ
   pub text : LooseText (bytes ++ more)
 
--- The place of the first byte with which the bytes so far begin no text; or the end, where all of them do and are none.
+-- The place of the first byte with which the bytes so far begin no text; or the end, where all of
+-- them do and are none.
 pub data IsLost (bytes : List ℕ) : ℕ → Type 0 where
   at_byte : (before : List ℕ) (c : ℕ) (after : List ℕ) {place : ℕ} → bytes ≡ before ++ c ∷ after
       → Begins before → (Begins (before ++ c ∷ []) → ⊥)
       → place ≡ length before → IsLost bytes place
-  at_end : {place : ℕ} → Begins bytes → (LooseText bytes → ⊥) → place ≡ length bytes → IsLost bytes place
+  at_end : {place : ℕ} → Begins bytes → (LooseText bytes → ⊥) → place ≡ length bytes
+      → IsLost bytes place

@@ -1,4 +1,5 @@
--- What a function of the reader answers, against what the definitions give. Memory may always run out.
+-- What a function of the reader answers, against what the definitions give. Memory may always run
+-- out.
 use Rattle.std.specs.Prelude.{◌≡◌, ℕ, List, ◌∷◌, Option, Result, Ok, Err, option_map}
 use Rattle.std.specs.Borrow.{Bor}
 use Rattle.std.specs.Str.{IsUtf8}
@@ -38,8 +39,8 @@ maybe = option_map whole
 abbrev pub found_at : ℕ × Bor (List ℕ) → ℕ × List ℕ
 found_at found = (found.0, found.1.now)
 
--- What is taken as a text where reading stands is UTF-8: a tag's name, an attribute's name, a value at its quote, and
--- character data at a `<`.
+-- What is taken as a text where reading stands is UTF-8: a tag's name, an attribute's name, a value
+-- at its quote, and character data at a `<`.
 abbrev pub TextsAt : Spot → List ℕ → Type 0
 TextsAt start rest = Unit {0}
 TextsAt before rest = Unit {0}

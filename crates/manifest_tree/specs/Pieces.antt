@@ -25,7 +25,8 @@ piece_of (pieces.Character c) = encode_utf8 c
 abbrev pub piece_and_rest : Piece × Bor (List ℕ) → List ℕ × List ℕ
 piece_and_rest found = (piece_of found.0, found.1.now)
 
--- a byte that stands for itself in character data and in a value, and is not the one that ends the run
+-- a byte that stands for itself in character data and in a value, and is not the one that ends the
+-- run
 unfoldable pub itself : ℕ → ℕ → Bool
 itself until c = nat_le 32 c && not (c == 60) && not (c == 38) && not (c == until)
 
@@ -68,7 +69,8 @@ has_late late name = is_some (get_by (λ k. slice_cmp nat_cmp name k.now) late)
 
 -- the map has the names of the attributes behind the first eight
 abbrev pub HasLate : {X : Type 0} → BTreeMap (Bor (List ℕ)) X → List Attribute → Type 0
-HasLate late attributes = (name : List ℕ) → has_late late name ≡ is_among (names_of (drop 8 attributes)) name
+HasLate late attributes = (name : List ℕ)
+    → has_late late name ≡ is_among (names_of (drop 8 attributes)) name
 
 -- where a start tag leads
 abbrev pub tag_spot : Tag → List OpenTree → Spot

@@ -16,10 +16,24 @@ abbrev pub finished : OpenTree → Tree
 finished o = tree o.name o.attributes o.children o.text
 
 abbrev pub with_child : OpenTree → Tree → OpenTree
-with_child o t = record { name = o.name; attributes = o.attributes; children = with_last o.children t; text = o.text }
+with_child o t =
+    record {
+      name = o.name;
+      attributes = o.attributes;
+      children = with_last o.children t;
+      text =
+          o.text;
+    }
 
 abbrev pub with_text : OpenTree → List ℕ → OpenTree
-with_text o piece = record { name = o.name; attributes = o.attributes; children = o.children; text = o.text ++ piece }
+with_text o piece =
+    record {
+      name = o.name;
+      attributes = o.attributes;
+      children = o.children;
+      text = o.text
+          ++ piece;
+    }
 
 abbrev pub opened : List ℕ → List Attribute → OpenTree
 opened name attributes = record { name = name; attributes = attributes; children = none; text = [] }
@@ -67,7 +81,8 @@ before_step (c ∷ cs) =
 abbrev pub markup_step : OpenTree → List OpenTree → List ℕ → Next
 markup_step o around [] = stop (Syntax, 0)
 markup_step o around (c ∷ cs) =
-    if c == 47 then onward (end_at o.name (length (60 ∷ c ∷ cs)) cs) (λ rest. go (placed (finished o) around) rest) else
+    if c == 47 then onward (end_at o.name (length (60 ∷ c ∷ cs)) cs)
+    (λ rest. go (placed (finished o) around) rest) else
     if has_name (c ∷ cs) then
     (if nat_lt (length around) 63 then go (in_tag (name_at (c ∷ cs)) [] (o
     ∷ around)) (past name_byte (c ∷ cs)) else stop (TooDeep, length (60 ∷ c ∷ cs)))
@@ -84,18 +99,24 @@ inside_step o around (c ∷ cs) =
     onward (unit_at false (c ∷ cs)) (λ found. go (inside (with_text o found.0) around) found.1)
 
 abbrev pub turned : List ℕ → List Attribute → List OpenTree → TagTurn × List ℕ → Next
-turned name attributes around (attribute a quote, rest) = go (in_value name attributes a quote [] around) rest
+turned name attributes around (attribute a quote, rest) =
+    go (in_value name attributes a quote [] around) rest
 turned name attributes around (opens, rest) = go (inside (opened name attributes) around) rest
-turned name attributes around (closes, rest) = go (placed (tree name attributes none []) around) rest
+turned name attributes around (closes, rest) =
+    go (placed (tree name attributes none []) around) rest
 
 unfoldable pub tag_step : List ℕ → List Attribute → List OpenTree → List ℕ → Next
-tag_step name attributes around bytes = onward (tag_turn (names_of attributes) bytes) (turned name attributes around)
+tag_step name attributes around bytes =
+    onward (tag_turn (names_of attributes) bytes) (turned name attributes around)
 
-unfoldable pub value_step : List ℕ → List Attribute → List ℕ → ℕ → List ℕ → List OpenTree → List ℕ → Next
+unfoldable pub value_step : List ℕ → List Attribute → List ℕ → ℕ → List ℕ → List OpenTree → List ℕ
+    → Next
 value_step name attributes a quote value around [] = stop (Syntax, 0)
 value_step name attributes a quote value around (c ∷ cs) =
-    if c == quote then go (in_tag name (attributes ++ record { name = a; value = value } ∷ []) around) cs else
-    onward (unit_at true (c ∷ cs)) (λ found. go (in_value name attributes a quote (value ++ found.0) around) found.1)
+    if c == quote then go
+    (in_tag name (attributes ++ record { name = a; value = value } ∷ []) around) cs else
+    onward (unit_at true (c ∷ cs))
+    (λ found. go (in_value name attributes a quote (value ++ found.0) around) found.1)
 
 abbrev pub behind_apart : Tree → List ℕ → Option (List ℕ) → Next
 behind_apart t bytes (Some rest) = go (behind t) rest
@@ -112,7 +133,8 @@ next start bytes = onward (begin bytes) (λ rest. go before rest)
 next before bytes = before_step bytes
 next (inside o around) bytes = inside_step o around bytes
 next (in_tag name attributes around) bytes = tag_step name attributes around bytes
-next (in_value name attributes a quote value around) bytes = value_step name attributes a quote value around bytes
+next (in_value name attributes a quote value around) bytes =
+    value_step name attributes a quote value around bytes
 next (behind t) bytes = behind_step t bytes
 
 -- from a spot and bytes, some steps lead to another spot and what is left of the bytes

@@ -15,8 +15,9 @@ use Rattle.manifest_tree.specs.Loose.{IsLost}
 use Rattle.manifest_tree.specs.Reading.{OpenTree, names_of}
 
 module _ (whole : List ℕ) where
-  -- Reading stands in the content of these elements, from the innermost to the root, and these bytes are left; where no
-  -- element is open, before the root. All before them is whole, and has no fault.
+  -- Reading stands in the content of these elements, from the innermost to the root, and these
+  -- bytes are left; where no element is open, before the root. All before them is whole, and has no
+  -- fault.
   pub data Stands : List OpenTree → List ℕ → Type 0 where
     outside : {b rest : List ℕ} → begin whole ≡ Ok b → Misc b rest → Stands [] rest
     within : {around : List OpenTree} {b name after inner text rest : List ℕ}
@@ -24,10 +25,12 @@ module _ (whole : List ℕ) where
         → Stands around (60 ∷ b) → suc (length around) ≤ LEVEL_LIMIT
         → IsStart b name attributes after → past white after ≡ 62 ∷ inner
         → Content (suc (suc (length around))) inner children text rest
-        → Stands (record { name = name; attributes = attributes; children = children; text = text } ∷ around) rest
+        → Stands (record { name = name; attributes = attributes; children = children; text = text }
+        ∷ around) rest
 
   -- reading stands in a start tag, behind its name and these attributes, inside of these elements
-  pub record InTag (name : List ℕ) (attributes : List Attribute) (around : List OpenTree) (rest : List ℕ) : Type 0 where
+  pub record InTag (name : List ℕ) (attributes : List Attribute) (around : List OpenTree)
+      (rest : List ℕ) : Type 0 where
     pub tag : List ℕ
     pub stands : Stands around (60 ∷ tag)
     pub shallow : suc (length around) ≤ LEVEL_LIMIT
@@ -61,7 +64,8 @@ module _ (whole : List ℕ) where
     entity : {top : OpenTree} {around : List OpenTree} {rest : List ℕ}
         → Stands (top ∷ around) (38 ∷ rest) → reference_at rest ≡ None → IsFault Entity (38 ∷ rest)
     -- so in a value
-    entity_in_value : {name of value rest : List ℕ} {attributes : List Attribute} {quote : ℕ} {around : List OpenTree}
+    entity_in_value : {name of value rest : List ℕ} {attributes : List
+        Attribute} {quote : ℕ} {around : List OpenTree}
         → InValue name attributes of quote value around (38 ∷ rest) → (38 == quote) ≡ false
         → reference_at rest ≡ None → IsFault Entity (38 ∷ rest)
     -- an end tag has another name than the open element

@@ -32,6 +32,7 @@ trees (t ∷ ts) = more t (trees ts)
 abbrev pub tree_step : Node-F Tree → Tree
 tree_step n = tree n.name n.attributes (trees n.children.items) n.text
 
--- the tree that a node is: its name, attributes and text, and the trees of the elements of its vector
+-- the tree that a node is: its name, attributes and text, and the trees of the elements of its
+-- vector
 abbrev pub tree_of : Node → Tree
 tree_of = fold-Node Tree tree_step

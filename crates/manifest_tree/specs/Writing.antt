@@ -48,7 +48,8 @@ abbrev pub end_text : List ℕ → List ℕ
 end_text name = codes "</" ++ (name ++ codes ">")
 
 abbrev mutual
-  -- an element that is bare ends in `/>`; else its text follows its start tag, then its children, then its end tag
+  -- an element that is bare ends in `/>`; else its text follows its start tag, then its children,
+  -- then its end tag
   pub element_text : Tree → List ℕ
   element_text (tree name attributes children text) =
       start_text name attributes
@@ -82,7 +83,8 @@ is_attribute names a = is_name a.name && (is_content a.value && not (is_among na
 -- attributes of the grammar, no name standing twice; those before have the given names
 abbrev pub are_attributes : List (List ℕ) → List Attribute → Bool
 are_attributes names [] = true
-are_attributes names (a ∷ others) = is_attribute names a && are_attributes (names ++ a.name ∷ []) others
+are_attributes names (a ∷ others) =
+    is_attribute names a && are_attributes (names ++ a.name ∷ []) others
 
 abbrev mutual
   -- an element at a level, the root's being 1, at most 64
@@ -96,7 +98,8 @@ abbrev mutual
   are_elements level none = true
   are_elements level (more t ts) = is_element level t && are_elements level ts
 
--- Names, values and texts of the grammar, at most 64 levels, no element with two attributes of one name.
+-- Names, values and texts of the grammar, at most 64 levels, no element with two attributes of one
+-- name.
 abbrev pub is_writable : Tree → Bool
 is_writable = is_element 1
 

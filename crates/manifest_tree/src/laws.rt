@@ -14,5 +14,6 @@ pub fn one_tree()
 pub fn one_refusal()
     ensures one { (bytes : List ℕ) (k l : TreeKind) (m n : ℕ) → IsRefusal bytes k m
         → IsRefusal bytes l n → (k ≡ l) × (m ≡ n) }
-    ensures none { (bytes : List ℕ) (t : Tree) (k : TreeKind) (n : ℕ) → SpellsTree bytes t → IsRefusal bytes k n → ⊥ }
+    ensures none { (bytes : List ℕ) (t : Tree) (k : TreeKind) (n : ℕ) → SpellsTree bytes t
+        → IsRefusal bytes k n → ⊥ }
 {}

@@ -114,7 +114,8 @@ fn with_text(opened: Opened, run: Vec<u8>) -> Result<Opened, Stop>
 
 // The stack with more text in the innermost element.
 pub(crate) fn add_text(stack: Stack, run: Vec<u8>) -> Result<Stack, Stop>
-    ensures top { Gives (λ s. open_tree s.top) result (Ok (text_added (open_tree stack.top) run.items)) }
+    ensures top { Gives (λ s. open_tree s.top) result
+        (Ok (text_added (open_tree stack.top) run.items)) }
     ensures below { Gives (λ s. below_of s) result (Ok (below_of stack)) }
 {
     let Stack { top, below } = stack;

@@ -22,7 +22,8 @@ use std::alloc::Global;
 
 // What stands from the root's name on, behind white space, comments and instructions.
 fn root_at(bytes: &[u8]) -> Result<&[u8], Stop>
-    ensures leads { Leads (λ r. (in_tag (name_at r.now) [] [], past name_byte r.now)) before bytes.now result }
+    ensures leads { Leads (λ r. (in_tag (name_at r.now) [] [], past name_byte r.now)) before
+        bytes.now result }
     ensures shorter { IfOk result (λ r. length r.now ≤ length bytes.now) }
 {
     let mut rest = bytes;

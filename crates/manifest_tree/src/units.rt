@@ -107,7 +107,8 @@ fn past_run(bytes: &[u8], until: u8) -> &[u8]
 
 // The bytes at the front that stand for themselves, added to those before them, and what follows them.
 fn take_run<'a>(out: &mut Vec<u8>, bytes: &'a [u8], until: u8) -> Result<&'a [u8], Stop>
-    ensures run { Gives (λ _. out.new.items) result (Ok (out.old.items ++ front (itself until) bytes.now)) }
+    ensures run { Gives (λ _. out.new.items) result
+        (Ok (out.old.items ++ front (itself until) bytes.now)) }
     ensures rest { IfOk result (λ r. r.now ≡ past (itself until) bytes.now) }
     ensures shorter { IfOk result (λ r. length r.now ≤ length bytes.now) }
 {
@@ -138,8 +139,12 @@ pub(crate) fn into_text(bytes: Vec<u8>) -> Result<Text, Stop>
 
 // The value up to its quote, and what follows the quote.
 pub(crate) fn read_value(alloc: Global, bytes: &[u8], quote: u8) -> Result<(Text, &[u8]), Stop>
-    ensures leads { (name : List ℕ) (attributes : List Attribute) (a : List ℕ) (around : List OpenTree) →
-        Leads (λ x. (in_tag name (attributes ++ record { name = a; value = x.0 } ∷ []) around, x.1.now))
+    ensures leads { (name : List ℕ) (attributes : List Attribute) (a : List ℕ)
+        (around : List OpenTree) →
+        Leads (λ x. (
+          in_tag name (attributes ++ record { name = a; value = x.0 } ∷ []) around,
+          x.1.now,
+        ))
         (in_value name attributes a quote [] around) bytes.now result }
     ensures shorter { IfOk result (λ x. length x.1.now ≤ length bytes.now) }
 {
@@ -159,7 +164,8 @@ pub(crate) fn read_value(alloc: Global, bytes: &[u8], quote: u8) -> Result<(Text
 // The character data up to the next `<`, and what follows that.
 pub(crate) fn read_data(alloc: Global, bytes: &[u8]) -> Result<(Vec<u8>, &[u8]), Stop>
     ensures leads { (top : OpenTree) (around : List OpenTree) →
-        Leads (λ x. (inside (with_text top x.0.items) around, 60 ∷ x.1.now)) (inside top around) bytes.now result }
+        Leads (λ x. (inside (with_text top x.0.items) around, 60 ∷ x.1.now)) (inside top around)
+        bytes.now result }
     ensures shorter { IfOk result (λ x. length x.1.now < length bytes.now) }
 {
     let mut made = Vec::new(alloc);

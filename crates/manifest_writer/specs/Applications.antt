@@ -11,7 +11,8 @@ use Rattle.manifest_writer.specs.Elements.{named, element, leaf, root_tree, own_
 unfoldable pub entry_tree : Application → Tree
 entry_tree a =
     element (codes "entryPoint") []
-    (leaf (codes "commandLine") (named (codes "file") a.entry ∷ named (codes "parameters") a.parameters ∷ []) ∷ [])
+    (leaf (codes "commandLine")
+    (named (codes "file") a.entry ∷ named (codes "parameters") a.parameters ∷ []) ∷ [])
 
 -- ---- files
 
@@ -23,10 +24,12 @@ backslashed name = map (λ b. if b == 47 then 92 else b) name
 abbrev pub use_attributes : Bool → Option (List ℕ) → List Attribute
 use_attributes true group = named (codes "writeableType") (codes "applicationData") ∷ []
 use_attributes false None = []
-use_attributes false (Some group) = named (codes "optional") (codes "true") ∷ named (codes "group") group ∷ []
+use_attributes false (Some group) = named (codes "optional") (codes "true")
+    ∷ named (codes "group") group ∷ []
 
 abbrev pub own_attributes : List ℕ → ℕ → List Attribute
-own_attributes name size = named (codes "name") (backslashed name) ∷ named (codes "size") (decimal size) ∷ []
+own_attributes name size = named (codes "name") (backslashed name)
+    ∷ named (codes "size") (decimal size) ∷ []
 
 abbrev pub file_attributes : FileEntry → List Attribute
 file_attributes e = own_attributes e.name e.size ++ use_attributes e.local e.group

@@ -25,7 +25,8 @@ truth_text false = codes "false"
 
 abbrev pub minimum_attributes : Option Version → List Attribute
 minimum_attributes None = []
-minimum_attributes (Some version) = named (codes "minimumRequiredVersion") (version_text version) ∷ []
+minimum_attributes (Some version) = named (codes "minimumRequiredVersion") (version_text version)
+    ∷ []
 
 abbrev pub terms_attributes : Deployment → List Attribute
 terms_attributes d =
@@ -49,7 +50,8 @@ before_tree = leaf (codes "beforeApplicationStartup") []
 
 -- when a new version is looked for
 abbrev pub subscription_tree : Tree → Tree
-subscription_tree time = element (codes "subscription") [] (element (codes "update") [] (time ∷ []) ∷ [])
+subscription_tree time =
+    element (codes "subscription") [] (element (codes "update") [] (time ∷ []) ∷ [])
 
 abbrev pub rule_trees : Rule → List Tree
 rule_trees Never = []
@@ -64,7 +66,9 @@ provider_trees None = []
 provider_trees (Some codebase) = provider_tree codebase ∷ []
 
 unfoldable pub terms_tree : Deployment → Tree
-terms_tree d = element (codes "deployment") (terms_attributes d) (rule_trees d.rule ++ provider_trees d.provider)
+terms_tree d =
+    element (codes "deployment") (terms_attributes d)
+    (rule_trees d.rule ++ provider_trees d.provider)
 
 -- ---- the application manifest
 

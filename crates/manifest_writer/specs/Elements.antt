@@ -81,14 +81,16 @@ transforms_tree =
     ∷ [])
 
 abbrev pub method_tree : Digest → Tree
-method_tree digest = leaf (codes "dsig:DigestMethod") (named (codes "Algorithm") (uri_of digest.algorithm) ∷ [])
+method_tree digest =
+    leaf (codes "dsig:DigestMethod") (named (codes "Algorithm") (uri_of digest.algorithm) ∷ [])
 
 -- its text is the digest in base64
 abbrev pub value_tree : Digest → Tree
 value_tree digest = tree (codes "dsig:DigestValue") [] none (encode_of standard digest.value)
 
 unfoldable pub hash_tree : Digest → Tree
-hash_tree digest = element (codes "hash") [] (transforms_tree ∷ method_tree digest ∷ value_tree digest ∷ [])
+hash_tree digest =
+    element (codes "hash") [] (transforms_tree ∷ method_tree digest ∷ value_tree digest ∷ [])
 
 -- one `hash` per digest, in order
 abbrev pub hash_trees : List Digest → List Tree

@@ -1,4 +1,5 @@
--- What the types of values say of them: each number fits its type, and names and digest lists are ones.
+-- What the types of values say of them: each number fits its type, and names and digest lists are
+-- ones.
 use Rattle.std.specs.Prelude.{List, All, IfSome}
 use Rattle.base64.specs.GeneralPurpose.{IsBytes}
 use Rattle.small_types.specs.Name.{IsName}

@@ -54,7 +54,9 @@ pub(crate) fn add_hashes(
     children: &mut Vec<Node>,
     digests: &[Digest],
 ) -> Result<(), NoMemory>
-    ensures { OnOk result (map tree_of children.new.items ≡ map tree_of children.old.items ++ hash_trees digests.now) }
+    ensures { OnOk result
+        (map tree_of children.new.items
+        ≡ map tree_of children.old.items ++ hash_trees digests.now) }
 {
     for digest in digests {
         add_child(children, hash_node(alloc, digest)?)?;

@@ -52,7 +52,8 @@ pub(crate) fn add_attribute(
 // Adds a child.
 #[tactic(auto, using(crate::proofs::Children::pushed))]
 pub(crate) fn add_child(children: &mut Vec<Node>, child: Node) -> Result<(), NoMemory>
-    ensures { OnOk result (map tree_of children.new.items ≡ map tree_of children.old.items ++ tree_of child ∷ []) }
+    ensures { OnOk result
+        (map tree_of children.new.items ≡ map tree_of children.old.items ++ tree_of child ∷ []) }
 {
     children.push(child)?;
     Ok(())
@@ -65,7 +66,9 @@ pub(crate) fn element(
     attributes: Vec<Attribute>,
     children: Vec<Node>,
 ) -> Result<Node, NoMemory>
-    ensures { IfOk result (λ made. tree_of made ≡ element_tree name.now attributes.items (map tree_of children.items)) }
+    ensures { IfOk result
+        (λ made. tree_of made
+        ≡ element_tree name.now attributes.items (map tree_of children.items)) }
 {
     Ok(Node {
         name: text(alloc, name)?,

@@ -72,7 +72,9 @@ pub(crate) fn add_files(
     children: &mut Vec<Node>,
     files: &[FileEntry],
 ) -> Result<(), NoMemory>
-    ensures { OnOk result (map tree_of children.new.items ≡ map tree_of children.old.items ++ map file_tree files.now) }
+    ensures { OnOk result
+        (map tree_of children.new.items
+        ≡ map tree_of children.old.items ++ map file_tree files.now) }
 {
     for entry in files {
         add_child(children, file_node(alloc, entry)?)?;

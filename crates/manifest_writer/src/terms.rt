@@ -78,7 +78,8 @@ fn add_subscription(alloc: Global, children: &mut Vec<Node>, time: Node) -> Resu
 
 // Adds the rule.
 fn add_rule(alloc: Global, children: &mut Vec<Node>, rule: Rule) -> Result<(), NoMemory>
-    ensures { OnOk result (map tree_of children.new.items ≡ map tree_of children.old.items ++ rule_trees rule) }
+    ensures { OnOk result
+        (map tree_of children.new.items ≡ map tree_of children.old.items ++ rule_trees rule) }
 {
     match rule {
         Rule::Never => {}

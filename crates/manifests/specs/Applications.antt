@@ -1,4 +1,5 @@
--- The facts of an application manifest, found in its whole tree; or the first refusal in this order.
+-- The facts of an application manifest, found in its whole tree; or the first refusal in this
+-- order.
 use Rattle.std.specs.Prelude.{ℕ, Bool, true, false, ◌&&◌, ◌||◌, not, nat_le, List, [], ◌∷◌, ◌++◌, length, filter, slice_get, codes, Option, Some, None, Result, Ok, Err, if◌then◌else◌}
 use Rattle.std.specs.List.{list_any}
 use Rattle.std.specs.Option.{option_or}
@@ -48,7 +49,8 @@ file_listing file = record {
 
 -- on a dependency, or else on its assembly
 abbrev pub either : List ℕ → Tree → Tree → Option (List ℕ)
-either wanted dependency assembly = option_or (attribute wanted dependency) (attribute wanted assembly)
+either wanted dependency assembly =
+    option_or (attribute wanted dependency) (attribute wanted assembly)
 
 abbrev pub assembly_listing : Tree → Tree → Listing
 assembly_listing dependency assembly = record {
@@ -65,7 +67,8 @@ assembly_listing dependency assembly = record {
 abbrev pub dependency_listing : Tree → Option Tree → Read (Option Listing)
 dependency_listing dependency None = Ok None
 dependency_listing dependency (Some assembly) =
-    installed_type assembly >>= λ wanted. Ok (if wanted then Some (assembly_listing dependency assembly) else None)
+    installed_type assembly >>= λ wanted. Ok
+    (if wanted then Some (assembly_listing dependency assembly) else None)
 
 -- of a dependency the first assembly counts
 abbrev pub first_assembly : Tree → Option Tree
@@ -93,12 +96,14 @@ is_below_pre name = is_pre (slice_get (name_parts name) 0)
 
 -- a name that may be installed: not below `.pre`, and of a data file at most 235 bytes
 abbrev pub is_listed_name : Bool → List ℕ → Bool
-is_listed_name is_local name = not (is_below_pre name) && (not is_local || nat_le (length name) LOCAL_NAME_LIMIT)
+is_listed_name is_local name =
+    not (is_below_pre name) && (not is_local || nat_le (length name) LOCAL_NAME_LIMIT)
 
 -- what a value names, where a file of that name may be installed
 abbrev pub fit_name : Bool → List ℕ → Result (List ℕ) NameFault → Read (List ℕ)
 fit_name is_local value (Err e) = Err (BadName value)
-fit_name is_local value (Ok name) = if is_listed_name is_local name then Ok name else Err (BadName value)
+fit_name is_local value (Ok name) =
+    if is_listed_name is_local name then Ok name else Err (BadName value)
 
 abbrev pub listed_name : Bool → List ℕ → Read (List ℕ)
 listed_name is_local value = fit_name is_local value (name_of value)
@@ -108,7 +113,8 @@ abbrev pub new_name : List FileEntry → List ℕ → Read (List ℕ)
 new_name before name = if is_taken before name then Err (TwiceNamed name) else Ok name
 
 unfoldable pub file_name : List FileEntry → Listing → Read (List ℕ)
-file_name before l = needed l.what l.name >>= λ value. listed_name l.is_local value >>= new_name before
+file_name before l =
+    needed l.what l.name >>= λ value. listed_name l.is_local value >>= new_name before
 
 -- an optional program file with a group of one byte or more is in it
 abbrev pub in_group : Bool → List ℕ → Option (List ℕ)
@@ -129,7 +135,8 @@ locals entries = length (filter (λ (e : FileEntry). e.local) entries)
 unfoldable pub counted : List FileEntry → FileEntry → Read FileEntry
 counted before entry =
     if nat_le FILE_COUNT_LIMIT (length before) then Err (TooMany Files) else
-    if entry.local && nat_le LOCAL_COUNT_LIMIT (locals before) then Err (TooMany Locals) else Ok entry
+    if entry.local && nat_le LOCAL_COUNT_LIMIT (locals before) then Err (TooMany Locals) else Ok
+    entry
 
 -- the most bytes of a file, which are fewer of a data file
 abbrev pub size_limit : Bool → ℕ
@@ -143,7 +150,8 @@ file_of before l = do
   size ← size_of (size_limit l.is_local) l.size
   digests ← digests_of name l.hashed
   group ← group_of l
-  counted before (record { name = name; size = size; list = digests; group = group; local = l.is_local })
+  counted before
+      (record { name = name; size = size; list = digests; group = group; local = l.is_local })
 
 -- ---- all files, in document order
 
@@ -181,7 +189,13 @@ application_facts t = do
   identity ← identity_in t
   start ← start_of t
   files ← files_from [] (children_of t)
-  Ok (record { identity = identity; entry = start.entry; parameters = start.parameters; files = files })
+  Ok (record {
+    identity = identity;
+    entry = start.entry;
+    parameters = start.parameters;
+    files =
+        files;
+  })
 
 -- the facts of a tree
 unfoldable pub application_of : Tree → Read Application

@@ -32,7 +32,8 @@ not_above version minimum =
 
 abbrev pub minimum_of : Version → Option (List ℕ) → Read (Option Version)
 minimum_of version None = Ok None
-minimum_of version (Some text) = version_value (codes "minimumRequiredVersion") text >>= not_above version
+minimum_of version (Some text) =
+    version_value (codes "minimumRequiredVersion") text >>= not_above version
 
 -- ---- the rule
 
@@ -96,7 +97,8 @@ provider_of deployment = named_provider (first_called (codes "deploymentProvider
 abbrev pub installed : List Tree → Read (List Tree)
 installed [] = Ok []
 installed (assembly ∷ others) =
-    installed_type assembly >>= λ wanted. installed others >>= λ found. Ok (if wanted then assembly ∷ found else found)
+    installed_type assembly >>= λ wanted. installed others >>= λ found. Ok
+    (if wanted then assembly ∷ found else found)
 
 -- one of all `dependentAssembly` elements is
 abbrev pub just_one : List Tree → Read Tree
@@ -105,7 +107,8 @@ just_one (assembly ∷ []) = Ok assembly
 just_one (assembly ∷ other ∷ others) = Err (Twice (codes "dependentAssembly"))
 
 abbrev pub assemblies_of : Tree → List Tree
-assemblies_of t = flat_map (children_called (codes "dependentAssembly")) (children_called (codes "dependency") t)
+assemblies_of t =
+    flat_map (children_called (codes "dependentAssembly")) (children_called (codes "dependency") t)
 
 unfoldable pub assembly_of : Tree → Read Tree
 assembly_of t = installed (assemblies_of t) >>= just_one
@@ -123,7 +126,8 @@ terms_of version t = do
   deployment ← once (codes "deployment") t
   install ← truth (codes "install") true (attribute (codes "install") deployment)
   offline ← installed_only install
-  mapped ← truth (codes "mapFileExtensions") false (attribute (codes "mapFileExtensions") deployment)
+  mapped ← truth (codes "mapFileExtensions") false
+      (attribute (codes "mapFileExtensions") deployment)
   minimum ← minimum_of version (attribute (codes "minimumRequiredVersion") deployment)
   rule ← rule_of deployment
   Ok (record { minimum = minimum; mapped = mapped; rule = rule; provider = provider_of deployment })

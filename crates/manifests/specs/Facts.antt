@@ -92,7 +92,8 @@ pub record AreApplicationFacts (a : Application) : Type 0 where
 
 -- what the bytes of a deployment manifest say is what one can say
 abbrev pub ReadDeploymentsAreFacts : Type 0
-ReadDeploymentsAreFacts = (bytes : List ℕ) (d : Deployment) → Tells deployment_of bytes (Ok d) → AreDeploymentFacts d
+ReadDeploymentsAreFacts = (bytes : List ℕ) (d : Deployment) → Tells deployment_of bytes (Ok d)
+    → AreDeploymentFacts d
 
 -- so is what the bytes of an application manifest say
 abbrev pub ReadApplicationsAreFacts : Type 0

@@ -14,7 +14,8 @@ use Rattle.manifests.specs.declared.releases.ReleaseFault.{ReleaseFault}
 use Rattle.manifests.specs.declared.releases.ReleaseFault.TheVariants.{Mismatch, IdentityDiffers, VersionDiffers, Memory}
 use Rattle.manifests.specs.Applications.{application_of}
 
--- the bytes say the application, are the ones that the deployment lists, and have the key and the version that it lists
+-- the bytes say the application, are the ones that the deployment lists, and have the key and the
+-- version that it lists
 pub record IsRelease (d : Deployment) (a : Application) (bytes : List ℕ) : Type 0 where
   pub application : Tells application_of bytes (Ok a)
   pub matching : Matches d.app_list d.app_size bytes
@@ -45,16 +46,20 @@ RefusesIdentity d a Memory = Unit {0}
 
 -- a refusal of the bytes, by how they differ from what is listed
 abbrev pub RefusesBytes : Deployment → List ℕ → ReleaseFault → Type 0
-RefusesBytes d bytes (Mismatch difference) = difference_of d.app_list d.app_size bytes ≡ Some difference
+RefusesBytes d bytes (Mismatch difference) = difference_of d.app_list d.app_size bytes
+    ≡ Some difference
 RefusesBytes d bytes (IdentityDiffers listed found) = ⊥
 RefusesBytes d bytes (VersionDiffers listed found) = ⊥
 RefusesBytes d bytes Memory = Unit {0}
 
 -- a refusal
 abbrev pub Refuses : Deployment → Application → List ℕ → ReleaseFault → Type 0
-Refuses d a bytes (Mismatch difference) = difference_of d.app_list d.app_size bytes ≡ Some difference
-Refuses d a bytes (IdentityDiffers listed found) = Matches d.app_list d.app_size bytes × IsOtherKey d a listed found
-Refuses d a bytes (VersionDiffers listed found) = Matches d.app_list d.app_size bytes × IsOtherVersion d a listed found
+Refuses d a bytes (Mismatch difference) = difference_of d.app_list d.app_size bytes
+    ≡ Some difference
+Refuses d a bytes (IdentityDiffers listed found) = Matches d.app_list d.app_size bytes
+    × IsOtherKey d a listed found
+Refuses d a bytes (VersionDiffers listed found) = Matches d.app_list d.app_size bytes
+    × IsOtherVersion d a listed found
 Refuses d a bytes Memory = Unit {0}
 
 -- a fault of the checker of bytes, as one of a release

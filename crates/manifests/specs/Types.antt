@@ -10,7 +10,8 @@ abbrev pub is_installed : Option (List ℕ) → Read Bool
 is_installed None = Ok true
 is_installed (Some text) =
     if bytes_eq text (codes "install") then Ok true else
-    if bytes_eq text (codes "preRequisite") then Ok false else Err (BadValue (codes "dependencyType"))
+    if bytes_eq text (codes "preRequisite") then Ok false else Err
+    (BadValue (codes "dependencyType"))
 
 unfoldable pub installed_type : Tree → Read Bool
 installed_type assembly = is_installed (attribute (codes "dependencyType") assembly)

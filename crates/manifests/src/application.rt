@@ -102,7 +102,8 @@ fn facts_of(alloc: Global, root: &Node) -> Result<Application, ManifestFault>
 /// and `TooMany`. `Memory` may come at any bytes.
 pub fn read_application(alloc: Global, bytes: &[u8]) -> Result<Application, ManifestFault>
     ensures answers { Answers spec.application_of bytes.now result }
-    ensures only { (t : Tree) → SpellsTree bytes.now t → Gives (λ a. a) result (spec.application_of t) }
+    ensures only { (t : Tree) → SpellsTree bytes.now t
+        → Gives (λ a. a) result (spec.application_of t) }
 {
     let root = read_root(alloc, bytes)?;
     facts_of(alloc, &root)

@@ -16,7 +16,8 @@ pub(crate) fn needed_attribute<'a>(
     node: &'a Node,
     name: &str,
 ) -> Result<&'a Text, ManifestFault>
-    ensures { Gives text_at result (needed_value name.now (attribute_of name.now (tree_of node.now))) }
+    ensures { Gives text_at result
+        (needed_value name.now (attribute_of name.now (tree_of node.now))) }
 {
     needed(alloc, name, attribute(node, name))
 }
@@ -28,14 +29,16 @@ pub(crate) fn truth_attribute(
     name: &str,
     default: bool,
 ) -> Result<bool, ManifestFault>
-    ensures { Gives (λ b. b) result (truth_value name.now default (attribute_of name.now (tree_of node.now))) }
+    ensures { Gives (λ b. b) result
+        (truth_value name.now default (attribute_of name.now (tree_of node.now))) }
 {
     truth(alloc, name, default, attribute(node, name))
 }
 
 /// The size in bytes of an element, at most the limit: `Missing` where there is none, `BadValue` for any other text.
 pub(crate) fn size_attribute(alloc: Global, node: &Node, limit: u64) -> Result<u64, ManifestFault>
-    ensures { Gives (λ n. n) result (size_value limit (attribute_of (codes "size") (tree_of node.now))) }
+    ensures { Gives (λ n. n) result
+        (size_value limit (attribute_of (codes "size") (tree_of node.now))) }
 {
     size(alloc, limit, attribute(node, "size"))
 }

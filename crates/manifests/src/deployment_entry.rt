@@ -40,7 +40,8 @@ impl<'a> Found<'a> {
 
     // What is found with one more.
     fn with(self, assembly: &'a Node) -> Found<'a>
-        ensures { (ts : List Tree) → one_behind result ts ≡ one_behind self.entry (tree_at assembly.entry ∷ ts) }
+        ensures { (ts : List Tree)
+            → one_behind result ts ≡ one_behind self.entry (tree_at assembly.entry ∷ ts) }
     {
         match self {
             Found::Nothing => Found::One(assembly),

@@ -53,7 +53,8 @@ fn of_file(file: &Node) -> Listing<'_>
 
 // An attribute of the dependency, or else of its assembly.
 fn either<'a>(dependency: &'a Node, assembly: &'a Node, wanted: &str) -> Option<&'a Text>
-    ensures { maybe_text result ≡ spec.either wanted.now (tree_of dependency.now) (tree_of assembly.now) }
+    ensures { maybe_text result
+        ≡ spec.either wanted.now (tree_of dependency.now) (tree_of assembly.now) }
 {
     match attribute(dependency, wanted) {
         Some(value) => Some(value),
@@ -63,7 +64,8 @@ fn either<'a>(dependency: &'a Node, assembly: &'a Node, wanted: &str) -> Option<
 
 // What an assembly that is to be installed lists.
 fn of_assembly<'a>(dependency: &'a Node, assembly: &'a Node) -> Listing<'a>
-    ensures { listed result ≡ spec.assembly_listing (tree_of dependency.now) (tree_of assembly.now) }
+    ensures { listed result
+        ≡ spec.assembly_listing (tree_of dependency.now) (tree_of assembly.now) }
 {
     Listing {
         what: "codebase",

@@ -60,7 +60,8 @@ impl Mirrors {
 impl Links for Mirrors {
     ghost use Rattle.mirrors.specs.Mirrors.{boxes_state};
 
-    ghost links = { λ m. boxes_state (λ b. (Link-box b).state b.value) m.links.items m.gone m.asked };
+    ghost links = { λ m. boxes_state (λ b. (Link-box b).state b.value) m.links.items m.gone
+        m.asked };
 
     fn sources(&self) -> u32 {
         self.links.len() as u32

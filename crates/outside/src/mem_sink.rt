@@ -50,7 +50,8 @@ impl Sink for MemSink {
     fn write(&mut self, bytes: &[u8]) -> Result<usize, Failed>
         requires { 0 < length bytes.now }
         ensures within { IfOk result (λ n. TakesSome n bytes.now) }
-        ensures bytes { IfOk result (λ n. Appends (sink_taken self.old) (sink_taken self.new) (take n bytes.now)) }
+        ensures bytes { IfOk result
+            (λ n. Appends (sink_taken self.old) (sink_taken self.new) (take n bytes.now)) }
         ensures kept { OnErr result (sink_taken self.new ≡ sink_taken self.old) }
         ensures cause { Causes (sink_faults self.old) (sink_faults self.new) result }
 
@@ -60,7 +61,8 @@ impl Sink for MemSink {
         ensures calls { sink_calls self.new ≡ min (sink_calls self.old + 1) 0xffff_ffff_ffff_ffff }
         ensures failing { sink_failing self.new ≡ sink_failing self.old }
         ensures quiet { OnOk result (sink_faults self.new ≡ sink_faults self.old) }
-        ensures raised { OnErr result (sink_faults self.new ≡ min (sink_faults self.old + 1) 0xffff_ffff_ffff_ffff) }
+        ensures raised { OnErr result
+            (sink_faults self.new ≡ min (sink_faults self.old + 1) 0xffff_ffff_ffff_ffff) }
     {
         if self.failing.next() || self.taken.extend(bytes).is_err() {
             self.failing.fail();

@@ -54,13 +54,15 @@ impl Source for MemSource {
     fn read(&mut self, buf: &mut [u8]) -> Result<usize, Failed>
         requires { 0 < length buf.old }
         ensures within { IfOk result (λ n. n ≤ length buf.old) }
-        ensures bytes { IfOk result (λ n. Consumes (source_left self.old) (source_left self.new) buf.new n) }
+        ensures bytes { IfOk result
+            (λ n. Consumes (source_left self.old) (source_left self.new) buf.new n) }
         ensures kept { OnErr result (source_left self.new ≡ source_left self.old) }
         ensures cause { Causes (source_faults self.old) (source_faults self.new) result }
 
         // It fails exactly where its number is in the list, and the count rises by one where it fails, and else not.
         ensures fails { IsErr result ↔ IsTrue (source_fails self.old) }
-        ensures calls { source_calls self.new ≡ min (source_calls self.old + 1) 0xffff_ffff_ffff_ffff }
+        ensures calls { source_calls self.new
+            ≡ min (source_calls self.old + 1) 0xffff_ffff_ffff_ffff }
         ensures failing { source_failing self.new ≡ source_failing self.old }
         ensures quiet { OnOk result (source_faults self.new ≡ source_faults self.old) }
         ensures raised { OnErr result (source_faults self.new

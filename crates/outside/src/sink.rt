@@ -19,7 +19,8 @@ pub trait Sink {
     fn write(&mut self, bytes: &[u8]) -> Result<usize, Failed>
         requires { 0 < length bytes.now }
         ensures within { IfOk result (λ n. TakesSome n bytes.now) }
-        ensures bytes { tells → IfOk result (λ n. Appends (taken self.old) (taken self.new) (take n bytes.now)) }
+        ensures bytes { tells
+            → IfOk result (λ n. Appends (taken self.old) (taken self.new) (take n bytes.now)) }
         ensures kept { tells → OnErr result (taken self.new ≡ taken self.old) }
         ensures cause { Causes (count self.old) (count self.new) result };
 
@@ -30,8 +31,10 @@ pub trait Sink {
 
 /// Writes all the bytes. Where it fails the sink has taken a first part of them, and not all.
 pub fn write_all<K: Sink>(sink: &mut K, bytes: &[u8]) -> Result<(), Failed>
-    ensures bytes { K.tells → OnOk result (Appends (K.taken sink.old) (K.taken sink.new) bytes.now) }
-    ensures part { K.tells → OnErr result (AppendsPart (K.taken sink.old) (K.taken sink.new) bytes.now) }
+    ensures bytes { K.tells
+        → OnOk result (Appends (K.taken sink.old) (K.taken sink.new) bytes.now) }
+    ensures part { K.tells
+        → OnErr result (AppendsPart (K.taken sink.old) (K.taken sink.new) bytes.now) }
     ensures cause { Causes (K.count sink.old) (K.count sink.new) result }
 {
     let mut rest = bytes;

@@ -19,7 +19,8 @@ pub trait Source {
     fn read(&mut self, buf: &mut [u8]) -> Result<usize, Failed>
         requires { 0 < length buf.old }
         ensures within { IfOk result (λ n. n ≤ length buf.old) }
-        ensures bytes { tells → IfOk result (λ n. Consumes (left self.old) (left self.new) buf.new n) }
+        ensures bytes { tells
+            → IfOk result (λ n. Consumes (left self.old) (left self.new) buf.new n) }
         ensures kept { tells → OnErr result (left self.new ≡ left self.old) }
         ensures cause { Causes (count self.old) (count self.new) result };
 

@@ -15,7 +15,8 @@ use Rattle.plain_host.specs.declared.fault.Served.{Served}
 use Rattle.plain_host.specs.declared.fault.Served.TheVariants.{Answered, Silent}
 use Rattle.plain_host.specs.declared.receiving.TheConstants.{REQUEST_PIECE}
 
--- bytes of the last connection's request were taken, bytes were sent on it, and the others are as they were
+-- bytes of the last connection's request were taken, bytes were sent on it, and the others are as
+-- they were
 pub record Serving (old new : List Accepted) (taken sent : List ℕ) : Type 0 where
   pub earlier : List Accepted
   pub last : Accepted
@@ -41,15 +42,15 @@ pub record TakesAll (old new : List Accepted) (front : List ℕ) : Type 0 where
   pub taken : Serving old new front []
   pub all : taken.left ≡ []
 
--- enough of the last connection's request was taken to know what it asks for, and no piece once the end of its head had
--- come
+-- enough of the last connection's request was taken to know what it asks for, and no piece once the
+-- end of its head had come
 pub record TakesFront (old new : List Accepted) (front : List ℕ) : Type 0 where
   pub taken : Serving old new front []
   pub enough : IsEnough front taken.left
   pub near : IsNear REQUEST_PIECE front
 
--- no more of the last connection's request was taken than a head may have, and no piece once the end of its head had
--- come; nothing was sent
+-- no more of the last connection's request was taken than a head may have, and no piece once the
+-- end of its head had come; nothing was sent
 pub record SendsNothing (old new : List Accepted) : Type 0 where
   pub front : List ℕ
   pub few : length front ≤ HEAD_LIMIT
@@ -64,8 +65,8 @@ pub record BreaksOff (old new : List Accepted) : Type 0 where
   pub none : head_end front ≡ None
   pub taken : Serving old new front []
 
--- what was left of the last connection's request asks for a file, and nothing was sent; no more of it was taken than a
--- head may have, and no piece once the end of the head had come
+-- what was left of the last connection's request asks for a file, and nothing was sent; no more of
+-- it was taken than a head may have, and no piece once the end of the head had come
 pub record AsksFile (old new : List Accepted) : Type 0 where
   pub front : List ℕ
   pub few : length front ≤ HEAD_LIMIT
@@ -80,8 +81,8 @@ abbrev pub fault_by : ReadingFault → ServeFault
 fault_by Failed = FolderFault
 fault_by Memory = no_memory
 
--- The counts of the door and the folder never fall. Each fault of theirs comes only where its count rose, and any other
--- result leaves that count.
+-- The counts of the door and the folder never fall. Each fault of theirs comes only where its count
+-- rose, and any other result leaves that count.
 pub record FaultsCounted {T : Type 0} (door_old door_new folder_old folder_new : ℕ)
     (result : Result T ServeFault) : Type 0 where
   pub door_later : door_old ≤ door_new
@@ -97,9 +98,9 @@ abbrev pub code_of : Served → Option ℕ
 code_of (Answered code) = Some code
 code_of Silent = None
 
--- what was left of the last connection's request was answered as a host of these files answers it: with these bytes
--- and no others; enough of it was taken to know what it asks for, no more than a head may have, and no piece once the
--- end of the head had come
+-- what was left of the last connection's request was answered as a host of these files answers it:
+-- with these bytes and no others; enough of it was taken to know what it asks for, no more than a
+-- head may have, and no piece once the end of the head had come
 pub record ServesLast (files : List Held) (old new : List Accepted) (code : Option ℕ) : Type 0 where
   pub front : List ℕ
   pub few : length front ≤ HEAD_LIMIT

@@ -163,8 +163,10 @@ impl Marked {
         marks: &[Mark],
     ) -> Result<Marked, PlanFault>
         requires { CanFollow front.now }
-        ensures known { IfOk result (λ m. Knows m.table (all_behind front.now names.now) marks.now) }
-        ensures bad { IfOk result (λ m. m.bad ≡ bad_mark (all_behind front.now names.now) [] marks.now) }
+        ensures known { IfOk result
+            (λ m. Knows m.table (all_behind front.now names.now) marks.now) }
+        ensures bad { IfOk result
+            (λ m. m.bad ≡ bad_mark (all_behind front.now names.now) [] marks.now) }
         ensures memory { IfErr result (λ e. e ≡ PlanFault.Memory) }
     {
         let mut table = index(alloc, front, names)?;

@@ -83,7 +83,8 @@ fn release_word(alloc: Global, options: &Options) -> Result<String, AllocError>
 #[tactic(auto, unfolding(crate::specs::Places::version_folder))]
 pub(crate) fn version_folder(alloc: Global, options: &Options) -> Result<String, AllocError>
     ensures text { IfOk result (λ t. string_bytes t ≡ spec.version_folder options.now) }
-    ensures path { spec.is_plain_name options.now.name ≡ true → IsPath (spec.version_folder options.now) }
+    ensures path { spec.is_plain_name options.now.name ≡ true
+        → IsPath (spec.version_folder options.now) }
 {
     let to = options.to.as_str();
     let release = release_word(alloc, options)?;
@@ -122,7 +123,8 @@ pub(crate) fn target_name(
 #[tactic(auto, unfolding(crate::specs::Places::deployment_name))]
 pub(crate) fn deployment_name(alloc: Global, options: &Options) -> Result<String, AllocError>
     ensures text { IfOk result (λ t. string_bytes t ≡ spec.deployment_name options.now) }
-    ensures path { spec.is_plain_name options.now.name ≡ true → IsPath (spec.deployment_name options.now) }
+    ensures path { spec.is_plain_name options.now.name ≡ true
+        → IsPath (spec.deployment_name options.now) }
 {
     let to = options.to.as_str();
     let name = options.name.as_str();

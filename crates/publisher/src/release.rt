@@ -101,7 +101,8 @@ fn application_of(
     options: &Options,
     entries: List<FileEntry>,
 ) -> Result<Application, PublishFault>
-    ensures application { IfOk result (λ application. application ≡ application_with options.now entries) }
+    ensures application { IfOk result
+        (λ application. application ≡ application_with options.now entries) }
     ensures memory { OnErr result (result ≡ Err Memory) }
 {
     Ok(Application {
@@ -130,7 +131,8 @@ fn application_manifest(alloc: Global, application: &Application) -> Result<Byte
 
 // The deployment of the application manifest with this text.
 fn deployment_of(alloc: Global, options: &Options, text: &[u8]) -> Result<Deployment, PublishFault>
-    ensures deployment { IfOk result (λ deployment. deployment ≡ deployment_with options.now text.now) }
+    ensures deployment { IfOk result
+        (λ deployment. deployment ≡ deployment_with options.now text.now) }
     ensures sized { IfOk result (λ deployment. All IsSized deployment.app_list) }
     ensures numbers { IfOk result (λ deployment. IsVersion deployment.identity.version) }
     ensures memory { OnErr result (result ≡ Err Memory) }
@@ -154,7 +156,8 @@ fn deployment_manifest(alloc: Global, options: &Options, text: &[u8]) -> Result<
     requires options { IsPublishable options.now }
     requires fit { early_of options.now ≡ None }
     requires short { length text.now ≤ MANIFEST_LIMIT }
-    ensures exact { Gives (λ text. text) result (limited (deployment_manifest_of options.now text.now)) }
+    ensures exact { Gives (λ text. text) result
+        (limited (deployment_manifest_of options.now text.now)) }
     ensures fault { IfErr result IsManifestFault }
 {
     let deployment = deployment_of(alloc, options, text)?;

@@ -22,7 +22,8 @@ is_name_byte b = nat_le 32 b && not (b == 127) && not (b == 58) && not (b == 92)
 
 -- a part has a byte or more, and is neither `.` nor `..`
 abbrev pub is_name_part : List ℕ → Bool
-is_name_part part = not (length part == 0) && not (bytes_eq part (codes ".")) && not (bytes_eq part (codes ".."))
+is_name_part part =
+    not (length part == 0) && not (bytes_eq part (codes ".")) && not (bytes_eq part (codes ".."))
 
 -- a name as it stands after reading
 unfoldable pub is_name : List ℕ → Bool

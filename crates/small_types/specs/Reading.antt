@@ -16,7 +16,8 @@ FailsFree false e read = read ≡ Err e
 abbrev pub FailsBut : {B F : Type 0} → (F → Bool) → F → Result B F → Type 0
 FailsBut is_free e read = FailsFree (is_free e) e read
 
--- a call gives what the reading gives, as the view shows it, or fails as it does, or with an error that is free
+-- a call gives what the reading gives, as the view shows it, or fails as it does, or with an error
+-- that is free
 abbrev pub GivesBut : {A B F : Type 0} → (F → Bool) → (A → B) → Result A F → Result B F → Type 0
 GivesBut is_free view (Ok x) read = read ≡ Ok (view x)
 GivesBut is_free view (Err e) read = FailsBut is_free e read

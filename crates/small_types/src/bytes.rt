@@ -75,7 +75,8 @@ impl Bytes {
 
 // Lengthens to at least a length, with zeros. An `Err` changes nothing.
 fn lengthen(held: &mut Vec<u8>, end: usize) -> Result<(), AllocError>
-    ensures ok { OnOk result (held.new.items ≡ held.old.items ++ replicate (end - length held.old.items) 0) }
+    ensures ok { OnOk result
+        (held.new.items ≡ held.old.items ++ replicate (end - length held.old.items) 0) }
     ensures err { OnErr result (held.new.items ≡ held.old.items) }
 {
     if end > held.len() {

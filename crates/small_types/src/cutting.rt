@@ -11,7 +11,8 @@ fn place_of(bytes: &[u8], separator: u8) -> Option<usize>
 
 /// The bytes before the first separator and those after it, where there is one.
 pub fn cut_once(bytes: &[u8], separator: u8) -> Option<(&[u8], &[u8])>
-    ensures found { IfSome result (λ x. parts_between separator bytes.now ≡ x.0.now ∷ parts_between separator x.1.now) }
+    ensures found { IfSome result
+        (λ x. parts_between separator bytes.now ≡ x.0.now ∷ parts_between separator x.1.now) }
     ensures none { IfNone result (parts_between separator bytes.now ≡ bytes.now ∷ []) }
 {
     let Some(place) = place_of(bytes, separator) else {

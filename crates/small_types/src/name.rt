@@ -150,7 +150,8 @@ pub fn is_name(bytes: &[u8]) -> bool
 
 // The text of the bytes, where they are UTF-8.
 fn string_of(bytes: Vec<u8>) -> Option<String>
-    ensures { MatchOption result (¬ IsUtf8 bytes.items) (λ t. (string_bytes t ≡ bytes.items) × IsUtf8 bytes.items) }
+    ensures { MatchOption result (¬ IsUtf8 bytes.items)
+        (λ t. (string_bytes t ≡ bytes.items) × IsUtf8 bytes.items) }
 {
     let Ok(text) = String::from_utf8(bytes) else {
         return None;

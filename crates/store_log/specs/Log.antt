@@ -36,7 +36,8 @@ abbrev pub AreSmall : List (List ℕ) → Type 0
 AreSmall [] = Unit {0}
 AreSmall (change ∷ changes) = (length change < 2 ^ 32) × AreSmall changes
 
--- The bytes are a log of these changes behind this head: entries one after another, and then a closed gate.
+-- The bytes are a log of these changes behind this head: entries one after another, and then a
+-- closed gate.
 pub record IsLog (head : List ℕ) (changes : List (List ℕ)) (bytes : List ℕ) : Type 0 where
   pub closed : ClosedAfter (log_of head changes) bytes
   pub small : AreSmall changes
@@ -44,7 +45,8 @@ pub record IsLog (head : List ℕ) (changes : List (List ℕ)) (bytes : List ℕ
 unfoldable pub zeros : ℕ → List ℕ
 zeros n = replicate n 0
 
--- the head block before its gate: the sign, the number of blocks, the half's length, which is 0, and zeros
+-- the head block before its gate: the sign, the number of blocks, the half's length, which is 0,
+-- and zeros
 unfoldable pub head_front : ℕ → List ℕ
 head_front blocks = codes "CLKSTOR0" ++ (to_be_bytes w64 blocks ++ (to_be_bytes w64 0 ++ zeros 40))
 
@@ -79,13 +81,15 @@ pub record IsClosedNew (blocks : ℕ) (bytes : List ℕ) : Type 0 where
   pub is : bytes ≡ head_with blocks 0 ++ 0 ∷ []
   pub none : NoStore bytes
 
--- What stops leave over a format. It makes six calls: a cut and a sync, the write of 4,097 bytes and a sync, the write
--- of the head gate and a sync. A stop leaves an old image or a cut one, until the first sync is done; then nothing
--- stands there, and at the write what it makes of nothing; once the second sync is done the new journal with its head
--- gate closed; and from then on the new journal or none.
+-- What stops leave over a format. It makes six calls: a cut and a sync, the write of 4,097 bytes
+-- and a sync, the write of the head gate and a sync. A stop leaves an old image or a cut one, until
+-- the first sync is done; then nothing stands there, and at the write what it makes of nothing;
+-- once the second sync is done the new journal with its head gate closed; and from then on the new
+-- journal or none.
 pub record Formats {D : Type 0} (on : Ghosts D) (old new : D) (blocks : ℕ) : Type 0 where
   pub later : on.moment old ≤ on.moment new
-  pub past : (t : ℕ) (bytes : List ℕ) → t ≤ on.moment old → on.left_at new t bytes → on.left_at old t bytes
+  pub past : (t : ℕ) (bytes : List ℕ) → t ≤ on.moment old → on.left_at new t bytes
+      → on.left_at old t bytes
   pub first : (t : ℕ) (bytes : List ℕ) → on.moment old ≤ t → t ≤ on.moment new
       → t ≤ on.moment old + 2 → on.left_at new t bytes
       → IsCutOrOld (on.left_at old (on.moment old)) bytes

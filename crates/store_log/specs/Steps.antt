@@ -12,7 +12,8 @@ pub record OpenAfter (base tail bytes : List ℕ) : Type 0 where
 abbrev pub IsBeforeOrAfter : List ℕ → List ℕ → List ℕ → Type 0
 IsBeforeOrAfter base tail bytes = ClosedAfter base bytes ⊎ OpenAfter base tail bytes
 
--- the bytes begin with the entries of these changes, and behind them, at a place, a closed gate stands
+-- the bytes begin with the entries of these changes, and behind them, at a place, a closed gate
+-- stands
 pub record AtGate (changes : List (List ℕ)) (place : ℕ) (bytes : List ℕ) : Type 0 where
   pub closed : ClosedAfter (flat_map entry_of changes) bytes
   pub small : AreSmall changes
@@ -28,7 +29,8 @@ pub record OpensSize (n : ℕ) (after bytes : List ℕ) : Type 0 where
 
 -- the bytes are no entries with a closed gate behind them
 abbrev pub NoEntries : List ℕ → Type 0
-NoEntries bytes = (changes : List (List ℕ)) → AreSmall changes → ClosedAfter (flat_map entry_of changes) bytes → ⊥
+NoEntries bytes = (changes : List (List ℕ)) → AreSmall changes
+    → ClosedAfter (flat_map entry_of changes) bytes → ⊥
 
 -- a journal was found, and its first closed gate stands at the place
 pub record Finds (blocks place : ℕ) (changes : List (List ℕ)) (bytes : List ℕ) : Type 0 where

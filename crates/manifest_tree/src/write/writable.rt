@@ -67,7 +67,8 @@ fn are_attributes(attributes: &[Attribute]) -> bool
 // The node's own name, attributes and text.
 fn is_own_part(node: &Node) -> bool
     ensures { let n = out-Node node.now in
-        result ≡ (is_whole_name n.name && (are_new_attributes [] n.attributes && is_all_content n.text)) }
+        result ≡ (is_whole_name n.name &&
+        (are_new_attributes [] n.attributes && is_all_content n.text)) }
 {
     is_name(node.name.as_bytes())
         && are_attributes(node.attributes.as_slice())
