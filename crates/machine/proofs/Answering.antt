@@ -6,13 +6,13 @@ use Rattle.machine.specs.declared.event.Event.{Event}
 use Rattle.machine.specs.declared.event.Event.TheVariants.{Boot, Line, Unread}
 use Rattle.machine.specs.declared.reply.Reply.{Reply}
 use Rattle.machine.specs.declared.reply.Reply.TheVariants as says
-use Rattle.machine.specs.Laws.{HasStep, InstallsUnheard, IsAnswered, IsUnheard, MayCome}
+use Rattle.machine.specs.Laws.{HasStep, IsAnswered, IsAnswerable, MayBeAnswered, MayCome}
 use Rattle.machine.specs.Store.{Session, booted}
 use Rattle.machine.specs.Valid.{Valid}
 use Rattle.machine.proofs.EachRow.{facts}
 
 pub answered : (now : ℕ) (heard : List (List ℕ)) (old : Session) (command : Command)
-    → Valid old.store → InstallsUnheard command heard → IsAnswered now heard old command
+    → Valid old.store → IsAnswerable command heard old.store → IsAnswered now heard old command
 answered now heard old command valid none = (facts now heard command).answered old valid none
 
 some_other : (reply : Reply) → reply ≢ says.Memory → Some reply ≢ Some says.Memory
@@ -28,7 +28,7 @@ line_other : (fault : LineFault) → says.Line fault ≢ says.Memory
 line_other fault e = cc
 
 pub stepped : (now : ℕ) (old : Session) (event : Event) → Valid old.store → MayCome now old event
-    → IsUnheard event → HasStep now old event
+    → MayBeAnswered event old.store → HasStep now old event
 stepped now old (Boot boot) valid may none = record {
   reply = None;
   new = record old { store = booted boot old.store };

@@ -14,7 +14,7 @@ at_is_other next e = cc
 
 pub at_facts : (now : ℕ) (heard : List (List ℕ)) (next : ℕ) → RowFacts now heard (At next)
 at_facts now heard next = record {
-  unchanged = λ shape. tt;
+  refused = λ old reply new given. absurd given;
   set_none = λ shape. tt;
   acts = λ old reply new done.
       acts_not (At next) old reply new done.1 (λ e. at_is_other next (sym done.0 ∙ e))

@@ -121,7 +121,7 @@ module _ {X : Type 0} (test : X → Bool) where
 
 -- ---- of what f makes of them
 
-map_at : {X Y : Type 0} (f : X → Y) (b : Bool) (x : X) (o : Option X)
+pub map_at : {X Y : Type 0} (f : X → Y) (b : Bool) (x : X) (o : Option X)
     → cond b (Some (f x)) (option_map f o) ≡ option_map f (cond b (Some x) o)
 map_at f true x o = refl
 map_at f false x o = refl

@@ -10,14 +10,14 @@ use Rattle.machine.specs.Laws.{IsAnswered}
 use Rattle.machine.specs.Leases.{lease_of}
 use Rattle.machine.specs.Machine.{moment_set}
 use Rattle.machine.specs.Rows.{AreExact}
-use Rattle.machine.specs.Shape.{Shape}
+use Rattle.machine.specs.Shape.{Shape, shape_of}
 use Rattle.machine.specs.Store.{Session}
 use Rattle.machine.specs.Valid.{Valid}
 use Rattle.machine.proofs.Choosing.{exactly-exact}
 use Rattle.machine.proofs.Keeping.{same_views_sound}
 use Rattle.machine.proofs.LeasesKept.{finished_keeps}
 use Rattle.machine.proofs.Leasing.{finished_valid}
-use Rattle.machine.proofs.RowFacts.{RowFacts, acts_on, rises_as}
+use Rattle.machine.proofs.RowFacts.{RowFacts, acts_on, kept_unchanged, rises_as}
 
 finished_is_other : (lease : ℕ) → says.Finished lease ≢ says.Memory
 finished_is_other lease e = cc
@@ -47,7 +47,9 @@ module _ (now : ℕ) (heard : List (List ℕ)) (lease : ℕ) where
 
   pub finish_facts : RowFacts now heard (Finish lease)
   finish_facts = record {
-    unchanged = λ shape. ((λ s. refl), tt);
+    refused = λ old reply new given.
+        kept_unchanged (Finish lease) (finish_refusals lease (shape_of old.store)) old reply new
+        ((λ s. refl), tt) given;
     set_none = λ shape. ((λ reply given. ap (λ (r : Reply). moment_set (Some r)) given.1), tt);
     acts = λ old reply new done.
         acts_on (Finish lease) old reply new (finished lease old.store) done.1

@@ -2,15 +2,14 @@
 use Rattle.std.proofs.Common.{◌≡◌, ◌≢◌, ◌∙◌, ◌++◌, ◌<◌, refl, sym, ap, subst, ℕ, Bool, true, false, cond, List, [], ◌∷◌, map, All, Option, Some, None, arith}
 use Rattle.std.specs.Prelude.{IfSome, IsSomeAnd, option_and_then, option_map, unwrap_or}
 use Rattle.std.specs.Ordering.{is_lt}
-use Rattle.std.specs.declared.cmp.Ordering.{Ordering}
-use Rattle.std.specs.declared.cmp.Ordering.TheVariants.{Less, Equal, Greater}
+use Rattle.std.specs.declared.cmp.Ordering.TheVariants.{Equal}
 use Rattle.std.proofs.lemmas.Bool.{eq-eqb, ne_eqb}
 use Rattle.std.proofs.lemmas.List.Elements.{All-head, All-tail}
 use Rattle.small_types.specs.declared.target.Target.{Target}
 use Rattle.identity.specs.declared.key.Key.{Key}
 use Rattle.identity.specs.declared.version.Version.{Version}
 use Rattle.identity.specs.Version.{IsBelow, version_cmp}
-use Rattle.identity.proofs.VersionLemmas.{IsBelow-irreflexive, cmp_from_IsBelow, greater_of-old}
+use Rattle.identity.proofs.VersionLemmas.{cmp_from_IsBelow}
 use Rattle.manifests.specs.declared.facts.Deployment.{Deployment}
 use Rattle.manifests.specs.Facts.{IsMinimum}
 use Rattle.machine.specs.declared.app.AppState.{AppState}
@@ -27,7 +26,7 @@ use Rattle.machine.specs.Views.{View}
 use Rattle.machine.proofs.Bringing.{bare_current}
 use Rattle.machine.proofs.Entering.{entry_of-other, entry_of-with_entry}
 use Rattle.machine.proofs.InstallSteps.{deployment_passes, held_deployment, of_deployment}
-use Rattle.machine.proofs.Raising.{entry_of-alike, minimum_or_fresh}
+use Rattle.machine.proofs.Raising.{Holds, minimum_raised, raised_minimum}
 
 -- ---- a view behind others with smaller numbers
 
@@ -39,18 +38,6 @@ last_found (v ∷ views) view below =
     ∙ last_found views view (All-tail (λ (n : ℕ). n < view.number) v.number (map (λ (w : View). w.number) views) below)
 
 -- ---- minimums
-
-Holds : Version → Option Version → Type 0
-Holds minimum later = IsSomeAnd later (λ v. ¬ IsBelow v minimum)
-
-raised_holds : (heard : Option Version) (minimum : Version) → Holds minimum (raised_by heard (Some minimum))
-unfolding Holds
-raised_holds None minimum = IsBelow-irreflexive minimum
-raised_holds (Some heard) minimum = greater_of-old minimum heard
-
-holds_itself : (minimum : Version) (later : Option Version) → later ≡ Some minimum → Holds minimum later
-unfolding Holds
-holds_itself minimum later is = subst (λ (o : Option Version). IsSomeAnd o (λ v. ¬ IsBelow v minimum)) (sym is) (IsBelow-irreflexive minimum)
 
 not_below : (version minimum : Version) → IsMinimum version minimum → ¬ IsBelow version minimum
 not_below version minimum is below = apart (sym (cmp_from_IsBelow version minimum below) ∙ is)
@@ -86,34 +73,22 @@ module _ (number : ℕ) (d : Deployment) (provider : Target) (now : ℕ) where
   others_stay apps key apart = entry_of-other d.identity.key change keeps key apart apps
 
   minimum_is : (apps : List AppState) → minimum_of d.identity.key (with_entry d.identity.key (installed_app number d provider now) apps) ≡ raised_by d.minimum (minimum_of d.identity.key apps)
-  minimum_is apps =
-      ap (λ (e : Option AppState). option_and_then (λ (app : AppState). app.minimum) e) (entry_is apps)
-      ∙ ap (raised_by d.minimum) (minimum_or_fresh d.identity.key (entry_of d.identity.key apps))
+  unfolding change
+  minimum_is apps = minimum_raised d.identity.key change keeps d.minimum (λ app. refl) apps
 
-  minimum_holds : (apps : List AppState) (key : Key) (minimum : Version) (o : Ordering) → key_cmp d.identity.key key ≡ o → minimum_of key apps ≡ Some minimum → Holds minimum (minimum_of key (with_entry d.identity.key (installed_app number d provider now) apps))
-  minimum_holds apps key minimum Equal equal is =
-      let own : minimum_of d.identity.key apps ≡ Some minimum = ap (λ (e : Option AppState). option_and_then (λ (app : AppState). app.minimum) e) (sym (entry_of-alike d.identity.key key apps equal)) ∙ is in
-      let new = ap (λ (e : Option AppState). option_and_then (λ (app : AppState). app.minimum) e) (entry_of-alike d.identity.key key (with_entry d.identity.key (installed_app number d provider now) apps) equal) ∙ minimum_is apps ∙ ap (raised_by d.minimum) own in
-      subst (Holds minimum) (sym new) (raised_holds d.minimum minimum)
-  minimum_holds apps key minimum Less less is = holds_itself minimum _ (ap (λ (e : Option AppState). option_and_then (λ (app : AppState). app.minimum) e) (others_stay apps key (λ e. apart (sym less ∙ e))) ∙ is)
-    where
-      apart : Less ≡ Equal → ⊥
-      apart e = cc
-  minimum_holds apps key minimum Greater greater is = holds_itself minimum _ (ap (λ (e : Option AppState). option_and_then (λ (app : AppState). app.minimum) e) (others_stay apps key (λ e. apart (sym greater ∙ e))) ∙ is)
-    where
-      apart : Greater ≡ Equal → ⊥
-      apart e = cc
+  minimum_holds : (apps : List AppState) (key : Key) (minimum : Version) → minimum_of key apps ≡ Some minimum → Holds minimum (minimum_of key (with_entry d.identity.key (installed_app number d provider now) apps))
+  unfolding change
+  minimum_holds apps = raised_minimum d.identity.key change keeps d.minimum (λ app. refl) apps
 
 -- ---- an install
 
 -- a minimum that held holds once it had its effect, or one that is not below it
 pub effect_minimum : {R C : Type 0} {says : Replies R C} {url : List ℕ} {heard : List (List ℕ)} {now : ℕ} {old : Session} {reply : R} {new : Session} → InstallEffect says url heard now old reply new → (key : Key) (minimum : Version) → minimum_of key old.store.apps ≡ Some minimum → IsSomeAnd (minimum_of key new.store.apps) (λ later. ¬ IsBelow later minimum)
-unfolding Holds
 effect_minimum {now = now} {old = old} done key minimum held =
     let d = done.deployment in
     subst (λ (s : Session). IsSomeAnd (minimum_of key s.store.apps) (λ later. ¬ IsBelow later minimum)) (sym done.is)
     (subst (λ (store : Store). IsSomeAnd (minimum_of key store.apps) (λ later. ¬ IsBelow later minimum)) (sym done.installed.is)
-    (minimum_holds old.store.next_view d done.installed.provider now old.store.apps key minimum (key_cmp d.identity.key key) refl held))
+    (minimum_holds old.store.next_view d done.installed.provider now old.store.apps key minimum held))
 
 current_or_fresh : (key : Key) (entry : Option AppState) → (unwrap_or entry (fresh key)).current ≡ option_and_then (λ (app : AppState). app.current) entry
 current_or_fresh key None = refl

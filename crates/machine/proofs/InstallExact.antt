@@ -21,7 +21,7 @@ use Rattle.machine.specs.Store.{Session}
 use Rattle.machine.proofs.Choosing.{exactly-exact, exactly_with-exact}
 use Rattle.machine.proofs.Told.{refused_one, same_text, told_one}
 
-some_is_not_none : {P X : Type 0} (x : X) → ◌≡◌ {A = Option X} (Some x) None → P
+pub some_is_not_none : {P X : Type 0} (x : X) → ◌≡◌ {A = Option X} (Some x) None → P
 some_is_not_none x e = absurd cc
 
 alike : {X : Type 0} (x y : X) → ◌≡◌ {A = Option X} (Some x) (Some y) → x ≡ y
@@ -33,12 +33,12 @@ some_one found a b first second = alike a b (sym first ∙ second)
 -- ---- one text, one value
 
 module _ {A : Type 0} (facts : Tree → Read A) (place : ℕ) (heard : List (List ℕ)) where
-  text_one : {P Q : A → Type 0} (x : OfText facts place heard P) (y : OfText facts place heard Q) → x.1 ≡ y.1
+  pub text_one : {P Q : A → Type 0} (x : OfText facts place heard P) (y : OfText facts place heard Q) → x.1 ≡ y.1
   text_one x y =
       let same = same_text (slice_get heard place) x.0 y.0 x.2 y.2 in
       told_one facts y.0 x.1 y.1 (subst (λ (t : List ℕ). Tells facts t (Ok x.1)) same x.3) y.3
 
-  reason_one : (x y : ManifestFault) → IsRefused facts place heard x → IsRefused facts place heard y → x ≡ y
+  pub reason_one : (x y : ManifestFault) → IsRefused facts place heard x → IsRefused facts place heard y → x ≡ y
   reason_one x y a b =
       let same = same_text (slice_get heard place) a.0 b.0 a.1 b.1 in
       refused_one facts b.0 x y (subst (λ (t : List ℕ). RefusesBytes facts t x) same a.2) a.3 b.2 b.3

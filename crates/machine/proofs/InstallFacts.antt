@@ -25,12 +25,12 @@ use Rattle.machine.proofs.InstallSteps.{left_sound, left_valid}
 use Rattle.machine.proofs.LeasesKept.{KeepsLeases, keeps_more}
 use Rattle.machine.proofs.Moments.{install_none}
 use Rattle.machine.proofs.Raising.{Holds}
-use Rattle.machine.proofs.RowFacts.{Acts, RowFacts, acts_on}
+use Rattle.machine.proofs.RowFacts.{Acts, RowFacts, acts_on, kept_unchanged}
 use Rattle.machine.proofs.Unheard.{unheard}
 
 -- ---- its refusals leave nothing
 
-unchanged_both : {R S : Type 0} (xs ys : List (Refusal R S)) → ChangeNothing xs → ChangeNothing ys
+pub unchanged_both : {R S : Type 0} (xs ys : List (Refusal R S)) → ChangeNothing xs → ChangeNothing ys
     → ChangeNothing (xs ++ ys)
 unchanged_both [] ys first second = second
 unchanged_both (x ∷ xs) ys first second = (first.0, unchanged_both xs ys first.1 second)
@@ -53,7 +53,7 @@ module _ {R C : Type 0} (says : Replies R C) (locals : ℕ) (url : List ℕ) (he
   file_unchanged : ChangeNothing (file_refusals says url heard shape)
   file_unchanged = (same, tt)
 
-  install_unchanged : ChangeNothing (install_refusals says locals url heard shape)
+  pub install_unchanged : ChangeNothing (install_refusals says locals url heard shape)
   install_unchanged =
       unchanged_both
       (address_refusals says url ++ deployment_refusals says url heard shape
@@ -132,7 +132,10 @@ heard_nothing now heard url old none =
 pub install_facts : (now : ℕ) (heard : List (List ℕ)) (url : List ℕ)
     → RowFacts now heard (Install url)
 install_facts now heard url = record {
-  unchanged = λ shape. install_unchanged install_replies INSTALLED_LOCALS url heard shape;
+  refused = λ old reply new given.
+      kept_unchanged (Install url)
+      (install_refusals install_replies INSTALLED_LOCALS url heard (shape_of old.store)) old reply new
+      (install_unchanged install_replies INSTALLED_LOCALS url heard (shape_of old.store)) given;
   set_none = λ shape. install_none url heard shape;
   acts = λ old reply new done. install_acts now heard url old reply new done;
   valid = λ old reply new is few passes done valid.

@@ -57,7 +57,7 @@ standing_required a = filter_agree (λ (entry : FileEntry). not entry.local && s
 
 -- ---- versions
 
-version-above : (installed : Version) (version : Option Version) → IfSome version IsVersion → IfSome (above installed version) IsVersion
+pub version-above : (installed : Version) (version : Option Version) → IfSome version IsVersion → IfSome (above installed version) IsVersion
 version-above installed None is = tt
 version-above installed (Some version) is = by (is_lt (version_cmp installed version))
   where
@@ -65,7 +65,7 @@ version-above installed (Some version) is = by (is_lt (version_cmp installed ver
     by true = is
     by false = tt
 
-version-raised_by : (heard old : Option Version) → IfSome heard IsVersion → IfSome old IsVersion → IfSome (raised_by heard old) IsVersion
+pub version-raised_by : (heard old : Option Version) → IfSome heard IsVersion → IfSome old IsVersion → IfSome (raised_by heard old) IsVersion
 version-raised_by None old first second = second
 version-raised_by (Some heard) old first second = version-raised old heard second first
 

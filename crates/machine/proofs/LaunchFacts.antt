@@ -31,7 +31,7 @@ use Rattle.machine.proofs.LeasesKept.{launched_keeps}
 use Rattle.machine.proofs.Leasing.{launched_valid, started_minimum}
 use Rattle.machine.proofs.Members.{contains_in, in_map}
 use Rattle.machine.proofs.Moments.{SetsNone}
-use Rattle.machine.proofs.RowFacts.{Acts, RowFacts, acts_on, rises_as}
+use Rattle.machine.proofs.RowFacts.{Acts, RowFacts, acts_on, kept_unchanged, rises_as}
 use Rattle.machine.proofs.Shortness.{short_key}
 
 -- ---- replies, and what is due
@@ -126,7 +126,7 @@ module _ (key : Key) (now : ℕ) (shape : Shape) where
   same : (session : Session) → session ≡ session
   same session = refl
 
-  launch_unchanged : ChangeNothing (launch_refusals key now shape)
+  pub launch_unchanged : ChangeNothing (launch_refusals key now shape)
   launch_unchanged = (same, (same, (same, (same, (same, (same, tt))))))
 
   abbrev set : Reply → Option ℕ
@@ -340,7 +340,9 @@ module _ (now : ℕ) (heard : List (List ℕ)) (key : Key) where
 
   pub launch_facts : RowFacts now heard (Launch key)
   launch_facts = record {
-    unchanged = λ shape. launch_unchanged key now shape;
+    refused = λ old reply new given.
+        kept_unchanged (Launch key) (launch_refusals key now (shape_of old.store)) old reply new
+        (launch_unchanged key now (shape_of old.store)) given;
     set_none = λ shape. launch_none key now shape;
     acts = launch_acts;
     valid = λ old reply new is few passes done valid. left_valid old reply new is passes done valid;

@@ -12,7 +12,8 @@ use Rattle.identity.proofs.VersionLemmas.{IsBelow-irreflexive, greater_of-old}
 use Rattle.machine.specs.declared.app.AppState.{AppState}
 use Rattle.machine.specs.declared.command.Command.TheVariants.{Require}
 use Rattle.machine.specs.declared.reply.Reply.TheVariants as says
-use Rattle.machine.specs.Entries.{KeepsKeys, entry_at, entry_of, fresh, key_cmp}
+use Rattle.machine.specs.Entries.{KeepsKeys, entry_at, entry_of, entry_or_fresh, fresh, key_cmp, with_entry}
+use Rattle.machine.specs.Installed.{raised_by}
 use Rattle.machine.specs.Machine.{Answers}
 use Rattle.machine.specs.Minimums.{minimum_of, raised, raised_app}
 use Rattle.machine.specs.RequireRow.{required}
@@ -89,3 +90,49 @@ required_holds key k version minimum apps Greater greater is = holds_itself mini
   where
     greater_equal : Greater ≡ Equal → ⊥
     greater_equal e = cc
+
+-- ---- with a minimum that was heard
+
+raised_holds : (heard : Option Version) (minimum : Version)
+    → Holds minimum (raised_by heard (Some minimum))
+raised_holds None minimum = IsBelow-irreflexive minimum
+raised_holds (Some heard) minimum = greater_of-old minimum heard
+
+module _ (key : Key) (f : AppState → AppState) (keeps_key : KeepsKeys f) (heard : Option Version)
+    (raises : (app : AppState) → (f app).minimum ≡ raised_by heard app.minimum)
+    (apps : List AppState) where
+  abbrev of : Option AppState → Option Version
+  of entry = option_and_then (λ (app : AppState). app.minimum) entry
+
+  pub minimum_raised : minimum_of key (with_entry key f apps) ≡ raised_by heard (minimum_of key apps)
+  minimum_raised =
+      ap of (entry_of-with_entry key f keeps_key apps)
+      ∙ raises (entry_or_fresh key apps)
+      ∙ ap (raised_by heard) (minimum_or_fresh key (entry_of key apps))
+
+  raised_at : (o : Ordering) (other : Key) (minimum : Version) → key_cmp key other ≡ o
+      → minimum_of other apps ≡ Some minimum
+      → Holds minimum (minimum_of other (with_entry key f apps))
+  raised_at Equal other minimum equal is =
+      let own : minimum_of key apps ≡ Some minimum =
+      ap of (sym (entry_of-alike key other apps equal)) ∙ is in
+      let new = ap of (entry_of-alike key other (with_entry key f apps) equal)
+      ∙ minimum_raised ∙ ap (raised_by heard) own in
+      subst (Holds minimum) (sym new) (raised_holds heard minimum)
+  raised_at Less other minimum less is =
+      holds_itself minimum _ (ap of
+      (entry_of-other key f keeps_key other (λ e. apart (sym less ∙ e)) apps) ∙ is)
+    where
+      apart : Less ≡ Equal → ⊥
+      apart e = cc
+  raised_at Greater other minimum greater is =
+      holds_itself minimum _ (ap of
+      (entry_of-other key f keeps_key other (λ e. apart (sym greater ∙ e)) apps) ∙ is)
+    where
+      apart : Greater ≡ Equal → ⊥
+      apart e = cc
+
+  -- each minimum that held holds, or one that is not below it
+  pub raised_minimum : (other : Key) (minimum : Version) → minimum_of other apps ≡ Some minimum
+      → Holds minimum (minimum_of other (with_entry key f apps))
+  raised_minimum other minimum is = raised_at (key_cmp key other) other minimum refl is

@@ -20,7 +20,7 @@ use Rattle.machine.specs.Views.{ListedFile, View, standing_entries}
 use Rattle.machine.proofs.Choosing.{exactly-exact}
 use Rattle.machine.proofs.Finding.{some_there}
 use Rattle.machine.proofs.Leased.{leased_bare_kept, leased_valid, named_entry}
-use Rattle.machine.proofs.RowFacts.{RowFacts, acts_not}
+use Rattle.machine.proofs.RowFacts.{RowFacts, acts_not, kept_unchanged}
 
 read_is_other : (length : ℕ) (bytes : List ℕ) → says.Read length bytes ≢ says.Memory
 read_is_other length bytes e = cc
@@ -129,7 +129,9 @@ module _ (now : ℕ) (heard : List (List ℕ)) (lease : ℕ) (name : List ℕ) (
 
   pub read_facts : RowFacts now heard (Read lease name from count)
   read_facts = record {
-    unchanged = λ shape. ((λ s. refl), ((λ s. refl), tt));
+    refused = λ old reply new given.
+        kept_unchanged (Read lease name from count) (read_refusals lease name (shape_of old.store))
+        old reply new ((λ s. refl), ((λ s. refl), tt)) given;
     set_none = λ shape. (
       (λ reply given. ap (λ (r : Reply). moment_set (Some r)) given.1),
       ((λ reply given. ap (λ (r : Reply). moment_set (Some r)) given.1), tt),

@@ -15,14 +15,14 @@ use Rattle.machine.specs.Machine.{moment_set}
 use Rattle.machine.specs.Minimums.{minimum_of, raised}
 use Rattle.machine.specs.RequireRow.{require_refusals, required}
 use Rattle.machine.specs.Rows.{AreExact}
-use Rattle.machine.specs.Shape.{Shape}
+use Rattle.machine.specs.Shape.{Shape, shape_of}
 use Rattle.machine.specs.Store.{Session}
 use Rattle.machine.specs.Valid.{Valid}
 use Rattle.machine.proofs.Choosing.{exactly-exact}
 use Rattle.machine.proofs.Keeping.{required_valid, same_views_sound}
 use Rattle.machine.proofs.LeasesKept.{keeps_more}
 use Rattle.machine.proofs.Raising.{required_holds}
-use Rattle.machine.proofs.RowFacts.{RowFacts, acts_on}
+use Rattle.machine.proofs.RowFacts.{RowFacts, acts_on, kept_unchanged}
 use Rattle.machine.proofs.Shortness.{short_key}
 
 minimum_is_other : (version : Version) → says.Minimum version ≢ says.Memory
@@ -71,7 +71,9 @@ module _ (now : ℕ) (heard : List (List ℕ)) (key : Key) (version : Version) w
 
   pub require_facts : RowFacts now heard (Require key version)
   require_facts = record {
-    unchanged = λ shape. ((λ s. refl), tt);
+    refused = λ old reply new given.
+        kept_unchanged (Require key version) (require_refusals key (shape_of old.store)) old reply
+        new ((λ s. refl), tt) given;
     set_none = λ shape. ((λ reply given. ap (λ (r : Reply). moment_set (Some r)) given.1), tt);
     acts = λ old reply new done.
         acts_on (Require key version) old reply new (record old.store {

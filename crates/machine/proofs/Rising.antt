@@ -13,7 +13,8 @@ use Rattle.machine.specs.Shape.{shape_of}
 use Rattle.machine.specs.Store.{Session}
 use Rattle.machine.proofs.EachRow.{facts}
 use Rattle.machine.proofs.Raising.{Holds, holds_itself}
-use Rattle.machine.proofs.Refusals.{nothing_or_effect}
+use Rattle.machine.proofs.Refusals.{kept_or_effect}
+use Rattle.machine.proofs.RowFacts.{Kept}
 
 step_holds : (key : Key) (minimum : Version) (now : ℕ) (old : Session) (event : Event)
     (reply : Option Reply) (new : Session) → Step now old event reply new
@@ -21,13 +22,13 @@ step_holds : (key : Key) (minimum : Version) (now : ℕ) (old : Session) (event 
 step_holds key minimum now old (Boot boot) reply new step is =
     holds_itself minimum _ (ap (λ (s : Session). minimum_of key s.store.apps) step.1 ∙ is)
 step_holds key minimum now old (Line command at heard) reply new step is =
-    by (nothing_or_effect now heard.texts old command step.answer new step.answers)
+    by (kept_or_effect now heard.texts old command step.answer new step.answers)
   where
-    by : (new ≡ old)
+    by : Kept command old step.answer new
         ⊎ (PassesAll (refusals now heard.texts (shape_of old.store) command)
         × effect now heard.texts command old step.answer new)
         → Holds minimum (minimum_of key new.store.apps)
-    by (inl same) = holds_itself minimum _ (ap (λ (s : Session). minimum_of key s.store.apps) same ∙ is)
+    by (inl kept) = kept.minimums key minimum is
     by (inr done) = ((facts now heard.texts command).acts old step.answer new done.1).minimums key minimum is
 step_holds key minimum now old (Unread fault) reply new step is =
     holds_itself minimum _ (ap (λ (s : Session). minimum_of key s.store.apps) step.1 ∙ is)

@@ -10,16 +10,16 @@ use Rattle.machine.specs.declared.event.Event.TheVariants.{Line}
 use Rattle.machine.specs.declared.event.Heard.{Heard}
 use Rattle.machine.specs.declared.reply.Reply.{Reply}
 use Rattle.machine.specs.declared.reply.Reply.TheVariants as says
-use Rattle.machine.specs.Laws.{InstallsUnheard, InstallsWithoutJobs, IsAnswered}
+use Rattle.machine.specs.Laws.{FetchesWithoutJobs, IsAnswered, IsAnswerable}
 use Rattle.machine.specs.Machine.{effect, moment_set, refusals}
 use Rattle.machine.specs.Minimums.{minimum_of}
-use Rattle.machine.specs.Rows.{ChangeNothing, PassesAll}
+use Rattle.machine.specs.Rows.{ChangeNothing, PassesAll, Refusal, Refuses}
 use Rattle.machine.specs.Shape.{Shape, shape_of}
 use Rattle.machine.specs.Sound.{Sound}
 use Rattle.machine.specs.Store.{Session, Store}
 use Rattle.machine.specs.Valid.{Valid}
 use Rattle.machine.specs.Words.{IsCommand}
-use Rattle.machine.proofs.Choosing.{AllGive}
+use Rattle.machine.proofs.Choosing.{AllGive, unchanged}
 use Rattle.machine.proofs.LeasesKept.{KeepsLeases, keeps_itself}
 use Rattle.machine.proofs.Moments.{SetsNone}
 use Rattle.machine.proofs.Raising.{Holds, holds_itself}
@@ -77,12 +77,55 @@ acts_not command old reply new is other sets =
     acts_on command old reply new old.store is other sets refl refl
     (rises_as old.store.apps old.store.apps (λ key. refl)) (keeps_itself old.store)
 
+-- ---- a refusal
+
+-- What it leaves is of the same views, and keeps what holds of a store. Where it is want of memory it
+-- leaves everything as it was.
+pub record Kept (command : Command) (old : Session) (reply : Reply) (new : Session) : Type 0 where
+  pub memory : reply ≡ says.Memory → new ≡ old
+  pub blocks : new.store.blocks ≡ old.store.blocks
+  pub boot : new.store.boot ≡ old.store.boot
+  pub jobs : new.jobs ≡ old.jobs
+  pub next_job : new.next_job ≡ old.next_job
+  pub minimums : Rises old.store.apps new.store.apps
+  pub leases : KeepsLeases old.store new.store
+  pub views : new.store.views ≡ old.store.views
+  pub valid : IsCommand command → Valid old.store → Valid new.store
+
+kept_itself : (command : Command) (old : Session) (reply : Reply) → Kept command old reply old
+kept_itself command old reply = record {
+  memory = λ e. refl;
+  blocks = refl;
+  boot = refl;
+  jobs = refl;
+  next_job = refl;
+  minimums = rises_as old.store.apps old.store.apps (λ key. refl);
+  leases = keeps_itself old.store;
+  views = refl;
+  valid = λ is valid. valid;
+}
+
+-- where nothing changes
+pub kept_same : (command : Command) (old : Session) (reply : Reply) (new : Session) → new ≡ old
+    → Kept command old reply new
+kept_same command old reply new same =
+    subst (λ (s : Session). Kept command old reply s) (sym same) (kept_itself command old reply)
+
+-- and where no refusal changes anything
+pub kept_unchanged : (command : Command) (refusals : List (Refusal Reply Session)) (old : Session)
+    (reply : Reply) (new : Session) → ChangeNothing refusals → Refuses refusals old reply new
+    → Kept command old reply new
+kept_unchanged command refusals old reply new same refused =
+    kept_same command old reply new (unchanged refusals old reply new same refused)
+
 -- ---- a row
 
--- Its refusals change nothing and set no moment. Its effect acts so, and keeps a store valid and
+-- Its refusals keep a store and set no moment. Its effect acts so, and keeps a store valid and
 -- sound. It leaves the views, or there is no open job. And there is an answer.
 pub record RowFacts (now : ℕ) (heard : List (List ℕ)) (command : Command) : Type 0 where
-  pub unchanged : (shape : Shape) → ChangeNothing (refusals now heard shape command)
+  pub refused : (old : Session) (reply : Reply) (new : Session)
+      → Refuses (refusals now heard (shape_of old.store) command) old reply new
+      → Kept command old reply new
   pub set_none : (shape : Shape) → AllGive SetsNone (refusals now heard shape command)
   pub acts : (old : Session) (reply : Reply) (new : Session)
       → effect now heard command old reply new → Acts command old reply new
@@ -95,8 +138,8 @@ pub record RowFacts (now : ℕ) (heard : List (List ℕ)) (command : Command) : 
       → PassesAll (refusals now heard (shape_of old.store) command)
       → effect now heard command old reply new → Sound old.store → Sound new.store
   pub views : (old : Session) (reply : Reply) (new : Session) (at : ℕ) (with_texts : Heard)
-      → InstallsWithoutJobs (Line command at with_texts) old
+      → FetchesWithoutJobs (Line command at with_texts) old
       → effect now heard command old reply new
       → (new.store.views ≡ old.store.views) ⊎ (old.jobs ≡ [])
-  pub answered : (old : Session) → Valid old.store → InstallsUnheard command heard
+  pub answered : (old : Session) → Valid old.store → IsAnswerable command heard old.store
       → IsAnswered now heard old command

@@ -9,7 +9,7 @@ use Rattle.machine.specs.declared.event.Event.{Event}
 use Rattle.machine.specs.declared.event.Event.TheVariants.{Boot, Line, Unread}
 use Rattle.machine.specs.declared.event.Heard.{Heard}
 use Rattle.machine.specs.declared.reply.Reply.{Reply}
-use Rattle.machine.specs.Laws.{InstallsWithoutJobs}
+use Rattle.machine.specs.Laws.{FetchesWithoutJobs}
 use Rattle.machine.specs.Machine.{Step, effect, refusals}
 use Rattle.machine.specs.Blocks.{blocks_of, distinct, standing_files, used_blocks}
 use Rattle.machine.specs.Rows.{PassesAll}
@@ -21,7 +21,8 @@ use Rattle.machine.specs.Valid.{AreNumbers}
 use Rattle.machine.specs.Views.{View}
 use Rattle.machine.specs.Words.{IsEvent}
 use Rattle.machine.proofs.EachRow.{facts}
-use Rattle.machine.proofs.Refusals.{nothing_or_effect}
+use Rattle.machine.proofs.Refusals.{kept_or_effect}
+use Rattle.machine.proofs.RowFacts.{Kept}
 use Rattle.machine.proofs.Stepping.{step_blocks, step_leaves, step_sound}
 
 -- a session of the same views, jobs and numbers, over a sound store
@@ -44,11 +45,13 @@ same_sound old new views blocks jobs next store sound = record {
 
 pub step_jobs : (now : ℕ) (old : Session) (event : Event) (reply : Option Reply) (new : Session)
     → Step now old event reply new → new.jobs ≡ old.jobs
-step_jobs = step_leaves (λ (s : Session). s.jobs) (λ boot old. refl) (λ command old reply new acts. acts.jobs)
+step_jobs = step_leaves (λ (s : Session). s.jobs) (λ boot old. refl) (λ command old reply new kept. kept.jobs)
+    (λ command old reply new acts. acts.jobs)
 
 step_next : (now : ℕ) (old : Session) (event : Event) (reply : Option Reply) (new : Session)
     → Step now old event reply new → new.next_job ≡ old.next_job
-step_next = step_leaves (λ (s : Session). s.next_job) (λ boot old. refl) (λ command old reply new acts. acts.next_job)
+step_next = step_leaves (λ (s : Session). s.next_job) (λ boot old. refl) (λ command old reply new kept. kept.next_job)
+    (λ command old reply new acts. acts.next_job)
 
 none_more : (store : Store) → blocks_with (map bare_view store.views) [] ≡ used_blocks (map bare_view store.views)
 none_more store =
@@ -98,21 +101,21 @@ module _ (now : ℕ) (old : Session) (reply : Option Reply) (new : Session) (sou
 
   -- a line leaves the views, or there is no open job
   line_views : (command : Command) (at : ℕ) (heard : Heard) → Step now old (Line command at heard) reply new
-      → InstallsWithoutJobs (Line command at heard) old
+      → FetchesWithoutJobs (Line command at heard) old
       → (new.store.views ≡ old.store.views) ⊎ (old.jobs ≡ [])
   line_views command at heard step none =
-      by (nothing_or_effect now heard.texts old command step.answer new step.answers)
+      by (kept_or_effect now heard.texts old command step.answer new step.answers)
     where
-      by : (new ≡ old)
+      by : Kept command old step.answer new
           ⊎ (PassesAll (refusals now heard.texts (shape_of old.store) command)
           × effect now heard.texts command old step.answer new)
           → (new.store.views ≡ old.store.views) ⊎ (old.jobs ≡ [])
-      by (inl same) = inl (ap (λ (s : Session). s.store.views) same)
+      by (inl kept) = inl kept.views
       by (inr done) = (facts now heard.texts command).views old step.answer new at heard none done.1
 
   line_session : (command : Command) (at : ℕ) (heard : Heard) → IsEvent (Line command at heard)
       → Step now old (Line command at heard) reply new
-      → InstallsWithoutJobs (Line command at heard) old → SoundSession new
+      → FetchesWithoutJobs (Line command at heard) old → SoundSession new
   line_session command at heard is step none = by (line_views command at heard step none)
     where
       by : (new.store.views ≡ old.store.views) ⊎ (old.jobs ≡ []) → SoundSession new
@@ -123,7 +126,7 @@ module _ (now : ℕ) (old : Session) (reply : Option Reply) (new : Session) (sou
           (step_sound now old (Line command at heard) reply new is step sound.store) sound
 
 pub step_session : (now : ℕ) (old : Session) (event : Event) (reply : Option Reply) (new : Session)
-    → IsEvent event → Step now old event reply new → InstallsWithoutJobs event old
+    → IsEvent event → Step now old event reply new → FetchesWithoutJobs event old
     → SoundSession old → SoundSession new
 step_session now old (Boot boot) reply new is step none sound =
     same_views now old reply new sound (Boot boot) is step

@@ -16,8 +16,8 @@ use Rattle.machine.specs.Words.{IsEvent}
 use Rattle.machine.proofs.EachRow.{facts}
 use Rattle.machine.proofs.Keeping.{booted_valid, same_views_sound}
 use Rattle.machine.proofs.LeasesKept.{KeepsLeases, booted_keeps, keeps_chain, keeps_itself}
-use Rattle.machine.proofs.Refusals.{nothing_or_effect}
-use Rattle.machine.proofs.RowFacts.{Acts}
+use Rattle.machine.proofs.Refusals.{kept_or_effect}
+use Rattle.machine.proofs.RowFacts.{Acts, Kept}
 pub use Rattle.machine.proofs.InstallFacts.{store_left}
 
 line_moment : (now at : ℕ) → at ≡ now → at ≤ NUMBER_LIMIT → now ≤ NUMBER_LIMIT
@@ -28,12 +28,12 @@ pub step_valid : (now : ℕ) (old : Session) (event : Event) (reply : Option Rep
 step_valid now old (Boot boot) reply new is step valid =
     subst (λ (s : Session). Valid s.store) (sym step.1) (booted_valid boot old.store is valid)
 step_valid now old (Line command at heard) reply new is step valid =
-    by (nothing_or_effect now heard.texts old command step.answer new step.answers)
+    by (kept_or_effect now heard.texts old command step.answer new step.answers)
   where
-    by : (new ≡ old)
+    by : Kept command old step.answer new
         ⊎ (PassesAll (refusals now heard.texts (shape_of old.store) command)
         × effect now heard.texts command old step.answer new) → Valid new.store
-    by (inl same) = subst (λ (s : Session). Valid s.store) (sym same) valid
+    by (inl kept) = kept.valid is.0 valid
     by (inr done) =
         (facts now heard.texts command).valid old step.answer new is.0
         (line_moment now at step.moment is.1) done.0 done.1 valid
@@ -42,18 +42,20 @@ step_valid now old (Unread fault) reply new is step valid = subst (λ (s : Sessi
 -- what the effects leave is what each step leaves
 module _ {X : Type 0} (part : Session → X) (boots : (boot : ℕ) (old : Session)
     → part (record old { store = booted boot old.store }) ≡ part old)
+    (refused : (command : Command) (old : Session) (reply : Reply) (new : Session)
+    → Kept command old reply new → part new ≡ part old)
     (effects : (command : Command) (old : Session) (reply : Reply) (new : Session)
     → Acts command old reply new → part new ≡ part old) where
   pub step_leaves : (now : ℕ) (old : Session) (event : Event) (reply : Option Reply) (new : Session)
       → Step now old event reply new → part new ≡ part old
   step_leaves now old (Boot boot) reply new step = ap part step.1 ∙ boots boot old
   step_leaves now old (Line command at heard) reply new step =
-      by (nothing_or_effect now heard.texts old command step.answer new step.answers)
+      by (kept_or_effect now heard.texts old command step.answer new step.answers)
     where
-      by : (new ≡ old)
+      by : Kept command old step.answer new
           ⊎ (PassesAll (refusals now heard.texts (shape_of old.store) command)
           × effect now heard.texts command old step.answer new) → part new ≡ part old
-      by (inl same) = ap part same
+      by (inl kept) = refused command old step.answer new kept
       by (inr done) =
           effects command old step.answer new
           ((facts now heard.texts command).acts old step.answer new done.1)
@@ -62,18 +64,18 @@ module _ {X : Type 0} (part : Session → X) (boots : (boot : ℕ) (old : Sessio
 pub step_blocks : (now : ℕ) (old : Session) (event : Event) (reply : Option Reply) (new : Session)
     → Step now old event reply new → new.store.blocks ≡ old.store.blocks
 step_blocks = step_leaves (λ (s : Session). s.store.blocks) (λ boot old. refl)
-    (λ command old reply new acts. acts.blocks)
+    (λ command old reply new kept. kept.blocks) (λ command old reply new acts. acts.blocks)
 
 pub step_boot : (now : ℕ) (old : Session) (event : Event) (reply : Option Reply) (new : Session)
     → Step now old event reply new → new.store.boot ≡ boot_after old.store.boot event
 step_boot now old (Boot boot) reply new step = ap (λ (s : Session). s.store.boot) step.1
 step_boot now old (Line command at heard) reply new step =
-    by (nothing_or_effect now heard.texts old command step.answer new step.answers)
+    by (kept_or_effect now heard.texts old command step.answer new step.answers)
   where
-    by : (new ≡ old)
+    by : Kept command old step.answer new
         ⊎ (PassesAll (refusals now heard.texts (shape_of old.store) command)
         × effect now heard.texts command old step.answer new) → new.store.boot ≡ old.store.boot
-    by (inl same) = ap (λ (s : Session). s.store.boot) same
+    by (inl kept) = kept.boot
     by (inr done) = ((facts now heard.texts command).acts old step.answer new done.1).boot
 step_boot now old (Unread fault) reply new step = ap (λ (s : Session). s.store.boot) step.1
 
@@ -83,12 +85,13 @@ step_sound now old (Boot boot) reply new is step sound =
     same_views_sound old.store new.store (ap (λ (s : Session). s.store.views) step.1)
     (step_valid now old (Boot boot) reply new is step sound.valid) sound
 step_sound now old (Line command at heard) reply new is step sound =
-    by (nothing_or_effect now heard.texts old command step.answer new step.answers)
+    by (kept_or_effect now heard.texts old command step.answer new step.answers)
   where
-    by : (new ≡ old)
+    by : Kept command old step.answer new
         ⊎ (PassesAll (refusals now heard.texts (shape_of old.store) command)
         × effect now heard.texts command old step.answer new) → Sound new.store
-    by (inl same) = subst (λ (s : Session). Sound s.store) (sym same) sound
+    by (inl kept) =
+        same_views_sound old.store new.store kept.views (kept.valid is.0 sound.valid) sound
     by (inr done) =
         (facts now heard.texts command).sound old step.answer new is.0
         (line_moment now at step.moment is.1) done.0 done.1 sound
@@ -111,12 +114,12 @@ step_leases : (now : ℕ) (old : Session) (event : Event) (reply : Option Reply)
 step_leases now old (Boot boot) reply new step =
     subst (λ (s : Session). KeepsLeases old.store s.store) (sym step.1) (booted_keeps boot old.store)
 step_leases now old (Line command at heard) reply new step =
-    by (nothing_or_effect now heard.texts old command step.answer new step.answers)
+    by (kept_or_effect now heard.texts old command step.answer new step.answers)
   where
-    by : (new ≡ old)
+    by : Kept command old step.answer new
         ⊎ (PassesAll (refusals now heard.texts (shape_of old.store) command)
         × effect now heard.texts command old step.answer new) → KeepsLeases old.store new.store
-    by (inl same) = subst (λ (s : Session). KeepsLeases old.store s.store) (sym same) (keeps_itself old.store)
+    by (inl kept) = kept.leases
     by (inr done) = ((facts now heard.texts command).acts old step.answer new done.1).leases
 step_leases now old (Unread fault) reply new step =
     subst (λ (s : Session). KeepsLeases old.store s.store) (sym step.1) (keeps_itself old.store)

@@ -16,15 +16,15 @@ use Rattle.machine.proofs.Needing.{Apart, distinct_apart, distinct_in, each_stan
 
 -- ---- tests
 
-true_is_not_false : {P : Type 0} → true ≡ false → P
+pub true_is_not_false : {P : Type 0} → true ≡ false → P
 true_is_not_false e = absurd cc
 
-was_false : (b : Bool) → not b ≡ true → b ≡ false
+pub was_false : (b : Bool) → not b ≡ true → b ≡ false
 was_false true e = absurd (let e = e in cc)
 was_false false e = refl
 
 -- what is true of either is true of one
-or_one : (a b : Bool) → (a || b) ≡ true → (a ≡ true) ⊎ (b ≡ true)
+pub or_one : (a b : Bool) → (a || b) ≡ true → (a ≡ true) ⊎ (b ≡ true)
 or_one true b e = inl refl
 or_one false b e = inr e
 
@@ -53,12 +53,12 @@ module _ (held : List FileEntry) (e : FileEntry) (es : List FileEntry) where
   takes_data : e.local ≡ true → wanted_beside held (e ∷ es) ≡ e ∷ wanted_beside held es
   takes_data local = ap (λ (b : Bool). cond b (e ∷ wanted_beside held es) (cond (is_required e && not (is_held held e)) (e ∷ wanted_beside (e ∷ held) es) (wanted_beside held es))) local
 
-  takes_program : e.local ≡ false → is_required e ≡ true → is_held held e ≡ false → wanted_beside held (e ∷ es) ≡ e ∷ wanted_beside (e ∷ held) es
+  pub takes_program : e.local ≡ false → is_required e ≡ true → is_held held e ≡ false → wanted_beside held (e ∷ es) ≡ e ∷ wanted_beside (e ∷ held) es
   takes_program other required new =
       ap (λ (b : Bool). cond b (e ∷ wanted_beside held es) (cond (is_required e && not (is_held held e)) (e ∷ wanted_beside (e ∷ held) es) (wanted_beside held es))) other
       ∙ ap (λ (b : Bool). cond b (e ∷ wanted_beside (e ∷ held) es) (wanted_beside held es)) (and_from (is_required e) (not (is_held held e)) required (ap not new))
 
-  passes_over : e.local ≡ false → (is_required e && not (is_held held e)) ≡ false → wanted_beside held (e ∷ es) ≡ wanted_beside held es
+  pub passes_over : e.local ≡ false → (is_required e && not (is_held held e)) ≡ false → wanted_beside held (e ∷ es) ≡ wanted_beside held es
   passes_over other passes =
       ap (λ (b : Bool). cond b (e ∷ wanted_beside held es) (cond (is_required e && not (is_held held e)) (e ∷ wanted_beside (e ∷ held) es) (wanted_beside held es))) other
       ∙ ap (λ (b : Bool). cond b (e ∷ wanted_beside (e ∷ held) es) (wanted_beside held es)) passes

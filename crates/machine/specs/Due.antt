@@ -1,4 +1,5 @@
--- Whether an application may start: by the version and the rule of its current view, by its entry and the moment.
+-- Whether an application may start: by the version and the rule of its current view, by its entry
+-- and the moment.
 use Rattle.std.specs.Prelude.{ℕ, ◌+◌, Bool, true, false, not, ◌&&◌, ◌||◌, nat_le, nat_lt, Option, Some, None, option_and_then, option_map, if◌then◌else◌}
 use Rattle.std.specs.declared.cmp.Ordering.{Ordering}
 use Rattle.std.specs.declared.cmp.Ordering.TheVariants.{Equal}
@@ -62,7 +63,8 @@ first_due None false None due = Clear due
 
 abbrev pub due_of : Version → Rule → AppState → ℕ → Due
 due_of version rule app now =
-    first_due (required_by version app) (checks_first rule && not app.checked) (offered_to version app)
+    first_due (required_by version app) (checks_first rule && not app.checked)
+    (offered_to version app)
     (check_due rule app.last_check now)
 
 -- for the application of the key at a moment, where it has a current view

@@ -59,12 +59,14 @@ abbrev pub KeepsKeys : (AppState → AppState) → Type 0
 KeepsKeys f = (app : AppState) → (f app).key ≡ app.key
 
 abbrev pub with_entry_at :
-    Ordering → Key → (AppState → AppState) → AppState → List AppState → List AppState → List AppState
+    Ordering → Key → (AppState → AppState) → AppState → List AppState → List AppState
+    → List AppState
 with_entry_at Less key f app apps rest = app ∷ rest
 with_entry_at Equal key f app apps rest = f app ∷ apps
 with_entry_at Greater key f app apps rest = f (fresh key) ∷ app ∷ apps
 
--- The entries once that of the key is what f makes of it. A key without an entry has a fresh one first, in its place.
+-- The entries once that of the key is what f makes of it. A key without an entry has a fresh one
+-- first, in its place.
 abbrev pub with_entry : Key → (AppState → AppState) → List AppState → List AppState
 with_entry key f [] = f (fresh key) ∷ []
 with_entry key f (app ∷ apps) =

@@ -1,4 +1,5 @@
--- Values as the code's types hold them: a text is UTF-8, a version's numbers have 16 bits, a name is a name.
+-- Values as the code's types hold them: a text is UTF-8, a version's numbers have 16 bits, a name
+-- is a name.
 use Rattle.std.specs.Prelude.{◌<◌, ◌≤◌, ◌^◌, ℕ, List, All, length, IfSome, IsUtf8}
 use Rattle.small_types.specs.declared.limits.TheConstants.{IDENTITY_PART_LIMIT, NAME_LIMIT, URL_LIMIT}
 use Rattle.small_types.specs.declared.target.Target.{Target}
@@ -18,8 +19,8 @@ pub record IsShort (limit : ℕ) (text : List ℕ) : Type 0 where
   pub within : length text ≤ limit
   pub utf8 : IsUtf8 text
 
--- The host and the path of an address are each within the limit of a URL. Each may be empty: a journal can hold such an
--- address, though none is read from a text.
+-- The host and the path of an address are each within the limit of a URL. Each may be empty: a
+-- journal can hold such an address, though none is read from a text.
 pub record IsTarget (target : Target) : Type 0 where
   pub host : IsShort URL_LIMIT target.host
   pub port : target.port < 2 ^ 16

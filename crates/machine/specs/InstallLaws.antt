@@ -28,7 +28,8 @@ use Rattle.machine.specs.Views.{ContentKey, DataFile, ListedFile, content_key, i
 use Rattle.machine.specs.Wanted.{deployed_need, is_held, program_need, wanted}
 
 -- an install that is refused nowhere has its effect
-pub record IsInstall {R C : Type 0} (says : Replies R C) (locals : ℕ) (url : List ℕ) (heard : List (List ℕ))
+pub record IsInstall {R C : Type 0} (says : Replies R C) (locals : ℕ) (url : List ℕ)
+    (heard : List (List ℕ))
     (now : ℕ) (old : Session) (reply : R) (new : Session) : Type 0 where
   pub few : locals ≤ LOCAL_COUNT_LIMIT
   pub moment : now ≤ NUMBER_LIMIT
@@ -49,7 +50,8 @@ InstallsKeepSound R C = (says : Replies R C) (locals : ℕ) (url : List ℕ) (he
 
 -- ---- the application
 
--- The new view is current, and the one that was is previous; the version is current. Every other application stays.
+-- The new view is current, and the one that was is previous; the version is current. Every other
+-- application stays.
 pub record IsCurrent (d : Deployment) (number : ℕ) (old new : Store) : Type 0 where
   pub current : current_of d.identity.key new.apps ≡ Some number
   pub previous : option_and_then (λ app. app.previous) (entry_of d.identity.key new.apps)
@@ -68,7 +70,8 @@ InstallsAreCurrent R C = (says : Replies R C) (locals : ℕ) (url : List ℕ) (h
 abbrev pub InstallsKeepMinimums : (R C : Type 0) → Type 0
 InstallsKeepMinimums R C = (says : Replies R C) (locals : ℕ) (url : List ℕ) (heard : List (List ℕ))
     (now : ℕ) (old : Session) (reply : R) (new : Session) (key : Key) (minimum : Version)
-    → IsInstall says locals url heard now old reply new → minimum_of key old.store.apps ≡ Some minimum
+    → IsInstall says locals url heard now old reply new
+    → minimum_of key old.store.apps ≡ Some minimum
     → IsSomeAnd (minimum_of key new.store.apps) (λ later. ¬ IsBelow later minimum)
 
 -- the version is not below the minimum that then holds
@@ -105,7 +108,8 @@ MigrationsAreOne = (old : List DataFile) (old_files new_files : List FileEntry)
     → Migrated old old_files new_files originals a → Migrated old old_files new_files originals b
     → a ≡ b
 
--- and there is one, where the old ones are in order, and the originals are the data files of an application
+-- and there is one, where the old ones are in order, and the originals are the data files of an
+-- application
 abbrev pub MigrationsExist : Type 0
 MigrationsExist = (old : List DataFile) (old_files : List FileEntry) (a : Application)
     (originals : List ListedFile) → AllPairs (λ (f g : DataFile). text_cmp f.name g.name ≡ Less) old

@@ -56,7 +56,8 @@ pub record Replies (R C : Type 0) : Type 0 where
 -- it holds of what the text at the place tells
 abbrev pub OfText : {A : Type 0} → (Tree → Read A) → ℕ → List (List ℕ) → (A → Type 0) → Type 0
 OfText {A} facts place heard holds =
-    (text : List ℕ) × (a : A) × (slice_get heard place ≡ Some text) × Tells facts text (Ok a) × holds a
+    (text : List ℕ) × (a : A) × (slice_get heard place ≡ Some text) × Tells facts text (Ok a)
+    × holds a
 
 -- the first text is that of the deployment, the second that of the application
 abbrev pub OfDeployment : List (List ℕ) → (Deployment → Type 0) → Type 0
@@ -123,11 +124,13 @@ address_refusals says url =
 abbrev pub deployment_refusals : {R C : Type 0}
     → Replies R C → List ℕ → List (List ℕ) → Shape → List (Refusal R Session)
 deployment_refusals {C = C} says url heard shape =
-    exactly_with (λ (x : Target × List C). (target_of_text url ≡ Ok x.0) × (slice_get heard 0 ≡ None))
+    exactly_with
+    (λ (x : Target × List C). (target_of_text url ≡ Ok x.0) × (slice_get heard 0 ≡ None))
     (λ x. says.all_links x.0 x.1)
     ∷ exactly_with (IsRefused deployment_of 0 heard) says.manifest
     ∷ exactly_with (λ have. OfDeployment heard (λ d. IsNotNewer shape d have)) says.not_newer
-    ∷ exactly_with (λ minimum. OfDeployment heard (λ d. IsBelowMinimum shape d minimum)) says.below_minimum
+    ∷ exactly_with (λ minimum. OfDeployment heard (λ d. IsBelowMinimum shape d minimum))
+    says.below_minimum
     ∷ exactly (OfDeployment heard (LacksEntry shape)) (says.too_many Applications APPLICATION_LIMIT)
     ∷ exactly (VIEW_LIMIT ≤ length shape.views) (says.too_many Views VIEW_LIMIT)
     ∷ exactly (shape.next_view ≡ NUMBER_LIMIT) (says.spent shape.next_view)
@@ -142,15 +145,19 @@ abbrev pub release_refusals : {R C : Type 0}
     → Replies R C → ℕ → List ℕ → List (List ℕ) → Shape → List (Refusal R Session)
 release_refusals {C = C} says locals url heard shape =
     exactly_with
-    (λ (x : Target × List C). OfDeployment heard (λ d. base_of url d ≡ Ok x.0) × (slice_get heard 1 ≡ None))
+    (λ (x : Target × List C). OfDeployment heard (λ d. base_of url d ≡ Ok x.0)
+    × (slice_get heard 1 ≡ None))
     (λ x. says.all_links x.0 x.1)
     ∷ exactly_with (IsRefused application_of 1 heard) says.manifest
-    ∷ exactly_with (λ reason. OfRelease heard (λ d a. RefusesIdentity d a reason) × (reason ≢ unlike.Memory))
+    ∷ exactly_with
+    (λ reason. OfRelease heard (λ d a. RefusesIdentity d a reason) × (reason ≢ unlike.Memory))
     says.release
     ∷ exactly (OfRelease heard (λ d a. FILE_COUNT_LIMIT < files_after shape a))
     (says.too_many Files FILE_COUNT_LIMIT)
-    ∷ exactly (OfRelease heard (λ d a. locals < locals_after shape d a)) (says.too_many Locals locals)
-    ∷ exactly (OfRelease heard (λ d a. OfWanted url shape d a (λ target. target ≡ Err BadUrl))) says.bad_url
+    ∷ exactly (OfRelease heard (λ d a. locals < locals_after shape d a))
+    (says.too_many Locals locals)
+    ∷ exactly (OfRelease heard (λ d a. OfWanted url shape d a (λ target. target ≡ Err BadUrl)))
+    says.bad_url
     ∷ exactly_with
     (λ need. OfRelease heard (λ d a. (need ≡ install_need shape d a) × (free_blocks shape < need)))
     (λ need. says.full need (free_blocks shape))
@@ -161,7 +168,8 @@ abbrev pub file_refusals : {R C : Type 0}
     → Replies R C → List ℕ → List (List ℕ) → Shape → List (Refusal R Session)
 file_refusals {C = C} says url heard shape =
     maybe_with
-    (λ (x : Target × List C). OfRelease heard (λ d a. OfWanted url shape d a (λ target. target ≡ Ok x.0)))
+    (λ (x : Target × List C). OfRelease heard
+    (λ d a. OfWanted url shape d a (λ target. target ≡ Ok x.0)))
     (λ x. says.all_links x.0 x.1)
     ∷ []
 
@@ -173,7 +181,8 @@ install_refusals says locals url heard shape =
 
 -- ---- the effect
 
--- the release that was heard is installed, with whole files; the reply shows its key, its version and the view's number
+-- the release that was heard is installed, with whole files; the reply shows its key, its version
+-- and the view's number
 pub record InstallEffect {R C : Type 0} (says : Replies R C) (url : List ℕ) (heard : List (List ℕ))
     (now : ℕ) (old : Session) (reply : R) (new : Session) : Type 0 where
   pub target : Target

@@ -43,7 +43,8 @@ raised_by (Some heard) old = Some (raised old heard)
 -- a version above the installed one; any other is dropped
 abbrev pub above : Version → Option Version → Option Version
 above installed None = None
-above installed (Some version) = if is_lt (version_cmp installed version) then Some version else None
+above installed (Some version) =
+    if is_lt (version_cmp installed version) then Some version else None
 
 -- the view of that number is current, and the one that was is previous
 abbrev pub installed_app : ℕ → Deployment → Target → ℕ → AppState → AppState
@@ -82,7 +83,8 @@ with_view provider base d a files data_files now old = record old {
   apps = with_entry d.identity.key (installed_app old.next_view d provider now) old.apps;
 }
 
--- new is old once the release that was read at this address is installed, with its application manifest at the base
+-- new is old once the release that was read at this address is installed, with its application
+-- manifest at the base
 pub record Installed (url base : Target) (d : Deployment) (a : Application)
     (files originals : List ListedFile) (now : ℕ) (old new : Store) : Type 0 where
   pub provider : Target

@@ -1,5 +1,5 @@
 -- What is true of the machine.
-use Rattle.std.specs.Prelude.{◌≡◌, ◌≢◌, ◌↔◌, ◌<◌, ◌≤◌, ◌+◌, ◌*◌, ℕ, true, List, [], All, AllPairs, Any, Contains, length, Option, Some, Ok, IsSome, IsSomeAnd, count_by, map, not}
+use Rattle.std.specs.Prelude.{◌≡◌, ◌≢◌, ◌⊎◌, ◌↔◌, ◌<◌, ◌≤◌, ◌+◌, ◌*◌, ℕ, true, List, [], ◌∷◌, All, AllPairs, Any, Contains, length, Option, Some, Ok, IsSome, IsSomeAnd, count_by, map, not}
 use Rattle.std.specs.declared.cmp.Ordering.TheVariants.{Equal}
 use Rattle.small_types.specs.declared.limits.TheConstants.{BLOCK_LIMIT, BLOCK_SIZE, NUMBER_LIMIT, URL_LIMIT}
 use Rattle.small_types.specs.declared.target.Target.{Target}
@@ -18,11 +18,13 @@ use Rattle.manifests.specs.Applications.{application_of}
 use Rattle.manifests.specs.Deployments.{deployment_of}
 use Rattle.machine.specs.declared.app.AppState.{AppState}
 use Rattle.machine.specs.declared.command.Command.{Command}
-use Rattle.machine.specs.declared.command.Command.TheVariants.{At, Require, Install, Launch, Read, Finish}
+use Rattle.machine.specs.declared.command.Command.TheVariants.{At, Require, Install, Check, Skip, Launch, Read, Group, Finish}
 use Rattle.machine.specs.declared.event.Event.{Event}
 use Rattle.machine.specs.declared.event.Event.TheVariants.{Boot, Line, Unread}
 use Rattle.machine.specs.declared.reply.Reply.{Reply}
 use Rattle.machine.specs.declared.reply.Reply.TheVariants as says
+use Rattle.machine.specs.CheckRow.{unheard}
+use Rattle.machine.specs.GroupRow.{room_refusals}
 use Rattle.machine.specs.Blocks.{blocks_of, distinct, standing_files}
 use Rattle.machine.specs.Entries.{AreInOrder, KeepsKeys, entry_of, entry_or_fresh, key_cmp, with_entry}
 use Rattle.machine.specs.Fields.{IsApplication, IsDeployment, IsTarget}
@@ -90,7 +92,8 @@ ReadApplicationsMayBeHeld = (bytes : List ℕ) (a : Application)
 
 -- ---- addresses
 
--- the host and the path of an address that a text or a codebase gives are together within the limit of a URL
+-- the host and the path of an address that a text or a codebase gives are together within the limit
+-- of a URL
 abbrev pub AddressesAreShort : Type 0
 AddressesAreShort = (text : List ℕ) (target : Target)
     → target_of_text text ≡ Ok target → length target.host + length target.path ≤ URL_LIMIT
@@ -137,7 +140,8 @@ StoresMayBeUsed = (store : Store) × IsUsed store
 
 -- ---- replies
 
--- where the first refusals of a command are passed and the next one is given, its reply is an answer
+-- where the first refusals of a command are passed and the next one is given, its reply is an
+-- answer
 abbrev pub RefusalsComeInOrder : Type 0
 RefusalsComeInOrder = (now : ℕ) (heard : List (List ℕ)) (old : Session) (command : Command)
     (k : ℕ) (reply : Reply) (new : Session)
@@ -153,17 +157,25 @@ RefusalsAreFirst = (now : ℕ) (heard : List (List ℕ)) (shape : Shape) (comman
     → (k : ℕ) × Passes k (refusals now heard shape command)
     × GivesAt k (refusals now heard shape command) old reply new
 
--- No refusal is a free choice, but that of `install` at a file. Those before it are none where the manifests are heard.
+-- No refusal is a free choice, but that of `install` and of `group` at a file. Those of an install
+-- before it, and those of a check, are none where the manifests are heard.
 pub record RowsAreExact : Type 0 where
   pub at : (now : ℕ) (heard : List (List ℕ)) (shape : Shape) (next : ℕ)
       → AreExact (refusals now heard shape (At next))
   pub require : (now : ℕ) (heard : List (List ℕ)) (shape : Shape) (key : Key) (version : Version)
       → AreExact (refusals now heard shape (Require key version))
   pub install : InstallRefusalsAreExact Reply Cause
+  pub check : (now : ℕ) (text : List ℕ) (texts : List (List ℕ)) (shape : Shape) (key : Key)
+      → AreExact (refusals now (text ∷ texts) shape (Check key))
+  pub skip : (now : ℕ) (heard : List (List ℕ)) (shape : Shape) (key : Key)
+      → AreExact (refusals now heard shape (Skip key))
   pub launch : (now : ℕ) (heard : List (List ℕ)) (shape : Shape) (key : Key)
       → AreExact (refusals now heard shape (Launch key))
-  pub read : (now : ℕ) (heard : List (List ℕ)) (shape : Shape) (lease : ℕ) (name : List ℕ) (from count : ℕ)
+  pub read : (now : ℕ) (heard : List (List ℕ)) (shape : Shape) (lease : ℕ) (name : List ℕ)
+      (from count : ℕ)
       → AreExact (refusals now heard shape (Read lease name from count))
+  pub group : (shape : Shape) (lease : ℕ) (group : List ℕ)
+      → AreExact (room_refusals lease group shape)
   pub finish : (now : ℕ) (heard : List (List ℕ)) (shape : Shape) (lease : ℕ)
       → AreExact (refusals now heard shape (Finish lease))
 
@@ -190,7 +202,7 @@ RefusalsChangeNothing = (now : ℕ) (heard : List (List ℕ)) (shape : Shape) (c
     → LeavesNothingAt k (refusals now heard shape command)
     → GivesAt k (refusals now heard shape command) old reply new → new ≡ old
 
--- no refusal changes anything
+-- no refusal changes anything, but that of a check that no link answers
 pub record RowsChangeNothing : Type 0 where
   pub at : (now : ℕ) (heard : List (List ℕ)) (shape : Shape) (next : ℕ)
       → ChangeNothing (refusals now heard shape (At next))
@@ -198,12 +210,30 @@ pub record RowsChangeNothing : Type 0 where
       → ChangeNothing (refusals now heard shape (Require key version))
   pub install : (now : ℕ) (heard : List (List ℕ)) (shape : Shape) (url : List ℕ)
       → ChangeNothing (refusals now heard shape (Install url))
+  pub skip : (now : ℕ) (heard : List (List ℕ)) (shape : Shape) (key : Key)
+      → ChangeNothing (refusals now heard shape (Skip key))
   pub launch : (now : ℕ) (heard : List (List ℕ)) (shape : Shape) (key : Key)
       → ChangeNothing (refusals now heard shape (Launch key))
-  pub read : (now : ℕ) (heard : List (List ℕ)) (shape : Shape) (lease : ℕ) (name : List ℕ) (from count : ℕ)
+  pub read : (now : ℕ) (heard : List (List ℕ)) (shape : Shape) (lease : ℕ) (name : List ℕ)
+      (from count : ℕ)
       → ChangeNothing (refusals now heard shape (Read lease name from count))
+  pub group : (now : ℕ) (heard : List (List ℕ)) (shape : Shape) (lease : ℕ) (group : List ℕ)
+      → ChangeNothing (refusals now heard shape (Group lease group))
   pub finish : (now : ℕ) (heard : List (List ℕ)) (shape : Shape) (lease : ℕ)
       → ChangeNothing (refusals now heard shape (Finish lease))
+
+abbrev pub IsAllLinks : Reply → Type 0
+IsAllLinks reply =
+    (target : Target) × (causes : List Cause) × (reply ≡ says.AllLinks target causes)
+
+-- A check that is refused changes nothing. But where no link gave the manifest it counts as made,
+-- and nothing else changes.
+abbrev pub RefusedChecksCount : Type 0
+RefusedChecksCount = (now : ℕ) (heard : List (List ℕ)) (old : Session) (key : Key) (reply : Reply)
+    (new : Session)
+    → Refuses (refusals now heard (shape_of old.store) (Check key)) old reply new
+    → ((IsAllLinks reply → ⊥) × (new ≡ old))
+    ⊎ (IsAllLinks reply × (new ≡ record old { store = unheard key old.store }))
 
 -- an answer other than want of memory
 pub record IsAnswered (now : ℕ) (heard : List (List ℕ)) (old : Session) (command : Command)
@@ -213,33 +243,39 @@ pub record IsAnswered (now : ℕ) (heard : List (List ℕ)) (old : Session) (com
   pub answers : Answers now heard old command reply new
   pub other : reply ≢ says.Memory
 
--- an install heard no manifest
-abbrev pub InstallsUnheard : Command → List (List ℕ) → Type 0
-InstallsUnheard (At next) heard = Unit {0}
-InstallsUnheard (Require key version) heard = Unit {0}
-InstallsUnheard (Install url) heard = heard ≡ []
-InstallsUnheard (Launch key) heard = Unit {0}
-InstallsUnheard (Read lease name from count) heard = Unit {0}
-InstallsUnheard (Finish lease) heard = Unit {0}
+-- An install or a check heard no manifest. A group comes to a sound store, since it takes over the
+-- files of kept views.
+abbrev pub IsAnswerable : Command → List (List ℕ) → Store → Type 0
+IsAnswerable (At next) heard store = Unit {0}
+IsAnswerable (Require key version) heard store = Unit {0}
+IsAnswerable (Install url) heard store = heard ≡ []
+IsAnswerable (Check key) heard store = heard ≡ []
+IsAnswerable (Skip key) heard store = Unit {0}
+IsAnswerable (Launch key) heard store = Unit {0}
+IsAnswerable (Read lease name from count) heard store = Unit {0}
+IsAnswerable (Group lease group) heard store = Sound store
+IsAnswerable (Finish lease) heard store = Unit {0}
 
--- Each command has one, in each valid store, at each moment and whatever it may hear; an install at
--- least where it hears nothing.
+-- Each command has one, in each valid store, at each moment and whatever it may hear; an install
+-- and a check at least where they hear nothing, and a group in each sound store.
 abbrev pub CommandsAreAnswered : Type 0
 CommandsAreAnswered = (now : ℕ) (heard : List (List ℕ)) (old : Session) (command : Command)
-    → Valid old.store → Hears (shape_of old.store) command heard → InstallsUnheard command heard
+    → Valid old.store → Hears (shape_of old.store) command heard
+    → IsAnswerable command heard old.store
     → IsAnswered now heard old command
 
 -- a line comes at the session's moment and heard what it may hear
 abbrev pub MayCome : ℕ → Session → Event → Type 0
 MayCome now old (Boot boot) = Unit {0}
-MayCome now old (Line command at heard) = (at ≡ now) × Hears (shape_of old.store) command heard.texts
+MayCome now old (Line command at heard) = (at ≡ now)
+    × Hears (shape_of old.store) command heard.texts
 MayCome now old (Unread fault) = Unit {0}
 
--- an event that is an install heard no manifest
-abbrev pub IsUnheard : Event → Type 0
-IsUnheard (Boot boot) = Unit {0}
-IsUnheard (Line command at heard) = InstallsUnheard command heard.texts
-IsUnheard (Unread fault) = Unit {0}
+-- the same of the command of an event
+abbrev pub MayBeAnswered : Event → Store → Type 0
+MayBeAnswered (Boot boot) store = Unit {0}
+MayBeAnswered (Line command at heard) store = IsAnswerable command heard.texts store
+MayBeAnswered (Unread fault) store = Unit {0}
 
 -- a step of the event whose reply is not want of memory
 pub record HasStep (now : ℕ) (old : Session) (event : Event) : Type 0 where
@@ -248,10 +284,11 @@ pub record HasStep (now : ℕ) (old : Session) (event : Event) : Type 0 where
   pub step : Step now old event reply new
   pub other : reply ≢ Some says.Memory
 
--- each event that may come has one; an install at least where it hears nothing
+-- each event that may come has one, where its command has an answer so
 abbrev pub EventsHaveSteps : Type 0
 EventsHaveSteps = (now : ℕ) (old : Session) (event : Event)
-    → Valid old.store → MayCome now old event → IsUnheard event → HasStep now old event
+    → Valid old.store → MayCome now old event → MayBeAnswered event old.store
+    → HasStep now old event
 
 -- want of memory changes nothing
 abbrev pub MemoryChangesNothing : Type 0
@@ -280,7 +317,8 @@ IsAt _ = ⊥
 
 -- every other event leaves it
 abbrev pub OthersLeaveTheMoment : Type 0
-OthersLeaveTheMoment = (now : ℕ) (old : Session) (event : Event) (reply : Option Reply) (new : Session)
+OthersLeaveTheMoment =
+    (now : ℕ) (old : Session) (event : Event) (reply : Option Reply) (new : Session)
     → Step now old event reply new → ¬ IsAt event → moment_after now reply ≡ now
 
 -- a moment is at most 2 ^ 62 where the one before it and the words of the line are
@@ -307,16 +345,18 @@ RunsKeepSound = (now : ℕ) (old : Session) (events : List Event) (replies : Lis
     (new : Session)
     → All IsEvent events → Run now old events replies new → Sound old.store → Sound new.store
 
--- An install finds no open job. One that does may bring other bytes than a job has for a content, or take blocks that a
--- job counts.
-abbrev pub InstallsWithoutJobs : Event → Session → Type 0
-InstallsWithoutJobs (Line (Install url) now heard) old = old.jobs ≡ []
-InstallsWithoutJobs _ old = Unit {0}
+-- An install or a group finds no open job. One that does may bring other bytes than a job has for a
+-- content, or take blocks that a job counts.
+abbrev pub FetchesWithoutJobs : Event → Session → Type 0
+FetchesWithoutJobs (Line (Install url) now heard) old = old.jobs ≡ []
+FetchesWithoutJobs (Line (Group lease group) now heard) old = old.jobs ≡ []
+FetchesWithoutJobs _ old = Unit {0}
 
 -- a step from a sound session leads to one
 abbrev pub StepsKeepSoundSessions : Type 0
-StepsKeepSoundSessions = (now : ℕ) (old : Session) (event : Event) (reply : Option Reply) (new : Session)
-    → IsEvent event → Step now old event reply new → InstallsWithoutJobs event old
+StepsKeepSoundSessions =
+    (now : ℕ) (old : Session) (event : Event) (reply : Option Reply) (new : Session)
+    → IsEvent event → Step now old event reply new → FetchesWithoutJobs event old
     → SoundSession old → SoundSession new
 
 -- a session begins sound over a sound store
@@ -335,7 +375,8 @@ boot_after old (Line command now heard) = old
 boot_after old (Unread fault) = old
 
 abbrev pub OnlyBootsChangeTheBoot : Type 0
-OnlyBootsChangeTheBoot = (now : ℕ) (old : Session) (event : Event) (reply : Option Reply) (new : Session)
+OnlyBootsChangeTheBoot =
+    (now : ℕ) (old : Session) (event : Event) (reply : Option Reply) (new : Session)
     → Step now old event reply new → new.store.boot ≡ boot_after old.store.boot event
 
 -- a minimum that held holds after a run, or a version that is not below it does

@@ -1,11 +1,17 @@
 pub mod Asked
 pub mod AtRow
 pub mod Blocks
+pub mod CheckLaws
+pub mod CheckRow
 pub mod Current
 pub mod Due
 pub mod Entries
 pub mod Fields
 pub mod FinishRow
+pub mod GroupLaws
+pub mod GroupRow
+pub mod Grouped
+pub mod Groups
 pub mod InstallLaws
 pub mod InstallReplies
 pub mod InstallRow
@@ -21,6 +27,7 @@ pub mod ReadRow
 pub mod RequireRow
 pub mod Rows
 pub mod Shape
+pub mod SkipRow
 pub mod Sound
 pub mod SoundSession
 pub mod Store

@@ -1,7 +1,7 @@
 -- The machine: what an event may answer, and what it leaves.
 use Rattle.std.specs.Prelude.{◌≡◌, ℕ, List, [], ◌∷◌, Option, Some, None, unwrap_or}
 use Rattle.machine.specs.declared.command.Command.{Command}
-use Rattle.machine.specs.declared.command.Command.TheVariants.{At, Require, Install, Launch, Read, Finish}
+use Rattle.machine.specs.declared.command.Command.TheVariants.{At, Require, Install, Check, Skip, Launch, Read, Group, Finish}
 use Rattle.machine.specs.declared.event.Event.{Event}
 use Rattle.machine.specs.declared.event.Event.TheVariants.{Boot, Line, Unread}
 use Rattle.machine.specs.declared.event.Heard.{Heard}
@@ -10,8 +10,11 @@ use Rattle.machine.specs.declared.reply.Reply.TheVariants as says
 use Rattle.machine.specs.AtRow.{at_refusals, at_effect}
 use Rattle.machine.specs.RequireRow.{require_refusals, require_effect}
 use Rattle.machine.specs.InstallRow.{HearsRelease, InstallEffect, install_refusals}
+use Rattle.machine.specs.CheckRow.{CheckEffect, HearsOffer, check_refusals}
+use Rattle.machine.specs.SkipRow.{SkipEffect, skip_refusals}
 use Rattle.machine.specs.LaunchRow.{LaunchEffect, launch_refusals}
 use Rattle.machine.specs.ReadRow.{ReadEffect, read_refusals}
+use Rattle.machine.specs.GroupRow.{GroupEffect, group_refusals}
 use Rattle.machine.specs.FinishRow.{finish_effect, finish_refusals}
 use Rattle.machine.specs.InstallReplies.{install_replies}
 use Rattle.machine.specs.declared.views.TheConstants.{INSTALLED_LOCALS}
@@ -26,18 +29,25 @@ abbrev pub Hears : Shape → Command → List (List ℕ) → Type 0
 Hears shape (At next) heard = heard ≡ []
 Hears shape (Require key version) heard = heard ≡ []
 Hears shape (Install url) heard = HearsRelease install_replies url shape heard
+Hears shape (Check key) heard = HearsOffer key shape heard
+Hears shape (Skip key) heard = heard ≡ []
 Hears shape (Launch key) heard = heard ≡ []
 Hears shape (Read lease name from count) heard = heard ≡ []
+Hears shape (Group lease group) heard = heard ≡ []
 Hears shape (Finish lease) heard = heard ≡ []
 
--- the refusals of a command at a moment, in their order, by what it heard and by the shape of the store
+-- the refusals of a command at a moment, in their order, by what it heard and by the shape of the
+-- store
 abbrev pub refusals : ℕ → List (List ℕ) → Shape → Command → List (Refusal Reply Session)
 refusals now heard shape (At next) = at_refusals
 refusals now heard shape (Require key version) = require_refusals key shape
 refusals now heard shape (Install url) =
     install_refusals install_replies INSTALLED_LOCALS url heard shape
+refusals now heard shape (Check key) = check_refusals key heard shape
+refusals now heard shape (Skip key) = skip_refusals key now shape
 refusals now heard shape (Launch key) = launch_refusals key now shape
 refusals now heard shape (Read lease name from count) = read_refusals lease name shape
+refusals now heard shape (Group lease group) = group_refusals lease group shape
 refusals now heard shape (Finish lease) = finish_refusals lease shape
 
 -- its effect where none of them holds
@@ -45,12 +55,15 @@ abbrev pub effect : ℕ → List (List ℕ) → Command → Session → Reply �
 effect now heard (At next) = at_effect next
 effect now heard (Require key version) = require_effect key version
 effect now heard (Install url) = InstallEffect install_replies url heard now
+effect now heard (Check key) = CheckEffect key heard now
+effect now heard (Skip key) = SkipEffect key
 effect now heard (Launch key) = LaunchEffect key now
 effect now heard (Read lease name from count) = ReadEffect lease name from count
+effect now heard (Group lease group) = GroupEffect lease group
 effect now heard (Finish lease) = finish_effect lease
 
--- Any command may find no memory, which changes nothing. Else the first refusal that holds is the reply, and where none
--- holds the effect is that of the row.
+-- Any command may find no memory, which changes nothing. Else the first refusal that holds is the
+-- reply, and where none holds the effect is that of the row.
 abbrev pub Answers : ℕ → List (List ℕ) → Session → Command → Reply → Session → Type 0
 Answers now heard old command reply new =
     FirstOf (maybe says.Memory ∷ refusals now heard (shape_of old.store) command)

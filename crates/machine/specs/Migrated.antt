@@ -1,5 +1,5 @@
--- The data files of a new version: which old ones stay, which are kept aside, and which come fresh. The listed digests
--- decide, never the bytes that are there now.
+-- The data files of a new version: which old ones stay, which are kept aside, and which come fresh.
+-- The listed digests decide, never the bytes that are there now.
 use Rattle.std.specs.Prelude.{◌≡◌, ◌≢◌, ◌⊎◌, ◌↔◌, ℕ, Bool, true, false, not, ◌&&◌, List, [], ◌∷◌, ◌++◌, AllPairs, Contains, codes, filter, find, flat_map, map, bytes_eq, Option, Some, None, if◌then◌else◌}
 use Rattle.std.specs.List.{list_any}
 use Rattle.std.specs.declared.cmp.Ordering.TheVariants.{Less}
@@ -79,7 +79,8 @@ moved old_files new_files name =
 abbrev pub is_fresh : List (List ℕ) → List FileEntry → List FileEntry → List ℕ → Bool
 is_fresh old old_files new_files name =
     not (list_any
-    (λ other. bytes_eq other name && not (is_below_pre other) && stays old_files new_files other) old)
+    (λ other. bytes_eq other name && not (is_below_pre other) && stays old_files new_files other)
+    old)
 
 -- the names of the new data files, in no order
 abbrev pub migrated_names : List (List ℕ) → List FileEntry → List FileEntry → List (List ℕ)

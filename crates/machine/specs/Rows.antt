@@ -1,4 +1,5 @@
--- Rows as data: the refusals of a command in their order, and what it does where none of them is given.
+-- Rows as data: the refusals of a command in their order, and what it does where none of them is
+-- given.
 use Rattle.std.specs.Prelude.{◌≡◌, ◌⊎◌, ℕ, zero, suc, List, [], ◌∷◌}
 
 -- the replies that it may give, when it may be passed, and what it leaves of what was there
@@ -81,7 +82,8 @@ ChangeNothing {S = S} [] = Unit {0}
 ChangeNothing {S = S} (refusal ∷ refusals) =
     ((s : S) → refusal.leaves s ≡ s) × ChangeNothing refusals
 
--- the first refusal that is not passed is the reply, and where all are passed the effect is that of the row
+-- the first refusal that is not passed is the reply, and where all are passed the effect is that of
+-- the row
 abbrev pub FirstOf :
     {R S : Type 0} → List (Refusal R S) → (S → R → S → Type 0) → S → R → S → Type 0
 FirstOf refusals effect old reply new =

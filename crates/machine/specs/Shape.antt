@@ -1,4 +1,5 @@
--- A store without the bytes of its files: what tables have as it stands, and what refusals are about.
+-- A store without the bytes of its files: what tables have as it stands, and what refusals are
+-- about.
 use Rattle.std.specs.Prelude.{ℕ, List, length, map}
 use Rattle.small_types.specs.declared.target.Target.{Target}
 use Rattle.manifests.specs.declared.facts.Application.{Application}

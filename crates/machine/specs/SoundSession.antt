@@ -28,8 +28,8 @@ IsComing job entry =
     ⊎ ((is_required entry ≡ true)
     × Any (λ other. (is_required other ≡ true) × (content_key other ≡ content_key entry)) job.left)
 
--- One release. Each file that it has to fetch is coming, no file twice, and nothing else; what is there has the listed
--- bytes.
+-- One release. Each file that it has to fetch is coming, no file twice, and nothing else; what is
+-- there has the listed bytes.
 pub record IsSoundJob (job : Job) : Type 0 where
   pub url : IsTarget job.url
   pub base : IsTarget job.base
@@ -48,12 +48,13 @@ program_files_in jobs = flat_map (λ job. filter (λ file. is_required file.entr
 
 -- ---- blocks
 
--- A job counts whole from its beginning on: program files that share their bytes share their blocks, also with those of
--- views; each data file has its own.
+-- A job counts whole from its beginning on: program files that share their bytes share their
+-- blocks, also with those of views; each data file has its own.
 abbrev pub blocks_with : List BareView → List Job → ℕ
 blocks_with views jobs =
     sum_by (λ entry. blocks_of entry.size)
-    (distinct (standing_files views ++ flat_map (λ job. filter is_required job.application.files) jobs))
+    (distinct (standing_files views
+    ++ flat_map (λ job. filter is_required job.application.files) jobs))
     + sum_by (λ file. blocks_of file.length) (flat_map (λ view. view.data_files) views)
     + sum_by (λ entry. blocks_of entry.size)
     (flat_map (λ job. filter (λ entry. entry.local) job.application.files) jobs)

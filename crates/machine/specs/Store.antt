@@ -8,8 +8,9 @@ use Rattle.machine.specs.declared.app.AppState.{AppState}
 use Rattle.machine.specs.declared.lease.Lease.{Lease}
 use Rattle.machine.specs.Views.{ListedFile, View}
 
--- A store: its number of blocks, which no line changes; the number of the last boot; the numbers that the next view and
--- the next lease get; leases and kept views in order of their numbers; applications in order of their printed keys.
+-- A store: its number of blocks, which no line changes; the number of the last boot; the numbers
+-- that the next view and the next lease get; leases and kept views in order of their numbers;
+-- applications in order of their printed keys.
 pub record Store : Type 0 where
   pub blocks : ℕ
   pub boot : ℕ
@@ -46,7 +47,8 @@ pub record Job : Type 0 where
   pub left : List FileEntry
   pub files : List ListedFile
 
--- A session: its store, its open jobs, and the number that the next job gets. No command opens a job yet.
+-- A session: its store, its open jobs, and the number that the next job gets. No command opens a
+-- job yet.
 pub record Session : Type 0 where
   pub store : Store
   pub jobs : List Job

@@ -30,7 +30,8 @@ pub record IsView (view : View) : Type 0 where
   pub application : IsApplication view.application
   pub base : IsTarget view.base
   pub groups : All (IsShort NAME_LIMIT) view.groups
-  pub files : map (λ file. file.entry) view.program_files ≡ standing_entries view.groups view.application
+  pub files : map (λ file. file.entry) view.program_files
+      ≡ standing_entries view.groups view.application
   pub data_order : AllPairs (λ (f g : DataFile). text_cmp f.name g.name ≡ Less) view.data_files
   pub data_files : All IsDataFile view.data_files
   pub few_data : count_by (λ file. not (is_below_pre file.name)) view.data_files ≤ LOCAL_COUNT_LIMIT
@@ -78,7 +79,8 @@ pub record Ordered (store : Store) : Type 0 where
   -- leases, each of a kept view
   pub lease_numbers : AreNumbers store.next_lease (map (λ lease. lease.number) store.leases)
   pub few_leases : length store.leases ≤ LEASE_LIMIT
-  pub leased : All (λ lease. Contains (map (λ view. view.number) store.views) lease.view) store.leases
+  pub leased : All (λ lease. Contains (map (λ view. view.number) store.views) lease.view)
+      store.leases
   -- views, each of an application with a current one
   pub view_numbers : AreNumbers store.next_view (map (λ view. view.number) store.views)
   pub few_views : length store.views ≤ VIEW_LIMIT

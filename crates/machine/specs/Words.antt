@@ -1,13 +1,14 @@
 -- Events as a session makes them: their words keep their forms.
 use Rattle.std.specs.Prelude.{◌≤◌, ℕ, List, All, length}
-use Rattle.small_types.specs.declared.limits.TheConstants.{NUMBER_LIMIT, PIECE_LIMIT, URL_LIMIT}
+use Rattle.small_types.specs.declared.limits.TheConstants.{NAME_LIMIT, NUMBER_LIMIT, PIECE_LIMIT, URL_LIMIT}
 use Rattle.small_types.specs.Name.{IsName}
 use Rattle.identity.specs.Key.{IsKey}
 use Rattle.identity.specs.Version.{IsVersion}
 use Rattle.machine.specs.declared.command.Command.{Command}
-use Rattle.machine.specs.declared.command.Command.TheVariants.{At, Require, Install, Launch, Read, Finish}
+use Rattle.machine.specs.declared.command.Command.TheVariants.{At, Require, Install, Check, Skip, Launch, Read, Group, Finish}
 use Rattle.machine.specs.declared.event.Event.{Event}
 use Rattle.machine.specs.declared.event.Event.TheVariants.{Boot, Line, Unread}
+use Rattle.machine.specs.Fields.{IsShort}
 
 -- an address as a line gives it: 1 to 2,048 bytes, each from 33 to 126
 pub record IsUrl (url : List ℕ) : Type 0 where
@@ -15,14 +16,22 @@ pub record IsUrl (url : List ℕ) : Type 0 where
   pub few : length url ≤ URL_LIMIT
   pub visible : All (λ (b : ℕ). (33 ≤ b) × (b ≤ 126)) url
 
+-- a group as a line gives it: UTF-8 of 1 to 240 bytes
+pub record IsGroup (group : List ℕ) : Type 0 where
+  pub some : 1 ≤ length group
+  pub short : IsShort NAME_LIMIT group
+
 -- the words of a command have their forms
 abbrev pub IsCommand : Command → Type 0
 IsCommand (At now) = now ≤ NUMBER_LIMIT
 IsCommand (Require key version) = IsKey key × IsVersion version
 IsCommand (Install url) = IsUrl url
+IsCommand (Check key) = IsKey key
+IsCommand (Skip key) = IsKey key
 IsCommand (Launch key) = IsKey key
 IsCommand (Read lease name from count) =
     (lease ≤ NUMBER_LIMIT) × IsName name × (from ≤ NUMBER_LIMIT) × (count ≤ PIECE_LIMIT)
+IsCommand (Group lease group) = (lease ≤ NUMBER_LIMIT) × IsGroup group
 IsCommand (Finish lease) = lease ≤ NUMBER_LIMIT
 
 -- numbers are at most 2 ^ 62, and the words of a command have their forms

@@ -1,6 +1,6 @@
 // What a session line asks for.
 use identity::{Key, Version};
-use small_types::{Bytes, Name};
+use small_types::{Bytes, Name, Text};
 
 /// A command of a session line.
 #[derive(Drop, Debug, PartialEq, Eq)]
@@ -19,6 +19,14 @@ pub enum Command {
     Install {
         url: Bytes,
     },
+    /// `check KEY`: the application's provider is asked what it offers.
+    Check {
+        key: Key,
+    },
+    /// `skip KEY`: the version that is offered is not wanted.
+    Skip {
+        key: Key,
+    },
     /// `launch KEY`: a new lease on the application's current view.
     Launch {
         key: Key,
@@ -29,6 +37,11 @@ pub enum Command {
         name: Name,
         from: u64,
         count: u64,
+    },
+    /// `group L GROUP`: the files of the group stand in the leased view.
+    Group {
+        lease: u64,
+        group: Text,
     },
     /// `finish L`: the lease is gone.
     Finish {

@@ -1,5 +1,5 @@
 // What is true of the machine, with no code.
-ghost use Rattle.machine.specs.Laws.{AddressesAreShort, AtSetsTheMoment, BlocksAreRoundedUp, BlocksStay, CommandsAreAnswered, ContentsAreCompared, ContentsCountOnce, EmptyStoresAreSound, EntriesStayInOrder, EventsHaveSteps, JoinedAddressesAreShort, JoinedAddressesMayBeHeld, MemoryChangesNothing, MinimumsAreShown, MinimumsNeverFall, MomentsStayFew, NoRefusalIsGivenWherePassed, OneEntryIsMade, OneRefusalIsGiven, OnlyBootsChangeTheBoot, OtherEntriesStay, OthersLeaveTheMoment, ReadAddressesMayBeHeld, ReadApplicationsMayBeHeld, ReadDeploymentsMayBeHeld, RefusalsAreFirst, RefusalsChangeNothing, RefusalsComeInOrder, RowsAreExact, RowsChangeNothing, RunsKeepSound, SessionsBeginSound, StepsKeepSound, StepsKeepSoundSessions, StepsKeepValid, StoresMayBeUsed};
+ghost use Rattle.machine.specs.Laws.{AddressesAreShort, AtSetsTheMoment, BlocksAreRoundedUp, BlocksStay, CommandsAreAnswered, ContentsAreCompared, ContentsCountOnce, EmptyStoresAreSound, EntriesStayInOrder, EventsHaveSteps, JoinedAddressesAreShort, JoinedAddressesMayBeHeld, MemoryChangesNothing, MinimumsAreShown, MinimumsNeverFall, MomentsStayFew, NoRefusalIsGivenWherePassed, OneEntryIsMade, OneRefusalIsGiven, OnlyBootsChangeTheBoot, OtherEntriesStay, OthersLeaveTheMoment, ReadAddressesMayBeHeld, ReadApplicationsMayBeHeld, ReadDeploymentsMayBeHeld, RefusedChecksCount, RefusalsAreFirst, RefusalsChangeNothing, RefusalsComeInOrder, RowsAreExact, RowsChangeNothing, RunsKeepSound, SessionsBeginSound, StepsKeepSound, StepsKeepSoundSessions, StepsKeepValid, StoresMayBeUsed};
 
 /// A change of an entry leaves the entries in order of their keys.
 pub fn entries_stay_in_order()
@@ -56,22 +56,26 @@ pub fn refusals_come_in_order()
 {}
 
 /// At most one refusal of a command is given, and none where all are passed, where none of its
-/// refusals is a free choice. Those of `install` are none but the last, where the manifests are
-/// heard; those of every other command are none.
+/// refusals is a free choice. Those of `install` are none but the last, and those of `check` none,
+/// where the manifests are heard; those of `group` are none but the last; those of every other command
+/// are none.
 pub fn one_refusal_is_given()
     ensures rows { RowsAreExact }
     ensures one { OneRefusalIsGiven }
     ensures none { NoRefusalIsGivenWherePassed }
 {}
 
-/// A refusal that leaves everything as it was changes nothing, and each refusal is so.
+/// A refusal that leaves everything as it was changes nothing, and each refusal is so, but that of a
+/// check that no link answers: it counts as made.
 pub fn refusals_change_nothing()
     ensures given { RefusalsChangeNothing }
     ensures rows { RowsChangeNothing }
+    ensures checks { RefusedChecksCount }
 {}
 
 /// In each valid store each command has an answer other than want of memory, and each event that
-/// may come a step with such an answer; an install at least where it hears nothing.
+/// may come a step with such an answer; an install and a check at least where they hear nothing, and a
+/// group in each sound store.
 pub fn commands_are_answered()
     ensures commands { CommandsAreAnswered }
     ensures events { EventsHaveSteps }
@@ -106,7 +110,7 @@ pub fn steps_keep_sound()
 {}
 
 /// A session begins sound over a sound store, and a step from a sound session leads to one; an
-/// install where there is no open job.
+/// install or a group where there is no open job.
 pub fn sessions_stay_sound()
     ensures begun { SessionsBeginSound }
     ensures steps { StepsKeepSoundSessions }

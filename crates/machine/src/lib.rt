@@ -3,9 +3,11 @@
 #![tactic(auto)]
 
 mod app;
+mod check_laws;
 mod command;
 mod due;
 mod event;
+mod group_laws;
 mod install_laws;
 mod laws;
 mod lease;
@@ -15,9 +17,11 @@ mod report;
 mod views;
 
 pub use app::AppState;
+pub use check_laws::{checks_count, skipped_offers_are_not_due};
 pub use command::{Command, LineFault};
 pub use due::Due;
 pub use event::{Event, Heard};
+pub use group_laws::{group_files_suffice, groups_may_come, one_group_is_given};
 pub use install_laws::{
     installs_are_current, installs_keep_minimums, installs_keep_sound, installs_keep_valid,
     migrations_are_one, one_install_is_given, stores_may_be_updated, wanted_files_suffice,

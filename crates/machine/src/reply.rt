@@ -23,6 +23,16 @@ pub enum Reply {
         version: Version,
         view: u64,
     },
+    /// The version that is offered, where the heard one is above the current one, and the minimum that holds after
+    /// the line.
+    Checked {
+        offer: Option<Version>,
+        minimum: Option<Version>,
+    },
+    /// The offer that is not wanted.
+    Skipped {
+        version: Version,
+    },
     /// A new lease on a view of this version, and whether the time for the next check has come.
     Lease {
         lease: u64,
@@ -34,6 +44,10 @@ pub enum Reply {
         length: u64,
         bytes: Bytes,
     },
+    /// The number of files of the group, which stands in the leased view.
+    Group {
+        files: u64,
+    },
     /// The lease is gone.
     Finished {
         lease: u64,
@@ -42,6 +56,10 @@ pub enum Reply {
     NotInstalled,
     /// No lease has the number.
     NoLease,
+    /// No program file of the leased view's release has the group.
+    NoGroup,
+    /// No version is offered.
+    NothingOffered,
     /// No program file of that name stands in the leased view.
     NoFile,
     /// The application is to be checked before each start, and no install or check came since the last one.
@@ -90,6 +108,10 @@ pub enum Reply {
     /// Why the two manifests are not those of one release.
     Release {
         fault: ReleaseFault,
+    },
+    /// The key of the manifest that was heard, which is another one than that of the line.
+    IdentityDiffers {
+        found: Key,
     },
     /// An address that is no URL within its limit, or that names no host.
     BadUrl,

@@ -1,10 +1,13 @@
 use Rattle.machine.specs.Machine.{refusals}
 use Rattle.machine.proofs.Choosing.{none_refuses, one_refuses}
 use Rattle.machine.proofs.InstallExact.{address_exact, deployment_exact, release_exact}
+use Rattle.machine.proofs.CheckFacts.{check_exact}
 use Rattle.machine.proofs.FinishFacts.{finish_exact}
+use Rattle.machine.proofs.GroupFacts.{room_exact}
 use Rattle.machine.proofs.LaunchFacts.{launch_exact}
 use Rattle.machine.proofs.ReadFacts.{read_exact}
 use Rattle.machine.proofs.RequireFacts.{require_exact}
+use Rattle.machine.proofs.SkipFacts.{skip_exact}
 use Rattle.machine.proofs.laws.one_refusal_is_given.Goals as goal
 
 pub returns-clause-rows : goal.returns-clause-rows
@@ -12,8 +15,11 @@ returns-clause-rows c = record {
   at = λ now heard shape next. tt;
   require = λ now heard shape key version. require_exact key shape;
   install = record { address = address_exact; deployment = deployment_exact; release = release_exact };
+  check = λ now text texts shape key. check_exact key text texts shape;
+  skip = λ now heard shape key. skip_exact key now shape;
   launch = λ now heard shape key. launch_exact key now shape;
   read = λ now heard shape lease name from count. read_exact lease name shape;
+  group = λ shape lease group. room_exact lease group shape;
   finish = λ now heard shape lease. finish_exact lease shape;
 }
 

@@ -1,7 +1,13 @@
-use Rattle.machine.specs.declared.command.Command.TheVariants.{At, Require, Install, Launch, Read, Finish}
+use Rattle.std.proofs.Common.{refl}
+use Rattle.machine.specs.declared.views.TheConstants.{INSTALLED_LOCALS}
+use Rattle.machine.specs.InstallReplies.{install_replies}
 use Rattle.machine.specs.Machine.{refusals}
+use Rattle.machine.proofs.CheckFacts.{check_refused}
 use Rattle.machine.proofs.Choosing.{unchanged_at}
-use Rattle.machine.proofs.Refusals.{change_nothing}
+use Rattle.machine.proofs.GroupFacts.{group_unchanged}
+use Rattle.machine.proofs.InstallFacts.{install_unchanged}
+use Rattle.machine.proofs.LaunchFacts.{launch_unchanged}
+use Rattle.machine.proofs.SkipFacts.{skip_unchanged}
 use Rattle.machine.proofs.laws.refusals_change_nothing.Goals as goal
 
 pub returns-clause-given : goal.returns-clause-given
@@ -9,10 +15,15 @@ returns-clause-given c = λ now heard shape command k. unchanged_at k (refusals 
 
 pub returns-clause-rows : goal.returns-clause-rows
 returns-clause-rows c = record {
-  at = λ now heard shape next. change_nothing now heard shape (At next);
-  require = λ now heard shape key version. change_nothing now heard shape (Require key version);
-  install = λ now heard shape url. change_nothing now heard shape (Install url);
-  launch = λ now heard shape key. change_nothing now heard shape (Launch key);
-  read = λ now heard shape lease name from count. change_nothing now heard shape (Read lease name from count);
-  finish = λ now heard shape lease. change_nothing now heard shape (Finish lease);
+  at = λ now heard shape next. tt;
+  require = λ now heard shape key version. ((λ s. refl), tt);
+  install = λ now heard shape url. install_unchanged install_replies INSTALLED_LOCALS url heard shape;
+  skip = λ now heard shape key. skip_unchanged key now shape;
+  launch = λ now heard shape key. launch_unchanged key now shape;
+  read = λ now heard shape lease name from count. ((λ s. refl), ((λ s. refl), tt));
+  group = λ now heard shape lease group. group_unchanged lease group shape;
+  finish = λ now heard shape lease. ((λ s. refl), tt);
 }
+
+pub returns-clause-checks : goal.returns-clause-checks
+returns-clause-checks c = λ now heard old key. check_refused key heard old
