@@ -20,7 +20,8 @@ pub record HasRoom (tables : Tables) : Type 0 where
 abbrev pub IsRefused : Tables → LeaseFault → Type 0
 IsRefused tables LeasesFull = LEASE_LIMIT ≤ length tables.leases
 IsRefused tables (Spent next) =
-    (length tables.leases < LEASE_LIMIT) × (tables.next_lease ≡ NUMBER_LIMIT) × (next ≡ tables.next_lease)
+    (length tables.leases < LEASE_LIMIT) × (tables.next_lease ≡ NUMBER_LIMIT)
+    × (next ≡ tables.next_lease)
 IsRefused tables NoLease = ⊥
 
 -- why none is ended: none has the number

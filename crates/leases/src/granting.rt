@@ -41,7 +41,8 @@ pub fn grant(state: &mut StoreState, view: u64) -> Result<u64, LeaseFault>
     Ok(state.add_lease(view))
 }
 
-/// Takes the lease of that number out, and no other. `NoLease` comes exactly where none has it, and changes nothing.
+/// Takes the lease of that number out, and no other. `NoLease` comes exactly where none has it, and
+/// changes nothing.
 pub fn end(state: &mut StoreState, lease: u64) -> Result<(), LeaseFault>
     ensures ok { OnOk result (state.new
         ≡ record state.old { leases = without_lease lease state.old.leases }) }

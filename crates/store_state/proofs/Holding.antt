@@ -14,6 +14,7 @@ use Rattle.machine.specs.declared.app.AppState.{AppState}
 use Rattle.machine.specs.declared.lease.Lease.{Lease}
 use Rattle.machine.specs.Blocks.{standing_files}
 use Rattle.machine.specs.Entries.{AreInOrder, entry_of, with_entry}
+use Rattle.machine.specs.Fields.{IsApplication}
 use Rattle.machine.specs.Installed.{installed_app}
 use Rattle.machine.specs.Leases.{without_lease}
 use Rattle.machine.specs.Minimums.{raised_app}
@@ -44,6 +45,7 @@ with_apps tables apps are order few = record {
   few_files = are.few_files;
   lease_numbers = are.lease_numbers;
   few_leases = are.few_leases;
+  applications = are.applications;
   contents = are.contents;
 }
 
@@ -59,6 +61,7 @@ with_leases tables boot next leases are numbers few = record {
   few_files = are.few_files;
   lease_numbers = numbers;
   few_leases = few;
+  applications = are.applications;
   contents = are.contents;
 }
 
@@ -137,6 +140,9 @@ installed_tables tables view contents provider now are fits =
           ));
       lease_numbers = are.lease_numbers;
       few_leases = are.few_leases;
+      applications =
+          All-push (λ (v : View). IsApplication v.application) tables.views view are.applications
+          fits.row.application;
       contents =
           subst (λ (entries : List FileEntry). AreContentsOf entries (tables.contents ++ contents))
           (sym (standing_push tables.views view))

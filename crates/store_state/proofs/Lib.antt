@@ -1,5 +1,9 @@
+pub mod ByNumber
+pub mod Checking
 pub mod Current
 pub mod Firsts
+pub mod GroupShown
+pub mod Growing
 pub mod Holding
 pub mod Indexed
 pub mod Keyed

@@ -162,7 +162,7 @@ same_content_of entry old new some =
     find-append (is_content_of entry) old new
     ∙ or_some (content_of old entry) (content_of new entry) some
 
-same_files : (old new : List Content) (entries : List FileEntry)
+pub same_files : (old new : List Content) (entries : List FileEntry)
     → All (λ (entry : FileEntry). IsSome (content_of old entry)) entries
     → map (shown_file (old ++ new)) entries ≡ map (shown_file old) entries
 same_files old new [] held = refl

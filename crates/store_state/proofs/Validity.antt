@@ -1,49 +1,60 @@
 -- Changes that fit keep the store that tables show within its order and its limits.
-use Rattle.std.proofs.Common.{◌≡◌, ◌∙◌, ◌≤◌, ◌<◌, ℕ, cond, not, List, [], ◌∷◌, All, Contains, Option, Some, None, length, map, get_or, refl, sym, ap, subst, arith}
-use Rattle.std.specs.Prelude.{count_by, option_and_then, slice_get, sum_by, ⊤}
+use Rattle.std.proofs.Common.{◌≡◌, ◌∙◌, ◌≤◌, ◌<◌, ℕ, ◌≢◌, ◌&&◌, Bool, true, false, cond, not, List, [], ◌∷◌, All, AllPairs, Contains, IfSome, IsSome, IsUtf8, Option, Some, None, length, map, refl, sym, ap, subst, arith}
+use Rattle.std.specs.Prelude.{count_by, option_and_then, option_map, slice_get, sum_by, ⊤}
 use Rattle.std.specs.declared.cmp.Ordering.TheVariants.{Less}
-use Rattle.std.proofs.lemmas.Cmp.{tied_itself}
 use Rattle.std.proofs.lemmas.List.{length-map}
 use Rattle.std.proofs.lemmas.List.Elements.{All-map, All-weaker}
-use Rattle.std.proofs.lemmas.Option.{MatchOption-at_some, get_or_from_slice_get, slice_get_within}
-use Rattle.small_types.specs.declared.limits.TheConstants.{APPLICATION_LIMIT, BLOCK_LIMIT, LEASE_LIMIT, NUMBER_LIMIT}
+use Rattle.std.proofs.lemmas.Option.{MatchOption-at_some}
+use Rattle.std.proofs.lemmas.Slice.Eq.{bytes_eq-Decides}
+use Rattle.small_types.specs.declared.limits.TheConstants.{APPLICATION_LIMIT, BLOCK_LIMIT, LEASE_LIMIT, NAME_LIMIT, NUMBER_LIMIT}
 use Rattle.small_types.specs.declared.target.Target.{Target}
 use Rattle.identity.specs.Printed.{text_cmp}
-use Rattle.identity.specs.Key.{key_text}
 use Rattle.identity.specs.declared.key.Key.{Key}
 use Rattle.manifests.specs.declared.facts.FileEntry.{FileEntry}
+use Rattle.manifests.specs.declared.facts.Application.{Application}
 use Rattle.manifests.specs.Applications.{is_below_pre}
+use Rattle.manifests.specs.Facts.{IsFile, IsValue}
 use Rattle.machine.specs.declared.app.AppState.{AppState}
 use Rattle.machine.specs.declared.lease.Lease.{Lease}
 use Rattle.machine.specs.Blocks.{used_blocks}
+use Rattle.machine.specs.CheckRow.{heard_app, unheard, unheard_app}
 use Rattle.machine.specs.Current.{current_of}
-use Rattle.machine.specs.Entries.{AreInOrder, entry_of, key_cmp}
+use Rattle.machine.specs.Entries.{AreInOrder, entry_of, with_entry}
+use Rattle.machine.specs.Fields.{HasEntry, IsApplication, IsShort}
 use Rattle.machine.specs.FinishRow.{finished}
+use Rattle.machine.specs.Grouped.{grouped}
+use Rattle.machine.specs.Groups.{group_files, is_group, is_in}
 use Rattle.machine.specs.LaunchRow.{launched}
 use Rattle.machine.specs.Shape.{Shape, bare_view}
+use Rattle.machine.specs.SkipRow.{skipped, skipped_app}
 use Rattle.machine.specs.Store as stores
 use Rattle.machine.specs.Store.{Store, booted}
-use Rattle.machine.specs.Valid.{IsApp, IsDataFile, IsViewOf, Ordered}
+use Rattle.machine.specs.Valid.{IsApp, IsDataFile, IsView, IsViewOf, Ordered}
 use Rattle.machine.specs.Views.{DataFile, ListedFile, standing_entries}
 use Rattle.machine.specs.Views.{View as KeptView}
-use Rattle.machine.proofs.Entering.{order as text_order}
+use Rattle.machine.proofs.CheckFacts.{heard_is_app, unheard_is_app}
 use Rattle.machine.proofs.Finding.{some_there, then_value, value_of}
+use Rattle.machine.proofs.Grouping.{grouped_ordered}
 use Rattle.machine.proofs.Installing.{Fitting, installed_ordered, standing_required}
 use Rattle.machine.proofs.Keeping.{booted_ordered, empty_ordered, required_ordered}
+use Rattle.machine.proofs.Leased.{view_in}
 use Rattle.machine.proofs.Leasing.{finished_ordered, launched_ordered}
-use Rattle.machine.proofs.Members.{In, all_in, contains_in, in_contains, in_map, pairs_map, sum_map}
-use Rattle.machine.proofs.Places.{found}
+use Rattle.machine.proofs.Members.{In, all_in, contains_in, filter_in, in_contains, in_map, pairs_map, sum_map}
+use Rattle.machine.proofs.SkipFacts.{skipped_is_app}
 use Rattle.store_state.specs.declared.change.Change.{Change}
-use Rattle.store_state.specs.declared.change.Change.TheVariants.{Boot, Finish, Install, Launch, Require}
+use Rattle.store_state.specs.declared.change.Change.TheVariants.{Boot, Finish, Group, Heard, Install, Launch, Require, Skip, Unheard}
 use Rattle.store_state.specs.declared.view.Content.{Content}
 use Rattle.store_state.specs.declared.view.LocalFile.{LocalFile}
 use Rattle.store_state.specs.declared.view.View.{View}
 use Rattle.store_state.specs.Change.{Fits, FitsInstall, IsLocal, Replays, effect}
-use Rattle.store_state.specs.Laws.{ShowsOrdered}
-use Rattle.store_state.specs.Rows.{current_at, listed_files}
+use Rattle.store_state.specs.Laws.{ShowsOrdered, stand_files}
+use Rattle.store_state.specs.Rows.{current_at, current_row, listed_files, offer_at}
 use Rattle.store_state.specs.Shows.{Shows, shown_data, shown_file, shown_view}
 use Rattle.store_state.specs.Tables.{Tables, bare_row, empty}
+use Rattle.store_state.proofs.Checking.{current_entry, entry_ordered, own_entry, shows_heard, shows_skipped, shows_unheard, version_shown}
 use Rattle.store_state.proofs.Firsts.{in_place}
+use Rattle.store_state.proofs.GroupShown.{group_shown}
+use Rattle.store_state.proofs.Growing.{of_view, row_grows, some_in}
 use Rattle.store_state.proofs.Holding.{room_is}
 use Rattle.store_state.proofs.Showing.{data_files, files, installed, shape_shown, shows_booted, shows_empty, shows_finished, shows_installed, shows_launched, shows_required}
 
@@ -133,16 +144,6 @@ pub record Shown (blocks : ℕ) (tables : Tables) (image : List ℕ) : Type 0 wh
   pub shows : Shows blocks tables image store
   pub ordered : Ordered store
 
--- an application is the entry of its own key
-own_entry : (apps : List AppState) (place : ℕ) (app : AppState) → AreInOrder apps
-    → slice_get apps place ≡ Some app → entry_of app.key apps ≡ Some app
-own_entry apps place app order stands =
-    let read : get_or apps place app ≡ app = get_or_from_slice_get apps place app app stands in
-    found app.key apps place app order (slice_get_within apps place app stands)
-    (ap (λ (a : AppState). key_cmp a.key app.key) read ∙ tied_itself text_order
-    (key_text app.key))
-    ∙ ap Some read
-
 -- a current view is among those that are kept
 current_number : (views : List KeptView) (key : Key) (number : ℕ) → IsViewOf views key number
     → Contains (map (λ (view : KeptView). view.number) views) number
@@ -151,6 +152,50 @@ current_number views key number is =
     (subst (λ (n : ℕ). In n (map (λ (view : KeptView). view.number) views)) is.4.0
     (in_map (λ (view : KeptView). view.number) views is.1
     (in_contains views is.1 (is.0, is.2, is.3))))
+
+-- the numbers of the views rise, as those of the store do
+numbers_shown : (contents : List Content) (views : List View)
+    → map (λ (view : KeptView). view.number) (map (shown_view contents) views) ≡ map of_view views
+numbers_shown contents [] = refl
+numbers_shown contents (view ∷ views) =
+    ap (λ (ns : List ℕ). view.number ∷ ns) (numbers_shown contents views)
+
+rows_rising : {blocks : ℕ} {tables : Tables} {image : List ℕ} {store : Store}
+    → Shows blocks tables image store → Ordered store
+    → AllPairs (λ (m n : ℕ). m < n) (map of_view tables.views)
+rows_rising {tables = tables} shows ordered =
+    subst (λ (ns : List ℕ). AllPairs (λ (m n : ℕ). m < n) ns)
+    (ap (λ (s : Store). map (λ (view : KeptView). view.number) s.views) shows.is
+    ∙ numbers_shown tables.contents tables.views) ordered.view_numbers.rising
+
+-- a key with a current view has an entry in the store
+known_shown : (key : Key) (tables : Tables) (store : Store) → tables.apps ≡ store.apps
+    → IsSome (current_row key tables) → IsSome (entry_of key store.apps)
+known_shown key tables store same some =
+    subst (λ (apps : List AppState). IsSome (entry_of key apps)) same
+    (current_entry key tables some)
+
+-- a group that an application lists has a short name
+group_named : (group : List ℕ) (of : Option (List ℕ)) → is_group group of ≡ true
+    → IfSome of (IsValue 1 NAME_LIMIT) → IfSome of IsUtf8 → IsShort NAME_LIMIT group
+group_named group None is value utf8 = absurd cc
+group_named group (Some other) is value utf8 =
+    subst (IsShort NAME_LIMIT) ((bytes_eq-Decides other group).0 is)
+    (record { within = value.few; utf8 = utf8 })
+
+group_by : (group : List ℕ) (local : Bool) (of : Option (List ℕ))
+    → (not local && is_group group of) ≡ true → is_group group of ≡ true
+group_by group true of is = absurd cc
+group_by group false of is = is
+
+group_short : (group : List ℕ) (application : Application) → IsApplication application
+    → ◌≢◌ {A = List FileEntry} (group_files group application) [] → IsShort NAME_LIMIT group
+group_short group application is listed =
+    let one = some_in (group_files group application) listed in
+    let of = filter_in (is_in group) application.files one.0 one.1 in
+    group_named group one.0.group (group_by group one.0.local one.0.group of.0)
+    (all_in IsFile application.files one.0 is.facts.each of.1).group
+    (all_in HasEntry application.files one.0 is.files of.1).group
 
 pub changed_shown : (blocks : ℕ) (image : List ℕ) (old : Tables) (change : Change) → Fits old change
     → Shown blocks old image → Shown blocks (effect change old) image
@@ -179,6 +224,54 @@ changed_shown blocks image old (Install view contents provider now) fits shown =
       (fitting blocks old view contents provider now image shown.store shown.shows fits)
       shown.ordered;
 }
+changed_shown blocks image old (Heard key version minimum now) fits shown =
+    let row = value_of (current_row key old) fits.installed in
+    let have = row.0.deployment.identity.version in
+    let current = sym (version_shown blocks old key)
+    ∙ ap (λ (o : Option View). option_map (λ (v : View). v.deployment.identity.version) o) row.1 in
+    let known = known_shown key old shown.store (apps_shown shown.shows) fits.installed in
+    record {
+      store = record shown.store {
+        apps = with_entry key (heard_app have version minimum now) shown.store.apps;
+      };
+      shows =
+          shows_heard blocks old key have version minimum now image image shown.store shown.shows
+          current;
+      ordered =
+          entry_ordered key (heard_app have version minimum now) (λ app. refl)
+          (λ app some. some) shown.store known
+          (heard_is_app key have version minimum now shown.store.views fits.heard fits.least
+          fits.moment)
+          shown.ordered;
+    }
+changed_shown blocks image old (Unheard key) fits shown = record {
+  store = unheard key shown.store;
+  shows = shows_unheard blocks old key image image shown.store shown.shows;
+  ordered =
+      entry_ordered key unheard_app (λ app. refl) (λ app some. some) shown.store
+      (known_shown key old shown.store (apps_shown shown.shows) fits)
+      (unheard_is_app shown.store.views) shown.ordered;
+}
+changed_shown blocks image old (Skip place) fits shown =
+    let order : AreInOrder old.apps = subst AreInOrder (sym (apps_shown shown.shows))
+    shown.ordered.order in
+    let offer = value_of (offer_at place old.apps) fits.offered in
+    let app = then_value (λ (a : AppState). a.offer) (slice_get old.apps place) offer.0 offer.1 in
+    let entry : entry_of app.0.key old.apps ≡ Some app.0 =
+    own_entry old.apps place app.0 order app.1 in
+    record {
+      store = skipped app.0.key shown.store;
+      shows =
+          shows_skipped blocks old app.0.key place offer.0 image image shown.store shown.shows order
+          (app.1 ∙ sym entry)
+          (ap (λ (o : Option AppState). option_and_then (λ (a : AppState). a.offer) o) entry
+          ∙ app.2);
+      ordered =
+          entry_ordered app.0.key skipped_app (λ a. refl) (λ a some. some) shown.store
+          (some_there (entry_of app.0.key shown.store.apps) app.0
+          (ap (entry_of app.0.key) (sym (apps_shown shown.shows)) ∙ entry))
+          (skipped_is_app shown.store.views) shown.ordered;
+    }
 changed_shown blocks image old (Launch place) fits shown =
     let apps = old.apps in
     let order : AreInOrder apps = subst AreInOrder (sym (apps_shown shown.shows))
@@ -215,6 +308,23 @@ changed_shown blocks image old (Finish lease) fits shown = record {
   shows = shows_finished image lease shown.shows;
   ordered = finished_ordered lease shown.store shown.ordered;
 }
+changed_shown blocks image old (Group number group contents) fits shown =
+    let row = row_grows number group old contents fits in
+    let rising = rows_rising shown.shows shown.ordered in
+    let is = group_shown blocks old number group contents row.0 image image shown.store shown.shows
+    rising row.1 row.2 in
+    record {
+      store = grouped number group (stand_files old contents group row.0) shown.store;
+      shows = is.shows;
+      ordered =
+          grouped_ordered number group (stand_files old contents group row.0) shown.store
+          (shown_view old.contents row.0) is.there is.among.order
+          (group_short group row.0.application
+          (all_in IsView shown.store.views (shown_view old.contents row.0) shown.ordered.views
+          (view_in number shown.store.views (shown_view old.contents row.0) is.there).0).application
+          row.2.listed)
+          shown.ordered;
+    }
 
 replays_shown : (blocks : ℕ) (image : List ℕ) (old last : Tables) (changes : List Change)
     → Shown blocks old image → Replays old changes last → Shown blocks last image

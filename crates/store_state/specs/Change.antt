@@ -1,26 +1,32 @@
 -- Changes of tables: which fit, and what they do.
-use Rattle.std.specs.Prelude.{◌≡◌, ◌+◌, ◌<◌, ◌≤◌, ◌==◌, if◌then◌else◌, ℕ, not, List, [], ◌∷◌, ◌++◌, All, AllPairs, IsSome, count_by, length, None, unwrap_or}
+use Rattle.std.specs.Prelude.{◌≡◌, ◌≢◌, ◌+◌, ◌<◌, ◌≤◌, ◌==◌, if◌then◌else◌, ℕ, false, not, List, [], ◌∷◌, ◌++◌, All, AllPairs, IfSome, IsSome, IsSomeAnd, Option, count_by, length, None, unwrap_or}
 use Rattle.std.specs.declared.cmp.Ordering.TheVariants.{Less}
 use Rattle.small_types.specs.declared.limits.TheConstants.{APPLICATION_LIMIT, FILE_COUNT_LIMIT, LEASE_LIMIT, LOCAL_COUNT_LIMIT, LOCAL_NAME_LIMIT, NUMBER_LIMIT, VIEW_LIMIT}
 use Rattle.small_types.specs.declared.target.Target.{Target}
 use Rattle.small_types.specs.Name.{IsBelowPre, IsName}
+use Rattle.identity.specs.declared.key.Key.{Key}
+use Rattle.identity.specs.declared.version.Version.{Version}
 use Rattle.identity.specs.Printed.{text_cmp}
 use Rattle.identity.specs.Version.{IsVersion}
+use Rattle.manifests.specs.declared.facts.FileEntry.{FileEntry}
 use Rattle.manifests.specs.Applications.{is_below_pre}
+use Rattle.machine.specs.CheckRow.{heard_app, unheard_app}
 use Rattle.machine.specs.Entries.{entry_of, with_entry}
 use Rattle.machine.specs.Fields.{IsApplication, IsDeployment, IsShortKey, IsTarget}
+use Rattle.machine.specs.Groups.{group_files, group_stands}
 use Rattle.machine.specs.Installed.{installed_app}
 use Rattle.machine.specs.LaunchRow.{started_app}
 use Rattle.machine.specs.Leases.{lease_of, with_lease, without_lease}
 use Rattle.machine.specs.RequireRow.{required}
+use Rattle.machine.specs.SkipRow.{skipped_app}
 use Rattle.machine.specs.Views.{standing_entries}
 use Rattle.store_state.specs.declared.change.Change.{Change}
-use Rattle.store_state.specs.declared.change.Change.TheVariants.{Boot, Require, Install, Launch, Finish}
+use Rattle.store_state.specs.declared.change.Change.TheVariants.{Boot, Require, Install, Heard, Unheard, Skip, Launch, Finish, Group}
 use Rattle.store_state.specs.declared.view.Content.{Content}
 use Rattle.store_state.specs.declared.view.LocalFile.{LocalFile}
 use Rattle.store_state.specs.declared.view.View.{View}
 use Rattle.store_state.specs.Contents.{Brings}
-use Rattle.store_state.specs.Rows.{current_at, listed_files, with_app}
+use Rattle.store_state.specs.Rows.{current_at, current_row, current_version, listed_files, offer_at, row_at, with_app, with_row}
 use Rattle.store_state.specs.Tables.{Tables}
 
 -- ---- views
@@ -59,6 +65,33 @@ pub record FitsInstall (old : Tables) (view : View) (contents : List Content) (p
   pub views : length old.views < VIEW_LIMIT
   pub files : listed_files old.views + length view.application.files ≤ FILE_COUNT_LIMIT
 
+-- What a check heard is of a key with a current view, and its versions and its moment are within
+-- their limits.
+pub record FitsHeard (old : Tables) (key : Key) (version : Version) (minimum : Option Version)
+    (now : ℕ) : Type 0 where
+  pub installed : IsSome (current_row key old)
+  pub heard : IsVersion version
+  pub least : IfSome minimum IsVersion
+  pub moment : now ≤ NUMBER_LIMIT
+
+-- A skip names the place of an application with a current view, to which a version is offered.
+pub record FitsSkip (old : Tables) (app : ℕ) : Type 0 where
+  pub installed : IsSome (current_at app old.apps)
+  pub offered : IsSome (offer_at app old.apps)
+
+-- The application of the view lists files of the group, and the group does not stand in the view.
+-- The contents are exactly those that the tables lack of these files.
+pub record MayGrow (old : Tables) (group : List ℕ) (contents : List Content) (view : View)
+    : Type 0 where
+  pub listed : ◌≢◌ {A = List FileEntry} (group_files group view.application) []
+  pub absent : group_stands group view.groups ≡ false
+  pub brings : Brings old.contents (group_files group view.application) contents
+
+-- A group comes to a view that is kept.
+abbrev pub FitsGroup : Tables → ℕ → List ℕ → List Content → Type 0
+FitsGroup old number group contents =
+    IsSomeAnd (row_at number old.views) (MayGrow old group contents)
+
 -- A launch names the place of an application with a current view. There is room for one more lease,
 -- and a number is left.
 pub record FitsLaunch (old : Tables) (app : ℕ) : Type 0 where
@@ -71,34 +104,51 @@ pub record FitsLaunch (old : Tables) (app : ℕ) : Type 0 where
 abbrev pub Fits : Tables → Change → Type 0
 Fits old (Boot boot) = boot ≤ NUMBER_LIMIT
 Fits old (Require key version) =
-    IsShortKey key × IsVersion version × (entry_of key old.apps ≡ None → length old.apps < APPLICATION_LIMIT)
+    IsShortKey key × IsVersion version
+    × (entry_of key old.apps ≡ None → length old.apps < APPLICATION_LIMIT)
 Fits old (Install view contents provider now) = FitsInstall old view contents provider now
+Fits old (Heard key version minimum now) = FitsHeard old key version minimum now
+Fits old (Unheard key) = IsSome (current_row key old)
+Fits old (Skip app) = FitsSkip old app
 Fits old (Launch app) = FitsLaunch old app
 Fits old (Finish lease) = IsSome (lease_of lease old.leases)
+Fits old (Group view group contents) = FitsGroup old view group contents
 
 -- The tables make it by their own call. A launch and a finish are made by calls of their own.
 abbrev pub IsPlain : Change → Type 0
 IsPlain (Boot boot) = Unit {0}
 IsPlain (Require key version) = Unit {0}
 IsPlain (Install view contents provider now) = Unit {0}
+IsPlain (Heard key version minimum now) = Unit {0}
+IsPlain (Unheard key) = Unit {0}
+IsPlain (Skip app) = Unit {0}
 IsPlain (Launch app) = ⊥
 IsPlain (Finish lease) = ⊥
+IsPlain (Group view group contents) = Unit {0}
 
--- what takes memory: an entry that is made, and an install
+-- what takes memory: an entry that is made, an install, and a group
 abbrev pub TakesMemory : Tables → Change → Type 0
 TakesMemory old (Boot boot) = ⊥
 TakesMemory old (Require key version) = entry_of key old.apps ≡ None
 TakesMemory old (Install view contents provider now) = Unit {0}
+TakesMemory old (Heard key version minimum now) = ⊥
+TakesMemory old (Unheard key) = ⊥
+TakesMemory old (Skip app) = ⊥
 TakesMemory old (Launch app) = ⊥
 TakesMemory old (Finish lease) = ⊥
+TakesMemory old (Group view group contents) = Unit {0}
 
--- what takes memory before it is made, where it is tested whether it fits: an install
+-- what takes memory before it is made, where it is tested whether it fits: an install, and a group
 abbrev pub TestsWithMemory : Change → Type 0
 TestsWithMemory (Boot boot) = ⊥
 TestsWithMemory (Require key version) = ⊥
 TestsWithMemory (Install view contents provider now) = Unit {0}
+TestsWithMemory (Heard key version minimum now) = ⊥
+TestsWithMemory (Unheard key) = ⊥
+TestsWithMemory (Skip app) = ⊥
 TestsWithMemory (Launch app) = ⊥
 TestsWithMemory (Finish lease) = ⊥
+TestsWithMemory (Group view group contents) = Unit {0}
 
 -- the tables with one more lease, on that view
 abbrev pub leased : ℕ → Tables → Tables
@@ -107,8 +157,13 @@ leased view old = record old {
   leases = with_lease old.next_lease view old.leases;
 }
 
--- What it leaves. Another boot number ends all leases. A launch leases the view that is current for
--- the application at the place, which a change that fits has.
+-- the view with one more group, behind those that stand
+abbrev pub grown : List ℕ → View → View
+grown group view = record view { groups = view.groups ++ group ∷ [] }
+
+-- What it leaves. Another boot number ends all leases. What was heard is compared with the version
+-- that is current for the key, and a launch leases the view that is current for the application at
+-- the place: a change that fits has one.
 abbrev pub effect : Change → Tables → Tables
 effect (Boot boot) old =
     record old { boot = boot; leases = if old.boot == boot then old.leases else [] }
@@ -120,11 +175,21 @@ effect (Install view contents provider now) old = record old {
       (installed_app view.number view.deployment provider now) old.apps;
   contents = old.contents ++ contents;
 }
+effect (Heard key version minimum now) old = record old {
+  apps = with_entry key
+      (heard_app (unwrap_or (current_version key old) version) version minimum now) old.apps;
+}
+effect (Unheard key) old = record old { apps = with_entry key unheard_app old.apps }
+effect (Skip app) old = record old { apps = with_app app skipped_app old.apps }
 effect (Launch app) old =
     record (leased (unwrap_or (current_at app old.apps) 0) old) {
       apps = with_app app started_app old.apps;
     }
 effect (Finish lease) old = record old { leases = without_lease lease old.leases }
+effect (Group view group contents) old = record old {
+  views = with_row view (grown group) old.views;
+  contents = old.contents ++ contents;
+}
 
 -- one change after another leads from old to new, and each fits
 abbrev pub Replays : Tables → List Change → Tables → Type 0

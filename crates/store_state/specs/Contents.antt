@@ -7,7 +7,8 @@ use Rattle.store_state.specs.declared.view.Content.{Content}
 
 -- the content is that of the file: of its size and its list of digests
 abbrev pub is_content_of : FileEntry → Content → Bool
-is_content_of entry content = entry.size == content.size && pointwise same_digest entry.list content.list
+is_content_of entry content =
+    entry.size == content.size && pointwise same_digest entry.list content.list
 
 -- two contents of one size and one list of digests
 abbrev pub is_same : Content → Content → Bool
@@ -28,7 +29,8 @@ abbrev pub IsMeasured : Content → Type 0
 IsMeasured content = length content.bytes ≡ content.size
 
 -- The new contents are exactly those that files lack, each once, and whole.
-pub record Brings (old : List Content) (entries : List FileEntry) (new : List Content) : Type 0 where
+pub record Brings (old : List Content) (entries : List FileEntry) (new : List Content)
+    : Type 0 where
   pub each : All (λ entry. IsSome (content_of (old ++ new) entry)) entries
   pub only : All (λ content. Any (λ entry. is_content_of entry content ≡ true) entries) new
   pub lacking : All (λ content. All (λ other. is_same other content ≡ false) old) new

@@ -1,26 +1,34 @@
 -- What is true of tables and the stores that they show.
-use Rattle.std.specs.Prelude.{◌≡◌, ◌≤◌, ℕ, List, Some, is_some, map, option_and_then, option_map, slice_get}
+use Rattle.std.specs.Prelude.{◌≡◌, ◌≤◌, ◌++◌, ℕ, List, [], ◌∷◌, Some, is_some, map, option_and_then, option_map, slice_get}
 use Rattle.small_types.specs.declared.limits.TheConstants.{BLOCK_LIMIT}
 use Rattle.small_types.specs.declared.target.Target.{Target}
 use Rattle.identity.specs.declared.key.Key.{Key}
+use Rattle.identity.specs.declared.version.Version.{Version}
+use Rattle.manifests.specs.declared.facts.Deployment.{Deployment}
 use Rattle.machine.specs.Blocks.{used_blocks}
-use Rattle.machine.specs.Current.{bare_view_at, current_of, view_at}
+use Rattle.machine.specs.CheckRow.{checked, unheard}
+use Rattle.machine.specs.Current.{bare_view_at, current_of, current_version, view_at}
 use Rattle.machine.specs.Entries.{AreInOrder, entry_of}
 use Rattle.machine.specs.FinishRow.{finished}
+use Rattle.machine.specs.Grouped.{StandAmong, grouped}
+use Rattle.machine.specs.Groups.{group_files}
 use Rattle.machine.specs.Installed.{with_view}
 use Rattle.machine.specs.LaunchRow.{launched}
 use Rattle.machine.specs.ReadRow.{entry_named, file_named}
 use Rattle.machine.specs.Shape.{shape_of}
+use Rattle.machine.specs.SkipRow.{offer_of, skipped}
 use Rattle.machine.specs.Store.{Store}
 use Rattle.machine.specs.Valid.{Ordered, Valid}
-use Rattle.machine.specs.Views.{standing_entries}
+use Rattle.machine.specs.Views.{ListedFile, standing_entries}
 use Rattle.store_state.specs.declared.change.Change.{Change}
-use Rattle.store_state.specs.declared.change.Change.TheVariants.{Install, Launch, Finish}
+use Rattle.store_state.specs.declared.change.Change.TheVariants.{Install, Heard, Unheard, Skip, Launch, Finish, Group}
 use Rattle.store_state.specs.declared.view.Content.{Content}
 use Rattle.store_state.specs.declared.view.View.{View}
 use Rattle.store_state.specs.Change.{Fits, Replays, effect}
+use Rattle.store_state.specs.Kept.{AreTables}
 use Rattle.store_state.specs.Named.{file_at}
-use Rattle.store_state.specs.Shows.{Shows, shown_data, shown_file}
+use Rattle.store_state.specs.Rows.{row_at}
+use Rattle.store_state.specs.Shows.{Shows, shown_data, shown_file, shown_view}
 use Rattle.store_state.specs.Tables.{Tables, bare_row, empty, table_shape}
 
 -- tables show one store
@@ -49,7 +57,8 @@ ChangesShowOrderedStores = (blocks : ℕ) (changes : List Change) (tables : Tabl
 -- an install that fits leads from tables that show a store to tables that show it with the new view
 abbrev pub InstallsShowTheView : Type 0
 InstallsShowTheView = (blocks : ℕ) (tables : Tables) (view : View) (contents : List Content)
-    (provider : Target) (now : ℕ) (image later : List ℕ) (store : Store) → Shows blocks tables image store
+    (provider : Target) (now : ℕ) (image later : List ℕ) (store : Store)
+    → Shows blocks tables image store
     → Fits tables (Install view contents provider now)
     → Shows blocks (effect (Install view contents provider now) tables) later
     (with_view provider view.base view.deployment view.application
@@ -71,6 +80,59 @@ abbrev pub FinishesShowTheRest : Type 0
 FinishesShowTheRest = (blocks : ℕ) (tables : Tables) (lease : ℕ) (image later : List ℕ)
     (store : Store) → Shows blocks tables image store
     → Shows blocks (effect (Finish lease) tables) later (finished lease store)
+
+-- What was heard of the provider of a key with a current view leads to tables that show the store
+-- with that noted; so does a check that heard nothing.
+abbrev pub ChecksShowTheEntry : Type 0
+ChecksShowTheEntry = (blocks : ℕ) (tables : Tables) (key : Key) (have : Version) (d : Deployment)
+    (now : ℕ) (image later : List ℕ) (store : Store) → Shows blocks tables image store
+    → current_version key (table_shape blocks tables) ≡ Some have
+    → Shows blocks (effect (Heard key d.identity.version d.minimum now) tables) later
+    (checked key have d now store)
+
+abbrev pub UnheardChecksShowTheEntry : Type 0
+UnheardChecksShowTheEntry = (blocks : ℕ) (tables : Tables) (key : Key) (image later : List ℕ)
+    (store : Store) → Shows blocks tables image store
+    → Shows blocks (effect (Unheard key) tables) later (unheard key store)
+
+-- a skip of what is offered for a key leads to tables that show the store in which it is skipped
+abbrev pub SkipsShowTheEntry : Type 0
+SkipsShowTheEntry = (blocks : ℕ) (tables : Tables) (key : Key) (place : ℕ) (offer : Version)
+    (image later : List ℕ) (store : Store) → Shows blocks tables image store
+    → AreInOrder tables.apps → slice_get tables.apps place ≡ entry_of key tables.apps
+    → offer_of key tables.apps ≡ Some offer
+    → Shows blocks (effect (Skip place) tables) later (skipped key store)
+
+-- the files that a group brings to a view, and all that stand in it then
+abbrev pub came_files : Tables → List Content → List ℕ → View → List ListedFile
+came_files tables contents group row =
+    map (shown_file (tables.contents ++ contents)) (group_files group row.application)
+
+abbrev pub stand_files : Tables → List Content → List ℕ → View → List ListedFile
+stand_files tables contents group row =
+    map (shown_file (tables.contents ++ contents))
+    (standing_entries (row.groups ++ group ∷ []) row.application)
+
+-- The tables with a group of the view show the store in which its files stand among those that
+-- stood.
+pub record ShowsGroup (blocks : ℕ) (tables : Tables) (number : ℕ) (group : List ℕ)
+    (contents : List Content) (row : View) (later : List ℕ) (store : Store) : Type 0 where
+  pub numbered : row.number ≡ number
+  pub there : view_at number store.views ≡ Some (shown_view tables.contents row)
+  pub listed : map (λ file. file.entry) (came_files tables contents group row)
+      ≡ group_files group row.application
+  pub among : StandAmong group (shown_view tables.contents row)
+      (came_files tables contents group row) (stand_files tables contents group row)
+  pub shows : Shows blocks (effect (Group number group contents) tables) later
+      (grouped number group (stand_files tables contents group row) store)
+
+-- a group that fits leads to such tables
+abbrev pub GroupsShowTheFiles : Type 0
+GroupsShowTheFiles = (blocks : ℕ) (tables : Tables) (number : ℕ) (group : List ℕ)
+    (contents : List Content) (row : View) (image later : List ℕ) (store : Store)
+    → Shows blocks tables image store → AreTables tables → row_at number tables.views ≡ Some row
+    → Fits tables (Group number group contents)
+    → ShowsGroup blocks tables number group contents row later store
 
 -- the bytes that are found in the tables are those of the file in the view that is shown
 abbrev pub ReadsShowFiles : Type 0

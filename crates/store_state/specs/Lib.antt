@@ -3,6 +3,7 @@ pub mod Contents
 pub mod Kept
 pub mod Laws
 pub mod Named
+pub mod Notes
 pub mod Places
 pub mod Rows
 pub mod Shows

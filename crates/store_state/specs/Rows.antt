@@ -1,8 +1,10 @@
 -- Views and applications of the tables, by numbers, keys and places.
-use Rattle.std.specs.Prelude.{ℕ, ◌==◌, List, find, sum_by, length, Option, option_and_then, option_map, slice_get, slice_set, unwrap_or}
+use Rattle.std.specs.Prelude.{ℕ, ◌==◌, List, find, map, sum_by, length, Option, option_and_then, option_map, slice_get, slice_set, unwrap_or, if◌then◌else◌}
 use Rattle.identity.specs.declared.key.Key.{Key}
+use Rattle.identity.specs.declared.version.Version.{Version}
 use Rattle.machine.specs.declared.app.AppState.{AppState}
 use Rattle.machine.specs.Current.{current_of}
+use Rattle.machine.specs.Leases.{lease_of}
 use Rattle.store_state.specs.declared.view.View.{View}
 use Rattle.store_state.specs.Tables.{Tables}
 
@@ -12,7 +14,22 @@ row_at number views = find (λ view. view.number == number) views
 
 -- the view that is current for the key
 abbrev pub current_row : Key → Tables → Option View
-current_row key tables = option_and_then (λ number. row_at number tables.views) (current_of key tables.apps)
+current_row key tables =
+    option_and_then (λ number. row_at number tables.views) (current_of key tables.apps)
+
+-- its version
+abbrev pub current_version : Key → Tables → Option Version
+current_version key tables =
+    option_map (λ view. view.deployment.identity.version) (current_row key tables)
+
+-- the view that the lease of the number names
+abbrev pub leased_row : ℕ → Tables → Option View
+leased_row number tables =
+    option_and_then (λ lease. row_at lease.view tables.views) (lease_of number tables.leases)
+
+-- the views once that of the number is what f makes of it
+abbrev pub with_row : ℕ → (View → View) → List View → List View
+with_row number f views = map (λ view. if view.number == number then f view else view) views
 
 -- how many files the views list
 abbrev pub listed_files : List View → ℕ
@@ -23,6 +40,10 @@ listed_files views = sum_by (λ view. length view.application.files) views
 -- the number of the view that is current for the application at the place
 abbrev pub current_at : ℕ → List AppState → Option ℕ
 current_at place apps = option_and_then (λ app. app.current) (slice_get apps place)
+
+-- the version that is offered to the application at the place
+abbrev pub offer_at : ℕ → List AppState → Option Version
+offer_at place apps = option_and_then (λ app. app.offer) (slice_get apps place)
 
 -- the applications once that at the place is what f makes of it
 abbrev pub with_app : ℕ → (AppState → AppState) → List AppState → List AppState

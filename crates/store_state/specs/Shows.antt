@@ -50,4 +50,5 @@ pub record Shows (blocks : ℕ) (tables : Tables) (image : List ℕ) (store : St
   pub is : store ≡ shown_store blocks tables
   pub held : All (λ view. All (λ entry. IsSome (content_of tables.contents entry))
       (standing_entries view.groups view.application)) tables.views
-  pub measured : All (λ view. All (λ file. length file.bytes ≡ file.length) view.locals) tables.views
+  pub measured : All (λ view. All (λ file. length file.bytes ≡ file.length) view.locals)
+      tables.views

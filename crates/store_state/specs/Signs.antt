@@ -21,11 +21,15 @@ entry_sign entry = record { size = entry.size; list = entry.list }
 
 -- digests by their algorithms, then by their values
 abbrev pub digest_cmp : Digest → Digest → Ordering
-digest_cmp = then_cmp (on (λ (d : Digest). name_of d.algorithm) text_cmp) (on (λ (d : Digest). d.value) text_cmp)
+digest_cmp =
+    then_cmp (on (λ (d : Digest). name_of d.algorithm) text_cmp)
+    (on (λ (d : Digest). d.value) text_cmp)
 
 -- by sizes, then by the digests from the first
 abbrev pub sign_cmp : Sign → Sign → Ordering
-sign_cmp = then_cmp (on (λ (s : Sign). s.size) nat_cmp) (on (λ (s : Sign). s.list) (slice_cmp digest_cmp))
+sign_cmp =
+    then_cmp (on (λ (s : Sign). s.size) nat_cmp)
+    (on (λ (s : Sign). s.list) (slice_cmp digest_cmp))
 
 -- the index has these, in order
 pub record IsIndex (signs index : List Sign) : Type 0 where

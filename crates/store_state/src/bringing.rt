@@ -1,14 +1,15 @@
 // Whether contents are exactly those that files of a view lack.
-ghost use Rattle.std.specs.Prelude.{◌≡◌, ◌≢◌, ◌↔◌, ◌⊎◌, ◌&&◌, not, map, bytes_eq, All, AllPairs, Contains, IsTrue, IfOk};
-ghost use Rattle.std.specs.List.{list_any};
+ghost use Rattle.std.specs.Prelude.{◌≡◌, ◌≢◌, ◌↔◌, ◌⊎◌, ◌&&◌, not, map, All, AllPairs, Contains, IsTrue, IfOk};
 ghost use Rattle.std.specs.List.Sorted.{IsSorted};
 ghost use Rattle.std.specs.declared.cmp.Ordering.TheVariants.{Less};
+ghost use Rattle.machine.specs.Groups.{group_files};
 ghost use Rattle.machine.specs.Views.{standing_entries, stands_by};
 ghost use Rattle.store_state.specs.declared.sign.Sign.{Sign};
 ghost use Rattle.store_state.specs.Contents.{IsMeasured};
 ghost use Rattle.store_state.specs.Signs.{Agree, content_sign, entry_sign, sign_cmp};
 
 use crate::sign::{Sign, has_sign, sign_order};
+use crate::view::{is_in_group, is_one_of};
 use crate::{Content, StateFault, StoreState, View};
 use manifests::FileEntry;
 use small_types::{Duplicate, Text};
@@ -30,26 +31,12 @@ pub(crate) fn are_measured(contents: &[Content]) -> bool
 
 // ---- the files that stand
 
-// Whether the texts are equal.
-fn is_text(text: &Text, other: &Text) -> bool
-    ensures { result ≡ bytes_eq text.now other.now }
-{
-    text.as_bytes() == other.as_bytes()
-}
-
-// Whether the group is among them.
-fn is_group(groups: &[Text], group: &Text) -> bool
-    ensures { result ≡ list_any (bytes_eq group.now) groups.now }
-{
-    groups.iter().any(|other| is_text(group, other))
-}
-
 // Whether the group stands, where there is one.
 fn stands_by(groups: &[Text], group: &Option<Text>) -> bool
     ensures { result ≡ stands_by groups.now group.now }
 {
     match group {
-        Some(group) => is_group(groups, group),
+        Some(group) => is_one_of(groups, group),
         None => true,
     }
 }
@@ -80,6 +67,20 @@ pub(crate) fn standing_signs(alloc: Global, view: &View) -> Result<Vec<Sign>, St
     let mut signs = Vec::new(alloc);
     for entry in view.application.files.as_slice() {
         if stands(groups, entry) {
+            signs.push(sign_of(alloc, entry)?)?;
+        }
+    }
+    Ok(signs)
+}
+
+// The signs of the program files of the group that the view lists.
+pub(crate) fn group_signs(alloc: Global, view: &View, group: &Text) -> Result<Vec<Sign>, StateFault>
+    ensures { IfOk result (λ signs. signs.items
+        ≡ map entry_sign (group_files group.now view.now.application)) }
+{
+    let mut signs = Vec::new(alloc);
+    for entry in view.application.files.as_slice() {
+        if is_in_group(entry, group) {
             signs.push(sign_of(alloc, entry)?)?;
         }
     }

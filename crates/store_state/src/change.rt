@@ -1,7 +1,7 @@
 // What a line changes in a store.
 use crate::{Content, View};
 use identity::{Key, Version};
-use small_types::{List, Target};
+use small_types::{List, Target, Text};
 
 /// A change of the store, as the journal keeps it.
 #[derive(Drop, Debug, PartialEq, Eq)]
@@ -23,6 +23,22 @@ pub enum Change {
         provider: Target,
         now: u64,
     },
+    /// What a check heard of the provider of the key: the version that is offered, the least that
+    /// may run, where there is one, and the moment in seconds.
+    Heard {
+        key: Key,
+        version: Version,
+        minimum: Option<Version>,
+        now: u64,
+    },
+    /// A check of the key that heard nothing. It counts as made, for one start.
+    Unheard {
+        key: Key,
+    },
+    /// The application at the place, counted from 0, skips the version that is offered.
+    Skip {
+        app: u32,
+    },
     /// A new lease on the current view of the application at the place, counted from 0, which is
     /// then not checked.
     Launch {
@@ -31,5 +47,11 @@ pub enum Change {
     /// The lease of that number is gone.
     Finish {
         lease: u64,
+    },
+    /// A group that comes to the view of that number, and the contents that it brings.
+    Group {
+        view: u64,
+        group: Text,
+        contents: List<Content>,
     },
 }

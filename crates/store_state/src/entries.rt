@@ -25,7 +25,8 @@ pub(crate) fn text_order(text: &Text, key: &Key) -> Ordering
 // Where the key stands among printed keys in order, or where it would go. It takes no memory.
 pub(crate) fn place_of(keys: &[Text], key: &Key) -> Result<usize, usize>
     ensures range { IsSearchInRange result (length keys.now) }
-    ensures found { IsBinarySearchResult (λ text. text_cmp text (key_text key.now)) keys.now result }
+    ensures found { IsBinarySearchResult (λ text. text_cmp text (key_text key.now)) keys.now
+        result }
 {
     keys.binary_search_by(|text| text_order(text, key))
 }
@@ -73,7 +74,8 @@ pub(crate) fn raised_minimum(minimum: Option<Version>, version: Version) -> Vers
 // Raises the minimum of the application at the place.
 pub(crate) fn raise_at(alloc: Global, apps: &mut List<AppState>, place: usize, version: Version)
     requires { place < length apps.old }
-    ensures { HoldsAt (λ app. apps.new ≡ slice_set apps.old place (raised_app version app)) apps.old place }
+    ensures { HoldsAt (λ app. apps.new ≡ slice_set apps.old place (raised_app version app)) apps.old
+        place }
 {
     let mut items = replace(apps, List::from_vec(Vec::new(alloc))).into_vec();
     let app = &mut items[place];

@@ -55,13 +55,13 @@ fn is_port(port: u16) -> bool
 }
 
 // Each version is one.
-fn is_version(version: Version) -> bool
+pub(crate) fn is_version(version: Version) -> bool
     ensures { IsTrue result ↔ IsVersion version }
 {
     is_port(version.a) && is_port(version.b) && is_port(version.c) && is_port(version.d)
 }
 
-fn is_some_version(version: Option<Version>) -> bool
+pub(crate) fn is_some_version(version: Option<Version>) -> bool
     ensures { IsTrue result ↔ IfSome version IsVersion }
 {
     match version {
@@ -181,7 +181,8 @@ fn is_before(file: &LocalFile, other: &LocalFile) -> bool
 
 // Whether they are in order of their names.
 fn are_in_order(files: &[LocalFile]) -> bool
-    ensures { IsTrue result ↔ AllPairs (λ (f g : LocalFile). text_cmp f.name g.name ≡ Less) files.now }
+    ensures { IsTrue result
+        ↔ AllPairs (λ (f g : LocalFile). text_cmp f.name g.name ≡ Less) files.now }
 {
     for place in 1..files.len() {
         if !is_before(&files[place - 1], &files[place]) {

@@ -1,23 +1,24 @@
 // Which changes fit the tables.
-ghost use Rattle.std.specs.Prelude.{◌≡◌, ◌↔◌, ◌+◌, ◌<◌, ◌≤◌, length, List, [], None, IsSome, IsTrue, IfOk, OnErr};
+ghost use Rattle.std.specs.Prelude.{◌≡◌, ◌↔◌, ◌+◌, ◌<◌, ◌≤◌, length, map, List, [], None, IsSome, IsTrue, IfOk, OnErr};
 ghost use Rattle.small_types.specs.declared.limits.TheConstants as limits;
 ghost use Rattle.identity.specs.Version.{IsVersion};
 ghost use Rattle.machine.specs.Entries.{entry_of};
 ghost use Rattle.machine.specs.Fields.{IsShortKey, IsTarget};
-ghost use Rattle.machine.specs.Views.{standing_entries};
-ghost use Rattle.store_state.specs.Change.{Fits, FitsInstall, FitsLaunch, TestsWithMemory};
+ghost use Rattle.manifests.specs.declared.facts.FileEntry.{FileEntry};
+ghost use Rattle.store_state.specs.Change.{Fits, FitsGroup, FitsHeard, FitsInstall, FitsLaunch, FitsSkip, MayGrow, TestsWithMemory};
 ghost use Rattle.store_state.specs.Contents.{Brings};
-ghost use Rattle.store_state.specs.Rows.{current_at, listed_files};
+ghost use Rattle.store_state.specs.Rows.{current_at, listed_files, offer_at};
+ghost use Rattle.store_state.specs.Signs.{entry_sign};
 
-use crate::bringing::{agree, are_measured, standing_signs};
-use crate::fields::{is_row, is_short_key, is_target};
-use crate::sign::{signs_of, sort_signs};
+use crate::bringing::{agree, are_measured, group_signs, standing_signs};
+use crate::fields::{is_row, is_short_key, is_some_version, is_target, is_version};
+use crate::sign::{Sign, signs_of, sort_signs};
 use crate::{Change, Content, StateFault, StoreState, View};
 use identity::{Key, Version};
 use small_types::limits::{
     APPLICATION_LIMIT, FILE_COUNT_LIMIT, LEASE_LIMIT, NUMBER_LIMIT, VIEW_LIMIT,
 };
-use small_types::{List, Target};
+use small_types::{List, Target, Text};
 use std::alloc::Global;
 
 impl StoreState {
@@ -26,8 +27,11 @@ impl StoreState {
     /// an install brings has the next number and manifests that can be read, no group of it stands
     /// yet, and its contents are exactly those that the tables lack; views and their files are not
     /// too many. A launch names the place of an application with a current view, and finds fewer
-    /// than 1,024 leases and a next number below 2 ^ 62; a finish names a lease. It takes memory
-    /// for an install alone.
+    /// than 1,024 leases and a next number below 2 ^ 62; a finish names a lease. What a check heard
+    /// or did not hear is of a key with a current view, at a moment of at most 2 ^ 62, and a skip
+    /// names the place of an application with a current view and an offer. A group comes to a view
+    /// that lists it and in which it does not stand, and its contents are exactly those that the
+    /// tables lack. It takes memory for an install and a group alone.
     pub fn fits(&self, alloc: Global, change: &Change) -> Result<bool, StateFault>
         ensures answer { IfOk result (λ answer. IsTrue answer ↔ Fits self.now change.now) }
         ensures memory { OnErr result (TestsWithMemory change.now) }
@@ -41,8 +45,21 @@ impl StoreState {
                 provider,
                 now,
             } => self.fits_install(alloc, view, contents, provider, *now),
+            Change::Heard {
+                key,
+                version,
+                minimum,
+                now,
+            } => Ok(self.fits_heard(key, *version, *minimum, *now)),
+            Change::Unheard { key } => Ok(self.current(key).is_some()),
+            Change::Skip { app } => Ok(self.fits_skip(*app as usize)),
             Change::Launch { app } => Ok(self.fits_launch(*app as usize)),
             Change::Finish { lease } => Ok(self.lease(*lease).is_some()),
+            Change::Group {
+                view,
+                group,
+                contents,
+            } => self.fits_group(alloc, *view, group, contents),
         }
     }
 
@@ -65,10 +82,38 @@ impl StoreState {
         }
     }
 
+    // Whether a version is offered to the application at the place.
+    fn has_offer(&self, place: usize) -> bool
+        ensures { IsTrue result ↔ IsSome (offer_at place self.now.apps) }
+    {
+        match self.apps.as_slice().get(place) {
+            Some(app) => app.offer.is_some(),
+            None => false,
+        }
+    }
+
+    // Whether the application at the place may skip what is offered.
+    fn fits_skip(&self, place: usize) -> bool
+        ensures { IsTrue result ↔ FitsSkip self.now place }
+    {
+        self.is_installed(place) && self.has_offer(place)
+    }
+
+    // Whether a check of the key may have heard that.
+    fn fits_heard(&self, key: &Key, version: Version, minimum: Option<Version>, now: u64) -> bool
+        ensures { IsTrue result ↔ FitsHeard self.now key.now version minimum now }
+    {
+        self.current(key).is_some()
+            && is_version(version)
+            && is_some_version(minimum)
+            && now <= NUMBER_LIMIT
+    }
+
     // Whether that version may be required of the key.
     fn fits_require(&self, key: &Key, version: Version) -> bool
         ensures { IsTrue result ↔ (IsShortKey key.now × IsVersion version
-            × (entry_of key.now self.now.apps ≡ None → length self.now.apps < limits.APPLICATION_LIMIT)) }
+            × (entry_of key.now self.now.apps ≡ None
+            → length self.now.apps < limits.APPLICATION_LIMIT)) }
     {
         is_short_key(key) && self.has_room(key)
     }
@@ -76,17 +121,20 @@ impl StoreState {
     // Whether the key has an entry, or there is room for one.
     fn has_room(&self, key: &Key) -> bool
         ensures { IsTrue result
-            ↔ (entry_of key.now self.now.apps ≡ None → length self.now.apps < limits.APPLICATION_LIMIT) }
+            ↔ (entry_of key.now self.now.apps ≡ None
+            → length self.now.apps < limits.APPLICATION_LIMIT) }
     {
         self.count() < APPLICATION_LIMIT || self.entry(key).is_some()
     }
 
     // Whether the view finds room and has the next number.
     fn is_next(&self, view: &View, now: u64) -> bool
-        ensures { IsTrue result ↔ ((view.now.number ≡ self.now.next_view) × (self.now.next_view < limits.NUMBER_LIMIT)
+        ensures { IsTrue result ↔ ((view.now.number ≡ self.now.next_view)
+            × (self.now.next_view < limits.NUMBER_LIMIT)
             × (now ≤ limits.NUMBER_LIMIT) × (view.now.groups ≡ [])
             × (length self.now.views < limits.VIEW_LIMIT)
-            × (listed_files self.now.views + length view.now.application.files ≤ limits.FILE_COUNT_LIMIT)) }
+            × (listed_files self.now.views + length view.now.application.files
+            ≤ limits.FILE_COUNT_LIMIT)) }
     {
         view.number == self.next_view
             && self.next_view < NUMBER_LIMIT
@@ -117,27 +165,63 @@ impl StoreState {
         if !is_row(alloc, view)? {
             return Ok(false);
         }
-        self.is_brought(alloc, view, contents.as_slice())
+        let standing = standing_signs(alloc, view)?;
+        self.is_brought(alloc, standing, contents.as_slice())
     }
 
-    // Whether the view brings exactly the contents that its files lack.
-    fn is_brought(
+    // Whether the group may come to the view of that number with the contents.
+    fn fits_group(
+        &self,
+        alloc: Global,
+        number: u64,
+        group: &Text,
+        contents: &List<Content>,
+    ) -> Result<bool, StateFault>
+        ensures { IfOk result (λ answer. IsTrue answer
+            ↔ FitsGroup self.now number group.now contents.now) }
+    {
+        match self.view(number) {
+            Some(view) => self.may_grow(alloc, view, group, contents),
+            None => Ok(false),
+        }
+    }
+
+    // Whether it may come to the view.
+    fn may_grow(
         &self,
         alloc: Global,
         view: &View,
+        group: &Text,
+        contents: &List<Content>,
+    ) -> Result<bool, StateFault>
+        ensures { IfOk result (λ answer. IsTrue answer
+            ↔ MayGrow self.now group.now contents.now view.now) }
+    {
+        if !view.lists_group(group) || view.has_group(group) {
+            return Ok(false);
+        }
+        let standing = group_signs(alloc, view, group)?;
+        self.is_brought(alloc, standing, contents.as_slice())
+    }
+
+    // Whether the contents are exactly those that the tables lack of files with these signs.
+    fn is_brought(
+        &self,
+        alloc: Global,
+        mut files: Vec<Sign>,
         contents: &[Content],
     ) -> Result<bool, StateFault>
-        ensures { IfOk result (λ answer. IsTrue answer ↔ Brings self.now.contents
-            (standing_entries view.now.groups view.now.application) contents.now) }
+        ensures { IfOk result (λ answer. (entries : List FileEntry)
+            → files.items ≡ map entry_sign entries
+            → IsTrue answer ↔ Brings self.now.contents entries contents.now) }
     {
         if !are_measured(contents) {
             return Ok(false);
         }
+        sort_signs(&mut files);
         let mut brought = signs_of(alloc, contents)?;
         sort_signs(&mut brought);
-        let mut standing = standing_signs(alloc, view)?;
-        sort_signs(&mut standing);
-        Ok(agree(self, standing.as_slice(), brought.as_slice()))
+        Ok(agree(self, files.as_slice(), brought.as_slice()))
     }
 }
 

@@ -15,7 +15,7 @@ use std::alloc::Global;
 use std::mem::replace;
 
 // The version, where it is above the installed one.
-fn above(installed: Version, version: Option<Version>) -> Option<Version>
+pub(crate) fn above(installed: Version, version: Option<Version>) -> Option<Version>
     ensures { result ≡ above installed version }
 {
     match version {
@@ -31,7 +31,7 @@ fn above(installed: Version, version: Option<Version>) -> Option<Version>
 }
 
 // The greater of the old minimum and the heard one.
-fn raised_by(heard: Option<Version>, old: Option<Version>) -> Option<Version>
+pub(crate) fn raised_by(heard: Option<Version>, old: Option<Version>) -> Option<Version>
     ensures { result ≡ raised_by heard old }
 {
     match heard {
@@ -149,7 +149,11 @@ pub(crate) fn cut<T: Drop>(alloc: Global, list: &mut List<T>, count: usize)
 }
 
 // Adds all items at the end. An `Err` changes nothing.
-fn append<T: Drop>(alloc: Global, list: &mut List<T>, more: List<T>) -> Result<(), StateFault>
+pub(crate) fn append<T: Drop>(
+    alloc: Global,
+    list: &mut List<T>,
+    more: List<T>,
+) -> Result<(), StateFault>
     ensures ok { OnOk result (list.new ≡ list.old ++ more) }
     ensures err { OnErr result (list.new ≡ list.old) }
 {

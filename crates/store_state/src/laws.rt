@@ -33,6 +33,23 @@ pub fn finishes_show_the_rest()
     ensures { laws.FinishesShowTheRest }
 {}
 
+/// A check leads to tables that show the store with what was heard noted in the entry of its key,
+/// or with a check that counts as made where nothing was heard.
+pub fn checks_show_the_entry()
+    ensures heard { laws.ChecksShowTheEntry }
+    ensures unheard { laws.UnheardChecksShowTheEntry }
+{}
+
+/// A skip leads to tables that show the store in which the offer is skipped.
+pub fn skips_show_the_entry()
+    ensures { laws.SkipsShowTheEntry }
+{}
+
+/// A group that fits leads to tables that show the store in which its files stand.
+pub fn groups_show_the_files()
+    ensures { laws.GroupsShowTheFiles }
+{}
+
 /// What is found in the tables by a name is the file of that name in the view that they show.
 pub fn reads_show_files()
     ensures bytes { laws.ReadsShowFiles }

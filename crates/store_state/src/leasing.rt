@@ -1,17 +1,11 @@
-// What a launch and a finish change in the tables. None of it takes memory.
-ghost use Rattle.std.specs.Prelude.{◌≡◌, ◌<◌, length, slice_set};
-ghost use Rattle.std.specs.List.{HoldsAt};
+// What a launch and a finish change in the leases of the tables. None of it takes memory.
+ghost use Rattle.std.specs.Prelude.{◌≡◌, ◌<◌, length};
 ghost use Rattle.small_types.specs.declared.limits.TheConstants as limits;
-ghost use Rattle.machine.specs.LaunchRow.{started_app};
 ghost use Rattle.machine.specs.Leases.{without_lease};
 ghost use Rattle.store_state.specs.Change.{leased};
-ghost use Rattle.store_state.specs.Rows.{with_app};
 
 use crate::StoreState;
-use machine::{AppState, Lease};
-use small_types::List;
-use std::alloc::Global;
-use std::mem::replace;
+use machine::Lease;
 
 impl StoreState {
     /// Leases the view of that number, and answers the number of the lease, which is the next one.
@@ -34,25 +28,4 @@ impl StoreState {
     {
         self.leases.remove(number);
     }
-
-    /// The application at the place is not checked from then on. There is one at the place.
-    pub fn clear_checked(&mut self, place: usize)
-        requires { place < length self.old.apps }
-        ensures { self.new ≡ record self.old { apps = with_app place started_app self.old.apps } }
-    {
-        let alloc = *self.index.allocator();
-        start_at(alloc, &mut self.apps, place);
-    }
-}
-
-// The application at the place is not checked from then on.
-fn start_at(alloc: Global, apps: &mut List<AppState>, place: usize)
-    requires { place < length apps.old }
-    ensures { HoldsAt (λ app. apps.new ≡ slice_set apps.old place (started_app app))
-        apps.old place }
-{
-    let mut items = replace(apps, List::from_vec(Vec::new(alloc))).into_vec();
-    let app = &mut items[place];
-    app.checked = false;
-    *apps = List::from_vec(items);
 }

@@ -9,11 +9,13 @@ mod entries;
 mod fields;
 mod finding;
 mod fitting;
+mod grouping;
 mod installing;
 mod laws;
 mod lease_list;
 mod leasing;
 mod names;
+mod noting;
 mod numbers;
 mod reading;
 mod sign;
@@ -23,9 +25,10 @@ mod views;
 
 pub use change::Change;
 pub use laws::{
-    changes_show_ordered_stores, finishes_show_the_rest, installs_show_the_view,
-    launches_show_the_lease, one_store_is_shown, reads_show_files, shapes_are_shown,
+    changes_show_ordered_stores, checks_show_the_entry, finishes_show_the_rest,
+    groups_show_the_files, installs_show_the_view, launches_show_the_lease, one_store_is_shown,
+    reads_show_files, shapes_are_shown, skips_show_the_entry,
 };
 pub use lease_list::LeaseList;
 pub use state::{StateFault, StoreState};
-pub use view::{Content, LocalFile, View};
+pub use view::{Content, LocalFile, View, is_in_group};

@@ -5,9 +5,9 @@ ghost use Rattle.small_types.specs.declared.limits.TheConstants as limits;
 ghost use Rattle.machine.specs.Blocks.{free_blocks, used_blocks};
 ghost use Rattle.machine.specs.Current.{current_bare};
 ghost use Rattle.machine.specs.Entries.{entry_of};
-ghost use Rattle.machine.specs.Leases.{lease_of};
+ghost use Rattle.machine.specs.Leases.{lease_of, leased_bare};
 ghost use Rattle.store_state.specs.Kept.{AreTables};
-ghost use Rattle.store_state.specs.Rows.{current_row, listed_files, row_at};
+ghost use Rattle.store_state.specs.Rows.{current_row, leased_row, listed_files, row_at};
 ghost use Rattle.store_state.specs.Tables.{bare_row, table_shape};
 
 use crate::contents::sum_blocks;
@@ -19,8 +19,8 @@ use identity::Key;
 use machine::{AppState, Lease};
 
 impl StoreState {
-    /// The tables are in their order and within their limits, and their contents are those of the
-    /// program files that stand.
+    /// The tables are in their order and within their limits, the applications of their views are
+    /// what manifests can say, and their contents are those of the program files that stand.
     pub fn are_tables(&self)
         ensures { AreTables self.now }
     {
@@ -90,6 +90,25 @@ impl StoreState {
             ≡ current_bare key.now (table_shape blocks self.now) }
     {
         self.current_row(key)
+    }
+
+    /// The view that the lease of that number names, where there is one.
+    pub fn leased(&self, number: u64) -> Option<&View>
+        ensures row { option_copied result ≡ leased_row number self.now }
+        ensures bare { (blocks : ℕ) → option_map bare_row (option_copied result)
+            ≡ leased_bare number (table_shape blocks self.now) }
+    {
+        self.leased_row(number)
+    }
+
+    // The view that the lease names.
+    fn leased_row(&self, number: u64) -> Option<&View>
+        ensures { option_copied result ≡ leased_row number self.now }
+    {
+        let Some(lease) = self.lease(number) else {
+            return None;
+        };
+        self.view(lease.view)
     }
 
     // The view that is current for the key.

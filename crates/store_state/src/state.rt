@@ -129,7 +129,7 @@ impl StoreState {
     }
 
     /// Makes a change that fits the tables and is neither a launch nor a finish. It takes memory
-    /// only for a new entry and for an install, fails only for want of it, and then changes
+    /// only for a new entry, an install and a group, fails only for want of it, and then changes
     /// nothing.
     pub fn apply(&mut self, alloc: Global, change: Change) -> Result<(), StateFault>
         requires fits { Fits self.old change }
@@ -150,6 +150,28 @@ impl StoreState {
                 provider,
                 now,
             } => self.install(alloc, view, contents, provider, now),
+            Change::Heard {
+                key,
+                version,
+                minimum,
+                now,
+            } => {
+                self.hear(&key, version, minimum, now);
+                Ok(())
+            }
+            Change::Unheard { key } => {
+                self.miss(&key);
+                Ok(())
+            }
+            Change::Skip { app } => {
+                self.skip(app as usize);
+                Ok(())
+            }
+            Change::Group {
+                view,
+                group,
+                contents,
+            } => self.add_group(alloc, view, group, contents),
             Change::Launch { .. } | Change::Finish { .. } => unreachable!(),
         }
     }
@@ -167,8 +189,10 @@ impl StoreState {
     // Raises the minimum of the application, which has an entry from then on. An `Err` changes
     // nothing.
     fn require(&mut self, alloc: Global, key: Key, version: Version) -> Result<(), StateFault>
-        requires { entry_of key self.old.apps ≡ None → length self.old.apps < limits.APPLICATION_LIMIT }
-        ensures ok { OnOk result (self.new ≡ record self.old { apps = required key version self.old.apps }) }
+        requires { entry_of key self.old.apps ≡ None
+            → length self.old.apps < limits.APPLICATION_LIMIT }
+        ensures ok { OnOk result (self.new
+            ≡ record self.old { apps = required key version self.old.apps }) }
         ensures err { OnErr result (self.new ≡ self.old) }
         ensures memory { OnErr result (entry_of key self.old.apps ≡ None) }
     {
@@ -197,7 +221,8 @@ impl StoreState {
         now: u64,
     ) -> Result<(), StateFault>
         requires { Fits self.old (change.Install view contents provider now) }
-        ensures ok { OnOk result (self.new ≡ effect (change.Install view contents provider now) self.old) }
+        ensures ok { OnOk result (self.new
+            ≡ effect (change.Install view contents provider now) self.old) }
         ensures err { OnErr result (self.new ≡ self.old) }
     {
         let count = self.views.as_slice().len();

@@ -1,6 +1,11 @@
 // What the tables have of views and of their files.
+ghost use Rattle.std.specs.Prelude.{◌≡◌, ◌≢◌, ◌↔◌, [], List, IsTrue, bytes_eq};
+ghost use Rattle.std.specs.List.{list_any};
+ghost use Rattle.manifests.specs.declared.facts.FileEntry.{FileEntry};
+ghost use Rattle.machine.specs.Groups.{group_files, group_stands, is_in};
+
 use digest_list::DigestList;
-use manifests::{Application, Deployment};
+use manifests::{Application, Deployment, FileEntry};
 use small_types::{Bytes, List, Name, Target, Text};
 
 /// The bytes that program files of one size and one list of digests share.
@@ -33,4 +38,52 @@ pub struct View {
     pub groups: List<Text>,
     /// The data files, in order of their names.
     pub locals: List<LocalFile>,
+}
+
+impl View {
+    /// Whether the group stands.
+    pub fn has_group(&self, group: &Text) -> bool
+        ensures { result ≡ group_stands group.now self.now.groups }
+    {
+        is_one_of(self.groups.as_slice(), group)
+    }
+
+    /// Whether the application lists a program file of the group.
+    pub fn lists_group(&self, group: &Text) -> bool
+        ensures { IsTrue result
+            ↔ ◌≢◌ {A = List FileEntry} (group_files group.now self.now.application) [] }
+    {
+        is_listed(self.application.files.as_slice(), group)
+    }
+}
+
+/// Whether the file is a program file of the group.
+pub fn is_in_group(entry: &FileEntry, group: &Text) -> bool
+    ensures { result ≡ is_in group.now entry.now }
+{
+    match &entry.group {
+        Some(other) => !entry.local && is_text(other, group),
+        None => false,
+    }
+}
+
+// Whether one of the files is.
+fn is_listed(files: &[FileEntry], group: &Text) -> bool
+    ensures { result ≡ list_any (is_in group.now) files.now }
+{
+    files.iter().any(|entry| is_in_group(entry, group))
+}
+
+// Whether the texts are equal.
+fn is_text(text: &Text, other: &Text) -> bool
+    ensures { result ≡ bytes_eq text.now other.now }
+{
+    text.as_bytes() == other.as_bytes()
+}
+
+// Whether the group is among them.
+pub(crate) fn is_one_of(groups: &[Text], group: &Text) -> bool
+    ensures { result ≡ list_any (bytes_eq group.now) groups.now }
+{
+    groups.iter().any(|other| is_text(group, other))
 }

@@ -67,7 +67,8 @@ fn add_blocks(sum: u64, files: &[LocalFile]) -> u64
 // The sum and the blocks of all data files of the views, as far as a number goes.
 pub(crate) fn add_views(sum: u64, views: &[View]) -> u64
     ensures { result
-        ≡ min (sum + sum_by (λ file. blocks_of file.length) (flat_map (λ view. view.locals) views.now)) (2 ^ 64 - 1) }
+        ≡ min (sum + sum_by (λ file. blocks_of file.length)
+        (flat_map (λ view. view.locals) views.now)) (2 ^ 64 - 1) }
 {
     let mut total = sum;
     for view in views {

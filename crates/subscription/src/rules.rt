@@ -57,7 +57,8 @@ fn checks_first(rule: Rule) -> bool
     }
 }
 
-// Whether no check has succeeded, the last one was so many seconds ago, or the moment lies before it.
+// Whether no check has succeeded, the last one was so many seconds ago, or the moment lies before
+// it.
 fn is_old(seconds: u64, last: Option<u64>, now: u64) -> bool
     ensures { result ≡ is_old seconds last now }
 {
@@ -77,7 +78,8 @@ fn is_check_due(rule: Rule, last: Option<u64>, now: u64) -> bool
     }
 }
 
-// What stands before a start of that version, by its rule and what is known of its application: the first that applies.
+// What stands before a start of that version, by its rule and what is known of its application: the
+// first that applies.
 fn due_of(version: Version, rule: Rule, app: &AppState, now: u64) -> Due
     ensures { result ≡ due_of version rule app.now now }
 {

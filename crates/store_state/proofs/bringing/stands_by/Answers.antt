@@ -4,4 +4,4 @@ use Rattle.machine.specs.Views.{stands_by}
 use Rattle.store_state.proofs.bringing.stands_by.Goals as goal
 
 pub returns-in-Some : goal.returns-in-Some
-returns-in-Some c = c.is_group.ensures ∙ sym (ap (λ (group : Option (List ℕ)). stands_by c.args.groups.now group) c.in-Some.is)
+returns-in-Some c = c.is_one_of.ensures ∙ sym (ap (λ (group : Option (List ℕ)). stands_by c.args.groups.now group) c.in-Some.is)

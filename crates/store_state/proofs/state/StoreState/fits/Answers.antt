@@ -11,3 +11,6 @@ returns-in-Install-clause-answer c = rw c.in-Install.is c.fits_install.ensures
 
 pub returns-in-Install-clause-memory : goal.returns-in-Install-clause-memory
 returns-in-Install-clause-memory c = after c.fits_install.result (rw c.in-Install.is tt)
+
+pub returns-in-Group-clause-answer : goal.returns-in-Group-clause-answer
+returns-in-Group-clause-answer c = rw c.in-Group.is c.fits_group.ensures

@@ -1,12 +1,13 @@
-use Rattle.std.proofs.Common.{◌∙◌, ◌<◌, ◌≤◌, List, ap, arith, length, refl, subst, sym}
+use Rattle.std.proofs.Common.{◌∙◌, ◌<◌, ◌≤◌, List, ap, arith, length, subst, sym}
 use Rattle.small_types.specs.declared.limits.TheConstants.{APPLICATION_LIMIT}
 use Rattle.machine.specs.declared.app.AppState.{AppState}
-use Rattle.machine.specs.LaunchRow.{started_app}
+use Rattle.store_state.specs.Notes.{noted}
 use Rattle.store_state.specs.Rows.{with_app}
 use Rattle.store_state.specs.Tables.{Tables}
+use Rattle.store_state.proofs.Checking.{noted_keys}
 use Rattle.store_state.proofs.Holding.{with_apps}
 use Rattle.store_state.proofs.Placed.{changed_is, changed_long, changed_order, changed_texts}
-use Rattle.store_state.proofs.state.StoreState.clear_checked.Goals as goal
+use Rattle.store_state.proofs.state.StoreState.note.Goals as goal
 
 -- the entry keeps its key
 pub invariant_of-self : goal.invariant_of-self
@@ -15,13 +16,13 @@ invariant_of-self c =
     let order = c.self.invariant.1.order in
     let within : c.args.place < length apps = subst (λ (t : Tables). c.args.place < length t.apps)
     (sym c.self.view_is) c.requires in
-    let long = changed_long started_app (λ app. refl) c.args.place apps c.start_at.new.apps order
-    within c.start_at.ensures in
-    let few : length c.start_at.new.apps ≤ APPLICATION_LIMIT =
+    let long = changed_long (noted c.args.note) (noted_keys c.args.note) c.args.place apps c.note_at.new.apps order
+    within c.note_at.ensures in
+    let few : length c.note_at.new.apps ≤ APPLICATION_LIMIT =
     omega (arith, long, c.self.invariant.1.few_apps) in (
       c.self.invariant.0
-          ∙ sym (changed_texts started_app (λ app. refl) c.args.place apps c.start_at.new.apps order
-          within c.start_at.ensures),
+          ∙ sym (changed_texts (noted c.args.note) (noted_keys c.args.note) c.args.place apps c.note_at.new.apps order
+          within c.note_at.ensures),
       with_apps (record {
         boot = c.self.inside.boot;
         next_view = c.self.inside.next_view;
@@ -30,9 +31,9 @@ invariant_of-self c =
         views = c.self.inside.views;
         apps = c.self.inside.apps;
         contents = c.self.inside.contents;
-      }) c.start_at.new.apps c.self.invariant.1
-          (changed_order started_app (λ app. refl) c.args.place apps c.start_at.new.apps order
-          within c.start_at.ensures) few,
+      }) c.note_at.new.apps c.self.invariant.1
+          (changed_order (noted c.args.note) (noted_keys c.args.note) c.args.place apps c.note_at.new.apps order
+          within c.note_at.ensures) few,
       c.self.invariant.2,
       c.self.invariant.3,
     )
@@ -41,8 +42,8 @@ pub returns : goal.returns
 returns c =
     let within : c.args.place < length c.self.inside.apps =
     subst (λ (t : Tables). c.args.place < length t.apps) (sym c.self.view_is) c.requires in
-    let is = changed_is started_app (λ app. refl) c.args.place c.self.inside.apps
-    c.start_at.new.apps c.self.invariant.1.order within c.start_at.ensures in
+    let is = changed_is (noted c.args.note) (noted_keys c.args.note) c.args.place c.self.inside.apps
+    c.note_at.new.apps c.self.invariant.1.order within c.note_at.ensures in
     ap (λ (xs : List AppState). record {
       boot = c.self.inside.boot;
       next_view = c.self.inside.next_view;
@@ -52,5 +53,5 @@ returns c =
       apps = xs;
       contents = c.self.inside.contents;
     }) is
-    ∙ ap (λ (t : Tables). record t { apps = with_app c.args.place started_app t.apps })
+    ∙ ap (λ (t : Tables). record t { apps = with_app c.args.place (noted c.args.note) t.apps })
     c.self.view_is
