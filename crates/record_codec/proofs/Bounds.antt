@@ -19,17 +19,17 @@ use Rattle.manifests.specs.declared.facts.Rule.{Rule}
 use Rattle.manifests.specs.declared.facts.Rule.TheVariants.{Never, Before, Age}
 use Rattle.machine.specs.Fields.{IsShort, IsShortKey, IsTarget}
 use Rattle.store_state.specs.declared.change.Change.{Change}
-use Rattle.store_state.specs.declared.change.Change.TheVariants.{Boot, Require, Install, Launch, Finish}
+use Rattle.store_state.specs.declared.change.Change.TheVariants.{Boot, Require, Install, Heard, Unheard, Skip, Launch, Finish, Group}
 use Rattle.store_state.specs.declared.view.Content.{Content}
 use Rattle.store_state.specs.declared.view.LocalFile.{LocalFile}
 use Rattle.store_state.specs.declared.view.View.{View}
-use Rattle.record_codec.specs.Codec.{change_text, install_text, IsChange, length_limit}
+use Rattle.record_codec.specs.Codec.{change_text, group_text, heard_text, install_text, IsChange, length_limit}
 use Rattle.record_codec.specs.Fields.{text_field, key_field, version_field}
 use Rattle.record_codec.specs.Spelling.{application_field, content_field, deployment_field, digest_field, entry_field, identity_field, list_field, listed_field, local_field, option_field, rule_field, target_field, terms_field, truth_field, view_field}
-use Rattle.record_codec.specs.Values.{AreDigests, IsApplication, IsContent, IsDeployment, IsEntry, IsIdentity, IsInstall, IsLocal, IsView}
+use Rattle.record_codec.specs.Values.{AreDigests, IsApplication, IsContent, IsDeployment, IsEntry, IsGroup, IsHeard, IsIdentity, IsInstall, IsLocal, IsView}
 use Rattle.record_codec.proofs.Long.{length-text_field, length-list_field, length-key_field, length-version_field, length-truth_field}
 use Rattle.record_codec.proofs.Sizes.{digest_le, name_le}
-use Rattle.record_codec.proofs.Written.{length-change_text_boot, length-change_text_require, length-change_text_launch, length-change_text_finish}
+use Rattle.record_codec.proofs.Written.{length-change_text_boot, length-change_text_require, length-change_text_unheard, length-change_text_skip, length-change_text_launch, length-change_text_finish}
 
 -- ---- lists and options
 
@@ -270,6 +270,40 @@ install_le v contents provider now is =
       length-append p n,
     )
 
+heard_le : (key : Key) (version : Version) (minimum : Option Version) (now : ℕ)
+    → IsHeard key version minimum now → length (heard_text key version minimum now) ≤ 474
+unfolding heard_text
+heard_le key version minimum now is =
+    let k = key_field key in
+    let v = version_field version in
+    let m = option_field version_field minimum in
+    let n = to_be_bytes w64 now in
+    omega (
+      arith,
+      key_le key is.key,
+      length-version_field version,
+      option_le version_field _ 8 minimum (λ least fits. version_le least) is.minimum,
+      length-append k (v ++ (m ++ n)),
+      length-append v (m ++ n),
+      length-append m n,
+    )
+
+group_le : (view : ℕ) (group : List ℕ) (contents : List Content) → IsGroup view group contents
+    → length (group_text view group contents) ≤ 2 ^ 48
+unfolding group_text
+group_le view group contents is =
+    let v = to_be_bytes w64 view in
+    let g = text_field group in
+    let c = list_field content_field contents in
+    omega (
+      arith,
+      text_le NAME_LIMIT group is.group,
+      list_le content_field IsContent 4294967863 FILE_COUNT_LIMIT contents content_le is.few
+          is.contents,
+      length-append v (g ++ c),
+      length-append g c,
+    )
+
 -- ---- changes
 
 pub change_le : (change : Change) → IsChange change
@@ -279,13 +313,32 @@ change_le (Boot boot) is = omega (arith, length-change_text_boot boot)
 change_le (Require key version) is =
     omega (arith, length-change_text_require key version, key_le key is.0)
 change_le (Install view contents provider now) is = install_le view contents provider now is
+change_le (Heard key version minimum now) is = heard_le key version minimum now is
+change_le (Unheard key) is = omega (arith, length-change_text_unheard key, key_le key is)
+change_le (Skip app) is = omega (arith, length-change_text_skip app)
 change_le (Launch app) is = omega (arith, length-change_text_launch app)
 change_le (Finish lease) is = omega (arith, length-change_text_finish lease)
+change_le (Group view group contents) is = group_le view group contents is
 
 pub installed_le : {change : Change} {view : View} {contents : List Content} {provider : Target}
     {now : ℕ} → change ≡ Install view contents provider now → IsChange change
     → length (change_text change) ≤ 2 ^ 48
 installed_le {change} is fits =
+    let most = change_le change fits in
+    let limit : length_limit change ≡ 2 ^ 48 = ap length_limit is in
+    omega arith
+
+pub heard_within : {change : Change} {key : Key} {version : Version} {minimum : Option Version}
+    {now : ℕ} → change ≡ Heard key version minimum now → IsChange change
+    → length (change_text change) ≤ 474
+heard_within {change} is fits =
+    let most = change_le change fits in
+    let limit : length_limit change ≡ 474 = ap length_limit is in
+    omega arith
+
+pub grouped_within : {change : Change} {view : ℕ} {group : List ℕ} {contents : List Content}
+    → change ≡ Group view group contents → IsChange change → length (change_text change) ≤ 2 ^ 48
+grouped_within {change} is fits =
     let most = change_le change fits in
     let limit : length_limit change ≡ 2 ^ 48 = ap length_limit is in
     omega arith

@@ -1,32 +1,35 @@
 -- What is read is spelled so, and what is spelled so is read.
-use Rattle.std.proofs.Common.{◌≡◌, ◌≢◌, ℕ, ◌+◌, ◌^◌, ◌≤◌, cond, eqb, List, [], ◌∷◌, ◌++◌, length, drop, Result, Ok, Err, refl, sym, ap, subst, ◌∙◌, arith, inl, inr}
+use Rattle.std.proofs.Common.{◌≡◌, ◌≢◌, ℕ, ◌+◌, ◌^◌, ◌≤◌, cond, eqb, List, [], ◌∷◌, ◌++◌, length, drop, Option, Result, Ok, Err, refl, sym, ap, subst, ◌∙◌, arith, inl, inr}
 use Rattle.std.specs.Prelude.{IfOk}
 use Rattle.std.specs.Int.{w32, w64, to_be_bytes}
 use Rattle.std.proofs.lemmas.Bool.{cases_Bool, eqb-true, eq-eqb}
 use Rattle.std.proofs.lemmas.List.{append-nil}
-use Rattle.small_types.specs.declared.limits.TheConstants.{FILE_COUNT_LIMIT}
+use Rattle.small_types.specs.declared.limits.TheConstants.{FILE_COUNT_LIMIT, NAME_LIMIT}
 use Rattle.small_types.specs.declared.target.Target.{Target}
 use Rattle.small_types.specs.Reading.{◌>>=◌}
+use Rattle.identity.specs.declared.key.Key.{Key}
+use Rattle.identity.specs.declared.version.Version.{Version}
+use Rattle.machine.specs.Fields.{IsShortKey}
 use Rattle.store_state.specs.declared.change.Change.{Change}
-use Rattle.store_state.specs.declared.change.Change.TheVariants.{Boot, Require, Install, Launch, Finish}
+use Rattle.store_state.specs.declared.change.Change.TheVariants.{Boot, Require, Install, Heard, Unheard, Skip, Launch, Finish, Group}
 use Rattle.store_state.specs.declared.view.Content.{Content}
 use Rattle.store_state.specs.declared.view.View.{View}
 use Rattle.record_codec.specs.declared.fault.CodecFault.{CodecFault}
 use Rattle.record_codec.specs.declared.fault.CodecFault.TheVariants.{Bad}
-use Rattle.record_codec.specs.Codec.{change_text, install_text, IsChange}
-use Rattle.record_codec.specs.Fields.{key_field, version_field}
+use Rattle.record_codec.specs.Codec.{change_text, group_text, heard_text, install_text, IsChange}
+use Rattle.record_codec.specs.Fields.{key_field, text_field, version_field}
 use Rattle.record_codec.specs.Places.{Stands}
-use Rattle.record_codec.specs.Reading.{Gives, number_at, key_at, version_at}
-use Rattle.record_codec.specs.Parts.{Reader, list_at, target_at}
+use Rattle.record_codec.specs.Reading.{Gives, number_at, text_at, key_at, version_at}
+use Rattle.record_codec.specs.Parts.{Reader, list_at, option_at, target_at}
 use Rattle.record_codec.specs.Records.{content_at, view_at}
-use Rattle.record_codec.specs.Changes.{boot_at, require_at, install_at, launch_at, finish_at, change_at, change_of}
-use Rattle.record_codec.specs.Spelling.{content_field, list_field, target_field, view_field}
-use Rattle.record_codec.specs.Values.{IsInstall}
-use Rattle.record_codec.proofs.Fields.{bind_ok, ok_is, passed_test, IsBytes, Stands-then, Stands-first, Stands-second, wide32, wide64, number_takes, number_again}
+use Rattle.record_codec.specs.Changes.{boot_at, require_at, install_at, heard_at, unheard_at, skip_at, launch_at, finish_at, group_at, change_at, change_of}
+use Rattle.record_codec.specs.Spelling.{content_field, list_field, option_field, target_field, view_field}
+use Rattle.record_codec.specs.Values.{IsGroup, IsHeard, IsInstall}
+use Rattle.record_codec.proofs.Fields.{bind_ok, ok_is, passed_test, IsBytes, Stands-then, Stands-first, Stands-second, wide32, wide64, number_takes, number_again, text_takes, text_again}
 use Rattle.record_codec.proofs.Keys.{Stands-four, four_stand, key_takes, key_again, version_takes, version_again}
-use Rattle.record_codec.proofs.Lists.{list_reads}
+use Rattle.record_codec.proofs.Lists.{list_reads, option_reads}
 use Rattle.record_codec.proofs.Records.{content_reads, number64_reads, view_reads}
-use Rattle.record_codec.proofs.Structs.{target_reads}
+use Rattle.record_codec.proofs.Structs.{target_reads, version_reads}
 
 -- ---- changes
 
@@ -83,6 +86,62 @@ install_again rest view contents provider now next is stands =
     let four = four_stand bytes (view_field view) (list_field content_field contents) (target_field provider) (to_be_bytes w64 now) 1 next stands in
     rw (view_reads.again bytes 1 view _ is.view four.first, (list_reads content_reads FILE_COUNT_LIMIT (omega arith)).again bytes _ contents _ (is.few, is.contents) four.second, target_reads.again bytes _ provider _ is.provider four.third, number64_reads.again bytes _ now next is.now four.fourth) refl
 
+heard_takes : (rest : List ℕ) (x : Change × ℕ) → IsBytes (3 ∷ rest) → heard_at (3 ∷ rest) 1 ≡ Ok x
+    → Takes (3 ∷ rest) x
+unfolding heard_at change_text heard_text
+heard_takes rest x fits e =
+    let bytes : List ℕ = 3 ∷ rest in
+    let a = bind_ok (key_at bytes 1) (λ key. version_at bytes key.1 >>= λ version. option_at version_at bytes version.1 >>= λ minimum. number_at w64 bytes minimum.1 >>= λ now. Ok (Heard key.0 version.0 minimum.0 now.0, now.1)) x e in
+    let b = bind_ok (version_at bytes a.0.1) (λ version. option_at version_at bytes version.1 >>= λ minimum. number_at w64 bytes minimum.1 >>= λ now. Ok (Heard a.0.0 version.0 minimum.0 now.0, now.1)) x a.2 in
+    let c = bind_ok (option_at version_at bytes b.0.1) (λ minimum. number_at w64 bytes minimum.1 >>= λ now. Ok (Heard a.0.0 b.0.0 minimum.0 now.0, now.1)) x b.2 in
+    let d = bind_ok (number_at w64 bytes c.0.1) (λ now. Ok (Heard a.0.0 b.0.0 c.0.0 now.0, now.1)) x c.2 in
+    let ta = key_takes bytes 1 a.0 fits (omega arith) a.1 in
+    let tb = version_takes bytes a.0.1 b.0 fits ta.0.within b.1 in
+    let tc = (option_reads version_reads).takes bytes b.0.1 c.0 fits tb.0.within c.1 in
+    let td = number64_reads.takes bytes c.0.1 d.0 fits tc.0.within d.1 in
+    let made : Change × ℕ = (Heard a.0.0 b.0.0 c.0.0 d.0.0, d.0.1) in
+    let key = key_field a.0.0 in
+    let version = version_field b.0.0 in
+    let minimum = option_field version_field c.0.0 in
+    let now = to_be_bytes w64 d.0.0 in
+    let fields = Stands-four bytes key version minimum now 1 a.0.1 b.0.1 c.0.1 d.0.1 ta.0 tb.0 tc.0 td.0 in
+    let within : IsHeard a.0.0 b.0.0 c.0.0 d.0.0 =
+    record { key = ta.1; version = tb.1; minimum = tc.1; now = td.1 } in
+    let stands = Stands-then bytes (3 ∷ []) (key ++ (version ++ (minimum ++ now))) 0 1 d.0.1 (kind_stands 3 rest) fields in
+    subst (λ (y : Change × ℕ). Takes bytes y) (ok_is made x d.2) (stands, within)
+
+heard_again : (rest : List ℕ) (key : Key) (version : Version) (minimum : Option Version) (now next : ℕ)
+    → IsHeard key version minimum now
+    → Stands (3 ∷ rest) 1 (key_field key ++ (version_field version ++ (option_field version_field minimum ++ to_be_bytes w64 now))) next
+    → heard_at (3 ∷ rest) 1 ≡ Ok (Heard key version minimum now, next)
+unfolding heard_at
+heard_again rest key version minimum now next is stands =
+    let bytes : List ℕ = 3 ∷ rest in
+    let four = four_stand bytes (key_field key) (version_field version) (option_field version_field minimum) (to_be_bytes w64 now) 1 next stands in
+    rw (key_again bytes 1 key _ is.key four.first, version_again bytes _ version _ is.version four.second, (option_reads version_reads).again bytes _ minimum _ is.minimum four.third, number64_reads.again bytes _ now next is.now four.fourth) refl
+
+unheard_takes : (rest : List ℕ) (x : Change × ℕ) → IsBytes (4 ∷ rest) → unheard_at (4 ∷ rest) 1 ≡ Ok x
+    → Takes (4 ∷ rest) x
+unfolding unheard_at change_text
+unheard_takes rest x fits e =
+    let key = bind_ok (key_at (4 ∷ rest) 1) (λ key. Ok (Unheard key.0, key.1)) x e in
+    let t = key_takes (4 ∷ rest) 1 key.0 fits (omega arith) key.1 in
+    let made : Change × ℕ = (Unheard key.0.0, key.0.1) in
+    let field = key_field key.0.0 in
+    let stands = Stands-then (4 ∷ rest) (4 ∷ []) field 0 1 key.0.1 (kind_stands 4 rest) t.0 in
+    subst (λ (y : Change × ℕ). Takes (4 ∷ rest) y) (ok_is made x key.2) (stands, t.1)
+
+skip_takes : (rest : List ℕ) (x : Change × ℕ) → IsBytes (5 ∷ rest) → skip_at (5 ∷ rest) 1 ≡ Ok x
+    → Takes (5 ∷ rest) x
+unfolding skip_at change_text
+skip_takes rest x fits e =
+    let app = bind_ok (number_at w32 (5 ∷ rest) 1) (λ app. Ok (Skip app.0, app.1)) x e in
+    let t = number_takes w32 (2 ^ 32) wide32 (5 ∷ rest) 1 app.0 fits (omega arith) app.1 in
+    let made : Change × ℕ = (Skip app.0.0, app.0.1) in
+    let field = to_be_bytes w32 app.0.0 in
+    let stands = Stands-then (5 ∷ rest) (5 ∷ []) field 0 1 app.0.1 (kind_stands 5 rest) t.0 in
+    subst (λ (y : Change × ℕ). Takes (5 ∷ rest) y) (ok_is made x app.2) (stands, t.1)
+
 launch_takes : (rest : List ℕ) (x : Change × ℕ) → IsBytes (7 ∷ rest) → launch_at (7 ∷ rest) 1 ≡ Ok x
     → Takes (7 ∷ rest) x
 unfolding launch_at change_text
@@ -104,6 +163,44 @@ finish_takes rest x fits e =
     let field = to_be_bytes w64 lease.0.0 in
     let stands = Stands-then (8 ∷ rest) (8 ∷ []) field 0 1 lease.0.1 (kind_stands 8 rest) t.0 in
     subst (λ (y : Change × ℕ). Takes (8 ∷ rest) y) (ok_is made x lease.2) (stands, t.1)
+
+group_takes : (rest : List ℕ) (x : Change × ℕ) → IsBytes (9 ∷ rest) → group_at (9 ∷ rest) 1 ≡ Ok x
+    → Takes (9 ∷ rest) x
+unfolding group_at change_text group_text
+group_takes rest x fits e =
+    let bytes : List ℕ = 9 ∷ rest in
+    let a = bind_ok (number_at w64 bytes 1) (λ view. text_at NAME_LIMIT bytes view.1 >>= λ group. list_at FILE_COUNT_LIMIT content_at bytes group.1 >>= λ contents. Ok (Group view.0 group.0 contents.0, contents.1)) x e in
+    let b = bind_ok (text_at NAME_LIMIT bytes a.0.1) (λ group. list_at FILE_COUNT_LIMIT content_at bytes group.1 >>= λ contents. Ok (Group a.0.0 group.0 contents.0, contents.1)) x a.2 in
+    let c = bind_ok (list_at FILE_COUNT_LIMIT content_at bytes b.0.1) (λ contents. Ok (Group a.0.0 b.0.0 contents.0, contents.1)) x b.2 in
+    let ta = number64_reads.takes bytes 1 a.0 fits (omega arith) a.1 in
+    let tb = text_takes NAME_LIMIT bytes a.0.1 b.0 fits ta.0.within b.1 in
+    let tc = (list_reads content_reads FILE_COUNT_LIMIT (omega arith)).takes bytes b.0.1 c.0 fits tb.0.within c.1 in
+    let made : Change × ℕ = (Group a.0.0 b.0.0 c.0.0, c.0.1) in
+    let view = to_be_bytes w64 a.0.0 in
+    let group = text_field b.0.0 in
+    let contents = list_field content_field c.0.0 in
+    let last = Stands-then bytes group contents a.0.1 b.0.1 c.0.1 tb.0 tc.0 in
+    let fields = Stands-then bytes view (group ++ contents) 1 a.0.1 c.0.1 ta.0 last in
+    let within : IsGroup a.0.0 b.0.0 c.0.0 =
+    record { view = ta.1; group = tb.1; few = tc.1.0; contents = tc.1.1 } in
+    let stands = Stands-then bytes (9 ∷ []) (view ++ (group ++ contents)) 0 1 c.0.1 (kind_stands 9 rest) fields in
+    subst (λ (y : Change × ℕ). Takes bytes y) (ok_is made x c.2) (stands, within)
+
+group_again : (rest : List ℕ) (view : ℕ) (group : List ℕ) (contents : List Content) (next : ℕ)
+    → IsGroup view group contents
+    → Stands (9 ∷ rest) 1 (to_be_bytes w64 view ++ (text_field group ++ list_field content_field contents)) next
+    → group_at (9 ∷ rest) 1 ≡ Ok (Group view group contents, next)
+unfolding group_at
+group_again rest view group contents next is stands =
+    let bytes : List ℕ = 9 ∷ rest in
+    let v = to_be_bytes w64 view in
+    let g = text_field group in
+    let c = list_field content_field contents in
+    let first = Stands-first bytes v (g ++ c) 1 next stands in
+    let behind = Stands-second bytes v (g ++ c) 1 next stands in
+    let second = Stands-first bytes g c (1 + length v) next behind in
+    let third = Stands-second bytes g c (1 + length v) next behind in
+    rw (number64_reads.again bytes 1 view _ is.view first, text_again NAME_LIMIT bytes _ group _ (omega arith) is.group second, (list_reads content_reads FILE_COUNT_LIMIT (omega arith)).again bytes _ contents next (is.few, is.contents) third) refl
 
 -- what is read of a kind, and what of any other
 by_kind : (n kind : ℕ) (rest : List ℕ) (f : Reader Change) (others : Result (Change × ℕ) CodecFault)
@@ -127,17 +224,25 @@ change_takes (kind ∷ rest) x fits e =
     by_kind 0 kind rest boot_at _ x (boot_takes rest x)
     (by_kind 1 kind rest require_at _ x (require_takes rest x)
     (by_kind 2 kind rest install_at _ x (install_takes rest x)
+    (by_kind 3 kind rest heard_at _ x (heard_takes rest x)
+    (by_kind 4 kind rest unheard_at _ x (unheard_takes rest x)
+    (by_kind 5 kind rest skip_at _ x (skip_takes rest x)
     (by_kind 7 kind rest launch_at _ x (launch_takes rest x)
-    (by_kind 8 kind rest finish_at _ x (finish_takes rest x) (λ bytes none. absurd cc)))))
+    (by_kind 8 kind rest finish_at _ x (finish_takes rest x)
+    (by_kind 9 kind rest group_at _ x (group_takes rest x) (λ bytes none. absurd cc)))))))))
     fits e
 
 change_again : (bytes : List ℕ) (c : Change) (next : ℕ) → IsChange c → Stands bytes 0 (change_text c) next → change_at bytes ≡ Ok (c, next)
-unfolding change_at boot_at require_at launch_at finish_at change_text install_text
+unfolding change_at boot_at require_at unheard_at skip_at launch_at finish_at change_text install_text heard_text group_text
 change_again [] (Boot boot) next fits stands = absurd (let e = stands.parts in cc)
 change_again [] (Require key version) next fits stands = absurd (let e = stands.parts in cc)
 change_again [] (Install view contents provider now) next fits stands = absurd (let e = stands.parts in cc)
+change_again [] (Heard key version minimum now) next fits stands = absurd (let e = stands.parts in cc)
+change_again [] (Unheard key) next fits stands = absurd (let e = stands.parts in cc)
+change_again [] (Skip app) next fits stands = absurd (let e = stands.parts in cc)
 change_again [] (Launch app) next fits stands = absurd (let e = stands.parts in cc)
 change_again [] (Finish lease) next fits stands = absurd (let e = stands.parts in cc)
+change_again [] (Group view group contents) next fits stands = absurd (let e = stands.parts in cc)
 change_again (kind ∷ rest) (Boot boot) next fits stands =
     let is : kind ≡ 0 = (let e = stands.parts in cc) in
     let field = subst (λ (k : ℕ). Stands (k ∷ rest) 1 (to_be_bytes w64 boot) next) is (Stands-second (kind ∷ rest) (0 ∷ []) (to_be_bytes w64 boot) 0 next stands) in
@@ -153,6 +258,21 @@ change_again (kind ∷ rest) (Install view contents provider now) next fits stan
     let is : kind ≡ 2 = (let e = stands.parts in cc) in
     let behind = subst (λ (k : ℕ). Stands (k ∷ rest) 1 fields next) is (Stands-second (kind ∷ rest) (2 ∷ []) fields 0 next stands) in
     rw is (install_again rest view contents provider now next fits behind)
+change_again (kind ∷ rest) (Heard key version minimum now) next fits stands =
+    let fields = key_field key ++ (version_field version ++ (option_field version_field minimum ++ to_be_bytes w64 now)) in
+    let is : kind ≡ 3 = (let e = stands.parts in cc) in
+    let behind = subst (λ (k : ℕ). Stands (k ∷ rest) 1 fields next) is (Stands-second (kind ∷ rest) (3 ∷ []) fields 0 next stands) in
+    rw is (heard_again rest key version minimum now next fits behind)
+change_again (kind ∷ rest) (Unheard key) next fits stands =
+    let is : kind ≡ 4 = (let e = stands.parts in cc) in
+    let second = Stands-second (kind ∷ rest) (4 ∷ []) (key_field key) 0 next stands in
+    let field = subst (λ (k : ℕ). Stands (k ∷ rest) 1 (key_field key) next) is second in
+    rw (is, key_again (4 ∷ rest) 1 key next fits field) refl
+change_again (kind ∷ rest) (Skip app) next fits stands =
+    let is : kind ≡ 5 = (let e = stands.parts in cc) in
+    let second = Stands-second (kind ∷ rest) (5 ∷ []) (to_be_bytes w32 app) 0 next stands in
+    let field = subst (λ (k : ℕ). Stands (k ∷ rest) 1 (to_be_bytes w32 app) next) is second in
+    rw (is, number_again w32 (2 ^ 32) wide32 (5 ∷ rest) 1 app next fits field) refl
 change_again (kind ∷ rest) (Launch app) next fits stands =
     let is : kind ≡ 7 = (let e = stands.parts in cc) in
     let second = Stands-second (kind ∷ rest) (7 ∷ []) (to_be_bytes w32 app) 0 next stands in
@@ -163,6 +283,11 @@ change_again (kind ∷ rest) (Finish lease) next fits stands =
     let second = Stands-second (kind ∷ rest) (8 ∷ []) (to_be_bytes w64 lease) 0 next stands in
     let field = subst (λ (k : ℕ). Stands (k ∷ rest) 1 (to_be_bytes w64 lease) next) is second in
     rw (is, number_again w64 (2 ^ 64) wide64 (8 ∷ rest) 1 lease next fits field) refl
+change_again (kind ∷ rest) (Group view group contents) next fits stands =
+    let fields = to_be_bytes w64 view ++ (text_field group ++ list_field content_field contents) in
+    let is : kind ≡ 9 = (let e = stands.parts in cc) in
+    let behind = subst (λ (k : ℕ). Stands (k ∷ rest) 1 fields next) is (Stands-second (kind ∷ rest) (9 ∷ []) fields 0 next stands) in
+    rw is (group_again rest view group contents next fits behind)
 
 -- ---- all of the bytes
 

@@ -1,17 +1,17 @@
 -- Fields that are written one behind another.
-use Rattle.std.proofs.Common.{◌≡◌, ℕ, ◌+◌, ◌≤◌, List, [], ◌∷◌, ◌++◌, length, take, drop, refl, sym, ap, ◌∙◌, append_assoc, arith}
+use Rattle.std.proofs.Common.{◌≡◌, ℕ, ◌+◌, ◌≤◌, List, [], ◌∷◌, ◌++◌, length, take, drop, Option, refl, sym, ap, ◌∙◌, append_assoc, arith}
 use Rattle.std.specs.Int.{w32, w64, to_be_bytes}
 use Rattle.std.proofs.lemmas.List.{take_at, drop_at, drop-drop, take-append-drop, length-append, length-take, length-drop}
 use Rattle.small_types.specs.declared.target.Target.{Target}
 use Rattle.identity.specs.declared.version.Version.{Version}
 use Rattle.identity.specs.declared.key.Key.{Key}
 use Rattle.store_state.specs.declared.change.Change.{Change}
-use Rattle.store_state.specs.declared.change.Change.TheVariants.{Boot, Require, Install, Launch, Finish}
+use Rattle.store_state.specs.declared.change.Change.TheVariants.{Boot, Require, Install, Heard, Unheard, Skip, Launch, Finish, Group}
 use Rattle.store_state.specs.declared.view.Content.{Content}
 use Rattle.store_state.specs.declared.view.View.{View}
-use Rattle.record_codec.specs.Codec.{change_text, install_text}
-use Rattle.record_codec.specs.Fields.{key_field, version_field}
-use Rattle.record_codec.specs.Spelling.{content_field, list_field, target_field, view_field}
+use Rattle.record_codec.specs.Codec.{change_text, group_text, heard_text, install_text}
+use Rattle.record_codec.specs.Fields.{key_field, text_field, version_field}
+use Rattle.record_codec.specs.Spelling.{content_field, list_field, option_field, target_field, view_field}
 use Rattle.record_codec.specs.Places.{written, Writes}
 use Rattle.record_codec.proofs.Long.{length-version_field}
 
@@ -97,6 +97,19 @@ pub change_text_install : (view : View) (contents : List Content) (provider : Ta
 unfolding change_text
 change_text_install view contents provider now = refl
 
+pub change_text_heard : (key : Key) (version : Version) (minimum : Option Version) (now : ℕ)
+    → change_text (Heard key version minimum now) ≡ heard_text key version minimum now
+unfolding change_text
+change_text_heard key version minimum now = refl
+
+pub change_text_unheard : (key : Key) → change_text (Unheard key) ≡ (4 ∷ []) ++ key_field key
+unfolding change_text
+change_text_unheard key = refl
+
+pub change_text_skip : (app : ℕ) → change_text (Skip app) ≡ (5 ∷ []) ++ to_be_bytes w32 app
+unfolding change_text
+change_text_skip app = refl
+
 pub change_text_launch : (app : ℕ) → change_text (Launch app) ≡ (7 ∷ []) ++ to_be_bytes w32 app
 unfolding change_text
 change_text_launch app = refl
@@ -104,6 +117,11 @@ change_text_launch app = refl
 pub change_text_finish : (lease : ℕ) → change_text (Finish lease) ≡ (8 ∷ []) ++ to_be_bytes w64 lease
 unfolding change_text
 change_text_finish lease = refl
+
+pub change_text_group : (view : ℕ) (group : List ℕ) (contents : List Content)
+    → change_text (Group view group contents) ≡ group_text view group contents
+unfolding change_text
+change_text_group view group contents = refl
 
 -- ---- how long changes are
 
@@ -114,6 +132,14 @@ length-change_text_boot boot = refl
 pub length-change_text_require : (key : Key) (version : Version) → length (change_text (Require key version)) ≡ 9 + length (key_field key)
 unfolding change_text
 length-change_text_require key version = omega (arith, length-append (key_field key) (version_field version), length-version_field version)
+
+pub length-change_text_unheard : (key : Key) → length (change_text (Unheard key)) ≡ 1 + length (key_field key)
+unfolding change_text
+length-change_text_unheard key = omega arith
+
+pub length-change_text_skip : (app : ℕ) → length (change_text (Skip app)) ≡ 5
+unfolding change_text
+length-change_text_skip app = refl
 
 pub length-change_text_launch : (app : ℕ) → length (change_text (Launch app)) ≡ 5
 unfolding change_text
@@ -154,6 +180,53 @@ length-installed {change} {view} {contents} {list} {provider} {now} other is sam
     ∙ ap (length {A = ℕ}) (sym (change_text_install view contents provider now))
     ∙ sym (ap (λ (c : Change). length (change_text c)) is)
 
+length-heard_text : (key : Key) (version : Version) (minimum : Option Version) (now other : ℕ)
+    → length (heard_text key version minimum now) ≡ length (heard_text key version minimum other)
+unfolding heard_text
+length-heard_text key version minimum now other =
+    let k = key_field key in
+    let v = version_field version in
+    let m = option_field version_field minimum in
+    let n = to_be_bytes w64 now in
+    let o = to_be_bytes w64 other in
+    omega (
+      arith,
+      length-append k (v ++ (m ++ n)),
+      length-append v (m ++ n),
+      length-append m n,
+      length-append k (v ++ (m ++ o)),
+      length-append v (m ++ o),
+      length-append m o,
+    )
+
+pub length-heard : {change : Change} {key : Key} {version : Version} {minimum : Option Version}
+    {now : ℕ} (other : ℕ) → change ≡ Heard key version minimum now
+    → length (heard_text key version minimum other) ≡ length (change_text change)
+length-heard {change} {key} {version} {minimum} {now} other is =
+    length-heard_text key version minimum other now
+    ∙ ap (length {A = ℕ}) (sym (change_text_heard key version minimum now))
+    ∙ sym (ap (λ (c : Change). length (change_text c)) is)
+
+-- the number of the view takes eight bytes, whatever it is
+length-group_text : (view other : ℕ) (group : List ℕ) (contents : List Content)
+    → length (group_text view group contents) ≡ length (group_text other group contents)
+unfolding group_text
+length-group_text view other group contents =
+    let v = to_be_bytes w64 view in
+    let o = to_be_bytes w64 other in
+    let g = text_field group in
+    let c = list_field content_field contents in
+    omega (arith, length-append v (g ++ c), length-append o (g ++ c))
+
+pub length-grouped : {change : Change} {view : ℕ} {group : List ℕ} {contents list : List Content}
+    (other : ℕ) → change ≡ Group view group contents → list ≡ contents
+    → length (group_text other group list) ≡ length (change_text change)
+length-grouped {change} {view} {group} {contents} {list} other is same =
+    ap (λ (l : List Content). length (group_text other group l)) same
+    ∙ length-group_text other view group contents
+    ∙ ap (length {A = ℕ}) (sym (change_text_group view group contents))
+    ∙ sym (ap (λ (c : Change). length (change_text c)) is)
+
 -- ---- room for a change
 
 pub boot_room : (c : Change) (boot room : ℕ) → c ≡ Boot boot → length (change_text c) ≤ room → 9 ≤ room
@@ -161,6 +234,17 @@ boot_room c boot room is enough = let same = ap (λ (x : Change). length (change
 
 pub require_room : (c : Change) (key : Key) (version : Version) (room : ℕ) → c ≡ Require key version → length (change_text c) ≤ room → 9 + length (key_field key) ≤ room
 require_room c key version room is enough = let same = ap (λ (x : Change). length (change_text x)) is in omega (arith, length-change_text_require key version)
+
+pub unheard_room : (c : Change) (key : Key) (room : ℕ) → c ≡ Unheard key → length (change_text c) ≤ room
+    → 1 + length (key_field key) ≤ room
+unheard_room c key room is enough =
+    let same = ap (λ (x : Change). length (change_text x)) is in
+    omega (arith, length-change_text_unheard key)
+
+pub skip_room : (c : Change) (app room : ℕ) → c ≡ Skip app → length (change_text c) ≤ room → 5 ≤ room
+skip_room c app room is enough =
+    let same = ap (λ (x : Change). length (change_text x)) is in
+    omega (arith, length-change_text_skip app)
 
 pub launch_room : (c : Change) (app room : ℕ) → c ≡ Launch app → length (change_text c) ≤ room → 5 ≤ room
 launch_room c app room is enough =

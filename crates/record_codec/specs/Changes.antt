@@ -1,14 +1,14 @@
 -- Reading changes from the left.
 use Rattle.std.specs.Prelude.{ℕ, List, [], ◌∷◌, length, Result, Ok, Err, ◌==◌, if◌then◌else◌}
 use Rattle.std.specs.Int.{w32, w64}
-use Rattle.small_types.specs.declared.limits.TheConstants.{FILE_COUNT_LIMIT}
+use Rattle.small_types.specs.declared.limits.TheConstants.{FILE_COUNT_LIMIT, NAME_LIMIT}
 use Rattle.small_types.specs.Reading.{◌>>=◌}
 use Rattle.store_state.specs.declared.change.Change.{Change}
-use Rattle.store_state.specs.declared.change.Change.TheVariants.{Boot, Require, Install, Launch, Finish}
+use Rattle.store_state.specs.declared.change.Change.TheVariants.{Boot, Require, Install, Heard, Unheard, Skip, Launch, Finish, Group}
 use Rattle.record_codec.specs.declared.fault.CodecFault.{CodecFault}
 use Rattle.record_codec.specs.declared.fault.CodecFault.TheVariants.{Bad}
-use Rattle.record_codec.specs.Reading.{number_at, key_at, version_at}
-use Rattle.record_codec.specs.Parts.{Reader, list_at, target_at}
+use Rattle.record_codec.specs.Reading.{number_at, text_at, key_at, version_at}
+use Rattle.record_codec.specs.Parts.{Reader, list_at, option_at, target_at}
 use Rattle.record_codec.specs.Records.{content_at, view_at}
 
 unfoldable pub boot_at : Reader Change
@@ -30,6 +30,25 @@ install_at bytes place = do
   now ← number_at w64 bytes provider.1
   Ok (Install view.0 contents.0 provider.0 now.0, now.1)
 
+unfoldable pub heard_at : Reader Change
+heard_at bytes place = do
+  key ← key_at bytes place
+  version ← version_at bytes key.1
+  minimum ← option_at version_at bytes version.1
+  now ← number_at w64 bytes minimum.1
+  Ok (Heard key.0 version.0 minimum.0 now.0, now.1)
+
+unfoldable pub unheard_at : Reader Change
+unheard_at bytes place = do
+  key ← key_at bytes place
+  Ok (Unheard key.0, key.1)
+
+-- the place of an application
+unfoldable pub skip_at : Reader Change
+skip_at bytes place = do
+  app ← number_at w32 bytes place
+  Ok (Skip app.0, app.1)
+
 -- the place of an application
 unfoldable pub launch_at : Reader Change
 launch_at bytes place = do
@@ -42,14 +61,26 @@ finish_at bytes place = do
   lease ← number_at w64 bytes place
   Ok (Finish lease.0, lease.1)
 
+-- the number of a view, a group and the contents that it brings
+unfoldable pub group_at : Reader Change
+group_at bytes place = do
+  view ← number_at w64 bytes place
+  group ← text_at NAME_LIMIT bytes view.1
+  contents ← list_at FILE_COUNT_LIMIT content_at bytes group.1
+  Ok (Group view.0 group.0 contents.0, contents.1)
+
 -- what stands behind the number of a kind; no other number is one
 abbrev pub kind_at : ℕ → List ℕ → Result (Change × ℕ) CodecFault
 kind_at kind bytes =
     if kind == 0 then boot_at bytes 1
     else if kind == 1 then require_at bytes 1
     else if kind == 2 then install_at bytes 1
+    else if kind == 3 then heard_at bytes 1
+    else if kind == 4 then unheard_at bytes 1
+    else if kind == 5 then skip_at bytes 1
     else if kind == 7 then launch_at bytes 1
     else if kind == 8 then finish_at bytes 1
+    else if kind == 9 then group_at bytes 1
     else Err (Bad 0)
 
 -- the number of the kind, and the fields

@@ -1,16 +1,18 @@
 -- How changes are spelled as bytes.
-use Rattle.std.specs.Prelude.{◌<◌, ◌^◌, List, ℕ, ◌∷◌, ◌++◌}
+use Rattle.std.specs.Prelude.{◌<◌, ◌^◌, List, ℕ, Option, ◌∷◌, ◌++◌}
 use Rattle.std.specs.Int.{to_be_bytes, w32, w64}
 use Rattle.small_types.specs.declared.target.Target.{Target}
+use Rattle.identity.specs.declared.key.Key.{Key}
+use Rattle.identity.specs.declared.version.Version.{Version}
 use Rattle.identity.specs.Version.{IsVersion}
 use Rattle.machine.specs.Fields.{IsShortKey}
 use Rattle.store_state.specs.declared.change.Change.{Change}
-use Rattle.store_state.specs.declared.change.Change.TheVariants.{Boot, Require, Install, Launch, Finish}
+use Rattle.store_state.specs.declared.change.Change.TheVariants.{Boot, Require, Install, Heard, Unheard, Skip, Launch, Finish, Group}
 use Rattle.store_state.specs.declared.view.Content.{Content}
 use Rattle.store_state.specs.declared.view.View.{View}
-use Rattle.record_codec.specs.Fields.{key_field, version_field}
-use Rattle.record_codec.specs.Spelling.{content_field, list_field, target_field, view_field}
-use Rattle.record_codec.specs.Values.{IsInstall}
+use Rattle.record_codec.specs.Fields.{key_field, text_field, version_field}
+use Rattle.record_codec.specs.Spelling.{content_field, list_field, option_field, target_field, view_field}
+use Rattle.record_codec.specs.Values.{IsGroup, IsHeard, IsInstall}
 
 -- the number of the kind, and the fields
 unfoldable pub install_text : View → List Content → Target → ℕ → List ℕ
@@ -18,26 +20,48 @@ install_text view contents provider now =
     2 ∷ (view_field view ++ (list_field content_field contents
     ++ (target_field provider ++ to_be_bytes w64 now)))
 
+unfoldable pub heard_text : Key → Version → Option Version → ℕ → List ℕ
+heard_text key version minimum now =
+    3 ∷ (key_field key ++ (version_field version
+    ++ (option_field version_field minimum ++ to_be_bytes w64 now)))
+
+unfoldable pub group_text : ℕ → List ℕ → List Content → List ℕ
+group_text view group contents =
+    9 ∷ (to_be_bytes w64 view ++ (text_field group ++ list_field content_field contents))
+
 -- the bytes of a change: the number of its kind, and its fields
 unfoldable pub change_text : Change → List ℕ
 change_text (Boot boot) = 0 ∷ to_be_bytes w64 boot
 change_text (Require key version) = 1 ∷ (key_field key ++ version_field version)
 change_text (Install view contents provider now) = install_text view contents provider now
+change_text (Heard key version minimum now) = heard_text key version minimum now
+change_text (Unheard key) = 4 ∷ key_field key
+change_text (Skip app) = 5 ∷ to_be_bytes w32 app
 change_text (Launch app) = 7 ∷ to_be_bytes w32 app
 change_text (Finish lease) = 8 ∷ to_be_bytes w64 lease
+change_text (Group view group contents) = group_text view group contents
 
--- The fields are within their limits: just such a change has an encoding. A part of a key may be empty, as any text.
+-- The fields are within their limits: just such a change has an encoding. A part of a key may be
+-- empty, as any text.
 abbrev pub IsChange : Change → Type 0
 IsChange (Boot boot) = boot < 2 ^ 64
 IsChange (Require key version) = IsShortKey key × IsVersion version
 IsChange (Install view contents provider now) = IsInstall view contents provider now
+IsChange (Heard key version minimum now) = IsHeard key version minimum now
+IsChange (Unheard key) = IsShortKey key
+IsChange (Skip app) = app < 2 ^ 32
 IsChange (Launch app) = app < 2 ^ 32
 IsChange (Finish lease) = lease < 2 ^ 64
+IsChange (Group view group contents) = IsGroup view group contents
 
 -- the most bytes of an encoding
 abbrev pub length_limit : Change → ℕ
 length_limit (Boot boot) = 9
 length_limit (Require key version) = 457
 length_limit (Install view contents provider now) = 2 ^ 48
+length_limit (Heard key version minimum now) = 474
+length_limit (Unheard key) = 449
+length_limit (Skip app) = 5
 length_limit (Launch app) = 5
 length_limit (Finish lease) = 9
+length_limit (Group view group contents) = 2 ^ 48

@@ -14,4 +14,5 @@ key_field key =
     ++ (text_field key.token ++ (text_field key.language ++ text_field key.architecture))
 
 unfoldable pub version_field : Version → List ℕ
-version_field v = to_be_bytes w16 v.a ++ (to_be_bytes w16 v.b ++ (to_be_bytes w16 v.c ++ to_be_bytes w16 v.d))
+version_field v =
+    to_be_bytes w16 v.a ++ (to_be_bytes w16 v.b ++ (to_be_bytes w16 v.c ++ to_be_bytes w16 v.d))

@@ -1,5 +1,5 @@
--- Reading from the left. A field gives its value and the place behind it, and the fault is the first field that
--- cannot be read, by the place where it begins.
+-- Reading from the left. A field gives its value and the place behind it, and the fault is the
+-- first field that cannot be read, by the place where it begins.
 use Rattle.std.specs.Prelude.{◌≡◌, ℕ, ◌+◌, ◌-◌, ◌≤◌, List, length, take, drop, Result, Ok, Err, nat_lt, nat_le, ◌&&◌, if◌then◌else◌}
 use Rattle.std.specs.Int.{Width, w16, w32, w64, byte_len, from_be_bytes}
 use Rattle.std.specs.Str.{is_utf8}
@@ -34,7 +34,8 @@ number_at w bytes place =
 -- that many bytes, at most the limit, in UTF-8
 abbrev pub sized_at : ℕ → List ℕ → ℕ → ℕ → ℕ → Result (List ℕ × ℕ) CodecFault
 sized_at limit bytes place size start =
-    if nat_le size limit && nat_le size (length bytes - start) && is_utf8 (take size (drop start bytes))
+    if nat_le size limit && nat_le size (length bytes - start)
+    && is_utf8 (take size (drop start bytes))
     then Ok (take size (drop start bytes), start + size)
     else Err (Bad place)
 
@@ -50,7 +51,15 @@ key_at bytes place = do
   token ← text_at IDENTITY_PART_LIMIT bytes name.1
   language ← text_at IDENTITY_PART_LIMIT bytes token.1
   architecture ← text_at IDENTITY_PART_LIMIT bytes language.1
-  Ok (record { name = name.0; token = token.0; language = language.0; architecture = architecture.0 }, architecture.1)
+  Ok (
+    record {
+      name = name.0;
+      token = token.0;
+      language = language.0;
+      architecture = architecture.0;
+    },
+    architecture.1,
+  )
 
 unfoldable pub version_at : List ℕ → ℕ → Result (Version × ℕ) CodecFault
 version_at bytes place = do

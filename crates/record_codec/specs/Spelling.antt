@@ -96,4 +96,5 @@ local_field f = text_field f.name ++ (to_be_bytes w64 f.length ++ text_field f.b
 unfoldable pub view_field : View → List ℕ
 view_field v =
     to_be_bytes w64 v.number ++ (deployment_field v.deployment ++ (application_field v.application
-    ++ (target_field v.base ++ (list_field text_field v.groups ++ list_field local_field v.locals))))
+    ++ (target_field v.base ++ (list_field text_field v.groups
+    ++ list_field local_field v.locals))))

@@ -1,10 +1,12 @@
 -- Which values have an encoding: their texts and lists are within their limits, their numbers
 -- within their widths, and their digests have the lengths of their algorithms.
-use Rattle.std.specs.Prelude.{◌<◌, ◌≤◌, ◌^◌, ℕ, List, All, IfSome, length}
+use Rattle.std.specs.Prelude.{◌<◌, ◌≤◌, ◌^◌, ℕ, List, All, IfSome, Option, length}
 use Rattle.small_types.specs.declared.limits.TheConstants.{FILE_COUNT_LIMIT, IDENTITY_PART_LIMIT, NAME_LIMIT, URL_LIMIT}
 use Rattle.small_types.specs.declared.target.Target.{Target}
 use Rattle.small_types.specs.Name.{IsName}
 use Rattle.identity.specs.declared.identity.Identity.{Identity}
+use Rattle.identity.specs.declared.key.Key.{Key}
+use Rattle.identity.specs.declared.version.Version.{Version}
 use Rattle.identity.specs.Version.{IsVersion}
 use Rattle.digest_list.specs.declared.digest.Digest.{Digest}
 use Rattle.digest_list.specs.Count.{IsCount}
@@ -84,3 +86,17 @@ pub record IsInstall (v : View) (brought : List Content) (from : Target) (moment
   pub contents : All IsContent brought
   pub provider : IsTarget from
   pub now : moment < 2 ^ 64
+
+-- what a check heard
+pub record IsHeard (k : Key) (v : Version) (least : Option Version) (moment : ℕ) : Type 0 where
+  pub key : IsShortKey k
+  pub version : IsVersion v
+  pub minimum : IfSome least IsVersion
+  pub now : moment < 2 ^ 64
+
+-- a group that comes to the view of that number; its name may be empty, as any text
+pub record IsGroup (number : ℕ) (name : List ℕ) (brought : List Content) : Type 0 where
+  pub view : number < 2 ^ 64
+  pub group : IsShort NAME_LIMIT name
+  pub few : length brought ≤ FILE_COUNT_LIMIT
+  pub contents : All IsContent brought

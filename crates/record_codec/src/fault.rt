@@ -5,7 +5,8 @@ use std::alloc::{AllocError, AllocFailed};
 /// Why bytes could not be read.
 #[derive(Clone, Copy, Debug, PartialEq, Eq)]
 pub enum CodecFault {
-    /// They are no encoding: the field that begins at the place cannot be read, or bytes are left over from there on.
+    /// They are no encoding: the field that begins at the place cannot be read, or bytes are left
+    /// over from there on.
     Bad { place: u64 },
     /// There was no memory for what they encode.
     Memory,

@@ -22,8 +22,8 @@ pub(crate) fn read_byte(bytes: &[u8], place: usize) -> Result<(u8, usize), Codec
     }
 }
 
-// The truth value at the place, a byte of 0 or 1, and the place behind it. The fault is at the place, where another
-// byte or none is there.
+// The truth value at the place, a byte of 0 or 1, and the place behind it. The fault is at the
+// place, where another byte or none is there.
 #[tactic(auto, unfolding(crate::specs::Parts::truth_at))]
 pub(crate) fn truth_here(bytes: &[u8], place: usize) -> Result<(bool, usize), CodecFault>
     requires { place ≤ length bytes.now }
@@ -50,8 +50,8 @@ fn read_age(bytes: &[u8], place: usize) -> Result<(Rule, usize), CodecFault>
     Ok((Rule::Age { seconds }, next))
 }
 
-// The rule at the place, the number of its variant and its field, and the place behind it. The fault is at the place,
-// where no variant has the number, or at the field.
+// The rule at the place, the number of its variant and its field, and the place behind it. The
+// fault is at the place, where no variant has the number, or at the field.
 #[tactic(auto, unfolding(crate::specs::Parts::rule_at))]
 pub(crate) fn rule_here(bytes: &[u8], place: usize) -> Result<(Rule, usize), CodecFault>
     requires { place ≤ length bytes.now }

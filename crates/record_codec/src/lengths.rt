@@ -1,12 +1,12 @@
 // How many bytes values take.
 ghost use Rattle.std.specs.Prelude.{◌≡◌, ◌<◌, ◌^◌, length};
-ghost use Rattle.record_codec.specs.Codec.{install_text};
+ghost use Rattle.record_codec.specs.Codec.{group_text, heard_text, install_text};
 ghost use Rattle.record_codec.specs.Fields.{key_field, text_field};
 ghost use Rattle.record_codec.specs.Spelling.{application_field, content_field, deployment_field, digest_field, entry_field, identity_field, list_field, listed_field, local_field, rule_field, target_field, terms_field, view_field};
 
 use crate::item::{list_length, option_length};
 use digest_list::{Digest, DigestList};
-use identity::{Identity, Key};
+use identity::{Identity, Key, Version};
 use manifests::{Application, Deployment, FileEntry, Rule};
 use small_types::{Target, Text};
 use store_state::{Content, LocalFile, View};
@@ -168,4 +168,20 @@ pub(crate) fn install_length(view: &View, contents: &[Content], provider: &Targe
     ensures { result ≡ length (install_text view.now contents.now provider.now 0) }
 {
     1 + view_length(view) + list_length(contents) + target_length(provider) + 8
+}
+
+#[tactic(auto, using(crate::proofs::Long::lengths), unfolding(crate::specs::Codec::heard_text))]
+pub(crate) fn heard_length(key: &Key, version: Version, minimum: &Option<Version>) -> u64
+    requires { length (heard_text key.now version minimum.now 0) < 2 ^ 63 }
+    ensures { result ≡ length (heard_text key.now version minimum.now 0) }
+{
+    1 + key_length(key) + 8 + option_length(minimum) + 8
+}
+
+#[tactic(auto, using(crate::proofs::Long::lengths), unfolding(crate::specs::Codec::group_text))]
+pub(crate) fn group_length(group: &Text, contents: &[Content]) -> u64
+    requires { length (group_text 0 group.now contents.now) < 2 ^ 63 }
+    ensures { result ≡ length (group_text 0 group.now contents.now) }
+{
+    1 + 8 + text_length(group) + list_length(contents)
 }

@@ -3,6 +3,7 @@
 
 mod application_reading;
 mod byte_reading;
+mod change_writing;
 mod deployment_reading;
 mod digest_reading;
 mod fault;

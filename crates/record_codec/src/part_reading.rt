@@ -29,7 +29,8 @@ pub(crate) fn target_here(
     Ok((target, next))
 }
 
-// The identity at the place, and the place behind it. The fault is that of the first field that cannot be read.
+// The identity at the place, and the place behind it. The fault is that of the first field that
+// cannot be read.
 #[tactic(auto, unfolding(crate::specs::Parts::identity_at))]
 pub(crate) fn identity_here(
     alloc: Global,

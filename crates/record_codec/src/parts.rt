@@ -55,9 +55,10 @@ pub fn read_identity(
     place: usize,
 ) -> Result<(Identity, usize), CodecFault>
     requires { place ≤ length bytes.now }
-    ensures found { IfOk result (λ x. Stands bytes.now place (identity_field x.0) x.1 × IsIdentity x.0) }
-    ensures only { (x : Identity) (next : ℕ) → IsIdentity x → Stands bytes.now place (identity_field x) next
-        → Gives result (Ok (x, next)) }
+    ensures found { IfOk result
+        (λ x. Stands bytes.now place (identity_field x.0) x.1 × IsIdentity x.0) }
+    ensures only { (x : Identity) (next : ℕ) → IsIdentity x
+        → Stands bytes.now place (identity_field x) next → Gives result (Ok (x, next)) }
     ensures exact { Gives result (identity_at bytes.now place) }
     ensures next { IfOk result (λ x. x.1 ≤ length bytes.now) }
     ensures fault { IfErr result (IsWithin (length bytes.now)) }
@@ -69,9 +70,10 @@ pub fn read_identity(
 /// The fault is that of the first field that cannot be read.
 pub fn read_target(alloc: Global, bytes: &[u8], place: usize) -> Result<(Target, usize), CodecFault>
     requires { place ≤ length bytes.now }
-    ensures found { IfOk result (λ x. Stands bytes.now place (target_field x.0) x.1 × IsTarget x.0) }
-    ensures only { (x : Target) (next : ℕ) → IsTarget x → Stands bytes.now place (target_field x) next
-        → Gives result (Ok (x, next)) }
+    ensures found { IfOk result
+        (λ x. Stands bytes.now place (target_field x.0) x.1 × IsTarget x.0) }
+    ensures only { (x : Target) (next : ℕ) → IsTarget x
+        → Stands bytes.now place (target_field x) next → Gives result (Ok (x, next)) }
     ensures exact { Gives result (target_at bytes.now place) }
     ensures next { IfOk result (λ x. x.1 ≤ length bytes.now) }
     ensures fault { IfErr result (IsWithin (length bytes.now)) }

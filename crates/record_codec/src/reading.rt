@@ -5,10 +5,11 @@ ghost use Rattle.std.specs.Str.{is_utf8};
 ghost use Rattle.store_state.specs.declared.change.Change.{Change};
 ghost use Rattle.record_codec.specs.Codec.{change_text, IsChange};
 ghost use Rattle.record_codec.specs.Reading.{Gives, IsWithin, number_at, sized_at, text_at, key_at, version_at};
-ghost use Rattle.record_codec.specs.Changes.{boot_at, require_at, install_at, launch_at, finish_at, change_at, change_of};
+ghost use Rattle.record_codec.specs.Changes.{boot_at, require_at, install_at, heard_at, unheard_at, skip_at, launch_at, finish_at, group_at, change_at, change_of};
 
 use crate::CodecFault;
 use crate::list_reading::list_here;
+use crate::option_reading::version_option_here;
 use crate::part_reading::target_here;
 use crate::view_reading::view_here;
 use identity::{Key, Version};
@@ -40,8 +41,8 @@ fn front(bytes: &[u8], place: usize, size: usize) -> Option<&[u8]>
     Some(front)
 }
 
-/// The number in the two bytes at the place, the first the greater, and the place behind them. The fault is at the
-/// place, where fewer are there.
+/// The number in the two bytes at the place, the first the greater, and the place behind them. The
+/// fault is at the place, where fewer are there.
 pub fn read_u16(bytes: &[u8], place: usize) -> Result<(u16, usize), CodecFault>
     requires { place ≤ length bytes.now }
     ensures exact { Gives result (number_at w16 bytes.now place) }
@@ -55,8 +56,8 @@ pub fn read_u16(bytes: &[u8], place: usize) -> Result<(u16, usize), CodecFault>
     Ok((number, place + 2))
 }
 
-/// The number in the four bytes at the place, the first the greatest, and the place behind them. The fault is at the
-/// place, where fewer are there.
+/// The number in the four bytes at the place, the first the greatest, and the place behind them.
+/// The fault is at the place, where fewer are there.
 pub fn read_u32(bytes: &[u8], place: usize) -> Result<(u32, usize), CodecFault>
     requires { place ≤ length bytes.now }
     ensures exact { Gives result (number_at w32 bytes.now place) }
@@ -70,8 +71,8 @@ pub fn read_u32(bytes: &[u8], place: usize) -> Result<(u32, usize), CodecFault>
     Ok((number, place + 4))
 }
 
-/// The number in the eight bytes at the place, the first the greatest, and the place behind them. The fault is at
-/// the place, where fewer are there.
+/// The number in the eight bytes at the place, the first the greatest, and the place behind them.
+/// The fault is at the place, where fewer are there.
 pub fn read_u64(bytes: &[u8], place: usize) -> Result<(u64, usize), CodecFault>
     requires { place ≤ length bytes.now }
     ensures exact { Gives result (number_at w64 bytes.now place) }
@@ -89,7 +90,8 @@ pub fn read_u64(bytes: &[u8], place: usize) -> Result<(u64, usize), CodecFault>
 
 // The bytes as text, where they are UTF-8.
 fn utf8_of(bytes: &[u8]) -> Option<&str>
-    ensures { MatchOption result (is_utf8 bytes.now ≡ false) (λ s. (s.now ≡ bytes.now) × (is_utf8 bytes.now ≡ true)) }
+    ensures { MatchOption result (is_utf8 bytes.now ≡ false)
+        (λ s. (s.now ≡ bytes.now) × (is_utf8 bytes.now ≡ true)) }
 {
     match str::from_utf8(bytes) {
         Ok(text) => Some(text),
@@ -125,8 +127,9 @@ fn sized_text(
     Ok((Text::from_string(text), start + size))
 }
 
-/// The text at the place, behind its length in four bytes, and the place behind it. The fault is at the place, where
-/// the bytes end before the text does, or it has more bytes than the limit or is no UTF-8. An empty text is one.
+/// The text at the place, behind its length in four bytes, and the place behind it. The fault is at
+/// the place, where the bytes end before the text does, or it has more bytes than the limit or is
+/// no UTF-8. An empty text is one.
 #[tactic(auto, unfolding(crate::specs::Reading::text_at))]
 pub fn read_text(
     alloc: Global,
@@ -143,8 +146,8 @@ pub fn read_text(
     sized_text(alloc, bytes, place, limit, size as usize, start)
 }
 
-/// The key at the place, its four parts as texts of at most 240 and 64 bytes, and the place behind it. The fault is
-/// that of the first part that cannot be read.
+/// The key at the place, its four parts as texts of at most 240 and 64 bytes, and the place behind
+/// it. The fault is that of the first part that cannot be read.
 #[tactic(auto, unfolding(crate::specs::Reading::key_at))]
 pub fn read_key(alloc: Global, bytes: &[u8], place: usize) -> Result<(Key, usize), CodecFault>
     requires { place ≤ length bytes.now }
@@ -165,8 +168,8 @@ pub fn read_key(alloc: Global, bytes: &[u8], place: usize) -> Result<(Key, usize
     Ok((key, next))
 }
 
-/// The version at the place, its four numbers in two bytes each, and the place behind it. The fault is that of the
-/// first number that the bytes end before.
+/// The version at the place, its four numbers in two bytes each, and the place behind it. The fault
+/// is that of the first number that the bytes end before.
 #[tactic(auto, unfolding(crate::specs::Reading::version_at))]
 pub fn read_version(bytes: &[u8], place: usize) -> Result<(Version, usize), CodecFault>
     requires { place ≤ length bytes.now }
@@ -228,6 +231,51 @@ fn read_install(alloc: Global, bytes: &[u8], place: usize) -> Result<(Change, us
     Ok((change, next))
 }
 
+// What a check heard of the key: the version, the least that may run and the moment, at the place.
+#[tactic(auto, unfolding(crate::specs::Changes::heard_at))]
+fn read_heard(alloc: Global, bytes: &[u8], place: usize) -> Result<(Change, usize), CodecFault>
+    requires { place ≤ length bytes.now }
+    ensures exact { Gives result (heard_at bytes.now place) }
+    ensures next { IfOk result (λ x. x.1 ≤ length bytes.now) }
+    ensures fault { IfErr result (IsWithin (length bytes.now)) }
+{
+    let (key, next) = read_key(alloc, bytes, place)?;
+    let (version, next) = read_version(bytes, next)?;
+    let (minimum, next) = version_option_here(bytes, next)?;
+    let (now, next) = read_u64(bytes, next)?;
+    let change = Change::Heard {
+        key,
+        version,
+        minimum,
+        now,
+    };
+    Ok((change, next))
+}
+
+// The key at the place.
+#[tactic(auto, unfolding(crate::specs::Changes::unheard_at))]
+fn read_unheard(alloc: Global, bytes: &[u8], place: usize) -> Result<(Change, usize), CodecFault>
+    requires { place ≤ length bytes.now }
+    ensures exact { Gives result (unheard_at bytes.now place) }
+    ensures next { IfOk result (λ x. x.1 ≤ length bytes.now) }
+    ensures fault { IfErr result (IsWithin (length bytes.now)) }
+{
+    let (key, next) = read_key(alloc, bytes, place)?;
+    Ok((Change::Unheard { key }, next))
+}
+
+// The place of an application, at the place.
+#[tactic(auto, unfolding(crate::specs::Changes::skip_at))]
+fn read_skip(bytes: &[u8], place: usize) -> Result<(Change, usize), CodecFault>
+    requires { place ≤ length bytes.now }
+    ensures exact { Gives result (skip_at bytes.now place) }
+    ensures next { IfOk result (λ x. x.1 ≤ length bytes.now) }
+    ensures fault { IfErr result (IsWithin (length bytes.now)) }
+{
+    let (app, next) = read_u32(bytes, place)?;
+    Ok((Change::Skip { app }, next))
+}
+
 // The place of an application, at the place.
 #[tactic(auto, unfolding(crate::specs::Changes::launch_at))]
 fn read_launch(bytes: &[u8], place: usize) -> Result<(Change, usize), CodecFault>
@@ -252,6 +300,25 @@ fn read_finish(bytes: &[u8], place: usize) -> Result<(Change, usize), CodecFault
     Ok((Change::Finish { lease }, next))
 }
 
+// The number of a view, the group and the contents that it brings, at the place.
+#[tactic(auto, unfolding(crate::specs::Changes::group_at))]
+fn read_group(alloc: Global, bytes: &[u8], place: usize) -> Result<(Change, usize), CodecFault>
+    requires { place ≤ length bytes.now }
+    ensures exact { Gives result (group_at bytes.now place) }
+    ensures next { IfOk result (λ x. x.1 ≤ length bytes.now) }
+    ensures fault { IfErr result (IsWithin (length bytes.now)) }
+{
+    let (view, next) = read_u64(bytes, place)?;
+    let (group, next) = read_text(alloc, bytes, next, NAME_LIMIT)?;
+    let (contents, next) = list_here::<Content>(alloc, bytes, next, FILE_COUNT_LIMIT)?;
+    let change = Change::Group {
+        view,
+        group,
+        contents,
+    };
+    Ok((change, next))
+}
+
 // The change at the front.
 #[tactic(auto, unfolding(crate::specs::Changes::change_at))]
 fn read_change(alloc: Global, bytes: &[u8]) -> Result<(Change, usize), CodecFault>
@@ -263,8 +330,12 @@ fn read_change(alloc: Global, bytes: &[u8]) -> Result<(Change, usize), CodecFaul
         [0, ..] => read_boot(bytes, 1),
         [1, ..] => read_require(alloc, bytes, 1),
         [2, ..] => read_install(alloc, bytes, 1),
+        [3, ..] => read_heard(alloc, bytes, 1),
+        [4, ..] => read_unheard(alloc, bytes, 1),
+        [5, ..] => read_skip(bytes, 1),
         [7, ..] => read_launch(bytes, 1),
         [8, ..] => read_finish(bytes, 1),
+        [9, ..] => read_group(alloc, bytes, 1),
         _ => Err(bad(0)),
     }
 }

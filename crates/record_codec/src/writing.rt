@@ -6,7 +6,8 @@ ghost use Rattle.record_codec.specs.Codec.{change_text, IsChange, length_limit};
 ghost use Rattle.record_codec.specs.Fields.{text_field, key_field, version_field};
 ghost use Rattle.record_codec.specs.Places.{Writes};
 
-use crate::lengths::{install_length, key_length};
+use crate::change_writing::{write_group, write_heard};
+use crate::lengths::{group_length, heard_length, install_length, key_length};
 use crate::view_writing::write_install;
 use identity::{Key, Version};
 use small_types::Text;
@@ -22,7 +23,8 @@ pub(crate) fn put(out: &mut [u8], place: usize, bytes: &[u8]) -> usize
     end
 }
 
-/// Writes the number at the place in two bytes, the first the greater, and answers the place behind them.
+/// Writes the number at the place in two bytes, the first the greater, and answers the place behind
+/// them.
 pub fn write_u16(out: &mut [u8], place: usize, number: u16) -> usize
     requires { place + 2 ≤ length out.old }
     ensures { Writes out.old place (to_be_bytes w16 number) out.new result }
@@ -30,7 +32,8 @@ pub fn write_u16(out: &mut [u8], place: usize, number: u16) -> usize
     put(out, place, &number.to_be_bytes())
 }
 
-/// Writes the number at the place in four bytes, the first the greatest, and answers the place behind them.
+/// Writes the number at the place in four bytes, the first the greatest, and answers the place
+/// behind them.
 pub fn write_u32(out: &mut [u8], place: usize, number: u32) -> usize
     requires { place + 4 ≤ length out.old }
     ensures { Writes out.old place (to_be_bytes w32 number) out.new result }
@@ -38,7 +41,8 @@ pub fn write_u32(out: &mut [u8], place: usize, number: u32) -> usize
     put(out, place, &number.to_be_bytes())
 }
 
-/// Writes the number at the place in eight bytes, the first the greatest, and answers the place behind them.
+/// Writes the number at the place in eight bytes, the first the greatest, and answers the place
+/// behind them.
 pub fn write_u64(out: &mut [u8], place: usize, number: u64) -> usize
     requires { place + 8 ≤ length out.old }
     ensures { Writes out.old place (to_be_bytes w64 number) out.new result }
@@ -78,7 +82,8 @@ pub fn write_key(out: &mut [u8], place: usize, key: &Key) -> usize
     write_text(out, next, &key.architecture)
 }
 
-/// Writes the version at the place, its four numbers in two bytes each, and answers the place behind it.
+/// Writes the version at the place, its four numbers in two bytes each, and answers the place
+/// behind it.
 pub fn write_version(out: &mut [u8], place: usize, version: Version) -> usize
     requires { place + 8 ≤ length out.old }
     ensures { Writes out.old place (version_field version) out.new result }
@@ -89,8 +94,10 @@ pub fn write_version(out: &mut [u8], place: usize, version: Version) -> usize
     write_u16(out, next, version.d)
 }
 
-/// How many bytes the change's encoding has: 9 of a boot number, at most 457 of a requirement, at most
-/// 2^48 of an installation, 5 of a launch, and 9 of the end of a lease.
+/// How many bytes the change's encoding has: 9 of a boot number, at most 457 of a requirement, at
+/// most 2^48 of an installation, at most 474 of what a check heard, at most 449 of a check that
+/// heard nothing, 5 of a skip and of a launch, 9 of the end of a lease, and at most 2^48 of a
+/// group.
 pub fn encoded_length(change: &Change) -> u64
     requires { IsChange change.now }
     ensures length { result ≡ length (change_text change.now) }
@@ -105,13 +112,26 @@ pub fn encoded_length(change: &Change) -> u64
             provider,
             ..
         } => install_length(view, contents.as_slice(), provider),
+        Change::Heard {
+            key,
+            version,
+            minimum,
+            ..
+        } => heard_length(key, *version, minimum),
+        Change::Unheard { key } => 1 + key_length(key),
+        Change::Skip { .. } => 5,
         Change::Launch { .. } => 5,
         Change::Finish { .. } => 9,
+        Change::Group {
+            group,
+            contents,
+            ..
+        } => group_length(group, contents.as_slice()),
     }
 }
 
-/// Writes the change's encoding to the front of the buffer, leaves the rest, and answers how many bytes it has. It
-/// takes no memory.
+/// Writes the change's encoding to the front of the buffer, leaves the rest, and answers how many
+/// bytes it has. It takes no memory.
 pub fn encode_change(change: &Change, out: &mut [u8]) -> usize
     requires change { IsChange change.now }
     requires room { length (change_text change.now) ≤ length out.old }
@@ -134,6 +154,20 @@ pub fn encode_change(change: &Change, out: &mut [u8]) -> usize
             provider,
             now,
         } => write_install(out, view, contents.as_slice(), provider, *now),
+        Change::Heard {
+            key,
+            version,
+            minimum,
+            now,
+        } => write_heard(out, key, *version, minimum, *now),
+        Change::Unheard { key } => {
+            let next = put(out, 0, &[4]);
+            write_key(out, next, key)
+        }
+        Change::Skip { app } => {
+            let next = put(out, 0, &[5]);
+            write_u32(out, next, *app)
+        }
         Change::Launch { app } => {
             let next = put(out, 0, &[7]);
             write_u32(out, next, *app)
@@ -142,5 +176,10 @@ pub fn encode_change(change: &Change, out: &mut [u8]) -> usize
             let next = put(out, 0, &[8]);
             write_u64(out, next, *lease)
         }
+        Change::Group {
+            view,
+            group,
+            contents,
+        } => write_group(out, *view, group, contents.as_slice()),
     }
 }

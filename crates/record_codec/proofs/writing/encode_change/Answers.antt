@@ -1,7 +1,7 @@
 use Rattle.std.proofs.Common.{length, ap, subst, arith}
 use Rattle.store_state.specs.declared.change.Change.{Change}
 use Rattle.record_codec.specs.Codec.{change_text, IsChange}
-use Rattle.record_codec.proofs.Written.{length-change_text_boot, length-change_text_require, length-installed, then, at_front, boot_room, require_room, launch_room, finish_room, length-change_text_launch, length-change_text_finish, change_text_boot, change_text_require, change_text_install, change_text_launch, change_text_finish}
+use Rattle.record_codec.proofs.Written.{length-change_text_boot, length-change_text_require, length-installed, length-heard, length-grouped, then, at_front, boot_room, require_room, unheard_room, skip_room, launch_room, finish_room, length-change_text_unheard, length-change_text_skip, length-change_text_launch, length-change_text_finish, change_text_boot, change_text_require, change_text_install, change_text_heard, change_text_unheard, change_text_skip, change_text_launch, change_text_finish, change_text_group}
 use Rattle.record_codec.proofs.Long.{length-version_field}
 use Rattle.record_codec.proofs.writing.encode_change.Goals as goal
 
@@ -69,14 +69,76 @@ returns-in-Install-clause-text c =
     rw (c.in-Install.is, change_text_install, ← c.as_slice.ensures)
     (at_front c.write_install.ensures)
 
+-- ---- what a check heard
+
+pub write_heard-requires-clause-heard : goal.write_heard-requires-clause-heard
+write_heard-requires-clause-heard c = subst IsChange c.in-Heard.is c.requires.change
+
+pub write_heard-requires-clause-room : goal.write_heard-requires-clause-room
+write_heard-requires-clause-room c =
+    let long = length-heard c.in-Heard.now c.in-Heard.is in
+    omega (arith, c.requires.room)
+
+pub returns-in-Heard-clause-length : goal.returns-in-Heard-clause-length
+returns-in-Heard-clause-length c =
+    let long = length-heard c.in-Heard.now c.in-Heard.is in
+    omega (arith, c.write_heard.ensures.behind)
+
+pub returns-in-Heard-clause-text : goal.returns-in-Heard-clause-text
+returns-in-Heard-clause-text c =
+    rw (c.in-Heard.is, change_text_heard) (at_front c.write_heard.ensures)
+
+-- ---- a check that heard nothing
+
+pub put-next-requires-in-Unheard : goal.put-next-requires-in-Unheard
+put-next-requires-in-Unheard c =
+    omega (arith, unheard_room c.args.change.now c.in-Unheard.key (length c.args.out.now) c.in-Unheard.is c.requires.room)
+
+pub write_key-requires-clause-key : goal.write_key-requires-clause-key
+write_key-requires-clause-key c = subst IsChange c.in-Unheard.is c.requires.change
+
+pub write_key-requires-clause-room : goal.write_key-requires-clause-room
+write_key-requires-clause-room c =
+    omega (arith, unheard_room c.args.change.now c.in-Unheard.key (length c.args.out.now) c.in-Unheard.is c.requires.room)
+
+pub returns-in-Unheard-clause-length : goal.returns-in-Unheard-clause-length
+returns-in-Unheard-clause-length c =
+    let is = ap (λ (x : Change). length (change_text x)) c.in-Unheard.is in
+    omega (arith, length-change_text_unheard c.in-Unheard.key)
+
+pub returns-in-Unheard-clause-text : goal.returns-in-Unheard-clause-text
+returns-in-Unheard-clause-text c =
+    rw (c.in-Unheard.is, change_text_unheard c.in-Unheard.key)
+    (at_front (then c.put-next-in-Unheard.ensures c.write_key.ensures))
+
+-- ---- a skip
+
+pub put-next-requires-in-Skip : goal.put-next-requires-in-Skip
+put-next-requires-in-Skip c =
+    omega (arith, skip_room c.args.change.now c.in-Skip.app (length c.args.out.now) c.in-Skip.is c.requires.room)
+
+pub write_u32-requires : goal.write_u32-requires
+write_u32-requires c =
+    omega (arith, skip_room c.args.change.now c.in-Skip.app (length c.args.out.now) c.in-Skip.is c.requires.room)
+
+pub returns-in-Skip-clause-length : goal.returns-in-Skip-clause-length
+returns-in-Skip-clause-length c =
+    let is = ap (λ (x : Change). length (change_text x)) c.in-Skip.is in
+    omega (arith, length-change_text_skip c.in-Skip.app)
+
+pub returns-in-Skip-clause-text : goal.returns-in-Skip-clause-text
+returns-in-Skip-clause-text c =
+    rw (c.in-Skip.is, change_text_skip c.in-Skip.app)
+    (at_front (then c.put-next-in-Skip.ensures c.write_u32.ensures))
+
 -- ---- a launch
 
 pub put-next-requires-in-Launch : goal.put-next-requires-in-Launch
 put-next-requires-in-Launch c =
     omega (arith, launch_room c.args.change.now c.in-Launch.app (length c.args.out.now) c.in-Launch.is c.requires.room)
 
-pub write_u32-requires : goal.write_u32-requires
-write_u32-requires c =
+pub write_u32-requires-in-Launch : goal.write_u32-requires-in-Launch
+write_u32-requires-in-Launch c =
     omega (arith, launch_room c.args.change.now c.in-Launch.app (length c.args.out.now) c.in-Launch.is c.requires.room)
 
 pub returns-in-Launch-clause-length : goal.returns-in-Launch-clause-length
@@ -87,7 +149,7 @@ returns-in-Launch-clause-length c =
 pub returns-in-Launch-clause-text : goal.returns-in-Launch-clause-text
 returns-in-Launch-clause-text c =
     rw (c.in-Launch.is, change_text_launch c.in-Launch.app)
-    (at_front (then c.put-next-in-Launch.ensures c.write_u32.ensures))
+    (at_front (then c.put-next-in-Launch.ensures c.write_u32-in-Launch.ensures))
 
 -- ---- the end of a lease
 
@@ -108,3 +170,25 @@ pub returns-in-Finish-clause-text : goal.returns-in-Finish-clause-text
 returns-in-Finish-clause-text c =
     rw (c.in-Finish.is, change_text_finish c.in-Finish.lease)
     (at_front (then c.put-next-in-Finish.ensures c.write_u64-in-Finish.ensures))
+
+-- ---- a group
+
+pub write_group-requires-clause-group : goal.write_group-requires-clause-group
+write_group-requires-clause-group c =
+    let fits = subst IsChange c.in-Group.is c.requires.change in
+    rw c.as_slice-in-Group.ensures fits
+
+pub write_group-requires-clause-room : goal.write_group-requires-clause-room
+write_group-requires-clause-room c =
+    let long = length-grouped c.in-Group.view c.in-Group.is c.as_slice-in-Group.ensures in
+    omega (arith, c.requires.room)
+
+pub returns-in-Group-clause-length : goal.returns-in-Group-clause-length
+returns-in-Group-clause-length c =
+    let long = length-grouped c.in-Group.view c.in-Group.is c.as_slice-in-Group.ensures in
+    omega (arith, c.write_group.ensures.behind)
+
+pub returns-in-Group-clause-text : goal.returns-in-Group-clause-text
+returns-in-Group-clause-text c =
+    rw (c.in-Group.is, change_text_group, ← c.as_slice-in-Group.ensures)
+    (at_front c.write_group.ensures)

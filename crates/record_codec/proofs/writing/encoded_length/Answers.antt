@@ -1,7 +1,7 @@
 use Rattle.std.proofs.Common.{subst, ◌∙◌, arith}
 use Rattle.record_codec.specs.Codec.{IsChange}
-use Rattle.record_codec.proofs.Written.{length-change_text_boot, length-change_text_require, length-change_text_launch, length-change_text_finish, length-installed}
-use Rattle.record_codec.proofs.Bounds.{change_le, key_le, installed_le}
+use Rattle.record_codec.proofs.Written.{length-change_text_boot, length-change_text_require, length-change_text_unheard, length-change_text_skip, length-change_text_launch, length-change_text_finish, length-installed, length-heard, length-grouped}
+use Rattle.record_codec.proofs.Bounds.{change_le, key_le, installed_le, heard_within, grouped_within}
 use Rattle.record_codec.proofs.writing.encoded_length.Goals as goal
 
 pub key_length-requires : goal.key_length-requires
@@ -42,6 +42,43 @@ returns-in-Install-clause-bound c =
     let long = length-installed 0 c.in-Install.is c.as_slice.ensures in
     omega (arith, c.install_length.ensures, change_le c.args.change.now c.requires)
 
+pub heard_length-requires : goal.heard_length-requires
+heard_length-requires c =
+    let long = length-heard 0 c.in-Heard.is in
+    omega (arith, heard_within c.in-Heard.is c.requires)
+
+pub returns-in-Heard-clause-length : goal.returns-in-Heard-clause-length
+returns-in-Heard-clause-length c = c.heard_length.ensures ∙ length-heard 0 c.in-Heard.is
+
+pub returns-in-Heard-clause-bound : goal.returns-in-Heard-clause-bound
+returns-in-Heard-clause-bound c =
+    let long = length-heard 0 c.in-Heard.is in
+    omega (arith, c.heard_length.ensures, change_le c.args.change.now c.requires)
+
+pub key_length-requires-in-Unheard : goal.key_length-requires-in-Unheard
+key_length-requires-in-Unheard c =
+    let fits = subst IsChange c.in-Unheard.is c.requires in
+    omega (arith, key_le c.in-Unheard.key fits)
+
+pub overflow_add-result-in-Unheard : goal.overflow_add-result-in-Unheard
+overflow_add-result-in-Unheard c =
+    let fits = subst IsChange c.in-Unheard.is c.requires in
+    omega (arith, key_le c.in-Unheard.key fits)
+
+pub returns-in-Unheard-clause-length : goal.returns-in-Unheard-clause-length
+returns-in-Unheard-clause-length c =
+    let long = length-change_text_unheard c.in-Unheard.key in
+    rw c.in-Unheard.is (omega arith)
+
+pub returns-in-Unheard-clause-bound : goal.returns-in-Unheard-clause-bound
+returns-in-Unheard-clause-bound c =
+    let fits = subst IsChange c.in-Unheard.is c.requires in
+    rw c.in-Unheard.is (omega (arith, key_le c.in-Unheard.key fits))
+
+pub returns-in-Skip-clause-length : goal.returns-in-Skip-clause-length
+returns-in-Skip-clause-length c =
+    rw c.in-Skip.is (omega (arith, length-change_text_skip c.in-Skip.app))
+
 pub returns-in-Launch-clause-length : goal.returns-in-Launch-clause-length
 returns-in-Launch-clause-length c =
     rw c.in-Launch.is (omega (arith, length-change_text_launch c.in-Launch.app))
@@ -49,3 +86,17 @@ returns-in-Launch-clause-length c =
 pub returns-in-Finish-clause-length : goal.returns-in-Finish-clause-length
 returns-in-Finish-clause-length c =
     rw c.in-Finish.is (omega (arith, length-change_text_finish c.in-Finish.lease))
+
+pub group_length-requires : goal.group_length-requires
+group_length-requires c =
+    let long = length-grouped 0 c.in-Group.is c.as_slice-in-Group.ensures in
+    omega (arith, grouped_within c.in-Group.is c.requires)
+
+pub returns-in-Group-clause-length : goal.returns-in-Group-clause-length
+returns-in-Group-clause-length c =
+    c.group_length.ensures ∙ length-grouped 0 c.in-Group.is c.as_slice-in-Group.ensures
+
+pub returns-in-Group-clause-bound : goal.returns-in-Group-clause-bound
+returns-in-Group-clause-bound c =
+    let long = length-grouped 0 c.in-Group.is c.as_slice-in-Group.ensures in
+    omega (arith, c.group_length.ensures, change_le c.args.change.now c.requires)
