@@ -1,4 +1,6 @@
+pub mod Asking
 mod FileWords
+mod GroupWords
 pub mod InputLemmas
 pub mod Joining
 mod UrlWords

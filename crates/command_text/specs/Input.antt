@@ -10,7 +10,8 @@ HasNoFeed line = All (λ b. b ≢ 10) line
 abbrev pub fed : List (List ℕ) → List ℕ
 fed raw = flat_map (λ line. line ++ 10 ∷ []) raw
 
--- The bytes are the raw lines, each followed by a line feed, and then the rest, which no line feed has ended yet.
+-- The bytes are the raw lines, each followed by a line feed, and then the rest, which no line feed
+-- has ended yet.
 pub record Cut (bytes : List ℕ) (raw : List (List ℕ)) (rest : List ℕ) : Type 0 where
   pub joined : bytes ≡ fed raw ++ rest
   pub whole : All HasNoFeed raw

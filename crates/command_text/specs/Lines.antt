@@ -1,8 +1,8 @@
 -- How lines are read, and how replies are written.
-use Rattle.std.specs.Prelude.{◌≡◌, ℕ, Bool, true, false, ◌&&◌, List, [], ◌∷◌, ◌++◌, length, map, nat_le, if◌then◌else◌, codes, Option, Some, None, Result, Ok, Err}
+use Rattle.std.specs.Prelude.{◌≡◌, ℕ, Bool, true, false, ◌&&◌, List, [], ◌∷◌, ◌++◌, length, map, nat_le, nat_lt, if◌then◌else◌, codes, Option, Some, None, Result, Ok, Err}
 use Rattle.std.specs.Fmt.{decimal}
 use Rattle.std.specs.List.{join_with_byte, list_all}
-use Rattle.std.specs.Str.{bytes_eq}
+use Rattle.std.specs.Str.{bytes_eq, is_utf8}
 use Rattle.std.specs.Str.Lines.{lines}
 use Rattle.identity.specs.declared.version.Version.{Version}
 use Rattle.identity.specs.declared.version.VersionFault.{VersionFault}
@@ -21,7 +21,7 @@ use Rattle.manifests.specs.declared.releases.ReleaseFault.{ReleaseFault}
 use Rattle.manifests.specs.declared.releases.ReleaseFault.TheVariants as unlike
 use Rattle.manifest_text.specs.Lines.{refusal_text, two}
 use Rattle.machine.specs.declared.command.Command.{Command}
-use Rattle.machine.specs.declared.command.Command.TheVariants.{At, Require, Install, Launch, Read, Finish}
+use Rattle.machine.specs.declared.command.Command.TheVariants.{At, Require, Install, Check, Skip, Launch, Read, Group, Finish}
 use Rattle.machine.specs.declared.command.LineFault.{LineFault}
 use Rattle.machine.specs.declared.command.LineFault.TheVariants.{LineTooLong, NoSuchCommand, WordCount, BadWord}
 use Rattle.machine.specs.declared.command.LineFault.TheVariants as fault
@@ -29,13 +29,14 @@ use Rattle.machine.specs.declared.event.Event.{Event}
 use Rattle.machine.specs.declared.event.Event.TheVariants.{Boot, Line, Unread}
 use Rattle.small_types.specs.Cuts.{parts_between}
 use Rattle.small_types.specs.Limit.{limit_text}
-use Rattle.small_types.specs.declared.limits.TheConstants.{LEASE_LIMIT, LINE_LIMIT, URL_LIMIT}
+use Rattle.small_types.specs.declared.limits.TheConstants.{LEASE_LIMIT, LINE_LIMIT, NAME_LIMIT, URL_LIMIT}
 use Rattle.small_types.specs.declared.name.NameFault.{NameFault}
 use Rattle.small_types.specs.declared.target.Target.{Target}
 use Rattle.small_types.specs.Name as names
+use Rattle.small_types.specs.Reading.{◌>>=◌}
 use Rattle.command_text.specs.Numbers.{count_of, number_of}
 use Rattle.machine.specs.declared.reply.Reply.{Reply}
-use Rattle.machine.specs.declared.reply.Reply.TheVariants.{AllLinks, BadUrl, BelowMinimum, CheckFirst, Finished, Full, Installed, Lease, LeasesFull, Manifest, Minimum, NoFile, NoLease, NotHttp, NotInstalled, NotNewer, Offered, Release, Required, Spent, TooMany}
+use Rattle.machine.specs.declared.reply.Reply.TheVariants.{AllLinks, BadUrl, BelowMinimum, CheckFirst, Checked, Finished, Full, Installed, Lease, LeasesFull, Manifest, Minimum, NoFile, NoGroup, NoLease, NotHttp, NotInstalled, NotNewer, NothingOffered, Offered, Release, Required, Skipped, Spent, TooMany}
 use Rattle.machine.specs.declared.reply.Reply.TheVariants as reply
 
 -- words are separated by one space each
@@ -85,16 +86,34 @@ install_words [] = Err WordCount
 install_words (url ∷ []) = if is_url url then Ok (Install url) else Err (BadWord 1)
 install_words (url ∷ more ∷ rest) = Err WordCount
 
--- what the word of a `launch` is
-abbrev pub launch_of : Result Key KeyFault → Result Command LineFault
-launch_of (Err key) = Err (BadWord 1)
-launch_of (Ok key) = Ok (Launch key)
+-- what a word is that is read as a key
+abbrev pub key_word : Result Key KeyFault → Result Key LineFault
+key_word (Err fault) = Err (BadWord 1)
+key_word (Ok key) = Ok key
+
+-- the one word after `check`, `skip` or `launch`
+abbrev pub key_words : List (List ℕ) → Result Key LineFault
+key_words [] = Err WordCount
+key_words (key ∷ []) = key_word (key_of key)
+key_words (key ∷ more ∷ rest) = Err WordCount
+
+-- the words after `check`
+abbrev pub check_words : List (List ℕ) → Result Command LineFault
+check_words args = do
+  key ← key_words args
+  Ok (Check key)
+
+-- the words after `skip`
+abbrev pub skip_words : List (List ℕ) → Result Command LineFault
+skip_words args = do
+  key ← key_words args
+  Ok (Skip key)
 
 -- the words after `launch`
 abbrev pub launch_words : List (List ℕ) → Result Command LineFault
-launch_words [] = Err WordCount
-launch_words (key ∷ []) = launch_of (key_of key)
-launch_words (key ∷ more ∷ rest) = Err WordCount
+launch_words args = do
+  key ← key_words args
+  Ok (Launch key)
 
 -- the file name of a word, with each escape read
 abbrev pub file_of : List ℕ → Result (List ℕ) NameFault
@@ -115,6 +134,31 @@ read_words (lease ∷ name ∷ from ∷ count ∷ []) =
     read_of (number_of lease) (file_of name) (number_of from) (count_of count)
 read_words _ = Err WordCount
 
+-- a group is UTF-8 of 1 to 240 bytes
+unfoldable pub is_group : List ℕ → Bool
+is_group text = nat_lt 0 (length text) && nat_le (length text) NAME_LIMIT && is_utf8 text
+
+-- the bytes, where they are one
+unfoldable pub group_in : List ℕ → Option (List ℕ)
+group_in text = if is_group text then Some text else None
+
+-- the group of a word, with each escape read
+abbrev pub group_word : List ℕ → Option (List ℕ)
+group_word word = group_in (percent_decode word)
+
+-- what the first word that cannot be read makes of the two words of a `group`
+abbrev pub group_of : Option ℕ → Option (List ℕ) → Result Command LineFault
+group_of None group = Err (BadWord 1)
+group_of (Some lease) None = Err (BadWord 2)
+group_of (Some lease) (Some group) = Ok (Group lease group)
+
+-- the words after `group`
+abbrev pub group_words : List (List ℕ) → Result Command LineFault
+group_words [] = Err WordCount
+group_words (lease ∷ []) = Err WordCount
+group_words (lease ∷ group ∷ []) = group_of (number_of lease) (group_word group)
+group_words (lease ∷ group ∷ more ∷ rest) = Err WordCount
+
 -- what the word of a `finish` is
 abbrev pub finish_of : Option ℕ → Result Command LineFault
 finish_of None = Err (BadWord 1)
@@ -133,23 +177,27 @@ command_words (name ∷ args) =
     if bytes_eq name (codes "at") then at_words args
     else if bytes_eq name (codes "require") then require_words args
     else if bytes_eq name (codes "install") then install_words args
+    else if bytes_eq name (codes "check") then check_words args
+    else if bytes_eq name (codes "skip") then skip_words args
     else if bytes_eq name (codes "launch") then launch_words args
     else if bytes_eq name (codes "read") then read_words args
+    else if bytes_eq name (codes "group") then group_words args
     else if bytes_eq name (codes "finish") then finish_words args
     else Err NoSuchCommand
 
 -- what a line asks for, or why it is no command
 unfoldable pub command_of : List ℕ → Result Command LineFault
-command_of line = if nat_le (length line) LINE_LIMIT then command_words (words_of line) else Err LineTooLong
+command_of line =
+    if nat_le (length line) LINE_LIMIT then command_words (words_of line) else Err LineTooLong
 
 -- an error of a call is that of the reading, unless memory ran out
-abbrev pub Fails : LineFault → Result Command LineFault → Type 0
+abbrev pub Fails : {X : Type 0} → LineFault → Result X LineFault → Type 0
 Fails fault.Memory read = Unit {0}
 Fails e read = read ≡ Err e
 
 -- a call gives what the reading gives, unless memory ran out
-abbrev pub Gives : Result Command LineFault → Result Command LineFault → Type 0
-Gives (Ok command) read = read ≡ Ok command
+abbrev pub Gives : {X : Type 0} → Result X LineFault → Result X LineFault → Type 0
+Gives (Ok x) read = read ≡ Ok x
 Gives (Err e) read = Fails e read
 
 -- Each line is an event: a command, or unread with its fault. Where reading it found no memory it
@@ -180,6 +228,17 @@ abbrev pub installed_text : Key → Version → ℕ → List ℕ
 installed_text key version view =
     codes "ok installed " ++ (key_text key ++ (codes " " ++ (version_text version
     ++ (codes " " ++ (decimal view ++ codes "\n")))))
+
+-- a version, where there is one
+abbrev pub optional_text : Option Version → List ℕ
+optional_text None = codes "-"
+optional_text (Some version) = version_text version
+
+-- what is offered, and the minimum
+abbrev pub checked_text : Option Version → Option Version → List ℕ
+checked_text offer minimum =
+    codes "ok checked " ++ (optional_text offer ++ (codes " " ++ (optional_text minimum
+    ++ codes "\n")))
 
 -- whether the time for the next check has come
 abbrev pub note_text : Bool → List ℕ
@@ -231,6 +290,10 @@ identities_text listed found =
     codes "no release identity " ++ (key_text listed
     ++ (codes " " ++ (key_text found ++ codes "\n")))
 
+-- the key that was found in place of the one that was asked for
+abbrev pub identity_text : Key → List ℕ
+identity_text found = codes "no identity " ++ (key_text found ++ codes "\n")
+
 -- no row answers the last two
 abbrev pub release_text : ReleaseFault → List ℕ
 release_text (unlike.IdentityDiffers listed found) = identities_text listed found
@@ -246,24 +309,31 @@ reply_text (Minimum version) = codes "ok minimum " ++ (version_text version ++ c
 reply_text (TooMany what limit) =
     codes "no too-many " ++ (limit_text what ++ (codes " " ++ (decimal limit ++ codes "\n")))
 reply_text (Installed key version view) = installed_text key version view
+reply_text (Checked offer minimum) = checked_text offer minimum
+reply_text (Skipped version) = codes "ok skipped " ++ (version_text version ++ codes "\n")
 reply_text (Lease lease version check_due) = lease_text lease version check_due
 reply_text (reply.Read size bytes) = read_text size bytes
+reply_text (reply.Group files) = codes "ok group " ++ (decimal files ++ codes "\n")
 reply_text (Finished lease) = codes "ok finished " ++ (decimal lease ++ codes "\n")
 reply_text NotInstalled = codes "no not-installed\n"
 reply_text NoLease = codes "no no-lease\n"
+reply_text NoGroup = codes "no no-group\n"
+reply_text NothingOffered = codes "no nothing-offered\n"
 reply_text NoFile = codes "no no-file\n"
 reply_text CheckFirst = codes "no check-first\n"
 reply_text (Required minimum) = codes "no required " ++ (version_text minimum ++ codes "\n")
 reply_text (Offered version) = codes "no offered " ++ (version_text version ++ codes "\n")
 reply_text LeasesFull = codes "no leases-full " ++ (decimal LEASE_LIMIT ++ codes "\n")
 reply_text (NotNewer have) = codes "no not-newer " ++ (version_text have ++ codes "\n")
-reply_text (BelowMinimum minimum) = codes "no below-minimum " ++ (version_text minimum ++ codes "\n")
+reply_text (BelowMinimum minimum) = codes "no below-minimum "
+    ++ (version_text minimum ++ codes "\n")
 reply_text (Spent next) = codes "no spent " ++ (decimal next ++ codes "\n")
 reply_text (Full need free) =
     codes "no full " ++ (decimal need ++ (codes " " ++ (decimal free ++ codes "\n")))
 reply_text (AllLinks target causes) = links_text target causes
 reply_text (Manifest fault) = refusal_text fault
 reply_text (Release fault) = release_text fault
+reply_text (reply.IdentityDiffers found) = identity_text found
 reply_text BadUrl = codes "no bad-url\n"
 reply_text NotHttp = codes "no not-http\n"
 reply_text (reply.Line fault) = fault_text fault

@@ -1,38 +1,16 @@
-// What a line asks for that begins a lease, ends one or reads on one.
+// What a line asks for that names a lease.
 ghost use Rattle.std.specs.Prelude.{◌≡◌, ◌≢◌, Err, IfOk, IsOk};
 ghost use Rattle.std.specs.Option.{option_copied};
-ghost use Rattle.identity.specs.Key.{key_of};
 ghost use Rattle.machine.specs.Words.{IsCommand};
-ghost use Rattle.command_text.specs.Lines.{Gives, file_of, finish_words, launch_words, read_of, read_words, words_behind};
+ghost use Rattle.command_text.specs.Lines.{Gives, file_of, finish_words, group_of, group_word, group_words, read_of, read_words, words_behind};
 ghost use Rattle.command_text.specs.Numbers.{count_of, number_of};
 
-use crate::names::read_name;
+use crate::names::{read_group, read_name};
 use crate::numbers::{read_count, read_number};
-use crate::words::{four_words, one_word};
-use identity::{Key, KeyFault};
+use crate::words::{four_words, one_word, two_words};
 use machine::{Command, LineFault};
 use small_types::NameFault;
 use std::alloc::Global;
-
-/// The command of the word behind `launch`, where there is one.
-pub(crate) fn launch_line(alloc: Global, args: Option<&[u8]>) -> Result<Command, LineFault>
-    ensures exact { Gives result (launch_words (words_behind (option_copied args.entry))) }
-    ensures fits { IfOk result IsCommand }
-    ensures memory { result ≡ Err LineFault.Memory
-        → IsOk (launch_words (words_behind (option_copied args.entry))) }
-{
-    let Some(args) = args else {
-        return Err(LineFault::WordCount);
-    };
-    let Some(word) = one_word(args) else {
-        return Err(LineFault::WordCount);
-    };
-    match Key::read(alloc, word) {
-        Ok(key) => Ok(Command::Launch { key }),
-        Err(KeyFault::Memory) => Err(LineFault::Memory),
-        Err(_) => Err(LineFault::BadWord { place: 1 }),
-    }
-}
 
 // The command of the four words behind `read`.
 fn read_of(
@@ -87,6 +65,39 @@ pub(crate) fn file_line(alloc: Global, args: Option<&[u8]>) -> Result<Command, L
         return Err(LineFault::WordCount);
     };
     read_of(alloc, lease, name, from, count)
+}
+
+// The command of the two words behind `group`.
+fn group_of(alloc: Global, lease: &[u8], group: &[u8]) -> Result<Command, LineFault>
+    ensures exact { Gives result (group_of (number_of lease.now) (group_word group.now)) }
+    ensures fits { IfOk result IsCommand }
+    ensures memory { result ≡ Err LineFault.Memory
+        → IsOk (group_of (number_of lease.now) (group_word group.now)) }
+{
+    let Some(lease) = read_number(lease) else {
+        return Err(LineFault::BadWord { place: 1 });
+    };
+    match read_group(alloc, group) {
+        Ok(Some(group)) => Ok(Command::Group { lease, group }),
+        Ok(None) => Err(LineFault::BadWord { place: 2 }),
+        Err(_) => Err(LineFault::Memory),
+    }
+}
+
+/// The command of the words behind `group`, where there are any.
+pub(crate) fn group_line(alloc: Global, args: Option<&[u8]>) -> Result<Command, LineFault>
+    ensures exact { Gives result (group_words (words_behind (option_copied args.entry))) }
+    ensures fits { IfOk result IsCommand }
+    ensures memory { result ≡ Err LineFault.Memory
+        → IsOk (group_words (words_behind (option_copied args.entry))) }
+{
+    let Some(args) = args else {
+        return Err(LineFault::WordCount);
+    };
+    let Some((lease, group)) = two_words(args) else {
+        return Err(LineFault::WordCount);
+    };
+    group_of(alloc, lease, group)
 }
 
 /// The command of the word behind `finish`, where there is one. It takes no memory.

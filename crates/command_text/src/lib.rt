@@ -1,7 +1,9 @@
 //! Lines in, replies out: what a session's line asks for, and the bytes of its reply.
 #![tactic(auto)]
 
+mod check_replies;
 mod escapes;
+mod key_lines;
 mod lease_lines;
 mod lease_replies;
 mod lines;

@@ -7,7 +7,8 @@ ghost use Rattle.std.specs.Option.{option_copied};
 ghost use Rattle.machine.specs.Words.{IsCommand};
 ghost use Rattle.command_text.specs.Lines.{Gives, at_words, command_of, install_words, require_of, require_words, words_behind};
 
-use crate::lease_lines::{file_line, finish_line, launch_line};
+use crate::key_lines::{check_line, launch_line, skip_line};
+use crate::lease_lines::{file_line, finish_line, group_line};
 use crate::numbers::read_number;
 use crate::urls::is_url;
 use crate::words::{first_word, one_word, two_words};
@@ -21,7 +22,8 @@ use std::alloc::Global;
 fn read_require(alloc: Global, key: &[u8], version: &[u8]) -> Result<Command, LineFault>
     ensures exact { Gives result (require_of (key_of key.now) (version_of version.now)) }
     ensures fits { IfOk result IsCommand }
-    ensures memory { result ≡ Err LineFault.Memory → IsOk (require_of (key_of key.now) (version_of version.now)) }
+    ensures memory { result ≡ Err LineFault.Memory
+        → IsOk (require_of (key_of key.now) (version_of version.now)) }
 {
     let key = match Key::read(alloc, key) {
         Ok(key) => Some(key),
@@ -117,11 +119,20 @@ pub fn read_line(alloc: Global, line: &[u8]) -> Result<Command, LineFault>
     if name == b"install".as_slice() {
         return install_line(alloc, args);
     }
+    if name == b"check".as_slice() {
+        return check_line(alloc, args);
+    }
+    if name == b"skip".as_slice() {
+        return skip_line(alloc, args);
+    }
     if name == b"launch".as_slice() {
         return launch_line(alloc, args);
     }
     if name == b"read".as_slice() {
         return file_line(alloc, args);
+    }
+    if name == b"group".as_slice() {
+        return group_line(alloc, args);
     }
     if name == b"finish".as_slice() {
         return finish_line(args);

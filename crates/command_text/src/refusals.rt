@@ -4,7 +4,7 @@ ghost use Rattle.identity.specs.Key.{word_text};
 ghost use Rattle.identity.specs.Version.{version_text};
 ghost use Rattle.manifest_parts.specs.declared.fault.ManifestFault.TheVariants.{Tree};
 ghost use Rattle.manifest_text.specs.Lines.{kind_text, refusal_text, two};
-ghost use Rattle.command_text.specs.Lines.{identities_text, release_text};
+ghost use Rattle.command_text.specs.Lines.{identities_text, identity_text, release_text};
 ghost use Rattle.command_text.specs.Pieces.{Writes};
 
 use crate::pieces::{Piece, print_pieces};
@@ -134,6 +134,27 @@ fn print_identities<'a, K: Sink>(
             comma,
             Piece::Part(listed.architecture.as_bytes()),
             Piece::Bytes(b" "),
+            Piece::Part(found.name.as_bytes()),
+            comma,
+            Piece::Part(found.token.as_bytes()),
+            comma,
+            Piece::Part(found.language.as_bytes()),
+            comma,
+            Piece::Part(found.architecture.as_bytes()),
+            Piece::Bytes(b"\n"),
+        ],
+        sink,
+    )
+}
+
+/// Writes the key that was found in place of the one that was asked for.
+pub(crate) fn print_identity<K: Sink>(found: &Key, sink: &mut K) -> Result<(), Failed>
+    ensures { Writes K.Sink sink.old sink.new (identity_text found.now) result }
+{
+    let comma = Piece::Bytes(b",");
+    print_pieces(
+        &[
+            Piece::Bytes(b"no identity "),
             Piece::Part(found.name.as_bytes()),
             comma,
             Piece::Part(found.token.as_bytes()),

@@ -5,11 +5,12 @@ ghost use Rattle.outside.specs.Streams.{Appends, AppendsPart, Causes};
 ghost use Rattle.command_text.specs.Lines.{fault_text, installed_text, lacking_text, links_text, reply_text};
 ghost use Rattle.command_text.specs.Pieces.{Writes};
 
+use crate::check_replies::print_checked;
 use crate::lease_replies::{print_lease, print_read};
 use crate::pieces::{Piece, print_pieces};
 use crate::raw::print_bytes;
 use crate::reasons::print_reasons;
-use crate::refusals::{print_manifest, print_release};
+use crate::refusals::{print_identity, print_manifest, print_release};
 use causes::Cause;
 use identity::{Key, Version};
 use machine::{LineFault, Reply};
@@ -141,15 +142,20 @@ fn print_line<K: Sink>(reply: &Reply, sink: &mut K) -> Result<(), Failed>
             sink,
         ),
         Reply::Installed { key, version, view } => print_installed(key, *version, *view, sink),
+        Reply::Checked { offer, minimum } => print_checked(*offer, *minimum, sink),
+        Reply::Skipped { version } => print_version_line(b"ok skipped ", *version, sink),
         Reply::Lease {
             lease,
             version,
             check_due,
         } => print_lease(*lease, *version, *check_due, sink),
         Reply::Read { length, bytes } => print_read(*length, bytes.as_slice(), sink),
+        Reply::Group { files } => print_number_line(b"ok group ", *files, sink),
         Reply::Finished { lease } => print_number_line(b"ok finished ", *lease, sink),
         Reply::NotInstalled => print_bytes(b"no not-installed\n", sink),
         Reply::NoLease => print_bytes(b"no no-lease\n", sink),
+        Reply::NoGroup => print_bytes(b"no no-group\n", sink),
+        Reply::NothingOffered => print_bytes(b"no nothing-offered\n", sink),
         Reply::NoFile => print_bytes(b"no no-file\n", sink),
         Reply::CheckFirst => print_bytes(b"no check-first\n", sink),
         Reply::Required { minimum } => print_version_line(b"no required ", *minimum, sink),
@@ -171,6 +177,7 @@ fn print_line<K: Sink>(reply: &Reply, sink: &mut K) -> Result<(), Failed>
         Reply::AllLinks { target, causes } => print_links(target, causes.as_slice(), sink),
         Reply::Manifest { fault } => print_manifest(fault, sink),
         Reply::Release { fault } => print_release(fault, sink),
+        Reply::IdentityDiffers { found } => print_identity(found, sink),
         Reply::BadUrl => print_bytes(b"no bad-url\n", sink),
         Reply::NotHttp => print_bytes(b"no not-http\n", sink),
         Reply::Line { fault } => print_fault(*fault, sink),
@@ -181,8 +188,10 @@ fn print_line<K: Sink>(reply: &Reply, sink: &mut K) -> Result<(), Failed>
 /// Writes the reply's line to the sink, with its line feed, piece by piece: no memory is taken, and nothing bounds how
 /// long a reply may be. Where it fails the sink has taken a first part of the line, and not all.
 pub fn print_reply<K: Sink>(reply: &Reply, sink: &mut K) -> Result<(), Failed>
-    ensures bytes { K.tells → OnOk result (Appends (K.taken sink.old) (K.taken sink.new) (reply_text reply.now)) }
-    ensures part { K.tells → OnErr result (AppendsPart (K.taken sink.old) (K.taken sink.new) (reply_text reply.now)) }
+    ensures bytes { K.tells
+        → OnOk result (Appends (K.taken sink.old) (K.taken sink.new) (reply_text reply.now)) }
+    ensures part { K.tells
+        → OnErr result (AppendsPart (K.taken sink.old) (K.taken sink.new) (reply_text reply.now)) }
     ensures cause { Causes (K.count sink.old) (K.count sink.new) result }
 {
     print_line(reply, sink)

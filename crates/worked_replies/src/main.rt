@@ -74,6 +74,24 @@ fn leases(rt: &HostRuntime) -> io::Result<()> {
     say(rt, Reply::LeasesFull)
 }
 
+// Checks, skips and groups, and why there is none.
+fn checks(rt: &HostRuntime) -> io::Result<()> {
+    let least = version(1, 0, 0, 0);
+    let next = version(1, 2, 0, 65_535);
+    for offer in [None, Some(next)] {
+        for minimum in [None, Some(least)] {
+            say(rt, Reply::Checked { offer, minimum })?;
+        }
+    }
+    say(rt, Reply::Skipped { version: next })?;
+    say(rt, Reply::NothingOffered)?;
+    let found = odd_key(rt.alloc())?;
+    say(rt, Reply::IdentityDiffers { found })?;
+    say(rt, Reply::Group { files: 0 })?;
+    say(rt, Reply::Group { files: 16_384 })?;
+    say(rt, Reply::NoGroup)
+}
+
 // So many bytes, of all values.
 fn bytes_of(alloc: Global, count: usize) -> Result<Bytes, AllocError> {
     let mut bytes = Bytes::from_vec(Vec::new(alloc));
@@ -299,6 +317,14 @@ fn tell_command(rt: &HostRuntime, command: Command) -> io::Result<()> {
             let length = url.as_slice().len();
             println!(rt; "an address of {length}")
         }
+        Command::Check { key } => {
+            let (name, language) = (key.name.as_str(), key.language.as_str());
+            println!(rt; "a check of {name} in {language}")
+        }
+        Command::Skip { key } => {
+            let (name, language) = (key.name.as_str(), key.language.as_str());
+            println!(rt; "a skip of {name} in {language}")
+        }
         Command::Launch { key } => {
             let (name, language) = (key.name.as_str(), key.language.as_str());
             println!(rt; "a launch of {name} in {language}")
@@ -311,6 +337,10 @@ fn tell_command(rt: &HostRuntime, command: Command) -> io::Result<()> {
         } => {
             let name = name.as_str();
             println!(rt; "a read on {lease} of <{name}> from {from}, {count}")
+        }
+        Command::Group { lease, group } => {
+            let group = group.as_str();
+            println!(rt; "a group <{group}> on {lease}")
         }
         Command::Finish { lease } => println!(rt; "the end of {lease}"),
         Command::At { .. } | Command::Require { .. } => println!(rt; "another command"),
@@ -361,6 +391,7 @@ fn lines(rt: &HostRuntime) -> io::Result<()> {
 fn main(rt: HostRuntime) -> io::Result<()> {
     plain(&rt)?;
     leases(&rt)?;
+    checks(&rt)?;
     reads(&rt)?;
     counts(&rt)?;
     faults(&rt)?;
