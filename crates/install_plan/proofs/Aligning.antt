@@ -65,7 +65,7 @@ module _ (files : List FileEntry) where
           none_some : (e : FileEntry) → ◌≡◌ {A = Option FileEntry} (Some e) None → ⊥
           none_some e same = cc
 
-  all_within : (wanted : List WantedFile) (entries : List FileEntry) → at_places files wanted ≡ somes entries → All (λ file. file.place < length files) wanted
+  pub all_within : (wanted : List WantedFile) (entries : List FileEntry) → at_places files wanted ≡ somes entries → All (λ file. file.place < length files) wanted
   all_within [] entries same = All-nil (λ (file : WantedFile). file.place < length files)
   all_within (file ∷ wanted) [] same = no_first (slice_get files file.place) (at_places files wanted) same
   all_within (file ∷ wanted) (entry ∷ entries) same =
@@ -73,7 +73,7 @@ module _ (files : List FileEntry) where
       (place_within file.place entry (first_is (slice_get files file.place) (Some entry) (at_places files wanted) (somes entries) same))
       (all_within wanted entries (rest_is (slice_get files file.place) (Some entry) (at_places files wanted) (somes entries) same))
 
-  small : (local : Bool) (size : ℕ) → size ≤ size_limit local → size < 2 ^ 61
+  pub small : (local : Bool) (size : ℕ) → size ≤ size_limit local → size < 2 ^ 61
   small true size few = omega arith
   small false size few = omega arith
 

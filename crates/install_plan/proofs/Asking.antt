@@ -17,7 +17,7 @@ use Rattle.install_plan.specs.declared.plan.Plan.{Plan}
 use Rattle.install_plan.specs.Plans.{IsPlan, targets_of}
 use Rattle.install_plan.proofs.Told.{base_is, deployment_is, deployment_of_release, ok_one, release_is, release_map}
 
-same_oks : (xs ys : List Target) → ◌≡◌ {A = List (Result Target UrlFault)} (map Ok xs) (map Ok ys) → xs ≡ ys
+pub same_oks : (xs ys : List Target) → ◌≡◌ {A = List (Result Target UrlFault)} (map Ok xs) (map Ok ys) → xs ≡ ys
 same_oks [] [] e = refl
 same_oks [] (y ∷ ys) e = cc
 same_oks (x ∷ xs) [] e = cc

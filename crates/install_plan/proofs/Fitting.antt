@@ -31,7 +31,7 @@ no_copies (file ∷ files) each =
 
 -- ---- how many blocks a file takes at most
 
-few_blocks : (local : Bool) (size : ℕ) → size ≤ size_limit local → blocks_of size ≤ 16384
+pub few_blocks : (local : Bool) (size : ℕ) → size ≤ size_limit local → blocks_of size ≤ 16384
 few_blocks true size within = omega (arith, within)
 few_blocks false size within = omega (arith, within)
 

@@ -30,7 +30,7 @@ row_files views entry there =
     let row = map_in bare_row views bare.0 bare.1 in
     (row.0, row.1, subst (λ (v : BareView). In entry (standing_entries v.groups v.application)) (sym row.2) bare.2)
 
-files_row : (views : List View) (view : View) (entry : FileEntry) → In view views → In entry (standing_entries view.groups view.application) → In entry (standing_files (map bare_row views))
+pub files_row : (views : List View) (view : View) (entry : FileEntry) → In view views → In entry (standing_entries view.groups view.application) → In entry (standing_files (map bare_row views))
 files_row views view entry there of = in_flat_map (λ (v : BareView). standing_entries v.groups v.application) (map bare_row views) (bare_row view) entry (in_map bare_row views view there) of
 
 entries_of_shown : (contents : List Content) (entries : List FileEntry) → map (λ (file : ListedFile). file.entry) (map (shown_file contents) entries) ≡ entries
@@ -40,10 +40,10 @@ entries_of_shown contents (entry ∷ entries) = ap (λ (es : List FileEntry). en
 -- ---- files have the bytes of their contents
 
 -- as those contents say
-abbrev HasBytesIn : List Content → ListedFile → Type 0
+abbrev pub HasBytesIn : List Content → ListedFile → Type 0
 HasBytesIn contents file = file.bytes ≡ bytes_in (content_of contents file.entry)
 
-share_in : (contents : List Content) (files : List ListedFile) → All (HasBytesIn contents) files → ShareBytes files
+pub share_in : (contents : List Content) (files : List ListedFile) → All (HasBytesIn contents) files → ShareBytes files
 share_in contents files all = λ i j d lt within same.
     all i d (omega (arith, lt, within))
     ∙ ap bytes_in (content_by_key contents (slice_index_or files i d).entry (slice_index_or files j d).entry same)
@@ -64,7 +64,7 @@ module _ (blocks : ℕ) (tables : Tables) (image : List ℕ) (store : Store) (ne
       let of = map_in (shown_file tables.contents) (standing_entries view.0.groups view.0.application) file (subst (λ (v : KeptView). In file v.program_files) (sym view.2) kept.2) in
       (of.0, files_row tables.views view.0 of.0 view.1 of.1, of.2)
 
-  kept_bytes : (file : ListedFile) → In file (program_files_of store) → HasBytesIn after file
+  pub kept_bytes : (file : ListedFile) → In file (program_files_of store) → HasBytesIn after file
   kept_bytes file there =
       let of = kept_file file there in
       let is = find_left (is_content_of of.0) tables.contents new (all_in (λ (e : FileEntry). IsSome (content_of tables.contents e)) held of.0 are.each of.1) in
@@ -96,7 +96,7 @@ module _ (blocks : ℕ) (tables : Tables) (image : List ℕ) (store : Store) (ne
       by None e = inr (e, subst (λ (o : Option Content). IsSome o) (find_right (is_content_of entry) tables.contents new e) some)
       by (Some content) e = inl (subst (λ (o : Option Content). IsSome o) (sym e) refl)
 
-  whole_after : Sound store → All IsWholeContent new → (entry : FileEntry) → IsSome (content_of after entry) → IsWholeIn after entry
+  pub whole_after : Sound store → All IsWholeContent new → (entry : FileEntry) → IsSome (content_of after entry) → IsWholeIn after entry
   whole_after sound whole entry some = by (held_or_new entry some)
     where
       by : (IsSome (content_of tables.contents entry)) ⊎ ((content_of tables.contents entry ≡ None) × IsSome (content_of new entry)) → IsWholeIn after entry

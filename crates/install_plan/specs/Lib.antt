@@ -1,9 +1,13 @@
 pub mod Brought
 pub mod Changes
+pub mod Checks
 pub mod Fetching
 pub mod Given
+pub mod GroupAsked
+pub mod GroupReady
 pub mod Hearing
 pub mod Judging
+pub mod Offers
 pub mod Plans
 pub mod Ready
 pub mod Replies

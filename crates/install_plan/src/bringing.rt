@@ -1,9 +1,9 @@
-// The files that an install fetches.
+// The files that an install or a group fetches.
 ghost use Rattle.std.specs.Prelude.{◌≡◌, ◌<◌, ◌^◌, IfOk, IfErr};
 ghost use Rattle.fetcher.specs.Fetched.{Kept};
 ghost use Rattle.install_plan.specs.Fetching.{ArePlaces, HasFetched, IsFetched, IsLack, IsStopped};
 
-use crate::Plan;
+use crate::WantedFile;
 use crate::basket::ByteBasket;
 use crate::replies::fetch_reply;
 use fetcher::fetch_file;
@@ -43,22 +43,22 @@ fn fetch_content<L: Links>(
     }
 }
 
-// Fetches the files that the plan wants, in their order. The first that no link gives is the reply;
+// Fetches the wanted ones of these files, in their order. The first that no link gives is the reply;
 // each file before it was fetched, and nothing behind it is asked for.
 pub(crate) fn fetch_wanted<L: Links>(
     alloc: Global,
     links: &mut L,
-    plan: &Plan,
+    files: &[FileEntry],
+    wanted: &[WantedFile],
 ) -> Result<List<Content>, Reply>
-    requires places { ArePlaces plan.now.application.files plan.now.wanted }
-    ensures fetched { IfOk result (HasFetched plan.now.application.files plan.now.wanted
+    requires places { ArePlaces files.now wanted.now }
+    ensures fetched { IfOk result (HasFetched files.now wanted.now
         (L.links links.old) (L.links links.new)) }
-    ensures stopped { IfErr result (IsStopped plan.now.application.files plan.now.wanted
+    ensures stopped { IfErr result (IsStopped files.now wanted.now
         (L.links links.old) (L.links links.new)) }
 {
-    let files = plan.application.files.as_slice();
     let mut contents = Vec::new(alloc);
-    for file in plan.wanted.as_slice() {
+    for file in wanted {
         let place = file.place;
         let content = match fetch_content(alloc, links, &file.target, &files[place]) {
             Ok(content) => content,

@@ -4,6 +4,7 @@ ghost use Rattle.small_types.specs.declared.limits.TheConstants.{NUMBER_LIMIT};
 ghost use Rattle.machine.specs.declared.reply.Reply.TheVariants.{Memory};
 ghost use Rattle.store_state.specs.Tables.{table_shape};
 ghost use Rattle.install_plan.specs.Changes.{change_of_plan, installed_of};
+ghost use Rattle.install_plan.specs.Fetching.{ArePlaces, HasFetched, IsStopped};
 ghost use Rattle.install_plan.specs.Plans.{IsRefused};
 ghost use Rattle.install_plan.specs.Ready.{IsReady};
 
@@ -56,6 +57,22 @@ fn installed_reply(alloc: Global, state: &StoreState, plan: &Plan) -> Result<Rep
     }
 }
 
+// Fetches the files that the plan wants, in their order.
+fn fetch_planned<L: Links>(
+    alloc: Global,
+    links: &mut L,
+    plan: &Plan,
+) -> Result<List<Content>, Reply>
+    requires places { ArePlaces plan.now.application.files plan.now.wanted }
+    ensures fetched { IfOk result (HasFetched plan.now.application.files plan.now.wanted
+        (L.links links.old) (L.links links.new)) }
+    ensures stopped { IfErr result (IsStopped plan.now.application.files plan.now.wanted
+        (L.links links.old) (L.links links.new)) }
+{
+    let files = plan.application.files.as_slice();
+    fetch_wanted(alloc, links, files, plan.wanted.as_slice())
+}
+
 /// Hears the manifests of the release at the address, judges them, and fetches the files that no
 /// kept view has. What it gives is the change of the tables, which fits them, and the reply that is
 /// then due. An `Err` is the reply, and nothing is to be changed.
@@ -79,7 +96,7 @@ pub fn prepare<L: Links>(
         Ok(plan) => plan,
         Err(reply) => return Err(reply),
     };
-    let contents = match fetch_wanted(alloc, links, &plan) {
+    let contents = match fetch_planned(alloc, links, &plan) {
         Ok(contents) => contents,
         Err(reply) => return Err(reply),
     };

@@ -1,12 +1,15 @@
-//! What an install hears of its links and comes to: its manifests are heard and judged, and its
-//! files are fetched.
+//! What installs, checks and groups hear of their links and come to: manifests are heard and judged,
+//! and files are fetched.
 #![tactic(auto)]
 
 mod basket;
 mod bringing;
 mod changing;
+mod checking;
+mod grouping;
 mod hearing;
 mod judging;
+mod offers;
 mod plan;
 mod release;
 mod replies;
@@ -15,5 +18,7 @@ mod texts;
 mod wanting;
 
 pub use changing::prepare;
+pub use checking::prepare_check;
+pub use grouping::prepare_group;
 pub use hearing::hear;
 pub use plan::{Plan, WantedFile};

@@ -144,13 +144,13 @@ pub(crate) fn judge_room(state: &StoreState, blocks: u64, need: u64) -> Result<(
 
 // The files that are wanted, with their addresses, and the blocks that they need.
 #[derive(Drop)]
-struct FilesNeeded {
-    files: List<WantedFile>,
-    need: u64,
+pub(crate) struct FilesNeeded {
+    pub(crate) files: List<WantedFile>,
+    pub(crate) need: u64,
 }
 
-// The files of the application that are wanted.
-fn wants(
+// Those of the files that are wanted.
+pub(crate) fn wants(
     alloc: Global,
     state: &StoreState,
     base: &Target,

@@ -32,7 +32,8 @@ fn takes(
     requires { place < length files.now }
     ensures takes { (taken : List FileEntry) → Knows files.now table.old taken
         → IfOk result (λ wanted. HoldsAt (λ entry.
-        Takes files.now (standing_files (map bare_row state.now.views)) taken entry table.new wanted)
+        Takes files.now (standing_files (map bare_row state.now.views)) taken entry table.new
+        wanted)
         files.now place) }
     ensures memory { IfErr result (λ reply. reply ≡ Reply.Memory) }
 {

@@ -4,4 +4,4 @@ use Rattle.install_plan.proofs.bringing.fetch_wanted.Given as goal
 
 abbrev pub invariant-loop-file : goal.invariant-loop-file
 invariant-loop-file g l =
-    HasFetched l.files (take l.file-index l.file-items) (g.L.Links.links l.initial.links) (g.L.Links.links l.links) l.contents.items
+    HasFetched l.files (take l.file-index l.wanted) (g.L.Links.links l.initial.links) (g.L.Links.links l.links) l.contents.items

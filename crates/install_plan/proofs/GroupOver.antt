@@ -1,0 +1,322 @@
+-- Ends of a group that change nothing.
+use Rattle.std.proofs.Common.{◌≡◌, ◌≢◌, ◌∙◌, ◌-◌, ◌^◌, ◌<◌, ◌≤◌, inl, inr, refl, sym, ap, subst, ℕ, true, false, List, [], length, map, Some, None, Err, arith}
+use Rattle.std.specs.Prelude.{Any, min, sum_by}
+use Rattle.std.proofs.lemmas.Bool.{false≢true}
+use Rattle.std.proofs.lemmas.List.{append-nil}
+use Rattle.std.proofs.lemmas.Option.{same_Some}
+use Rattle.addresses.specs.declared.fault.UrlFault.TheVariants.{BadUrl}
+use Rattle.manifests.specs.declared.facts.FileEntry.{FileEntry}
+use Rattle.manifests.specs.Facts.{IsFile}
+use Rattle.machine.specs.declared.command.Command.TheVariants as command
+use Rattle.machine.specs.declared.reply.Reply.{Reply}
+use Rattle.machine.specs.declared.reply.Reply.TheVariants as says
+use Rattle.machine.specs.Blocks.{blocks_of, free_blocks, standing_files}
+use Rattle.machine.specs.Fields.{IsApplication}
+use Rattle.machine.specs.GroupRow.{GroupEffect, LacksGroup, OfComing, OfMissing, group_refusals}
+use Rattle.machine.specs.Groups.{group_files, group_need, group_stands, group_wanted, is_in}
+use Rattle.machine.specs.Leases.{lease_of, leased_bare}
+use Rattle.machine.specs.Machine.{Answers, moment_after}
+use Rattle.machine.specs.Rows.{PassesAll, Refuses}
+use Rattle.machine.specs.Shape.{BareView, Shape}
+use Rattle.machine.specs.Sound.{Sound}
+use Rattle.machine.specs.Store.{Session}
+use Rattle.machine.proofs.Members.{all_in, filter_in}
+use Rattle.machine.proofs.Missing.{are_missing, missing_in}
+use Rattle.machine.proofs.Ungrouped.{need_ungrouped}
+use Rattle.store_state.specs.declared.view.View.{View}
+use Rattle.store_state.specs.Rows.{leased_row}
+use Rattle.store_state.specs.Shows.{Shows, shown_view}
+use Rattle.store_state.specs.Tables.{Tables, bare_row, table_shape}
+use Rattle.store_state.proofs.Showing.{shape_shown}
+use Rattle.links.specs.Links.{LinksState}
+use Rattle.fetcher.specs.Fetched.{Kept}
+use Rattle.install_plan.specs.GroupAsked.{AccountsGroup, GroupServed}
+use Rattle.install_plan.specs.GroupReady.{AreUnasked, IsGroupOver, IsNoFiles, address_in, lacking, ungrouped}
+use Rattle.install_plan.specs.Judging.{Refused, room_checks}
+use Rattle.install_plan.proofs.Exits.{some_session}
+use Rattle.install_plan.proofs.Fitting.{few_blocks}
+use Rattle.install_plan.proofs.LeasedRows.{IsLeased, lease_lives, no_lease, still_brought, view_shown, view_valid}
+use Rattle.install_plan.proofs.Ungrouping.{bad_wanted, few_of_group}
+use Rattle.install_plan.proofs.Wants.{sum_most}
+
+-- ---- answers
+
+module _ (blocks : ℕ) (tables : Tables) (lease : ℕ) (group : List ℕ) where
+  abbrev pub shape : Shape
+  shape = table_shape blocks tables
+
+  pub by_refusal : (now : ℕ) (image : List ℕ) (old : Session) (reply : Reply)
+      → Shows blocks tables image old.store
+      → Refuses (group_refusals lease group (table_shape blocks tables)) old reply old
+      → Answers now [] old (command.Group lease group) reply old
+  by_refusal now image old reply shows refuses =
+      inl (inr (
+        tt,
+        subst (λ (s : Shape). Refuses (group_refusals lease group s) old reply old)
+            (sym (shape_shown shows)) refuses,
+      ))
+
+  pub by_effect : (now : ℕ) (image : List ℕ) (old : Session) (reply : Reply) (new : Session)
+      → Shows blocks tables image old.store
+      → PassesAll (group_refusals lease group (table_shape blocks tables))
+      → GroupEffect lease group old reply new
+      → Answers now [] old (command.Group lease group) reply new
+  by_effect now image old reply new shows passes done =
+      inr (
+        (
+          tt,
+          subst (λ (s : Shape). PassesAll (group_refusals lease group s))
+              (sym (shape_shown shows)) passes,
+        ),
+        done,
+      )
+
+  -- ---- a reply alone
+
+  -- what it says of each session over a sound store that the tables show
+  pub record IsDue (a c : LinksState) (reply : Reply) (now : ℕ) (old : Session) : Type 0 where
+    pub answers : Answers now [] old (command.Group lease group) reply old
+    pub served : GroupServed lease group (table_shape blocks tables) a c reply
+
+  pub over_by : (a c : LinksState) (reply : Reply) → Kept a c
+      → ((now : ℕ) → moment_after now (Some reply) ≡ now)
+      → ((now : ℕ) (image : List ℕ) (old : Session) → Shows blocks tables image old.store
+      → Sound old.store → IsDue a c reply now old)
+      → IsGroupOver blocks tables lease group a c reply
+  over_by a c reply kept still due = record {
+    kept = kept;
+    still = still;
+    step = λ now image old shows sound. (
+        let is = due now image old shows sound in
+        record {
+          new = old;
+          step = is.answers;
+          served = subst (λ (s : Shape). GroupServed lease group s a c reply)
+              (sym (shape_shown shows)) is.served;
+          brought = still_brought lease group old.store a c sound.valid.ordered;
+          leaves = refl;
+        }
+        );
+  }
+
+  -- ---- nothing was asked
+
+  served_none : (a c : LinksState) (reply : Reply) → AreUnasked a c
+      → AccountsGroup lease group (table_shape blocks tables) a c [] reply
+      → GroupServed lease group (table_shape blocks tables) a c reply
+  served_none a c reply none accounts = record {
+    kept = none.kept;
+    asked = [];
+    grown = none.same ∙ sym (append-nil a.asked);
+    front = λ all asks. (all, refl);
+    accounts = accounts;
+  }
+
+  pub memory_over : (a c : LinksState) → AreUnasked a c
+      → IsGroupOver blocks tables lease group a c says.Memory
+  memory_over a c unasked = over_by a c says.Memory unasked.kept (λ now. refl)
+      (λ now image old shows sound.
+      record { answers = inl (inl (refl, refl)); served = served_none a c says.Memory unasked tt })
+
+  pub no_lease_over : (a c : LinksState) → AreUnasked a c → leased_row lease tables ≡ None
+      → IsGroupOver blocks tables lease group a c says.NoLease
+  no_lease_over a c unasked none = over_by a c says.NoLease unasked.kept (λ now. refl)
+      (λ now image old shows sound. (
+      let gone = no_lease shows lease sound.valid.ordered none in
+      record {
+        answers = by_refusal now image old says.NoLease shows (inl ((gone, refl), refl));
+        served = served_none a c says.NoLease unasked (inl ((λ passes. passes.0 gone), refl));
+      }
+      ))
+
+  module _ (view : View) (leased : IsLeased blocks tables lease view) where
+    lives : lease_of lease tables.leases ≡ None → ⊥
+    lives = lease_lives leased
+
+    one_view : (v : BareView) → leased_bare lease (table_shape blocks tables) ≡ Some v
+        → v ≡ bare_row view
+    one_view v is = same_Some v (bare_row view) (sym is ∙ leased.bare)
+
+    pub no_group_over : (a c : LinksState) → AreUnasked a c
+        → group_files group view.application ≡ []
+        → IsGroupOver blocks tables lease group a c says.NoGroup
+    no_group_over a c unasked none = over_by a c says.NoGroup unasked.kept (λ now. refl)
+        (λ now image old shows sound. record {
+          answers = by_refusal now image old says.NoGroup shows
+              (inr (lives, inl (((bare_row view, leased.bare, none), refl), refl)));
+          served = served_none a c says.NoGroup unasked
+              (inl ((λ passes. passes.1.0 (bare_row view, leased.bare, none)), refl));
+        })
+
+    pub no_files_over : (a c : LinksState) (reply : Reply) → AreUnasked a c
+        → IsNoFiles group view.application reply → IsGroupOver blocks tables lease group a c reply
+    no_files_over a c reply unasked (inl memory) =
+        subst (IsGroupOver blocks tables lease group a c) (sym memory) (memory_over a c unasked)
+    no_files_over a c reply unasked (inr none) =
+        subst (IsGroupOver blocks tables lease group a c) (sym none.0)
+        (no_group_over a c unasked none.1)
+
+    module _ (some : ◌≢◌ {A = List FileEntry} (group_files group view.application) []) where
+      pub has_group : LacksGroup lease group (table_shape blocks tables) → ⊥
+      has_group lacks =
+          some (subst (λ (v : BareView). group_files group v.application ≡ [])
+          (one_view lacks.0 lacks.1) lacks.2)
+
+      -- what stands does not come
+      no_coming : group_stands group view.groups ≡ true → (holds : BareView → Type 0)
+          → OfComing lease group (table_shape blocks tables) holds → ⊥
+      no_coming stands holds coming =
+          absurd (false≢true (sym coming.2
+          ∙ ap (λ (v : BareView). group_stands group v.groups) (one_view coming.0 coming.1)
+          ∙ stands))
+
+      pub stands_over : (a c : LinksState) → AreUnasked a c → group_stands group view.groups ≡ true
+          → IsGroupOver blocks tables lease group a c
+          (says.Group (length (group_files group view.application)))
+      stands_over a c unasked stands =
+          let reply = says.Group (length (group_files group view.application)) in
+          over_by a c reply unasked.kept (λ now. refl) (λ now image old shows sound. record {
+            answers = by_effect now image old reply old shows (
+              lives,
+              (
+                has_group,
+                (no_coming stands _, ((λ need. no_coming stands _), (tt, tt))),
+              ),
+            )
+                (record {
+                  view = shown_view tables.contents view;
+                  leased = view_shown shows leased;
+                  replied = refl;
+                  store = old.store;
+                  comes = inl (stands, refl);
+                  is = refl;
+                });
+            served = served_none a c reply unasked
+                (inr (inl ((bare_row view, leased.bare, stands), refl)));
+          })
+
+      -- ---- one that comes
+
+      module _ (absent : group_stands group view.groups ≡ false) where
+        abbrev views : List BareView
+        views = map bare_row tables.views
+
+        abbrev wanted : List FileEntry
+        wanted = group_wanted (map bare_row tables.views) group view.application
+
+        abbrev files : List FileEntry
+        files = map ungrouped (group_files group view.application)
+
+        pub of_view : {P : BareView → Type 0} → OfComing lease group (table_shape blocks tables) P
+            → P (bare_row view)
+        of_view {P} coming = subst P (one_view coming.0 coming.1) coming.3
+
+        pub bad_url_over : (a c : LinksState) → AreUnasked a c
+            → Any (λ (entry : FileEntry). address_in view entry ≡ Err BadUrl) (lacking tables files)
+            → IsGroupOver blocks tables lease group a c says.BadUrl
+        bad_url_over a c unasked any =
+            let bad = bad_wanted tables view group any in
+            over_by a c says.BadUrl unasked.kept (λ now. refl)
+            (λ now image old shows sound. record {
+              answers = by_refusal now image old says.BadUrl shows
+                  (inr (
+                    lives,
+                    inr (
+                      has_group,
+                      inl (((bare_row view, leased.bare, absent, bad), refl), refl),
+                    ),
+                  ));
+              served = served_none a c says.BadUrl unasked
+                  (inl (
+                    (λ passes. passes.1.1.0 (bare_row view, leased.bare, absent, bad)),
+                    refl,
+                  ));
+            })
+
+        -- each wanted file has an address
+        abbrev AreReached : Type 0
+        AreReached = Any (λ (entry : FileEntry). address_in view entry ≡ Err BadUrl) wanted → ⊥
+
+        pub reached : AreReached
+            → OfMissing lease group (table_shape blocks tables) (λ target. target ≡ Err BadUrl) → ⊥
+        reached each coming = each (of_view coming)
+
+        -- ---- room
+
+        within : IsApplication view.application
+            → sum_by (λ (entry : FileEntry). blocks_of entry.size) wanted ≤ 2 ^ 64 - 1
+        within is =
+            let most = sum_most (λ (entry : FileEntry). blocks_of entry.size) wanted 16384
+            (λ entry there. (
+            let of = filter_in (is_in group) view.application.files entry
+            (missing_in (group_files group view.application) (standing_files views) entry there) in
+            few_blocks entry.local entry.size
+            (all_in IsFile view.application.files entry is.facts.each of.1).size
+            )) in
+            let few = few_of_group group view.application (standing_files views) is in
+            omega (arith, most, few)
+
+        pub need_is : (need : ℕ) → IsApplication view.application
+            → need
+            ≡ min (sum_by (λ (entry : FileEntry). blocks_of entry.size) (lacking tables files))
+            (2 ^ 64 - 1)
+            → need ≡ group_need views group view.application
+        need_is need is same =
+            let all = need_ungrouped views group view.application in
+            let own = (are_missing views group view.application).blocks in
+            let bound = within is in
+            omega (arith, same, all, own, bound)
+
+        pub full_over : (a c : LinksState) (needed : ℕ) (reply : Reply) → AreUnasked a c
+            → AreReached
+            → needed
+            ≡ min (sum_by (λ (entry : FileEntry). blocks_of entry.size) (lacking tables files))
+            (2 ^ 64 - 1)
+            → Refused (room_checks needed (free_blocks (table_shape blocks tables))) reply
+            → IsGroupOver blocks tables lease group a c reply
+        full_over a c needed reply unasked each is (inl memory) =
+            subst (IsGroupOver blocks tables lease group a c) (sym memory) (memory_over a c unasked)
+        full_over a c needed reply unasked each is (inr refuses) = by (refuses some_session)
+          where
+            full : (need : ℕ) → need ≡ needed → free_blocks (table_shape blocks tables) < need
+                → IsGroupOver blocks tables lease group a c
+                (says.Full need (free_blocks (table_shape blocks tables)))
+            full need own less =
+                let reply = says.Full need (free_blocks (table_shape blocks tables)) in
+                over_by a c reply unasked.kept (λ now. refl) (λ now image old shows sound. (
+                let same = need_is need (view_valid shows leased sound) (own ∙ is) in
+                record {
+                  answers = by_refusal now image old reply shows
+                      (inr (
+                        lives,
+                        inr (
+                          has_group,
+                          inr (
+                            reached each,
+                            inl (
+                              (
+                                need,
+                                (bare_row view, leased.bare, absent, (same, less)),
+                                refl,
+                              ),
+                              refl,
+                            ),
+                          ),
+                        ),
+                      ));
+                  served = served_none a c reply unasked
+                      (inl (
+                        (λ passes. passes.1.1.1.0 need
+                            (bare_row view, leased.bare, absent, (same, less))),
+                        refl,
+                      ));
+                }
+                ))
+
+            by : Refuses (room_checks needed (free_blocks (table_shape blocks tables)))
+                some_session reply some_session
+                → IsGroupOver blocks tables lease group a c reply
+            by (inl given) =
+                subst (IsGroupOver blocks tables lease group a c) (sym given.0.2)
+                (full given.0.0 given.0.1.0 given.0.1.1)
+            by (inr none) = absurd none.1

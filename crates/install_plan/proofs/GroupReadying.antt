@@ -1,0 +1,181 @@
+-- All that is ready once the files of a group are fetched.
+use Rattle.std.proofs.Common.{◌≡◌, ◌≢◌, ◌∙◌, ◌≤◌, inr, refl, sym, subst, ℕ, false, List, [], length, map, All, Ok, Option, IsSomeAnd, arith}
+use Rattle.std.proofs.lemmas.List.{append-nil, length-map}
+use Rattle.small_types.specs.declared.limits.TheConstants.{FILE_COUNT_LIMIT}
+use Rattle.manifests.specs.declared.facts.FileEntry.{FileEntry}
+use Rattle.machine.specs.declared.reply.Reply.{Reply}
+use Rattle.machine.specs.declared.reply.Reply.TheVariants as says
+use Rattle.machine.specs.Blocks.{standing_files}
+use Rattle.machine.specs.Fields.{IsApplication}
+use Rattle.machine.specs.GroupRow.{GroupEffect}
+use Rattle.machine.specs.Grouped.{grouped}
+use Rattle.machine.specs.Groups.{group_files, group_stands}
+use Rattle.machine.specs.Shape.{Shape}
+use Rattle.machine.specs.Sound.{Sound}
+use Rattle.machine.specs.Store.{Session, Store}
+use Rattle.machine.proofs.Members.{all_in}
+use Rattle.store_state.specs.declared.change.Change.TheVariants as change
+use Rattle.store_state.specs.declared.view.Content.{Content}
+use Rattle.store_state.specs.declared.view.View.{View}
+use Rattle.store_state.specs.Change.{Fits, MayGrow}
+use Rattle.store_state.specs.Contents.{Brings}
+use Rattle.store_state.specs.Kept.{AreTables}
+use Rattle.store_state.specs.Laws.{GroupsShowTheFiles, ShowsGroup, stand_files}
+use Rattle.store_state.specs.Shows.{Shows, shown_view}
+use Rattle.store_state.specs.Tables.{Tables, bare_row, table_shape}
+use Rattle.store_state.proofs.Showing.{shape_shown}
+use Rattle.links.specs.Links.{LinksState}
+use Rattle.install_plan.specs.Brought.{AreContentsFor}
+use Rattle.install_plan.specs.Checks.{LedBy}
+use Rattle.install_plan.specs.Fetching.{addresses}
+use Rattle.install_plan.specs.GroupAsked.{AreBrought, GroupServed}
+use Rattle.install_plan.specs.GroupReady.{GroupStep, HasBrought, IsGroupOver, IsGroupReady, address_in, ungrouped}
+use Rattle.install_plan.proofs.Aligning.{contents_for, count_for, keys_for, whole_for}
+use Rattle.install_plan.proofs.Coming.{brings_group}
+use Rattle.install_plan.proofs.GroupOver.{by_effect}
+use Rattle.install_plan.proofs.GroupServing.{asks, at_addresses, at_places, entries, memory_behind, passes_all, served_of}
+use Rattle.install_plan.proofs.GroupStanding.{led_brought, led_grouped, led_other}
+use Rattle.install_plan.proofs.LeasedRows.{IsLeased, row_is, row_there, view_shown, view_valid}
+use Rattle.install_plan.proofs.Sufficing.{IsWholeContent}
+use Rattle.install_plan.proofs.Ungrouping.{few_of_group, same_contents}
+
+-- the applications of tables could be read
+pub leased_held : (blocks : ℕ) (tables : Tables) (lease : ℕ) (view : View) → AreTables tables
+    → IsLeased blocks tables lease view → IsApplication view.application
+leased_held blocks tables lease view are leased =
+    all_in (λ (v : View). IsApplication v.application) tables.views view are.applications
+    (row_there leased)
+
+module _ (blocks : ℕ) (tables : Tables) (lease : ℕ) (group : List ℕ) (view : View)
+    (leased : IsLeased blocks tables lease view)
+    (some : ◌≢◌ {A = List FileEntry} (group_files group view.application) [])
+    (absent : group_stands group view.groups ≡ false) (a c : LinksState) (contents : List Content)
+    (got : HasBrought blocks tables view (map ungrouped (group_files group view.application)) a c
+    contents) where
+  abbrev wants : List FileEntry
+  wants = entries blocks tables lease group view leased some absent
+
+  -- want of memory behind the files
+  pub memory_last : IsGroupOver blocks tables lease group a c says.Memory
+  memory_last =
+      memory_behind blocks tables lease group view leased some absent got.wanted got.are a c
+      got.fetched.kept (addresses got.wanted) [] got.fetched.grown
+      (sym (append-nil (addresses got.wanted)))
+
+  contents_are : AreContentsFor a c wants (addresses got.wanted) contents
+  contents_are =
+      same_contents a c wants (addresses got.wanted) contents
+      (contents_for (map ungrouped (group_files group view.application)) a c got.wanted
+      (map ungrouped wants) contents
+      (at_places blocks tables lease group view leased some absent got.wanted got.are)
+      got.fetched.each)
+
+  whole : All IsWholeContent contents
+  whole = whole_for a c wants (addresses got.wanted) contents contents_are
+
+  module _ (are : AreTables tables) (law : GroupsShowTheFiles) where
+    few_contents : length contents ≤ FILE_COUNT_LIMIT
+    few_contents =
+        let few = few_of_group group view.application (standing_files (map bare_row tables.views))
+        (leased_held blocks tables lease view are leased) in
+        omega (arith, few, count_for a c wants (addresses got.wanted) contents contents_are)
+
+    brings : Brings tables.contents (group_files group view.application) contents
+    brings =
+        brings_group (map bare_row tables.views) group view.application tables.contents contents
+        are.contents (keys_for a c wants (addresses got.wanted) contents contents_are) whole
+
+    fits : Fits tables (change.Group view.number group contents)
+    fits =
+        subst (λ (o : Option View). IsSomeAnd o (MayGrow tables group contents))
+        (sym (row_is leased))
+        (record { listed = some; absent = absent; brings = brings })
+
+    named : map (address_in view) wants ≡ map Ok (addresses got.wanted)
+    named = at_addresses blocks tables lease group view leased some absent got.wanted got.are
+
+    abbrev reply : Reply
+    reply = says.Group (length (group_files group view.application))
+
+    module _ (image : List ℕ) (old : Session) (shows : Shows blocks tables image old.store)
+        (sound : Sound old.store) where
+      abbrev led_store : Store
+      led_store = grouped view.number group (stand_files tables contents group view) old.store
+
+      abbrev led : Session
+      led = record old {
+        store = grouped view.number group (stand_files tables contents group view) old.store;
+      }
+
+      is : IsApplication view.application
+      is = view_valid shows leased sound
+
+      showing : (later : List ℕ)
+          → ShowsGroup blocks tables view.number group contents view later old.store
+      showing later =
+          law blocks tables view.number group contents view image later old.store shows are
+          (row_is leased) fits
+
+      done : GroupEffect lease group old reply led
+      done = record {
+        view = shown_view tables.contents view;
+        leased = view_shown shows leased;
+        replied = refl;
+        store = led_store;
+        comes = inr (
+          absent,
+          led_grouped blocks tables lease group view leased contents are.contents brings a c
+              (addresses got.wanted) contents_are named image old.store shows [] sound whole
+              (showing []),
+        );
+        is = refl;
+      }
+
+      served : GroupServed lease group (table_shape blocks tables) a c reply
+      served =
+          served_of blocks tables lease group view leased some absent got.wanted got.are a c reply
+          (addresses got.wanted) [] got.fetched.kept is got.fetched.grown
+          (sym (append-nil (addresses got.wanted)))
+          (asks blocks tables lease group view leased some absent got.wanted got.are is)
+
+      step : (now : ℕ) → GroupStep lease group a c now reply old
+          (LedBy blocks tables (change.Group view.number group contents) old.store)
+      step now = record {
+        new = led;
+        step = by_effect blocks tables lease group now image old reply led shows
+            (passes_all blocks tables lease group view leased some absent got.wanted got.are is)
+            done;
+        served = subst (λ (s : Shape). GroupServed lease group s a c reply)
+            (sym (shape_shown shows)) served;
+        brought = subst (λ (s : Shape). AreBrought lease group s a c led_store)
+            (sym (shape_shown shows))
+            (led_brought blocks tables lease group view leased contents are.contents brings a c
+            (addresses got.wanted) contents_are named image old.store shows);
+        leaves = record {
+          shows = λ later. (showing later).shows;
+          other = led_other blocks tables lease group view leased contents are.contents brings a c
+              (addresses got.wanted) contents_are named image old.store shows absent;
+        };
+      }
+
+    ready : IsGroupReady blocks tables lease group a c
+        (change.Group view.number group contents) reply
+    ready = record {
+      kept = got.fetched.kept;
+      still = λ now. refl;
+      of = (refl, few_contents);
+      fits = fits;
+      step = λ now image old shows sound. step image old shows sound now;
+    }
+
+    -- the change and the reply as they are made
+    pub ready_with : (made : List ℕ) (count : ℕ) → made ≡ group
+        → count ≡ length (map ungrouped (group_files group view.application))
+        → IsGroupReady blocks tables lease group a c (change.Group view.number made contents)
+        (says.Group count)
+    ready_with made count same counted =
+        subst (λ (g : List ℕ). IsGroupReady blocks tables lease group a c
+        (change.Group view.number g contents) (says.Group count)) (sym same)
+        (subst (λ (n : ℕ). IsGroupReady blocks tables lease group a c
+        (change.Group view.number group contents) (says.Group n))
+        (sym (counted ∙ length-map (group_files group view.application) ungrouped)) ready)

@@ -1,0 +1,79 @@
+-- What a group asked of its links, from the beginning of its line to the end.
+use Rattle.std.specs.Prelude.{◌≡◌, ◌⊎◌, ℕ, true, List, ◌∷◌, [], ◌++◌, All, Any, Some, Ok, map}
+use Rattle.small_types.specs.declared.target.Target.{Target}
+use Rattle.addresses.specs.Join.{file_target_of}
+use Rattle.causes.specs.declared.cause.Cause.{Cause}
+use Rattle.digest_list.specs.Matches.{Matches}
+use Rattle.manifests.specs.declared.facts.FileEntry.{FileEntry}
+use Rattle.machine.specs.declared.reply.Reply.{Reply}
+use Rattle.machine.specs.declared.reply.Reply.TheVariants.{AllLinks, Memory}
+use Rattle.machine.specs.Asked.{AsksGroup}
+use Rattle.machine.specs.Blocks.{standing_files}
+use Rattle.machine.specs.GroupRow.{OfComing}
+use Rattle.machine.specs.Groups.{group_wanted}
+use Rattle.machine.specs.Leases.{leased_view}
+use Rattle.machine.specs.Shape.{BareView, Shape}
+use Rattle.machine.specs.Store.{Store}
+use Rattle.machine.specs.Views.{ListedFile, View, same_content}
+use Rattle.machine.specs.Wanted.{is_held}
+use Rattle.links.specs.Links.{LinksState}
+use Rattle.fetcher.specs.Causes.{IsFileCause}
+use Rattle.fetcher.specs.Fetched.{Kept}
+use Rattle.install_plan.specs.Given.{IsFrom, IsUngiven}
+use Rattle.install_plan.specs.Hearing.{IsFront, WereGiven}
+
+-- ---- what was asked
+
+-- No link gave one of the wanted files. Those before it were given, and nothing behind it was asked
+-- for.
+pub record LacksOfGroup (shape : Shape) (group : List ℕ) (before after : LinksState)
+    (asked : List Target) (named : Target) (reasons : List Cause) (view : BareView) : Type 0 where
+  pub earlier : List FileEntry
+  pub entry : FileEntry
+  pub later : List FileEntry
+  pub wants : group_wanted shape.views group view.application ≡ earlier ++ entry ∷ later
+  pub targets : List Target
+  pub each : map (λ file. file_target_of view.base view.deployment.mapped file.name) earlier
+      ≡ map Ok targets
+  pub at : file_target_of view.base view.deployment.mapped entry.name ≡ Ok named
+  pub order : asked ≡ targets ++ named ∷ []
+  pub gave : WereGiven before after earlier targets
+  pub ungiven : IsUngiven (IsFileCause entry.list entry.size named)
+      (Matches entry.list entry.size) named before after after reasons
+
+-- what was asked is what the group asks for, unless a file was not given or there was no memory
+abbrev pub AccountsGroup :
+    ℕ → List ℕ → Shape → LinksState → LinksState → List Target → Reply → Type 0
+AccountsGroup lease group shape before after asked (AllLinks named reasons) =
+    OfComing lease group shape (LacksOfGroup shape group before after asked named reasons)
+AccountsGroup lease group shape before after asked Memory = Unit {0}
+AccountsGroup lease group shape before after asked _ = AsksGroup lease group shape asked
+
+-- no target was asked for but the first of those that the group asks for
+pub record GroupServed (lease : ℕ) (group : List ℕ) (shape : Shape) (before after : LinksState)
+    (reply : Reply) : Type 0 where
+  pub kept : Kept before after
+  pub asked : List Target
+  pub grown : after.asked ≡ before.asked ++ asked
+  pub front : (all : List Target) → AsksGroup lease group shape all → IsFront asked all
+  pub accounts : AccountsGroup lease group shape before after asked reply
+
+-- ---- the files of the view
+
+-- A kept view has the content of a program file, or its bytes were got at the address of a wanted
+-- file of that content.
+abbrev pub IsHeldOrCame :
+    List ℕ → Shape → LinksState → LinksState → View → ListedFile → Type 0
+IsHeldOrCame group shape before after view file =
+    (is_held (standing_files shape.views) file.entry ≡ true)
+    ⊎ Any (λ entry. (target : Target)
+    × (file_target_of view.base view.deployment.mapped entry.name ≡ Ok target)
+    × (same_content entry file.entry ≡ true)
+    × IsFrom (Matches entry.list entry.size) target before after file.bytes)
+    (group_wanted shape.views group view.application)
+
+-- so are all program files of the leased view, once a group is answered to a store of this shape
+pub record AreBrought (lease : ℕ) (group : List ℕ) (shape : Shape) (before after : LinksState)
+    (new : Store) : Type 0 where
+  pub files : (view : View) → leased_view lease new ≡ Some view
+      → All (IsHeldOrCame group shape before after view) view.program_files
