@@ -8,7 +8,7 @@ use Rattle.links.specs.Links.{LinksState}
 use Rattle.fetcher.specs.Fetched.{Kept}
 use Rattle.fetcher.proofs.Sequence.{kept_same}
 use Rattle.machine.specs.declared.command.Command.{Command}
-use Rattle.machine.specs.declared.command.Command.TheVariants.{At, Install}
+use Rattle.machine.specs.declared.command.Command.TheVariants.{At, Check, Group, Install}
 use Rattle.machine.specs.declared.reply.Reply.{Reply}
 use Rattle.machine.specs.declared.reply.Reply.TheVariants as says
 use Rattle.machine.specs.Machine.{Answers, Hears, effect, moment_after, refusals}
@@ -30,23 +30,30 @@ use Rattle.updater.specs.Keeps.{Keeps, Leads}
 use Rattle.updater.specs.Updater.{Holds, room_of, tables_of}
 use Rattle.updater.proofs.Standing.{still_stands}
 
--- ---- commands that are no installs
+-- ---- commands that ask for nothing
 
 abbrev pub IsPlain : Command → Type 0
 IsPlain (Install url) = ⊥
+IsPlain (Check key) = ⊥
+IsPlain (Group lease group) = ⊥
 IsPlain _ = Unit {0}
 
 -- a command may hear nothing
 pub hears_nothing : (shape : Shape) (command : Command) → Hears shape command []
 hears_nothing shape (Install url) = tt
+hears_nothing shape (Check key) = tt
 hears_nothing shape _ = refl
 
 nothing_left : {L : Type 0} (command : Command) (links : L) → LeavesLinks command links links
 nothing_left (Install url) links = tt
+nothing_left (Check key) links = tt
+nothing_left (Group lease group) links = tt
 nothing_left _ links = refl
 
 nothing_served : (command : Command) (heard : List (List ℕ)) (before after : LinksState) (old : Store) (reply : Reply) (new : Store) → IsPlain command → Serves command heard before after old reply new
 nothing_served (Install url) heard before after old reply new plain = absurd plain
+nothing_served (Check key) heard before after old reply new plain = absurd plain
+nothing_served (Group lease group) heard before after old reply new plain = absurd plain
 nothing_served _ heard before after old reply new plain = tt
 
 -- ---- steps

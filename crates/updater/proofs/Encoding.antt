@@ -1,6 +1,6 @@
 -- Changes that fit have an encoding.
-use Rattle.std.proofs.Common.{◌≡◌, ◌≤◌, ◌<◌, ◌^◌, ◌/◌, ◌||◌, not, cond, true, false, ℕ, Bool, List, [], length, Option, Some, None, All, ◌⊎◌, inl, inr, Ok, Err, Result, sym, ap, subst, arith, IsUtf8}
-use Rattle.std.specs.Prelude.{Any, IfSome}
+use Rattle.std.proofs.Common.{◌≡◌, ◌≤◌, ◌<◌, ◌^◌, ◌/◌, ◌==◌, ◌||◌, not, cond, true, false, ℕ, Bool, List, [], length, map, Option, Some, None, All, ◌⊎◌, inl, inr, Ok, Err, Result, refl, sym, ap, subst, eqb-true, arith, IsUtf8}
+use Rattle.std.specs.Prelude.{Any, IfSome, IsSomeAnd}
 use Rattle.std.proofs.lemmas.Bool.{cases_lt, lt-ltb}
 use Rattle.std.proofs.lemmas.List.Elements.{All-contains, All-filter, All-nil}
 use Rattle.small_types.specs.declared.limits.TheConstants.{FILE_COUNT_LIMIT, NAME_LIMIT, URL_LIMIT}
@@ -13,6 +13,8 @@ use Rattle.url.specs.Parser.{parse_url}
 use Rattle.std.specs.Prelude.{nat_lt}
 use Rattle.std.specs.Str.{is_utf8}
 use Rattle.identity.specs.declared.identity.Identity.{Identity}
+use Rattle.identity.specs.declared.key.Key.{Key}
+use Rattle.identity.specs.Key.{IsKey}
 use Rattle.manifests.specs.declared.ages.AgeUnit.{AgeUnit}
 use Rattle.manifests.specs.declared.ages.AgeUnit.TheVariants.{Hours, Days, Weeks}
 use Rattle.manifests.specs.declared.facts.Application.{Application}
@@ -24,20 +26,27 @@ use Rattle.manifests.specs.Ages.{largest_unit, seconds_in}
 use Rattle.manifests.specs.Applications.{size_limit}
 use Rattle.manifests.specs.Facts as facts
 use Rattle.machine.specs.Fields as fields
-use Rattle.machine.specs.Fields.{HasEntry, HasIdentity, IsShort}
+use Rattle.machine.specs.Fields.{HasEntry, HasIdentity, IsShort, IsShortKey}
+use Rattle.machine.specs.Groups.{group_files}
 use Rattle.machine.specs.Views.{ContentKey, content_key, standing_entries}
 use Rattle.machine.proofs.Contents.{content_decides}
+use Rattle.machine.proofs.Finding.{find_in}
+use Rattle.machine.proofs.Members.{all_in, in_map}
 use Rattle.machine.proofs.Shortness.{short_key}
 use Rattle.store_state.specs.declared.change.Change.{Change}
-use Rattle.store_state.specs.declared.change.Change.TheVariants.{Install}
+use Rattle.store_state.specs.declared.change.Change.TheVariants.{Group, Heard, Install, Unheard}
 use Rattle.store_state.specs.declared.view.Content.{Content}
 use Rattle.store_state.specs.declared.view.LocalFile.{LocalFile}
 use Rattle.store_state.specs.declared.view.View.{View}
-use Rattle.store_state.specs.Change.{Fits, FitsInstall}
+use Rattle.store_state.specs.Change.{Fits, FitsInstall, MayGrow}
 use Rattle.store_state.specs.Contents.{is_content_of}
+use Rattle.store_state.specs.Kept.{AreTables}
+use Rattle.store_state.specs.Rows.{row_at}
 use Rattle.store_state.specs.Tables.{Tables}
 use Rattle.record_codec.specs.Codec.{IsChange}
-use Rattle.record_codec.specs.Values.{AreDigests, IsApplication, IsContent, IsDeployment, IsEntry, IsIdentity, IsInstall, IsLocal, IsRule}
+use Rattle.record_codec.specs.Values.{AreDigests, IsApplication, IsContent, IsDeployment, IsEntry, IsGroup, IsIdentity, IsInstall, IsLocal, IsRule}
+use Rattle.install_plan.specs.Checks.{IsOfCheck}
+use Rattle.install_plan.specs.GroupReady.{IsOfGroup}
 use Rattle.install_plan.specs.Ready.{HasFew}
 
 -- ---- texts and identities
@@ -189,3 +198,53 @@ install_encodes tables view contents provider now fits none few =
 pub encodes : (tables : Tables) (change : Change) → Fits tables change → HasFew change → IsChange change
 encodes tables (Install view contents provider now) fits few = install_encodes tables view contents provider now fits few.0 few.1
 encodes tables _ fits few = absurd few
+
+-- ---- checks
+
+-- what is noted of a key that a line gave
+pub check_encodes : (tables : Tables) (key : Key) (change : Change) → IsKey key
+    → IsOfCheck key change → Fits tables change → IsChange change
+check_encodes tables key (Heard other version minimum now) is same fits = record {
+  key = subst IsShortKey (sym same) (short_key is);
+  version = fits.heard;
+  minimum = fits.least;
+  now = let few = fits.moment in omega arith;
+}
+check_encodes tables key (Unheard other) is same fits = subst IsShortKey (sym same) (short_key is)
+check_encodes tables key _ is same fits = absurd same
+
+-- ---- groups
+
+-- what comes to a view of the tables, of a group that a line gave
+pub group_encodes : (tables : Tables) (group : List ℕ) (change : Change) → AreTables tables
+    → IsShort NAME_LIMIT group → IsOfGroup group change → Fits tables change → IsChange change
+group_encodes tables group (Group number other contents) are short is fits =
+    by (row_at number tables.views) refl fits
+  where
+    encodes_in : (row : View) → row_at number tables.views ≡ Some row
+        → MayGrow tables other contents row → IsGroup number other contents
+    encodes_in row at grows =
+        let found = find_in (λ (view : View). view.number == number) tables.views row at in
+        let below = all_in (λ (n : ℕ). n < tables.next_view)
+        (map (λ (view : View). view.number) tables.views) row.number are.below
+        (in_map (λ (view : View). view.number) tables.views row found.0) in
+        let same : row.number ≡ number = eqb-true row.number number found.1 in
+        let limit = are.limit in
+        let application = all_in (λ (view : View). fields.IsApplication view.application)
+        tables.views row are.applications found.0 in
+        let few : All IsFew (group_files other row.application) =
+        All-filter _ IsFew row.application.files
+        (few_entries row.application.files application.facts.each application.files) in
+        record {
+          view = omega (arith, below, same, limit);
+          group = subst (IsShort NAME_LIMIT) (sym is.0) short;
+          few = is.1;
+          contents = λ k d within. content_among (group_files other row.application) _ few
+              (grows.brings.only k d within) (grows.brings.measured k d within);
+        }
+
+    by : (row : Option View) → row_at number tables.views ≡ row
+        → IsSomeAnd row (MayGrow tables other contents) → IsGroup number other contents
+    by None at grows = absurd grows
+    by (Some row) at grows = encodes_in row at grows
+group_encodes tables group _ are short is fits = absurd is

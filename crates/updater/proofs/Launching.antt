@@ -28,11 +28,11 @@ use Rattle.store_state.specs.Shows.{Shows, shown_view}
 use Rattle.store_state.specs.Tables.{Tables}
 use Rattle.store_state.proofs.Showing.{shape_shown, shows_launched}
 use Rattle.links.specs.Links.{LinksState}
+use Rattle.install_plan.proofs.Currents.{current_shown}
 use Rattle.updater.specs.declared.start.Start.{Start}
 use Rattle.updater.specs.Keeps.{Leads}
 use Rattle.updater.specs.Start.{IsStart}
 use Rattle.updater.proofs.Commanding.{Does, effect_answers}
-use Rattle.updater.proofs.ShownViews.{current_shown}
 
 module _ (now : ℕ) (key : Key) (blocks : ℕ) (tables : Tables) (image : List ℕ)
     (before after : LinksState) (old : Session) (shows : Shows blocks tables image old.store)

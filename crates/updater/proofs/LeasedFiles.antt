@@ -17,12 +17,12 @@ use Rattle.store_state.specs.declared.view.Content.{Content}
 use Rattle.store_state.specs.declared.view.View.{View}
 use Rattle.store_state.specs.Contents.{content_of}
 use Rattle.store_state.specs.Named.{file_at, named_in}
-use Rattle.store_state.specs.Rows.{row_at}
+use Rattle.store_state.specs.Rows.{leased_row, row_at}
 use Rattle.store_state.specs.Shows.{Shows, bytes_in, shown_file, shown_view}
 use Rattle.store_state.specs.Tables.{Tables, bare_row, table_shape}
 use Rattle.store_state.proofs.Showing.{shape_shown}
 use Rattle.links.specs.Links.{LinksState}
-use Rattle.updater.specs.Leased.{IsLeasedFile, KeepsView, leased_row}
+use Rattle.updater.specs.Leased.{IsLeasedFile, KeepsView}
 use Rattle.updater.proofs.Commanding.{Rests, effect_answers}
 use Rattle.updater.proofs.ShownViews.{leased_bare_row, leased_shown}
 

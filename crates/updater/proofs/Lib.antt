@@ -1,7 +1,10 @@
 pub mod Changing
+pub mod Checking
 pub mod Commanding
+pub mod Declining
 pub mod Encoding
 pub mod Finishing
+pub mod GroupEnds
 pub mod Installing
 pub mod Keeping
 pub mod Launching

@@ -3,20 +3,21 @@ use Rattle.std.proofs.Common.{◌≡◌, ◌∙◌, ℕ, ◌==◌, List, map, Op
 use Rattle.std.specs.Prelude.{option_and_then, option_map}
 use Rattle.identity.specs.declared.key.Key.{Key}
 use Rattle.machine.specs.declared.lease.Lease.{Lease}
-use Rattle.machine.specs.Current.{bare_view_at, current_of, current_view, view_at}
+use Rattle.machine.specs.Current.{bare_view_at, view_at}
 use Rattle.machine.specs.Leases.{lease_of, leased_bare, leased_view}
 use Rattle.machine.specs.Shape.{BareView}
 use Rattle.machine.specs.Store.{Store}
 use Rattle.machine.specs.Valid.{Ordered}
 use Rattle.machine.specs.Views.{View as KeptView}
 use Rattle.machine.proofs.Finding.{find-map, value_of}
-use Rattle.machine.proofs.Leased.{current_kept, leased_kept}
+use Rattle.machine.proofs.Leased.{leased_kept}
 use Rattle.store_state.specs.declared.view.Content.{Content}
 use Rattle.store_state.specs.declared.view.View.{View}
-use Rattle.store_state.specs.Rows.{current_row, row_at}
+use Rattle.store_state.specs.Rows.{leased_row, row_at}
 use Rattle.store_state.specs.Shows.{Shows, shown_view}
 use Rattle.store_state.specs.Tables.{Tables, bare_row, table_shape}
-use Rattle.updater.specs.Leased.{KeepsView, leased_row}
+use Rattle.install_plan.proofs.Currents.{current_stands, map_there}
+use Rattle.updater.specs.Leased.{KeepsView}
 use Rattle.updater.specs.Start.{KeepsCurrent}
 
 -- ---- by number
@@ -30,12 +31,6 @@ view_shown contents views number =
 bare_shown : (views : List View) (number : ℕ)
     → bare_view_at number (map bare_row views) ≡ option_map bare_row (row_at number views)
 bare_shown views number = find-map bare_row (λ (view : BareView). view.number == number) views
-
-current_by : (contents : List Content) (views : List View) (number : Option ℕ)
-    → option_and_then (λ (n : ℕ). view_at n (map (shown_view contents) views)) number
-    ≡ option_map (shown_view contents) (option_and_then (λ (n : ℕ). row_at n views) number)
-current_by contents views None = refl
-current_by contents views (Some number) = view_shown contents views number
 
 leased_by : (contents : List Content) (views : List View) (lease : Option Lease)
     → option_and_then (λ (l : Lease). view_at l.view (map (shown_view contents) views)) lease
@@ -56,18 +51,8 @@ pub leased_bare_row : (number blocks : ℕ) (tables : Tables)
     ≡ option_map bare_row (leased_row number tables)
 leased_bare_row number blocks tables = bare_by tables.views (lease_of number tables.leases)
 
-there : {X Y : Type 0} (f : X → Y) (o : Option X) (y : Y) → option_map f o ≡ Some y → IsSome o
-there f None y is = absurd cc
-there f (Some x) y is = refl
-
 module _ {blocks : ℕ} {tables : Tables} {image : List ℕ} {store : Store}
     (shows : Shows blocks tables image store) where
-  pub current_shown : (key : Key)
-      → current_view key store ≡ option_map (shown_view tables.contents) (current_row key tables)
-  current_shown key =
-      ap (current_view key) shows.is
-      ∙ current_by tables.contents tables.views (current_of key tables.apps)
-
   pub leased_shown : (number : ℕ)
       → leased_view number store
       ≡ option_map (shown_view tables.contents) (leased_row number tables)
@@ -77,16 +62,11 @@ module _ {blocks : ℕ} {tables : Tables} {image : List ℕ} {store : Store}
 
   -- in a store in its order they are among the views
   pub keeps_current : (key : Key) → Ordered store → KeepsCurrent key tables
-  keeps_current key was some =
-      let number = value_of (current_of key tables.apps) some in
-      let kept = current_kept key number.0 store was
-      (ap (λ (s : Store). current_of key s.apps) shows.is ∙ number.1) in
-      there (shown_view tables.contents) (current_row key tables) kept.0
-      (sym (current_shown key) ∙ kept.1)
+  keeps_current key was some = current_stands shows key was some
 
   pub keeps_view : (number : ℕ) → Ordered store → KeepsView number tables
   keeps_view number was some =
       let kept = leased_kept number store was
       (subst (λ (s : Store). IsSome (lease_of number s.leases)) (sym shows.is) some) in
-      there (shown_view tables.contents) (leased_row number tables) kept.0
+      map_there (shown_view tables.contents) (leased_row number tables) kept.0
       (sym (leased_shown number) ∙ kept.1)

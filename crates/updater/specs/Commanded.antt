@@ -9,9 +9,11 @@ use Rattle.links.specs.declared.links.Links.{Ghosts as LinksGhosts}
 use Rattle.links.specs.Links.{LinksState}
 use Rattle.fetcher.specs.Fetched.{Kept}
 use Rattle.install_plan.specs.Brought.{IsBrought}
+use Rattle.install_plan.specs.GroupAsked.{AreBrought, GroupServed}
 use Rattle.install_plan.specs.Hearing.{Served}
+use Rattle.install_plan.specs.Offers.{OfferServed}
 use Rattle.machine.specs.declared.command.Command.{Command}
-use Rattle.machine.specs.declared.command.Command.TheVariants.{At, Require, Install, Launch, Read, Finish}
+use Rattle.machine.specs.declared.command.Command.TheVariants.{At, Require, Install, Check, Skip, Launch, Read, Group, Finish}
 use Rattle.machine.specs.declared.reply.Reply.{Reply}
 use Rattle.machine.specs.Machine.{Answers, Hears, moment_after}
 use Rattle.machine.specs.Shape.{shape_of}
@@ -25,26 +27,34 @@ use Rattle.updater.specs.Updater.{Holds, TakesNumber, room_of, tables_of}
 
 -- ---- by the command
 
--- The store before the command. An install takes over the files of kept views, so it is to be sound.
+-- The store before the command. An install and a group take over the files of kept views, so it is
+-- to be sound.
 abbrev pub SoundFor : Command → Store → Type 0
 SoundFor (At next) store = Unit {0}
 SoundFor (Require key version) store = Unit {0}
 SoundFor (Install url) store = Sound store
+SoundFor (Check key) store = Unit {0}
+SoundFor (Skip key) store = Unit {0}
 SoundFor (Launch key) store = Unit {0}
 SoundFor (Read lease name from count) store = Unit {0}
+SoundFor (Group lease group) store = Sound store
 SoundFor (Finish lease) store = Unit {0}
 
--- a command that is no install leaves the links alone
+-- a command that asks for nothing leaves the links alone
 abbrev pub LeavesLinks : {L : Type 0} → Command → L → L → Type 0
 LeavesLinks (At next) old new = new ≡ old
 LeavesLinks (Require key version) old new = new ≡ old
 LeavesLinks (Install url) old new = Unit {0}
+LeavesLinks (Check key) old new = Unit {0}
+LeavesLinks (Skip key) old new = new ≡ old
 LeavesLinks (Launch key) old new = new ≡ old
 LeavesLinks (Read lease name from count) old new = new ≡ old
+LeavesLinks (Group lease group) old new = Unit {0}
 LeavesLinks (Finish lease) old new = new ≡ old
 
 -- What the links did for a step from one store to another. An install asked them for what it heard,
--- and for each file of the new view whose content no kept view has.
+-- and for each file of the new view whose content no kept view has. A check asked for the manifest
+-- that it heard, and a group for each of its files whose content no kept view has.
 abbrev pub Serves :
     Command → List (List ℕ) → LinksState → LinksState → Store → Reply → Store → Type 0
 Serves (At next) heard before after old reply new = Unit {0}
@@ -53,8 +63,14 @@ Serves (Install url) heard before after old reply new =
     Served (shape_of old) url heard before after reply
     × ((view : View) → new.views ≡ old.views ++ view ∷ []
     → IsBrought (shape_of old) before after view)
+Serves (Check key) heard before after old reply new =
+    OfferServed key (shape_of old) heard before after reply
+Serves (Skip key) heard before after old reply new = Unit {0}
 Serves (Launch key) heard before after old reply new = Unit {0}
 Serves (Read lease name from count) heard before after old reply new = Unit {0}
+Serves (Group lease group) heard before after old reply new =
+    GroupServed lease group (shape_of old) before after reply
+    × AreBrought lease group (shape_of old) before after new
 Serves (Finish lease) heard before after old reply new = Unit {0}
 
 -- ---- what it did
@@ -87,10 +103,11 @@ pub record Faulted {D L : Type 0} (on : Ghosts D) (net : LinksGhosts L) (now : �
   pub served : Serves command heard (net.links links_old) (net.links links_new)
       old.store reply new.store
 
--- What a command does, for each session whose store is held, and is sound where the command asks it.
--- What the disk tells afterwards it told before. A failed call is counted, save where the disk had
--- no number left. The count of faults rises exactly where the disk failed. The links and their sites
--- stay. What it heard, its tables let it hear; and the moment of the next command is within its limit.
+-- What a command does, for each session whose store is held, and is sound where the command asks
+-- it. What the disk tells afterwards it told before. A failed call is counted, save where the disk
+-- had no number left. The count of faults rises exactly where the disk failed. The links and their
+-- sites stay. What it heard, its tables let it hear; and the moment of the next command is within
+-- its limit.
 pub record Commanded {D L : Type 0} (on : Ghosts D) (net : LinksGhosts L) (now : ℕ)
     (heard : List (List ℕ)) (command : Command) (updater_old : Updater) (disk_old : D)
     (links_old : L) (result : Result Reply Failed) (updater_new : Updater) (disk_new : D)

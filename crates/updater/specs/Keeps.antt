@@ -15,19 +15,22 @@ use Rattle.updater.specs.declared.updater.Updater.{Updater}
 use Rattle.updater.specs.Stands.{StandsForEither}
 use Rattle.updater.specs.Updater.{Holds, TakesNumber, tables_of}
 
--- The change leads from tables that show the old store to tables that show the new one, which is valid.
+-- The change leads from tables that show the old store to tables that show the new one, which is
+-- valid.
 pub record Leads (change : Change) (tables : Tables) (old new : Store) : Type 0 where
   pub shows : (image : List ℕ) → Shows old.blocks (effect change tables) image new
   pub valid : Valid new
 
--- What making a change durable does, for any two stores between which it leads. For want of memory it does nothing.
+-- What making a change durable does, for any two stores between which it leads. For want of memory
+-- it does nothing.
 pub record Keeps {D T : Type 0} (on : Ghosts D) (change : Change)
     (updater_old : Updater) (disk_old : D) (result : Result T StepFault)
     (updater_new : Updater) (disk_new : D) : Type 0 where
   pub stored : (old new : Store) → Leads change (tables_of updater_old) old new
       → Holds on updater_old disk_old old → OnOk result (Holds on updater_new disk_new new)
   pub stop : (old new : Store) → Leads change (tables_of updater_old) old new
-      → Holds on updater_old disk_old old → LeavesOnly on disk_old disk_new (StandsForEither old new)
+      → Holds on updater_old disk_old old
+      → LeavesOnly on disk_old disk_new (StandsForEither old new)
   pub past : (t : ℕ) (image : List ℕ) → t ≤ on.moment disk_old
       → on.left_at disk_new t image → on.left_at disk_old t image
   pub memory : result ≡ Err Memory → (updater_new ≡ updater_old) × (disk_new ≡ disk_old)

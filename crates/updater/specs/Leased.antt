@@ -1,20 +1,15 @@
 -- What is read of a leased view.
-use Rattle.std.specs.Prelude.{◌≡◌, ℕ, List, Option, Some, IsSome, option_and_then}
+use Rattle.std.specs.Prelude.{◌≡◌, ℕ, List, Some, IsSome}
 use Rattle.manifests.specs.declared.facts.FileEntry.{FileEntry}
 use Rattle.machine.specs.Leases.{lease_of}
 use Rattle.store_state.specs.declared.view.View.{View}
 use Rattle.store_state.specs.Contents.{content_of}
 use Rattle.store_state.specs.Named.{named_in}
-use Rattle.store_state.specs.Rows.{row_at}
+use Rattle.store_state.specs.Rows.{leased_row}
 use Rattle.store_state.specs.Shows.{bytes_in}
 use Rattle.store_state.specs.Tables.{Tables}
 
--- the view that the lease of that number names
-abbrev pub leased_row : ℕ → Tables → Option View
-leased_row number tables =
-    option_and_then (λ lease. row_at lease.view tables.views) (lease_of number tables.leases)
-
--- it is among the views, as in each valid store
+-- the view that the lease names is among the views, as in each valid store
 abbrev pub KeepsView : ℕ → Tables → Type 0
 KeepsView number tables = IsSome (lease_of number tables.leases) → IsSome (leased_row number tables)
 

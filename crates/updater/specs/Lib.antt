@@ -7,6 +7,7 @@ pub mod Moments
 pub mod Opened
 pub mod Replay
 pub mod Requirement
+pub mod Skipping
 pub mod Stands
 pub mod Start
 pub mod Updater

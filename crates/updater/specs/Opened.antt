@@ -12,8 +12,8 @@ use Rattle.updater.specs.Updater.{Holds}
 
 pub record Opened {D : Type 0} (on : Ghosts D) (boot : ℕ) (disk_old : D)
     (result : Result (Updater × Bool) RecoverFault) (disk_new : D) : Type 0 where
-  -- Where the disk tells, the store is the one that reads stand for, after a boot of that number where its number was
-  -- another. The answer is true exactly there.
+  -- Where the disk tells, the store is the one that reads stand for, after a boot of that number
+  -- where its number was another. The answer is true exactly there.
   pub found : on.tells disk_new → OnOk result ((old : Store) × Stands (on.seen disk_old) old)
   pub stored : on.tells disk_new → (old : Store) → Stands (on.seen disk_old) old
       → IfOk result (λ r. Holds on r.0 disk_new (booted boot old))
@@ -22,11 +22,12 @@ pub record Opened {D : Type 0} (on : Ghosts D) (boot : ℕ) (disk_old : D)
   pub other_boot : on.tells disk_new → (old : Store) → Stands (on.seen disk_old) old
       → IfOk result (λ r. r.1 ≡ true → old.boot ≢ boot)
   pub not_a_store : on.tells disk_new → result ≡ Err NotAStore → StandsForNone (on.seen disk_old)
-  -- From its first sync on a stop leaves the store as it was or with the given boot number. Where that sync fails a
-  -- stop leaves what it could leave before.
+  -- From its first sync on a stop leaves the store as it was or with the given boot number. Where
+  -- that sync fails a stop leaves what it could leave before.
   pub past : (t : ℕ) (image : List ℕ) → t ≤ on.moment disk_old
       → on.left_at disk_new t image → on.left_at disk_old t image
-  pub stop : on.tells disk_new → (old : Store) → Stands (on.seen disk_old) old → result ≢ Err DiskFault
+  pub stop : on.tells disk_new → (old : Store) → Stands (on.seen disk_old) old
+      → result ≢ Err DiskFault
       → LeavesSince on (on.moment disk_old + 1) disk_new (StandsForEither old (booted boot old))
   pub stop_fault : on.tells disk_new → (old : Store) → Stands (on.seen disk_old) old
       → LeavesSinceOrNot on disk_old disk_new (StandsForEither old (booted boot old))
@@ -42,7 +43,8 @@ pub record Opened {D : Type 0} (on : Ghosts D) (boot : ℕ) (disk_old : D)
   pub quiet : IfOk result (λ r. r.1 ≡ false → on.moment disk_new ≡ on.moment disk_old + 1)
   pub tick : IfOk result (λ r. r.1 ≡ true → on.moment disk_new ≡ on.moment disk_old + 5)
   pub later : on.moment disk_old ≤ on.moment disk_new
-  -- What the disk tells afterwards it told before. Its count of faults rises exactly where it failed.
+  -- What the disk tells afterwards it told before. Its count of faults rises exactly where it
+  -- failed.
   pub told : on.tells disk_new → on.tells disk_old
   pub count : on.count disk_old ≤ on.count disk_new
   pub cause : result ≡ Err DiskFault → Rose (on.count disk_old) (on.count disk_new)

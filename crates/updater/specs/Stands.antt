@@ -14,16 +14,16 @@ pub record Encodes (change : Change) (text : List ℕ) : Type 0 where
   pub has : IsChange change
   pub is : text ≡ change_text change
 
--- each of these texts is the encoding of a change which fits, and one after another they lead from old
--- to new
+-- each of these texts is the encoding of a change which fits, and one after another they lead from
+-- old to new
 abbrev pub Loads : Tables → List (List ℕ) → Tables → Type 0
 Loads old [] new = new ≡ old
 Loads old (text ∷ texts) new =
     (change : Change) × Encodes change text × Fits old change
     × Loads (effect change old) texts new
 
--- The bytes are a journal of the store's number of blocks. Its changes lead from the empty tables to some
--- that show the store, which is within its order and its limits, and whose files have room.
+-- The bytes are a journal of the store's number of blocks. Its changes lead from the empty tables
+-- to some that show the store, which is within its order and its limits, and whose files have room.
 pub record Stands (image : List ℕ) (store : Store) : Type 0 where
   pub changes : List (List ℕ)
   pub tables : Tables

@@ -19,9 +19,9 @@ tables_of updater = updater.state
 abbrev pub room_of : Updater → ℕ
 room_of updater = updater.blocks
 
--- The updater holds the store on the disk. Its log is open behind changes that lead to its tables, on a
--- journal of the store's number of blocks, which it keeps. Each stop now leaves such a journal, and with
--- each such image the tables show the store.
+-- The updater holds the store on the disk. Its log is open behind changes that lead to its tables,
+-- on a journal of the store's number of blocks, which it keeps. Each stop now leaves such a
+-- journal, and with each such image the tables show the store.
 pub record Holds {D : Type 0} (on : Ghosts D) (updater : Updater) (disk : D) (store : Store)
     : Type 0 where
   pub changes : List (List ℕ)

@@ -8,6 +8,7 @@ mod piece;
 mod refusal;
 mod replay;
 mod requirement;
+mod skipping;
 mod start;
 mod updater;
 

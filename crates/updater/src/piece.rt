@@ -19,7 +19,8 @@ fn write_piece(change: &Change, piece: &mut [u8])
     let _ = encode_change(change, &mut piece[BEFORE..]);
 }
 
-/// The change's encoding with the log's bytes around it. There is no memory for one that is longer than the log takes.
+/// The change's encoding with the log's bytes around it. There is no memory for one that is longer
+/// than the log takes.
 pub(crate) fn piece_of(alloc: Global, change: &Change) -> Result<Vec<u8>, StepFault>
     requires { IsChange change.now }
     ensures change { IfOk result (λ piece. entry_in piece.items ≡ change_text change.now) }

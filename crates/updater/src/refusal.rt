@@ -16,7 +16,8 @@ use store_state::StoreState;
 /// The refusal of `require` that the tables give, whatever their number of blocks.
 pub(crate) fn require_refusal(state: &StoreState, key: &Key) -> Option<Reply>
     ensures none { result ≡ None → (now blocks : ℕ) (version : Version)
-        → PassesAll (refusals now [] (table_shape blocks state.now) (command.Require key.now version)) }
+        → PassesAll (refusals now [] (table_shape blocks state.now)
+        (command.Require key.now version)) }
     ensures some { (now blocks : ℕ) (version : Version) (old : Session)
         → IfSome result (λ reply. Refuses (refusals now [] (table_shape blocks state.now)
         (command.Require key.now version)) old reply old) }

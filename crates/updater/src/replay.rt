@@ -38,7 +38,8 @@ fn make(alloc: Global, state: &mut StoreState, change: Change) -> Result<bool, S
     }
 }
 
-// Makes the change with that text, where it is that of a change that fits, and answers whether it is.
+// Makes the change with that text, where it is that of a change that fits, and answers whether it
+// is.
 fn replay_one(alloc: Global, state: &mut StoreState, text: &[u8]) -> Result<bool, StateFault>
     ensures { IfOk result (Tries text.now state.old state.new) }
 {
@@ -49,8 +50,8 @@ fn replay_one(alloc: Global, state: &mut StoreState, text: &[u8]) -> Result<bool
     }
 }
 
-// The tables that the changes with these texts lead to from the empty ones, one after another. There are none where
-// one of them is no change that fits.
+// The tables that the changes with these texts lead to from the empty ones, one after another.
+// There are none where one of them is no change that fits.
 fn replay(alloc: Global, changes: &[Bytes]) -> Result<Option<StoreState>, StateFault>
     ensures found { IfOk result (λ o. IfSome o (λ state. Loads empty changes.now state)) }
     ensures none { IfOk result (λ o. IfNone o ((tables : Tables) → Loads empty changes.now tables

@@ -10,7 +10,7 @@ ghost use Rattle.machine.specs.Rows.{PassesAll};
 ghost use Rattle.machine.specs.Shape.{bare_view};
 ghost use Rattle.machine.specs.Store.{Store};
 ghost use Rattle.machine.specs.Valid.{Valid};
-ghost use Rattle.machine.specs.Words.{IsCommand};
+ghost use Rattle.machine.specs.Words.{IsCommand, IsGroup};
 ghost use Rattle.record_codec.specs.Codec.{IsChange};
 ghost use Rattle.store_state.specs.Change.{Fits};
 ghost use Rattle.store_state.specs.Shows.{Shows};
@@ -25,14 +25,15 @@ use crate::piece::piece_of;
 use crate::refusal::{finish_refusal, require_refusal};
 use crate::replay::settle;
 use crate::requirement::minimum_that_stays;
+use crate::skipping::skipping_of;
 use crate::start::start_of;
 use disks::Disk;
 use identity::{Key, Version};
-use install_plan::prepare;
+use install_plan::{prepare, prepare_check, prepare_group};
 use links::Links;
 use machine::{Command, Heard, Reply};
 use outside::Failed;
-use small_types::{Bytes, Duplicate, Name};
+use small_types::{Bytes, Duplicate, Name, Text};
 use std::alloc::Global;
 use store_log::{Log, LogFault};
 use store_state::{Change, StoreState};
@@ -63,8 +64,8 @@ impl Updater {
     ghost use Rattle.updater.specs.Opened.{Opened};
     ghost use Rattle.updater.specs.Updater.{tables_of};
 
-    /// Opens the store on the disk. Where the kept boot number differs from the given one, which is at most 2^62,
-    /// the given one is made durable, which ends all leases, and the answer is true.
+    /// Opens the store on the disk. Where the kept boot number differs from the given one, which is
+    /// at most 2^62, the given one is made durable, which ends all leases, and the answer is true.
     pub fn recover<D: Disk>(
         alloc: Global,
         disk: &mut D,
@@ -103,8 +104,8 @@ impl Updater {
         requires command { IsCommand command.now }
         requires moment { now ≤ NUMBER_LIMIT }
         requires empty { heard.old.texts ≡ [] }
-        ensures { Commanded D.Disk L.Links now heard.new.texts command.now self.old disk.old links.old
-            result self.new disk.new links.new }
+        ensures { Commanded D.Disk L.Links now heard.new.texts command.now self.old disk.old
+            links.old result self.new disk.new links.new }
     {
         match command {
             Command::At { now: next } => Ok(Reply::At { now: *next }),
@@ -112,6 +113,8 @@ impl Updater {
                 alloc, disk, links, now, key, *version,
             ),
             Command::Install { url } => self.install(alloc, disk, links, now, url, heard),
+            Command::Check { key } => self.check(alloc, disk, links, now, key, heard),
+            Command::Skip { key } => self.skip(alloc, disk, links, now, key),
             Command::Launch { key } => self.launch(alloc, disk, links, now, key),
             Command::Read {
                 lease,
@@ -119,6 +122,7 @@ impl Updater {
                 from,
                 count,
             } => self.read(alloc, disk, links, now, *lease, name, *from, *count),
+            Command::Group { lease, group } => self.group(alloc, disk, links, now, *lease, group),
             Command::Finish { lease } => self.finish(alloc, disk, links, now, *lease),
         }
     }
@@ -157,7 +161,8 @@ impl Updater {
         }
     }
 
-    // Makes a change that fits durable, and makes it in the tables. For want of memory it does nothing.
+    // Makes a change that fits durable, and makes it in the tables. For want of memory it does
+    // nothing.
     fn keep<D: Disk>(
         &mut self,
         alloc: Global,
@@ -257,6 +262,59 @@ impl Updater {
         };
         answer(self.keep(alloc, disk, change), reply)
     }
+
+    // Asks the application's provider what it offers. Where no link gives the manifest, that is
+    // noted before it is answered.
+    fn check<D: Disk, L: Links>(
+        &mut self,
+        alloc: Global,
+        disk: &mut D,
+        links: &mut L,
+        now: u64,
+        key: &Key,
+        heard: &mut Heard,
+    ) -> Result<Reply, Failed>
+        requires words { IsKey key.now }
+        requires moment { now ≤ NUMBER_LIMIT }
+        requires empty { heard.old.texts ≡ [] }
+        ensures { Commanded D.Disk L.Links now heard.new.texts (command.Check key.now) self.old
+            disk.old links.old result self.new disk.new links.new }
+    {
+        let (noted, reply) = match prepare_check(alloc, &self.state, links, now, key, heard) {
+            Ok(ready) => ready,
+            Err(reply) => return Ok(reply),
+        };
+        answer(self.keep(alloc, disk, noted), reply)
+    }
+
+    // Notes that what is offered to the application is not wanted. The links are not asked.
+    fn skip<D: Disk, L: Links>(
+        &mut self,
+        alloc: Global,
+        disk: &mut D,
+        _links: &L,
+        now: u64,
+        key: &Key,
+    ) -> Result<Reply, Failed>
+        requires words { IsKey key.now }
+        requires moment { now ≤ NUMBER_LIMIT }
+        ensures { Commanded D.Disk L.Links now [] (command.Skip key.now)
+            self.old disk.old _links.now result self.new disk.new _links.now }
+    {
+        let skipping = match skipping_of(&self.state, key, now) {
+            Ok(skipping) => skipping,
+            Err(reply) => return Ok(reply),
+        };
+        let version = skipping.offer;
+        if skipping.stands {
+            return Ok(Reply::Skipped { version });
+        }
+        answer(
+            self.keep(alloc, disk, Change::Skip { app: skipping.app }),
+            Reply::Skipped { version },
+        )
+    }
+
     // Gives a lease on the current view of the application. The links are not asked.
     fn launch<D: Disk, L: Links>(
         &mut self,
@@ -310,6 +368,36 @@ impl Updater {
             Ok(bytes) => Ok(Reply::Read { length, bytes }),
             Err(_) => Ok(Reply::Memory),
         }
+    }
+
+    // Brings the files of the group to the leased view.
+    fn group<D: Disk, L: Links>(
+        &mut self,
+        alloc: Global,
+        disk: &mut D,
+        links: &mut L,
+        now: u64,
+        lease: u64,
+        group: &Text,
+    ) -> Result<Reply, Failed>
+        requires words { (lease ≤ NUMBER_LIMIT) × IsGroup group.now }
+        requires moment { now ≤ NUMBER_LIMIT }
+        ensures { Commanded D.Disk L.Links now [] (command.Group lease group.now) self.old
+            disk.old links.old result self.new disk.new links.new }
+    {
+        let (brought, reply) = match prepare_group(
+            alloc,
+            &self.state,
+            self.blocks,
+            links,
+            lease,
+            group,
+        ) {
+            Ok(ready) => ready,
+            Err(reply) => return Ok(reply),
+        };
+        self.state.are_tables();
+        answer(self.keep(alloc, disk, brought), reply)
     }
 
     // Ends the lease. The links are not asked.

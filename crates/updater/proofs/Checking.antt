@@ -1,0 +1,125 @@
+-- How checks end.
+use Rattle.std.proofs.Common.{◌≡◌, ◌≤◌, ℕ, List, Some, Result, Ok, inl, refl, sym, subst}
+use Rattle.small_types.specs.declared.limits.TheConstants.{NUMBER_LIMIT}
+use Rattle.outside.specs.declared.failed.Failed.{Failed}
+use Rattle.disks.specs.declared.disk.Disk.{Ghosts}
+use Rattle.links.specs.declared.links.Links.{Ghosts as LinksGhosts}
+use Rattle.links.specs.Links.{LinksState}
+use Rattle.identity.specs.declared.key.Key.{Key}
+use Rattle.identity.specs.Key.{IsKey}
+use Rattle.machine.specs.declared.command.Command.TheVariants.{Check}
+use Rattle.machine.specs.declared.event.Event.TheVariants.{Line}
+use Rattle.machine.specs.declared.reply.Reply.{Reply}
+use Rattle.machine.specs.declared.reply.Reply.TheVariants as says
+use Rattle.machine.specs.CheckRow.{HearsOffer}
+use Rattle.machine.specs.Machine.{moment_after}
+use Rattle.machine.specs.Shape.{Shape}
+use Rattle.machine.specs.Store.{Session}
+use Rattle.machine.proofs.Stepping.{step_valid}
+use Rattle.store_state.specs.declared.change.Change.{Change}
+use Rattle.store_state.specs.Change.{effect}
+use Rattle.store_state.specs.Shows.{Shows}
+use Rattle.install_plan.specs.Checks.{CheckStep, IsCheckOver, IsCheckReady, LedBy}
+use Rattle.updater.specs.declared.fault.StepFault.{StepFault}
+use Rattle.updater.specs.declared.updater.Updater.{Updater}
+use Rattle.updater.specs.Answer.{IsAnswer}
+use Rattle.updater.specs.Commanded.{Commanded}
+use Rattle.updater.specs.Keeps.{Keeps, Leads}
+use Rattle.updater.specs.Updater.{room_of, tables_of}
+use Rattle.updater.proofs.Commanding.{Does, Linked, Rests, Shown, kept, rested}
+
+module _ (now : ℕ) (key : Key) (heard : List (List ℕ)) (before after : LinksState)
+    (updater : Updater) (image : List ℕ) (is_key : IsKey key) (moment : now ≤ NUMBER_LIMIT) where
+  over_rests : (reply : Reply)
+      → IsCheckOver (room_of updater) (tables_of updater) key heard before after now reply
+      → (old : Session) → Shown image (Check key) updater old
+      → Rests now heard (Check key) before after old reply
+  over_rests reply over old s =
+      let step = over.step image old s.shows s.valid in
+      record { new = step.new; step = step.step; same = step.leaves; served = step.served }
+
+  module _ (change : Change) (reply : Reply)
+      (ready : IsCheckReady (room_of updater) (tables_of updater) key heard before after now
+      change reply) where
+    step_of : (old : Session) → Shown image (Check key) updater old
+        → CheckStep key heard before after now reply old
+        (LedBy (room_of updater) (tables_of updater) change old.store)
+    step_of old s = ready.step image old s.shows s.valid
+
+    leads_by : (old : Session) (s : Shown image (Check key) updater old)
+        → Leads change (tables_of updater) old.store (step_of old s).new.store
+    leads_by old s = let step = step_of old s in record {
+      shows = λ later. subst
+          (λ (n : ℕ). Shows n (effect change (tables_of updater)) later step.new.store) s.blocks
+          (step.leaves.shows later);
+      valid = step_valid now old (Line (Check key) now (record { texts = heard })) (Some reply)
+          step.new (is_key, moment)
+          (record {
+            moment = refl;
+            hears = subst (λ (shape : Shape). HearsOffer key shape heard) (sym s.shape) ready.hears;
+            answer = reply;
+            replied = refl;
+            answers = step.step;
+          }) s.valid;
+    }
+
+    ready_does : (old : Session) → Shown image (Check key) updater old
+        → Does now heard (Check key) before after change (tables_of updater) old reply
+    ready_does old s = let step = step_of old s in record {
+      new = step.new;
+      step = step.step;
+      leads = leads_by old s;
+      other = step.leaves.other;
+      served = step.served;
+    }
+
+    -- there was no memory at its end
+    missed_rests : (old : Session) → Shown image (Check key) updater old
+        → Rests now heard (Check key) before after old says.Memory
+    missed_rests old s = record {
+      new = old;
+      step = inl (inl (refl, refl));
+      same = refl;
+      served = record { hearing = (step_of old s).served.hearing; accounts = tt };
+    }
+
+module _ {D L : Type 0} (on : Ghosts D) (net : LinksGhosts L) (now : ℕ) (key : Key)
+    (heard : List (List ℕ)) (updater : Updater) (disk : D) (links_old links_new : L)
+    (seen_left : on.left_at disk (on.moment disk) (on.seen disk)) (is_key : IsKey key)
+    (moment : now ≤ NUMBER_LIMIT) where
+  abbrev before : LinksState
+  before = net.links links_old
+
+  abbrev after : LinksState
+  after = net.links links_new
+
+  -- nothing is changed
+  pub check_over : (reply : Reply)
+      → IsCheckOver (room_of updater) (tables_of updater) key heard before after now reply
+      → Commanded on net now heard (Check key) updater disk links_old (Ok reply) updater disk
+      links_new
+  check_over reply over =
+      rested on net now heard (Check key) updater disk links_old links_new seen_left moment
+      (record { kept = over.kept; left = tt; hears = over.hears }) reply
+      (subst (λ (n : ℕ). n ≤ NUMBER_LIMIT) (sym over.still) moment)
+      (over_rests now key heard before after updater (on.seen disk) is_key moment reply over)
+
+  -- what was heard or not is noted
+  pub check_kept : {T : Type 0} (change : Change) (reply : Reply)
+      → IsCheckReady (room_of updater) (tables_of updater) key heard before after now change reply
+      → (updater_new : Updater) (disk_new : D) (tried : Result T StepFault)
+      (result : Result Reply Failed) → Keeps on change updater disk tried updater_new disk_new
+      → IsAnswer reply tried result
+      → Commanded on net now heard (Check key) updater disk links_old result updater_new disk_new
+      links_new
+  check_kept change reply ready updater_new disk_new tried result keeps is =
+      let linked : Linked net heard (Check key) updater links_old links_new =
+      record { kept = ready.kept; left = tt; hears = ready.hears } in
+      kept on net now heard (Check key) updater disk links_old links_new seen_left moment linked
+      change reply (subst (λ (n : ℕ). n ≤ NUMBER_LIMIT) (sym ready.still) moment)
+      (ready_does now key heard before after updater (on.seen disk) is_key moment change reply ready)
+      (rested on net now heard (Check key) updater disk links_old links_new seen_left moment linked
+      says.Memory moment
+      (missed_rests now key heard before after updater (on.seen disk) is_key moment change reply
+      ready))
+      updater_new disk_new tried result keeps is

@@ -1,0 +1,103 @@
+-- A skip: the step that it is, and the change that it makes.
+use Rattle.std.proofs.Common.{◌≡◌, ◌≢◌, ◌≤◌, ◌∙◌, ℕ, true, false, List, [], Option, Some, refl, sym, ap, subst}
+use Rattle.std.specs.Prelude.{option_and_then}
+use Rattle.small_types.specs.declared.limits.TheConstants.{NUMBER_LIMIT}
+use Rattle.identity.specs.declared.key.Key.{Key}
+use Rattle.identity.specs.Key.{IsKey}
+use Rattle.machine.specs.declared.app.AppState.{AppState}
+use Rattle.machine.specs.declared.command.Command.TheVariants as command
+use Rattle.machine.specs.declared.event.Event.TheVariants.{Line}
+use Rattle.machine.specs.declared.reply.Reply.{Reply}
+use Rattle.machine.specs.declared.reply.Reply.TheVariants as says
+use Rattle.machine.specs.Entries.{AreInOrder, with_entry}
+use Rattle.machine.specs.Machine.{Answers}
+use Rattle.machine.specs.Shape.{Shape}
+use Rattle.machine.specs.SkipRow.{offer_of, skipped, skipped_app}
+use Rattle.machine.specs.Store.{Session, Store}
+use Rattle.machine.specs.Valid.{Valid}
+use Rattle.machine.proofs.SkipFacts.{skips_keys}
+use Rattle.machine.proofs.Stepping.{step_valid}
+use Rattle.store_state.specs.declared.change.Change.TheVariants as change
+use Rattle.store_state.specs.Change.{effect}
+use Rattle.store_state.specs.Shows.{Shows}
+use Rattle.store_state.specs.Tables.{Tables}
+use Rattle.store_state.proofs.Checking.{shows_skipped}
+use Rattle.store_state.proofs.Showing.{shape_shown}
+use Rattle.links.specs.Links.{LinksState}
+use Rattle.install_plan.proofs.Entry.{entry_same, entry_stays}
+use Rattle.updater.specs.declared.skipping.Skipping.{Skipping}
+use Rattle.updater.specs.Keeps.{Leads}
+use Rattle.updater.specs.Skipping.{IsSkipping}
+use Rattle.updater.proofs.Commanding.{Does, Rests, effect_answers}
+
+skipped_same : (app : AppState) → app.skipped ≡ app.offer → skipped_app app ≡ app
+skipped_same app is = ap (λ v. record app { skipped = v }) (sym is)
+
+module _ (now : ℕ) (key : Key) (blocks : ℕ) (tables : Tables) (image : List ℕ)
+    (before after : LinksState) (old : Session) (shows : Shows blocks tables image old.store)
+    (valid : Valid old.store) (is_key : IsKey key) (moment : now ≤ NUMBER_LIMIT)
+    (skipping : Skipping) (is : IsSkipping key now tables skipping) where
+  abbrev reply : Reply
+  reply = says.Skipped skipping.offer
+
+  abbrev new : Session
+  new = record old { store = skipped key old.store }
+
+  same_apps : old.store.apps ≡ tables.apps
+  same_apps = ap (λ (s : Store). s.apps) shows.is
+
+  offered : offer_of key tables.apps ≡ Some skipping.offer
+  offered =
+      ap (λ (o : Option AppState). option_and_then (λ (app : AppState). app.offer) o) is.entry
+      ∙ is.offered
+
+  in_order : AreInOrder tables.apps
+  in_order = subst AreInOrder same_apps valid.ordered.order
+
+  step : Answers now [] old (command.Skip key) reply new
+  step = effect_answers now [] blocks tables old (shape_shown shows) (command.Skip key) reply new
+      (is.passes blocks) (record {
+        offer = skipping.offer;
+        offered = ap (offer_of key) same_apps ∙ offered;
+        replied = refl;
+        is = refl;
+      })
+
+  -- what is skipped already stays so
+  pub skipped_rests : skipping.stands ≡ true
+      → Rests now [] (command.Skip key) before after old reply
+  skipped_rests stands = record {
+    new = new;
+    step = step;
+    same = ap (λ (apps : List AppState). record old.store { apps = apps })
+        (subst (λ (apps : List AppState). with_entry key skipped_app apps ≡ apps) (sym same_apps)
+        (entry_stays key skipped_app is.known tables.apps is.entry
+        (skipped_same is.known (is.stands stands))));
+    served = tt;
+  }
+
+  leads : Leads (change.Skip skipping.app) tables old.store new.store
+  leads = record {
+    shows = λ later. subst
+        (λ (n : ℕ). Shows n (effect (change.Skip skipping.app) tables) later new.store)
+        (sym (ap (λ (s : Store). s.blocks) shows.is))
+        (shows_skipped blocks tables key skipping.app skipping.offer image later old.store
+        shows in_order is.app offered);
+    valid = step_valid now old (Line (command.Skip key) now (record { texts = [] })) (Some reply)
+        new (is_key, moment)
+        (record { moment = refl; hears = refl; answer = reply; replied = refl; answers = step })
+        valid;
+  }
+
+  pub skipped_does : skipping.stands ≡ false
+      → Does now [] (command.Skip key) before after (change.Skip skipping.app) tables old reply
+  skipped_does stands = record {
+    new = new;
+    step = step;
+    leads = leads;
+    other = λ same. is.other stands (sym (ap (λ (app : AppState). app.skipped)
+        (entry_same key skipped_app is.known skips_keys tables.apps is.entry
+        (subst (λ (apps : List AppState). with_entry key skipped_app apps ≡ apps) same_apps
+        (ap (λ (s : Store). s.apps) same)))));
+    served = tt;
+  }

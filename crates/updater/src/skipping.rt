@@ -1,0 +1,73 @@
+// What skipping the offer of an application comes to.
+ghost use Rattle.std.specs.Prelude.{◌≡◌, ◌↔◌, ℕ, List, [], Some, IfErr, IfOk, IsTrue};
+ghost use Rattle.machine.specs.declared.command.Command.TheVariants as command;
+ghost use Rattle.machine.specs.Machine.{moment_after, refusals};
+ghost use Rattle.machine.specs.Rows.{Refuses};
+ghost use Rattle.machine.specs.Store.{Session};
+ghost use Rattle.store_state.specs.Tables.{table_shape};
+ghost use Rattle.updater.specs.Skipping.{IsSkipping, minimum_in};
+ghost use Rattle.updater.specs.Start.{KeepsCurrent};
+
+use identity::{Key, Version};
+use machine::{AppState, Due, Reply};
+use store_state::StoreState;
+use subscription::due;
+
+/// An offer that the user does not want.
+#[derive(Clone, Copy, Debug)]
+pub(crate) struct Skipping {
+    /// The place of the application.
+    pub(crate) app: u32,
+    /// The version that is offered.
+    pub(crate) offer: Version,
+    /// Whether it is skipped already.
+    pub(crate) stands: bool,
+}
+
+// The minimum that the current version is below, where it is.
+fn minimum_in(due: Due) -> Option<Version>
+    ensures { result ≡ minimum_in due }
+{
+    match due {
+        Due::Required { minimum } => Some(minimum),
+        Due::CheckFirst | Due::Offered { .. } | Due::Clear { .. } => None,
+    }
+}
+
+// Whether what is offered is skipped.
+fn is_skipped(app: &AppState) -> bool
+    ensures { IsTrue result ↔ app.now.skipped ≡ app.now.offer }
+{
+    app.skipped == app.offer
+}
+
+/// The offer that a skip of the application at a moment declines, or the refusal that the tables
+/// give, whatever their number of blocks. It takes no memory.
+pub(crate) fn skipping_of(state: &StoreState, key: &Key, now: u64) -> Result<Skipping, Reply>
+    ensures skipping { IfOk result (IsSkipping key.now now state.now) }
+    ensures refused { KeepsCurrent key.now state.now → (blocks : ℕ) (old : Session)
+        → IfErr result (λ reply. Refuses (refusals now [] (table_shape blocks state.now)
+        (command.Skip key.now)) old reply old) }
+    ensures still { IfErr result (λ reply. moment_after now (Some reply) ≡ now) }
+{
+    let Some(_) = state.current(key) else {
+        return Err(Reply::NotInstalled);
+    };
+    let Some(place) = state.place(key) else {
+        return Err(Reply::NotInstalled);
+    };
+    let Some(app) = state.entry(key) else {
+        return Err(Reply::NotInstalled);
+    };
+    if let Some(minimum) = minimum_in(due(state, key, now)) {
+        return Err(Reply::Required { minimum });
+    }
+    match app.offer {
+        Some(offer) => Ok(Skipping {
+            app: place as u32,
+            offer,
+            stands: is_skipped(app),
+        }),
+        None => Err(Reply::NothingOffered),
+    }
+}
