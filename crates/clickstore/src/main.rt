@@ -30,8 +30,10 @@ asked of the URL's host over HTTP.
 
   format --blocks N            makes an empty store of N blocks, 1 to 65536
   session --boot N --now N     answers the lines of the input: `at N`,
-                               `require KEY V`, `install URL`, `launch KEY`,
-                               `read L NAME FROM COUNT` and `finish L`
+                               `require KEY V`, `install URL`, `check KEY`,
+                               `skip KEY`, `launch KEY`,
+                               `read L NAME FROM COUNT`, `group L GROUP` and
+                               `finish L`
   inspect deployment           says what the deployment manifest in the input says
   inspect application          the same for an application manifest
   publish --name N --release V --entry E --from F --to T MARK..

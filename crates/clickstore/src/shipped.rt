@@ -40,7 +40,8 @@ pub(crate) fn run_over_file<S: Start, L: Links>(
     // Where the file's answers are honest, a stop at any moment leaves a store that holds every acknowledged line.
     ensures headline_stop { (boot now : ℕ) → request_of words.now ≡ Some (asked.Session boot now)
         → DiskIsHonest S.Start disk.new
-        → HeadlineStop ⟦<FileDisk<HostRuntime, S> as Disk>⟧ now result disk.old disk.new report.new }
+        → HeadlineStop ⟦<FileDisk<HostRuntime, S> as Disk>⟧ now result disk.old disk.new
+        report.new }
 
     // And a launch hands out the current view, which is one whole release and not below a minimum;
     // reads on its lease show parts of the same bytes; a launch where nothing is due and a lease is
@@ -54,7 +55,8 @@ pub(crate) fn run_over_file<S: Start, L: Links>(
         → HeadlineLaunch ⟦<FileDisk<HostRuntime, S> as Disk>⟧ now disk.old report.new }
     ensures headline_leased { (boot now : ℕ) → request_of words.now ≡ Some (asked.Session boot now)
         → DiskIsHonest S.Start disk.new
-        → HeadlineLeased ⟦<FileDisk<HostRuntime, S> as Disk>⟧ now result disk.old disk.new report.new }
+        → HeadlineLeased ⟦<FileDisk<HostRuntime, S> as Disk>⟧ now result disk.old disk.new
+        report.new }
 
     // A new store stands, and a stop while it is made leaves what is said of it.
     ensures format { (blocks : ℕ) → request_of words.now ≡ Some (asked.Format blocks)

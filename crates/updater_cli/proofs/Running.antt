@@ -6,7 +6,7 @@ use Rattle.links.specs.declared.links.Links.{Ghosts as LinksGhosts}
 use Rattle.fetcher.proofs.Sequence.{kept_same}
 use Rattle.small_types.specs.declared.limits.TheConstants.{NUMBER_LIMIT}
 use Rattle.machine.specs.declared.command.Command.{Command}
-use Rattle.machine.specs.declared.command.Command.TheVariants.{Install}
+use Rattle.machine.specs.declared.command.Command.TheVariants.{Group, Install}
 use Rattle.machine.specs.declared.command.LineFault.{LineFault}
 use Rattle.machine.specs.declared.event.Event.TheVariants.{Line, Unread}
 use Rattle.machine.specs.declared.event.Heard.{Heard}
@@ -30,6 +30,7 @@ use Rattle.updater_cli.proofs.Runs.{step_settled}
 -- a sound store is one for each command
 sound_for : (command : Command) (store : Store) → Sound store → SoundFor command store
 sound_for (Install url) store sound = sound
+sound_for (Group lease group) store sound = sound
 sound_for _ store sound = tt
 
 module _ {D L : Type 0} (on : Ghosts D) (net : LinksGhosts L) (now : ℕ) (few : now ≤ NUMBER_LIMIT) (line : List ℕ) (updater : Updater) (disk : D) (links : L) where

@@ -6,21 +6,26 @@ use Rattle.links.specs.declared.links.Links.{Ghosts as LinksGhosts}
 use Rattle.links.specs.Links.{LinksState}
 use Rattle.fetcher.specs.Fetched.{AllTell, Kept}
 use Rattle.fetcher.proofs.Sequence.{kept_then, site_before, tell_after}
+use Rattle.identity.specs.declared.key.Key.{Key}
 use Rattle.install_plan.specs.Brought.{IsBrought, IsHeldOrFetched}
+use Rattle.install_plan.specs.GroupAsked.{AreBrought, IsHeldOrCame}
 use Rattle.install_plan.specs.Hearing.{Hearing, IsApplicationText, IsDeploymentText}
+use Rattle.install_plan.specs.Offers.{IsOfferText, OfferHearing}
 use Rattle.machine.specs.declared.command.Command.{Command}
-use Rattle.machine.specs.declared.command.Command.TheVariants.{Install}
+use Rattle.machine.specs.declared.command.Command.TheVariants.{Check, Group, Install}
 use Rattle.machine.specs.declared.event.Event.{Event}
 use Rattle.machine.specs.declared.event.Event.TheVariants.{Boot, Line, Unread}
 use Rattle.machine.specs.declared.reply.Reply.{Reply}
 use Rattle.machine.specs.declared.report.ReportLine.{ReportLine}
+use Rattle.machine.specs.Groups.{group_wanted}
 use Rattle.machine.specs.Machine.{Step}
 use Rattle.machine.specs.Shape.{Shape, shape_of}
 use Rattle.machine.specs.Store.{Session, Store}
 use Rattle.machine.specs.Views.{ListedFile, View}
+use Rattle.machine.specs.Wanted.{wanted}
 use Rattle.updater.specs.Commanded.{Serves}
 use Rattle.updater_cli.specs.Report.{AreServed, IsServed, Origin, origin_after}
-use Rattle.updater_cli.specs.Sites.{AreOfSites, HeardOfSites, IsHeldOrOfSite, IsLineOfSites}
+use Rattle.updater_cli.specs.Sites.{AreOfSites, HeardOfSites, GroupOfSites, IsHeldOrOfSite, IsLineOfSites, OfferOfSites}
 
 some_as : {A : Type 0} (o : Option A) (P Q : A → Type 0) → ((x : A) → P x → Q x) → IfSome o P → IfSome o Q
 some_as None P Q on is = tt
@@ -36,12 +41,29 @@ module _ (first before after : LinksState) (kept : Kept first before) (tell : Al
         (λ text is. (is.0, is.1, is.2, is.3, (is.4.0, is.4.1, site_before first before is.4.0 text kept tell (is.4.2.site (tell_after first before kept tell))))) hearing.application;
   }
 
-  -- what was brought
-  file_of : (shape : Shape) (view : View) (file : ListedFile) → IsHeldOrFetched shape before after view file → IsHeldOrOfSite first shape view file
+  offer_of : (key : Key) (store : Store) (texts : List (List ℕ)) → OfferHearing key (shape_of store) texts before after → OfferOfSites first key texts store
+  offer_of key store texts hearing =
+      some_as (slice_get texts 0) (IsOfferText key (shape_of store) before after) _
+      (λ text is. (is.0, is.1, site_before first before is.0 text kept tell (is.2.site (tell_after first before kept tell)))) hearing.text
+
+  -- what an install brought
+  file_of : (shape : Shape) (view : View) (file : ListedFile) → IsHeldOrFetched shape before after view file → IsHeldOrOfSite first shape (wanted shape.views view.application) view file
   file_of shape view file (inl held) = inl held
   file_of shape view file (inr fetched) =
       let from = fetched.4 in
       inr (fetched.0, fetched.1, fetched.2, fetched.3, (from.0, from.1, from.2, site_before first before from.0 file.bytes kept tell (from.3.site (tell_after first before kept tell))))
+
+  -- what a group brought
+  came_of : (group : List ℕ) (shape : Shape) (view : View) (file : ListedFile) → IsHeldOrCame group shape before after view file → IsHeldOrOfSite first shape (group_wanted shape.views group view.application) view file
+  came_of group shape view file (inl held) = inl held
+  came_of group shape view file (inr came) =
+      let from = came.4 in
+      inr (came.0, came.1, came.2, came.3, (from.0, from.1, from.2, site_before first before from.0 file.bytes kept tell (from.3.site (tell_after first before kept tell))))
+
+  group_of : (lease : ℕ) (group : List ℕ) (old new : Store) → AreBrought lease group (shape_of old) before after new → GroupOfSites first lease group old new
+  group_of lease group old new brought = λ view leased.
+      All-weaker (IsHeldOrCame group (shape_of old) before after view) (IsHeldOrOfSite first (shape_of old) (group_wanted (shape_of old).views group view.application) view) (came_of group (shape_of old) view)
+      view.program_files (brought.files view leased)
 
   served_of : (command : Command) (texts : List (List ℕ)) (old new : Store) (reply : Reply) (now : ℕ) → Serves command texts before after old reply new
       → IsLineOfSites first (Line command now (record { texts = texts })) old new
@@ -49,8 +71,10 @@ module _ (first before after : LinksState) (kept : Kept first before) (tell : Al
     heard = heard_of (shape_of old) url texts serves.0.hearing;
     brought = λ view is.
         let brought : IsBrought (shape_of old) before after view = serves.1 view is in
-        All-weaker (IsHeldOrFetched (shape_of old) before after view) (IsHeldOrOfSite first (shape_of old) view) (file_of (shape_of old) view) view.program_files brought.files;
+        All-weaker (IsHeldOrFetched (shape_of old) before after view) (IsHeldOrOfSite first (shape_of old) (wanted (shape_of old).views view.application) view) (file_of (shape_of old) view) view.program_files brought.files;
   }
+  served_of (Check key) texts old new reply now serves = offer_of key old texts serves.hearing
+  served_of (Group lease group) texts old new reply now serves = group_of lease group old new serves.1
   served_of _ texts old new reply now serves = tt
 
 line_of : {L : Type 0} (net : LinksGhosts L) (first : LinksState) (before after : L) → Kept first (net.links before) → AllTell first

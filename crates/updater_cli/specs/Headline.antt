@@ -109,10 +109,11 @@ MadeCalls status old new lines last =
 
 -- The report's events and replies are a run from a new session over the store, and lead to this
 -- session, which is sound. Unless the disk failed, which is status 4, the reads then stand for its
--- store. Each line that changes the store makes four calls of the disk, any other line none, and its
--- mark is the disk's moment after them. For each line the links did what is said of it, one line
--- after another: what it asked for, what they gave, and why they gave nothing. Where they tell, each
--- text that was heard and each file that was brought is of one link's site at its address.
+-- store. Each line that changes the store makes four calls of the disk, any other line none, and
+-- its mark is the disk's moment after them. For each line the links did what is said of it, one
+-- line after another: what it asked for, what they gave, and why they gave nothing. Where they
+-- tell, each text that was heard and each file that was brought is of one link's site at its
+-- address.
 pub record LeadsTo {S K D L : Type 0} (on : Ghosts D) (net : LinksGhosts L) (now status : ℕ)
     (old new : Devices S K D L) (report : Report) (store : Store) : Type 0 where
   pub session : Session
@@ -160,7 +161,8 @@ HeadlineLeased on now status old new report =
 -- is not below a minimum, and what is read on it is unchanged.
 abbrev pub HeadlineViews : {D : Type 0} → Ghosts D → ℕ → D → Report → Type 0
 HeadlineViews on now old report =
-    (store : Store) → StandsSound (on.seen old) store → ViewsHold (origin_over now store) report.lines
+    (store : Store) → StandsSound (on.seen old) store
+    → ViewsHold (origin_over now store) report.lines
 
 -- Where nothing is due and a lease is free, a launch is answered with one, or there was no memory.
 abbrev pub HeadlineLaunch : {D : Type 0} → Ghosts D → ℕ → D → Report → Type 0

@@ -153,8 +153,8 @@ status_of outcome = code_of (end_of outcome)
 
 -- Each part of a session keeps this, whatever it reads. Where the session stood between two lines,
 -- it does so again, or has ended. The counts of the sink and of the disk rise with their own faults
--- alone. A call that failed was counted, save where the disk had no number left. The links and their
--- sites stay.
+-- alone. A call that failed was counted, save where the disk had no number left. The links and
+-- their sites stay.
 pub record Keeps {K D L : Type 0} (to : SinkGhosts K) (on : Ghosts D) (net : LinksGhosts L)
     (old : Place K D L) (result : Outcome) (new : Place K D L) : Type 0 where
   pub machine : (start : Start D L) → Between on net start old.course old.disk old.links
@@ -186,7 +186,8 @@ pub record RestAnswered {K D L : Type 0} (to : SinkGhosts K) (on : Ghosts D) (ne
     (line : List ℕ) (old : Place K D L) (result : Outcome) (new : Place K D L) : Type 0 where
   pub keeps : Keeps to on net old result new
   pub ends : IfErr result (λ status. IsLineEnd status new.course.begun)
-  pub trace : Trace to.tells (status_of result) (if length line == 0 then [] else taken_of result line)
+  pub trace : Trace to.tells (status_of result)
+      (if length line == 0 then [] else taken_of result line)
       (stage_of to on net old) (stage_of to on net new) new.course.begun
 
 -- each line that ends in these bytes was, or one of them ended the session
@@ -196,7 +197,8 @@ pub record PieceAnswered {K D L : Type 0} (to : SinkGhosts K) (on : Ghosts D) (n
   pub keeps : Keeps to on net old result new
   pub ends : IfErr result (λ status. IsLineEnd status new.course.begun)
   pub whole : OnOk result (HasNoFeed pending)
-  pub done : OnOk result (Progress to.tells bytes pending (stage_of to on net old) (stage_of to on net new))
+  pub done : OnOk result
+      (Progress to.tells bytes pending (stage_of to on net old) (stage_of to on net new))
   pub stopped : IfErr result (λ status. Stopped to.tells (code_of status) bytes
       (stage_of to on net old) (stage_of to on net new) new.course.begun)
 

@@ -46,12 +46,13 @@ abbrev pub moment_behind : ℕ → List ReportLine → ℕ
 moment_behind now [] = now
 moment_behind now (l ∷ lines) = moment_behind (moment_after now l.reply) lines
 
--- the texts that a command may have heard, whatever store is held: none, save of an install
+-- the texts that a command may have heard, whatever store is held: none, save of an install and of
+-- a check
 abbrev pub MayHear : Command → List (List ℕ) → Type 0
 MayHear command texts = (shape : Shape) × Hears shape command texts
 
--- A command is run at that moment, and has the texts that it heard. Numbers are within their limits,
--- and its words have their forms.
+-- A command is run at that moment, and has the texts that it heard. Numbers are within their
+-- limits, and its words have their forms.
 abbrev pub IsRunAt : ℕ → Event → Type 0
 IsRunAt now (Boot boot) = boot ≤ NUMBER_LIMIT
 IsRunAt now (Line command at heard) =
@@ -140,7 +141,7 @@ pub record StandsForPrefix (from : Origin) (report : Report) (acknowledged : ℕ
 
 -- ---- what the links gave
 
--- only a line that installs asks the links
+-- only a line that installs, checks or brings a group asks the links
 abbrev pub LeavesAsked : {L : Type 0} → Event → L → L → Type 0
 LeavesAsked (Boot boot) old new = new ≡ old
 LeavesAsked (Line command at heard) old new = LeavesLinks command old new
@@ -161,8 +162,8 @@ pub record IsServed {L : Type 0} (net : LinksGhosts L) (event : Event) (reply : 
   pub left : LeavesAsked event before after
   pub serves : ServesLine event reply (net.links before) (net.links after) old new
 
--- The lines lead to this session, and took the links from the first to the last. Each shows how often
--- links had failed by then.
+-- The lines lead to this session, and took the links from the first to the last. Each shows how
+-- often links had failed by then.
 abbrev pub AreServed :
     {L : Type 0} → LinksGhosts L → Origin → L → List ReportLine → Session → L → Type 0
 AreServed net from first [] new last = (new ≡ from.session) × (last ≡ first)

@@ -29,7 +29,8 @@ pub record Between {D L : Type 0} (on : Ghosts D) (net : LinksGhosts L) (start :
   pub stored : Holds on course.updater disk session.store
   pub runs : RunsTo start.from course.lines.items session
   pub moment : course.now ≡ moment_behind start.from.now course.lines.items
-  pub counts : Counts start.from (on.moment start.disk + 1) course.lines.items session (on.moment disk)
+  pub counts : Counts start.from (on.moment start.disk + 1) course.lines.items session
+      (on.moment disk)
   pub served : AreServed net start.from start.links course.lines.items session links
   pub marks : AreMarkedBy course.lines.items (on.moment disk)
   pub started : on.moment start.disk + 1 ≤ on.moment disk

@@ -1,22 +1,29 @@
 -- What a session's lines heard and brought, over links that tell: bytes of their sites.
-use Rattle.std.specs.Prelude.{◌≡◌, ◌⊎◌, ℕ, List, [], ◌∷◌, ◌++◌, true, All, Any, IfSome, Ok, slice_get}
+use Rattle.std.specs.Prelude.{◌≡◌, ◌⊎◌, ℕ, List, [], ◌∷◌, ◌++◌, true, All, Any, IfSome, Some, Ok, slice_get}
 use Rattle.small_types.specs.declared.target.Target.{Target}
 use Rattle.addresses.specs.Address.{target_of_text}
 use Rattle.addresses.specs.Join.{file_target_of}
+use Rattle.identity.specs.declared.key.Key.{Key}
+use Rattle.manifests.specs.declared.facts.FileEntry.{FileEntry}
 use Rattle.links.specs.Links.{LinksState}
 use Rattle.fetcher.specs.Given.{IsOfSite}
-use Rattle.machine.specs.declared.command.Command.TheVariants.{At, Require, Install, Launch, Read, Finish}
+use Rattle.machine.specs.declared.command.Command.TheVariants.{At, Require, Install, Check, Skip, Launch, Read, Group, Finish}
 use Rattle.machine.specs.declared.event.Event.{Event}
 use Rattle.machine.specs.declared.event.Event.TheVariants.{Boot, Line, Unread}
 use Rattle.machine.specs.declared.report.ReportLine.{ReportLine}
 use Rattle.machine.specs.Blocks.{standing_files}
+use Rattle.machine.specs.CheckRow.{provider_of}
+use Rattle.machine.specs.Groups.{group_wanted}
 use Rattle.machine.specs.InstallRow.{OfDeployment, base_of}
+use Rattle.machine.specs.Leases.{leased_view}
 use Rattle.machine.specs.Machine.{Step}
 use Rattle.machine.specs.Shape.{Shape, shape_of}
 use Rattle.machine.specs.Store.{Session, Store}
 use Rattle.machine.specs.Views.{ListedFile, View, same_content}
 use Rattle.machine.specs.Wanted.{is_held, wanted}
 use Rattle.updater_cli.specs.Report.{Origin, origin_after}
+
+-- ---- what is heard
 
 -- the deployment manifest is of a site at the given address, the application manifest at the one
 -- that the deployment lists
@@ -27,31 +34,55 @@ pub record HeardOfSites (links : LinksState) (url : List ℕ) (texts : List (Lis
       OfDeployment texts (λ d. (base : Target) × (base_of url d ≡ Ok base)
       × IsOfSite links base text))
 
+-- the deployment manifest is of a site at the address that the application's provider has in the
+-- store
+abbrev pub OfferOfSites : LinksState → Key → List (List ℕ) → Store → Type 0
+OfferOfSites links key texts store =
+    IfSome (slice_get texts 0) (λ text.
+    (target : Target) × (provider_of key store.apps ≡ Some target) × IsOfSite links target text)
+
+-- ---- what is brought
+
 -- a kept view has the file's content, or it is of a site at the address of a wanted file of that
 -- content
-abbrev pub IsHeldOrOfSite : LinksState → Shape → View → ListedFile → Type 0
-IsHeldOrOfSite links shape view file =
+abbrev pub IsHeldOrOfSite : LinksState → Shape → List FileEntry → View → ListedFile → Type 0
+IsHeldOrOfSite links shape wants view file =
     (is_held (standing_files shape.views) file.entry ≡ true)
     ⊎ Any (λ entry. (target : Target)
     × (file_target_of view.base view.deployment.mapped entry.name ≡ Ok target)
     × (same_content entry file.entry ≡ true) × IsOfSite links target file.bytes)
-    (wanted shape.views view.application)
+    wants
 
 -- what an install heard, and the files of the view that it brought, if it brought one
 pub record IsOfSites (links : LinksState) (url : List ℕ) (texts : List (List ℕ)) (old new : Store)
     : Type 0 where
   pub heard : HeardOfSites links url texts
   pub brought : (view : View) → new.views ≡ old.views ++ view ∷ []
-      → All (IsHeldOrOfSite links (shape_of old) view) view.program_files
+      → All (IsHeldOrOfSite links (shape_of old) (wanted (shape_of old).views view.application)
+      view) view.program_files
 
--- no other line hears or brings anything
+-- all program files that stand in the leased view behind a group's line, those of the group among
+-- them
+abbrev pub GroupOfSites : LinksState → ℕ → List ℕ → Store → Store → Type 0
+GroupOfSites links lease group old new =
+    (view : View) → leased_view lease new ≡ Some view
+    → All (IsHeldOrOfSite links (shape_of old)
+    (group_wanted (shape_of old).views group view.application) view) view.program_files
+
+-- ---- lines
+
+-- An install hears and brings, a check hears, and a group brings. Any other line does neither.
 abbrev pub IsLineOfSites : LinksState → Event → Store → Store → Type 0
 IsLineOfSites links (Boot boot) old new = Unit {0}
 IsLineOfSites links (Line (At next) now heard) old new = Unit {0}
 IsLineOfSites links (Line (Require key version) now heard) old new = Unit {0}
 IsLineOfSites links (Line (Install url) now heard) old new = IsOfSites links url heard.texts old new
+IsLineOfSites links (Line (Check key) now heard) old new = OfferOfSites links key heard.texts old
+IsLineOfSites links (Line (Skip key) now heard) old new = Unit {0}
 IsLineOfSites links (Line (Launch key) now heard) old new = Unit {0}
 IsLineOfSites links (Line (Read lease name from count) now heard) old new = Unit {0}
+IsLineOfSites links (Line (Group lease group) now heard) old new =
+    GroupOfSites links lease group old new
 IsLineOfSites links (Line (Finish lease) now heard) old new = Unit {0}
 IsLineOfSites links (Unread fault) old new = Unit {0}
 

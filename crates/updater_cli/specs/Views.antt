@@ -58,8 +58,8 @@ pub record ReachesThrough (from : Origin) (report : Report) (n : ℕ) (mid last 
 
 -- ---- launches
 
--- the program files of a view are exactly the required ones and those of the groups that stand, each
--- once
+-- the program files of a view are exactly the required ones and those of the groups that stand,
+-- each once
 abbrev pub HasItsFiles : View → Type 0
 HasItsFiles view =
     map (λ file. file.entry) view.program_files ≡ standing_entries view.groups view.application
@@ -156,7 +156,8 @@ pub record ViewsHold (from : Origin) (lines : List ReportLine) : Type 0 where
 -- ---- stops
 
 -- The view that a lease keeps stands whole: it is one of the store, and sound. Each program file
--- that stood in it in a session before, since the lease was given, stands in it with the same bytes.
+-- that stood in it in a session before, since the lease was given, stands in it with the same
+-- bytes.
 pub record StandsWhole (from : Origin) (report : Report) (n : ℕ) (number : ℕ) (last : Session)
     : Type 0 where
   pub view : View
