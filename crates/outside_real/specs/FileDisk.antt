@@ -71,5 +71,6 @@ module _ {R S Dir : Type 0} where
       (result : Result T E) : Type 0 where
     pub call : IsCall start old new result
     pub none : disk_calls new ≡ disk_calls old → disk_seen start new ≡ disk_seen start old
-    pub tick : Ticks (disk_calls old) (disk_calls new) (disk_written old) (disk_written new) n result
+    pub tick : Ticks (disk_calls old) (disk_calls new) (disk_written old) (disk_written new) n
+        result
     pub lost : IsErr result ↔ IsTrue (is_lost new)

@@ -92,13 +92,10 @@ pub(crate) fn size_of_file(file: &File) -> io::Result<u64> {
     Ok(file.metadata()?.len())
 }
 
-// Reads what stands at the place in a file of this size, as far as there is room.
-pub(crate) fn read_from<F: FileExt>(
-    file: &F,
-    size: u64,
-    place: u64,
-    buf: &mut [u8],
-) -> io::Result<usize>
+/// Reads what stands at the place in a file of this size, as far as there is room, and answers how
+/// many bytes that are. It goes on after a call of the system that gave only some of them. A file
+/// that ends before its size is an error.
+pub fn read_from<F: FileExt>(file: &F, size: u64, place: u64, buf: &mut [u8]) -> io::Result<usize>
     ensures count { IfOk result (λ n. n ≡ min (size - place) (length buf.old)) }
     ensures rest { IfOk result (λ n. drop n buf.new ≡ drop n buf.old) }
 {
@@ -112,8 +109,9 @@ pub(crate) fn read_from<F: FileExt>(
     }
 }
 
-// Writes all the bytes. It goes on after a call of the system that took only some of them.
-pub(crate) fn write_whole<F: FileExt>(file: &F, place: u64, bytes: &[u8]) -> io::Result<()> {
+/// Writes all the bytes at the place. It goes on after a call of the system that took only some of
+/// them. What a file has taken after an error is not told.
+pub fn write_whole<F: FileExt>(file: &F, place: u64, bytes: &[u8]) -> io::Result<()> {
     file.write_all_at(bytes, place)
 }
 

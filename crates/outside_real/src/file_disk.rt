@@ -88,7 +88,8 @@ impl<R: Files<File = File> + Drop, S: Start> Disk for FileDisk<R, S> {
 
     ghost count = { λ d. d.faults };
 
-    ghost seen_left = { λ d. seen_is_left S.Start.first S.Start.left S.Start.first_left d.told.answers.noted d.told.calls d.told.numbered };
+    ghost seen_left = { λ d. seen_is_left S.Start.first S.Start.left S.Start.first_left d.told.answers.noted
+        d.told.calls d.told.numbered };
 
     fn length(&mut self) -> Result<u64, Failed>
         ensures noted { disk_answers self.new ≡ disk_answers self.old ++ told_length result }

@@ -7,8 +7,6 @@ mod counted;
 mod durable_file;
 mod file;
 mod file_disk;
-#[cfg(test)]
-mod file_tests;
 mod folder_get;
 mod folder_list;
 mod folder_path;
@@ -22,6 +20,7 @@ mod tcp_door;
 mod tcp_wire;
 mod told;
 
+pub use file::{read_from, write_whole};
 pub use file_disk::FileDisk;
 pub use real_folder::RealFolder;
 pub use reason::{Failure, Reason};

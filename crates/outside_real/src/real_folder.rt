@@ -40,7 +40,8 @@ fn kept<T: Drop>(why: &mut Option<Reason>, done: io::Result<T>) -> Result<T, Fol
 fn counted<T: Drop>(faults: &mut u64, done: Result<T, FolderFault>) -> Result<T, FolderFault>
     ensures result { result ≡ done }
     ensures cause { FailsCounted faults.old faults.new result }
-    ensures raised { IfErr result (λ e. e ≡ Failed → faults.new ≡ min (faults.old + 1) 0xffff_ffff_ffff_ffff) }
+    ensures raised { IfErr result
+        (λ e. e ≡ Failed → faults.new ≡ min (faults.old + 1) 0xffff_ffff_ffff_ffff) }
 {
     if let Err(FolderFault::Failed) = done {
         raise(faults);

@@ -52,7 +52,8 @@ struct WriteNote<'a> {
 }
 
 impl Notes<Answer> for WriteNote<'_> {
-    ghost notes = { λ n. Changed (record { number = n.number; act = Write n.place n.bytes.now n.done }) ∷ [] };
+    ghost notes = { λ n. Changed
+        (record { number = n.number; act = Write n.place n.bytes.now n.done }) ∷ [] };
 }
 
 // A cut to a length.

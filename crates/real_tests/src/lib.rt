@@ -6,6 +6,8 @@ mod file_tests;
 #[cfg(test)]
 mod folder_tests;
 #[cfg(test)]
+mod narrow_tests;
+#[cfg(test)]
 mod shown;
 #[cfg(test)]
 mod stream_tests;

@@ -1,5 +1,5 @@
-// What reads and writes of a file do where it gives and takes little. `real_tests` has what is seen from outside.
-use crate::file::{read_from, write_whole};
+// What reads and writes of a file do where it gives and takes little.
+use outside_real::{read_from, write_whole};
 use std::cell::Cell;
 use std::io;
 use std::io::ErrorKind;
