@@ -5,13 +5,41 @@ use identity::{Key, Version};
 use record_codec::{CodecFault, decode_change, encode_change, encoded_length};
 use std::alloc::{AllocError, Global};
 use std::test::Fail;
-use store_state::Change;
+use store_state::{Change, Content};
 
 const BOOT_ONE: &[u8] = &[0, 0, 0, 0, 0, 0, 0, 0, 1];
 
 const REQUIRE: &[u8] = &[
     1, 0, 0, 0, 1, b'n', 0, 0, 0, 1, b't', 0, 0, 0, 1, b'l', 0, 0, 0, 1, b'a', 0, 1, 0, 2, 0, 3, 0,
     4,
+];
+
+// With no minimum, and with one.
+const HEARD: &[u8] = &[
+    3, 0, 0, 0, 1, b'n', 0, 0, 0, 1, b't', 0, 0, 0, 1, b'l', 0, 0, 0, 1, b'a', 0, 1, 0, 2, 0, 3, 0,
+    4, 0, 0, 0, 0, 0, 0, 0, 1, 2,
+];
+
+const HEARD_MINIMUM: &[u8] = &[
+    3, 0, 0, 0, 1, b'n', 0, 0, 0, 1, b't', 0, 0, 0, 1, b'l', 0, 0, 0, 1, b'a', 0, 1, 0, 2, 0, 3, 0,
+    4, 1, 0, 5, 0, 6, 0, 7, 0, 8, 1, 2, 3, 4, 5, 6, 7, 8,
+];
+
+const UNHEARD: &[u8] = &[
+    4, 0, 0, 0, 1, b'n', 0, 0, 0, 1, b't', 0, 0, 0, 1, b'l', 0, 0, 0, 1, b'a',
+];
+
+const SKIP: &[u8] = &[5, 0, 0, 1, 2];
+
+// With no content, and with one that has one SHA-1.
+const GROUP: &[u8] = &[
+    9, 1, 2, 3, 4, 5, 6, 7, 8, 0, 0, 0, 4, b'h', b'e', b'l', b'p', 0, 0, 0, 0,
+];
+
+const GROUP_CONTENT: &[u8] = &[
+    9, 0, 0, 0, 0, 0, 0, 0, 1, 0, 0, 0, 1, b'g', 0, 0, 0, 1, 0, 0, 0, 0, 0, 0, 0, 3, 0, 0, 0, 1, 0,
+    0, 0, 0, 20, 0xa9, 0x99, 0x3e, 0x36, 0x47, 0x06, 0x81, 0x6a, 0xba, 0x3e, 0x25, 0x71, 0x78,
+    0x50, 0xc2, 0x6c, 0x9c, 0xd0, 0xd8, 0x9d, 0, 0, 0, 3, b'a', b'b', b'c',
 ];
 
 #[tactic(auto, using(machine::proofs::Shortness::short_key))]
@@ -28,34 +56,71 @@ fn requirement(key: Key) -> Change
     Change::Require { key, version }
 }
 
-// What bytes were read as, in short.
+// What bytes were read as, in short: of a key how many bytes its parts have.
 #[derive(Clone, Copy, Debug, PartialEq, Eq)]
 enum Said {
     Boot(u64),
-    // The first and the last number of the version, and how many bytes the parts of the key have.
+    // The first and the last number of the version.
     Require(u16, u16, [usize; 4]),
+    Heard([usize; 4], [u16; 4], Option<[u16; 4]>, u64),
+    Unheard([usize; 4]),
+    Skip(u32),
     Launch(u32),
     Finish(u64),
+    // The view, how many bytes the group has, how many contents, and how many bytes the first has.
+    Group(u64, usize, [usize; 2]),
     Bad(u64),
     Other,
+}
+
+fn parts(key: &Key) -> [usize; 4] {
+    [
+        key.name.as_bytes().len(),
+        key.token.as_bytes().len(),
+        key.language.as_bytes().len(),
+        key.architecture.as_bytes().len(),
+    ]
+}
+
+fn numbers(version: &Version) -> [u16; 4] {
+    [version.a, version.b, version.c, version.d]
+}
+
+fn least_numbers(minimum: &Option<Version>) -> Option<[u16; 4]> {
+    match minimum {
+        Some(version) => Some(numbers(version)),
+        None => None,
+    }
 }
 
 fn short_form(change: &Change) -> Said {
     match change {
         Change::Boot { boot } => Said::Boot(*boot),
-        Change::Require { key, version } => Said::Require(
-            version.a,
-            version.d,
-            [
-                key.name.as_bytes().len(),
-                key.token.as_bytes().len(),
-                key.language.as_bytes().len(),
-                key.architecture.as_bytes().len(),
-            ],
-        ),
+        Change::Require { key, version } => Said::Require(version.a, version.d, parts(key)),
         Change::Install { .. } => Said::Other,
+        Change::Heard {
+            key,
+            version,
+            minimum,
+            now,
+        } => Said::Heard(parts(key), numbers(version), least_numbers(minimum), *now),
+        Change::Unheard { key } => Said::Unheard(parts(key)),
+        Change::Skip { app } => Said::Skip(*app),
         Change::Launch { app } => Said::Launch(*app),
         Change::Finish { lease } => Said::Finish(*lease),
+        Change::Group {
+            view,
+            group,
+            contents,
+        } => Said::Group(*view, group.as_bytes().len(), sizes(contents.as_slice())),
+    }
+}
+
+// How many there are, and how many bytes the first has.
+fn sizes(contents: &[Content]) -> [usize; 2] {
+    match contents {
+        [] => [0, 0],
+        [first, ..] => [contents.len(), first.bytes.as_slice().len()],
     }
 }
 
@@ -90,10 +155,10 @@ fn writes(change: &Change, wanted: &[u8]) -> bool
     requires { IsChange change.now }
 {
     let length = encoded_length(change);
-    if length > 32 || length != wanted.len() as u64 {
+    if length > 64 || length != wanted.len() as u64 {
         return false;
     }
-    let mut out = [7; 32];
+    let mut out = [7; 64];
     let written = encode_change(change, &mut out);
     written == wanted.len() && same(&out[..written], wanted) && are_sevens(&out[written..])
 }
@@ -113,6 +178,36 @@ fn a_requirement_is_written(rt: HostRuntime) -> Result<(), Fail> {
     Ok(())
 }
 
+// Reads a change, and tells whether it is written as it was read.
+fn writes_back(alloc: Global, bytes: &[u8]) -> bool {
+    match decode_change(alloc, bytes) {
+        Ok(change) => {
+            let is_written = writes(&change, bytes);
+            drop(change);
+            is_written
+        }
+        Err(_) => false,
+    }
+}
+
+const WRITTEN: &[&[u8]] = &[
+    BOOT_ONE,
+    REQUIRE,
+    HEARD,
+    HEARD_MINIMUM,
+    UNHEARD,
+    SKIP,
+    GROUP,
+    GROUP_CONTENT,
+];
+
+#[test]
+fn changes_are_written_as_they_are_read(rt: HostRuntime) {
+    for (number, bytes) in WRITTEN.iter().enumerate() {
+        assert!(rt; writes_back(rt.alloc(), bytes), "case {number}");
+    }
+}
+
 // Bytes, and what they are read as.
 const READ: &[(&[u8], Said)] = &[
     (BOOT_ONE, Said::Boot(1)),
@@ -120,11 +215,25 @@ const READ: &[(&[u8], Said)] = &[
         &[0, 1, 2, 3, 4, 5, 6, 7, 8],
         Said::Boot(0x0102_0304_0506_0708),
     ),
+    (HEARD, Said::Heard([1, 1, 1, 1], [1, 2, 3, 4], None, 258)),
+    (
+        HEARD_MINIMUM,
+        Said::Heard(
+            [1, 1, 1, 1],
+            [1, 2, 3, 4],
+            Some([5, 6, 7, 8]),
+            0x0102_0304_0506_0708,
+        ),
+    ),
+    (UNHEARD, Said::Unheard([1, 1, 1, 1])),
+    (SKIP, Said::Skip(258)),
     (&[7, 0, 0, 1, 2], Said::Launch(258)),
     (
         &[8, 1, 2, 3, 4, 5, 6, 7, 8],
         Said::Finish(0x0102_0304_0506_0708),
     ),
+    (GROUP, Said::Group(0x0102_0304_0506_0708, 4, [0, 0])),
+    (GROUP_CONTENT, Said::Group(1, 1, [1, 3])),
     (REQUIRE, Said::Require(1, 4, [1, 1, 1, 1])),
     // Parts may be empty.
     (
@@ -133,17 +242,46 @@ const READ: &[(&[u8], Said)] = &[
         ],
         Said::Require(0, 9, [0, 0, 0, 0]),
     ),
+    (
+        &[4, 0, 0, 0, 0, 0, 0, 0, 0, 0, 0, 0, 0, 0, 0, 0, 0],
+        Said::Unheard([0, 0, 0, 0]),
+    ),
+    // So may a group.
+    (
+        &[9, 0, 0, 0, 0, 0, 0, 0, 1, 0, 0, 0, 0, 0, 0, 0, 0],
+        Said::Group(1, 0, [0, 0]),
+    ),
+    // These are the numbers of no kind.
     (&[], Said::Bad(0)),
-    (&[3], Said::Bad(0)),
-    (&[9], Said::Bad(0)),
+    (&[6], Said::Bad(0)),
+    (&[6, 0, 0, 1, 2], Said::Bad(0)),
+    (&[10], Said::Bad(0)),
     // It ends too soon.
     (&[0], Said::Bad(1)),
     (&[2], Said::Bad(1)),
+    (&[3], Said::Bad(1)),
+    (&[4], Said::Bad(1)),
+    (&[5, 0, 0, 1], Said::Bad(1)),
     (&[7, 0, 0, 1], Said::Bad(1)),
+    (&[9], Said::Bad(1)),
     // A byte is left over.
     (&[0, 0, 0, 0, 0, 0, 0, 0, 1, 0], Said::Bad(9)),
-    // The name is no UTF-8.
+    (&[5, 0, 0, 1, 2, 0], Said::Bad(5)),
+    // The name, or the group, is no UTF-8.
     (&[1, 0, 0, 0, 1, 0xff, 0, 0, 0, 1, b't'], Said::Bad(1)),
+    (
+        &[9, 0, 0, 0, 0, 0, 0, 0, 1, 0, 0, 0, 1, 0xff, 0, 0, 0, 0],
+        Said::Bad(9),
+    ),
+    // There are 16,384 contents, of which the first is missing, and one too many.
+    (
+        &[9, 0, 0, 0, 0, 0, 0, 0, 1, 0, 0, 0, 1, b'g', 0, 0, 64, 0],
+        Said::Bad(18),
+    ),
+    (
+        &[9, 0, 0, 0, 0, 0, 0, 0, 1, 0, 0, 0, 1, b'g', 0, 0, 64, 1],
+        Said::Bad(14),
+    ),
 ];
 
 #[test]
@@ -160,6 +298,19 @@ const CUT: &[(&[u8], usize, u64)] = &[
     (REQUIRE, 5, 1),
     (REQUIRE, 20, 16),
     (REQUIRE, 28, 27),
+    (HEARD, 5, 1),
+    (HEARD, 29, 29),
+    (HEARD, 37, 30),
+    (HEARD_MINIMUM, 30, 30),
+    (HEARD_MINIMUM, 37, 36),
+    (HEARD_MINIMUM, 45, 38),
+    (UNHEARD, 20, 16),
+    (GROUP, 8, 1),
+    (GROUP, 16, 9),
+    (GROUP, 20, 17),
+    (GROUP_CONTENT, 18, 18),
+    (GROUP_CONTENT, 54, 31),
+    (GROUP_CONTENT, 61, 55),
 ];
 
 fn is_cut(alloc: Global, bytes: &[u8], length: usize, place: u64) -> bool {
@@ -176,6 +327,43 @@ fn a_change_that_is_cut_is_none(rt: HostRuntime) {
     }
 }
 
+// Encodings in which one byte is another, and where that is found.
+const CHANGED: &[(&[u8], usize, u8, u64)] = &[
+    (HEARD, 0, 6, 0),
+    // No third kind of option, and no fifth algorithm.
+    (HEARD, 29, 2, 29),
+    (GROUP_CONTENT, 30, 4, 30),
+    // A second content is missing.
+    (GROUP_CONTENT, 17, 2, 62),
+    // A byte is left over.
+    (HEARD_MINIMUM, 29, 0, 38),
+    (GROUP_CONTENT, 58, 2, 61),
+];
+
+fn is_changed(
+    alloc: Global,
+    bytes: &[u8],
+    place: usize,
+    byte: u8,
+    found: u64,
+) -> Result<bool, AllocError> {
+    let mut other = Vec::from_slice(alloc, bytes)?;
+    if other.len() <= place {
+        return Ok(false);
+    }
+    other[place] = byte;
+    Ok(read(alloc, &other) == Said::Bad(found))
+}
+
+#[test]
+fn a_change_with_another_byte_is_none(rt: HostRuntime) -> Result<(), Fail> {
+    for (number, (bytes, place, byte, found)) in CHANGED.iter().enumerate() {
+        let is_found = is_changed(rt.alloc(), bytes, *place, *byte, *found)?;
+        assert!(rt; is_found, "case {number}");
+    }
+    Ok(())
+}
+
 // The encoding of a key with a token of that many bytes.
 fn with_token(alloc: Global, length: u8) -> Result<Vec<u8>, AllocError> {
     let mut bytes = Vec::from_slice(alloc, &[1, 0, 0, 0, 1, b'n', 0, 0, 0, length])?;
@@ -186,11 +374,31 @@ fn with_token(alloc: Global, length: u8) -> Result<Vec<u8>, AllocError> {
     Ok(bytes)
 }
 
+// A group of that many bytes, with no content.
+fn with_group(alloc: Global, length: u8) -> Result<Vec<u8>, AllocError> {
+    let mut bytes = Vec::from_slice(alloc, &[9, 0, 0, 0, 0, 0, 0, 0, 1, 0, 0, 0, length])?;
+    for _ in 0..length {
+        bytes.push(b'g')?;
+    }
+    bytes.extend_from_slice(&[0, 0, 0, 0])?;
+    Ok(bytes)
+}
+
 #[test]
 fn parts_have_limits(rt: HostRuntime) -> Result<(), Fail> {
     let table = [(64, Said::Require(1, 4, [1, 64, 1, 1])), (65, Said::Bad(6))];
     for (length, wanted) in table {
         let bytes = with_token(rt.alloc(), length)?;
+        assert!(rt; read(rt.alloc(), &bytes) == wanted, "{length}");
+    }
+    Ok(())
+}
+
+#[test]
+fn groups_have_a_limit(rt: HostRuntime) -> Result<(), Fail> {
+    let table = [(240, Said::Group(1, 240, [0, 0])), (241, Said::Bad(9))];
+    for (length, wanted) in table {
+        let bytes = with_group(rt.alloc(), length)?;
         assert!(rt; read(rt.alloc(), &bytes) == wanted, "{length}");
     }
     Ok(())

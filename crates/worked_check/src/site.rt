@@ -1,0 +1,111 @@
+// The files of a site.
+use folders::{Folder, Held, MemFolder, are_distinct};
+use small_types::{Bytes, List, Name};
+use std::alloc::Global;
+use std::io::{self, ErrorKind};
+
+fn name_of(alloc: Global, text: &str) -> io::Result<Name> {
+    match Name::read(alloc, text.as_bytes()) {
+        Ok(name) => Ok(name),
+        Err(_) => Err(ErrorKind::InvalidInput.into()),
+    }
+}
+
+/// Puts a file there.
+pub fn put(rt: &HostRuntime, folder: &mut MemFolder, file: &str, bytes: &[u8]) -> io::Result<()> {
+    let name = name_of(rt.alloc(), file)?;
+    match folder.put(&name, bytes) {
+        Ok(()) => Ok(()),
+        Err(_) => Err(ErrorKind::Other.into()),
+    }
+}
+
+/// Puts a file there: its name, `=` and its bytes.
+pub fn put_text(rt: &HostRuntime, folder: &mut MemFolder, words: &str) -> io::Result<()> {
+    match words.split_once('=') {
+        Some((file, text)) => put(rt, folder, file, text.as_bytes()),
+        None => Err(ErrorKind::InvalidInput.into()),
+    }
+}
+
+/// Puts a file of zeros there: their number, a space and its name.
+pub fn put_zeros(rt: &HostRuntime, folder: &mut MemFolder, words: &str) -> io::Result<()> {
+    let Some((count, file)) = words.split_once(' ') else {
+        return Err(ErrorKind::InvalidInput.into());
+    };
+    let Ok(count) = count.parse::<u32>() else {
+        return Err(ErrorKind::InvalidInput.into());
+    };
+    let mut bytes = Vec::new(rt.alloc());
+    bytes.resize(count as usize, 0u8)?;
+    put(rt, folder, file, &bytes)
+}
+
+// The text of a file.
+fn text_of(rt: &HostRuntime, folder: &mut MemFolder, file: &str) -> io::Result<String> {
+    let alloc = rt.alloc();
+    let name = name_of(alloc, file)?;
+    let Ok(Some(bytes)) = folder.get(alloc, &name) else {
+        return Err(ErrorKind::NotFound.into());
+    };
+    match std::str::from_utf8(bytes.as_slice()) {
+        Ok(text) => Ok(String::from_str(alloc, text)?),
+        Err(_) => Err(ErrorKind::InvalidInput.into()),
+    }
+}
+
+/// Gives a deployment that was published without terms some: below which folder, a space, and what
+/// stands behind its attributes.
+pub fn set_terms(rt: &HostRuntime, folder: &mut MemFolder, words: &str) -> io::Result<()> {
+    let alloc = rt.alloc();
+    let Some((below, terms)) = words.split_once(' ') else {
+        return Err(ErrorKind::InvalidInput.into());
+    };
+    let file = format!(in alloc; "{below}/demo.application")?;
+    let text = text_of(rt, folder, file.as_str())?;
+    let Some((head, tail)) = text.as_str().split_once(" mapFileExtensions=\"true\"/>") else {
+        return Err(ErrorKind::InvalidInput.into());
+    };
+    let made = format!(in alloc; "{head} mapFileExtensions=\"true\"{terms}{tail}")?;
+    put(rt, folder, file.as_str(), made.as_str().as_bytes())
+}
+
+fn copy_of(alloc: Global, file: &Held) -> io::Result<Held> {
+    let bytes = Bytes::from_slice(alloc, file.bytes.as_slice())?;
+    Ok(Held {
+        name: name_of(alloc, file.name.as_str())?,
+        bytes,
+    })
+}
+
+// Copies of the files, but of that one.
+fn files_without(alloc: Global, files: &[Held], lost: &str) -> io::Result<Vec<Held>> {
+    let mut made = Vec::new(alloc);
+    for file in files {
+        if file.name.as_bytes() == lost.as_bytes() {
+            continue;
+        }
+        made.push(copy_of(alloc, file)?)?;
+    }
+    Ok(made)
+}
+
+/// A folder of these files.
+pub fn folder_of(alloc: Global, files: Vec<Held>, failing: List<u64>) -> io::Result<MemFolder> {
+    if !are_distinct(&files) {
+        return Err(ErrorKind::InvalidInput.into());
+    }
+    Ok(MemFolder::new(alloc, List::from_vec(files), failing))
+}
+
+/// The folder without that file.
+pub fn folder_without(alloc: Global, folder: &MemFolder, lost: &str) -> io::Result<MemFolder> {
+    let files = files_without(alloc, folder.files().as_slice(), lost)?;
+    folder_of(alloc, files, List::from_vec(Vec::new(alloc)))
+}
+
+/// The folder, whose call of that number fails.
+pub fn folder_failing(alloc: Global, folder: &MemFolder, call: u64) -> io::Result<MemFolder> {
+    let files = files_without(alloc, folder.files().as_slice(), "")?;
+    folder_of(alloc, files, List::from_vec([call].to_vec(alloc)?))
+}
