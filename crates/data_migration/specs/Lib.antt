@@ -1,0 +1,3 @@
+pub mod Migration
+pub mod Plans
+pub mod Tables
