@@ -444,7 +444,7 @@ group_facts now heard lease group = record {
       left_valid lease group old reply new is.1 passes done valid;
   sound = λ old reply new is few passes done sound.
       left_sound lease group old reply new is.1 passes done sound;
-  views = λ old reply new at with_texts none done. inr none;
+  views = λ old reply new at with_texts none done. inr (inr none);
   answered = λ old valid sound.
       by_lease now heard lease group old sound (lease_of lease old.store.leases) refl;
 }

@@ -1,6 +1,6 @@
 -- The row of `install`.
 use Rattle.std.proofs.Common.{◌≡◌, ◌≢◌, ◌∙◌, ◌++◌, ◌≤◌, inr, refl, sym, ap, subst, ℕ, List, [], ◌∷◌, Some, arith}
-use Rattle.small_types.specs.declared.limits.TheConstants.{NUMBER_LIMIT}
+use Rattle.small_types.specs.declared.limits.TheConstants.{LOCAL_COUNT_LIMIT, NUMBER_LIMIT}
 use Rattle.addresses.specs.Address.{target_of_text}
 use Rattle.identity.specs.declared.key.Key.{Key}
 use Rattle.identity.specs.declared.version.Version.{Version}
@@ -8,7 +8,6 @@ use Rattle.manifests.specs.declared.facts.Deployment.{Deployment}
 use Rattle.machine.specs.declared.command.Command.TheVariants.{Install}
 use Rattle.machine.specs.declared.reply.Reply.{Reply}
 use Rattle.machine.specs.declared.reply.Reply.TheVariants as says
-use Rattle.machine.specs.declared.views.TheConstants.{INSTALLED_LOCALS}
 use Rattle.machine.specs.Installed.{new_view, with_view}
 use Rattle.machine.specs.InstallLaws.{IsInstall}
 use Rattle.machine.specs.InstallReplies.{install_replies}
@@ -73,9 +72,9 @@ installed_is_other key version view e = cc
 module _ (now : ℕ) (heard : List (List ℕ)) (url : List ℕ) (old : Session) (reply : Reply)
     (new : Session) where
   as_install : now ≤ NUMBER_LIMIT
-      → PassesAll (install_refusals install_replies INSTALLED_LOCALS url heard (shape_of old.store))
+      → PassesAll (install_refusals install_replies LOCAL_COUNT_LIMIT url heard (shape_of old.store))
       → InstallEffect install_replies url heard now old reply new
-      → IsInstall install_replies INSTALLED_LOCALS url heard now old reply new
+      → IsInstall install_replies LOCAL_COUNT_LIMIT url heard now old reply new
   as_install few passes done =
       record { few = omega arith; moment = few; passes = passes; effect = done }
 
@@ -134,14 +133,14 @@ pub install_facts : (now : ℕ) (heard : List (List ℕ)) (url : List ℕ)
 install_facts now heard url = record {
   refused = λ old reply new given.
       kept_unchanged (Install url)
-      (install_refusals install_replies INSTALLED_LOCALS url heard (shape_of old.store)) old reply new
-      (install_unchanged install_replies INSTALLED_LOCALS url heard (shape_of old.store)) given;
+      (install_refusals install_replies LOCAL_COUNT_LIMIT url heard (shape_of old.store)) old reply new
+      (install_unchanged install_replies LOCAL_COUNT_LIMIT url heard (shape_of old.store)) given;
   set_none = λ shape. install_none url heard shape;
   acts = λ old reply new done. install_acts now heard url old reply new done;
   valid = λ old reply new is few passes done valid.
       left_valid (as_install now heard url old reply new few passes done) valid;
   sound = λ old reply new is few passes done sound.
       left_sound (as_install now heard url old reply new few passes done) sound;
-  views = λ old reply new at with_texts none done. inr none;
+  views = λ old reply new at with_texts none done. inr (inr none);
   answered = λ old valid none. heard_nothing now heard url old none;
 }

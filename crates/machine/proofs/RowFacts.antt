@@ -1,5 +1,6 @@
 -- What is shown of each row of the machine, so that each law is shown of all rows at once.
-use Rattle.std.proofs.Common.{◌≡◌, ◌≢◌, ◌∙◌, ◌⊎◌, ◌≤◌, refl, sym, subst, ℕ, List, [], Option, Some, None}
+use Rattle.std.proofs.Common.{◌≡◌, ◌≢◌, ◌∙◌, ◌⊎◌, ◌≤◌, refl, sym, subst, ℕ, List, [], map, Option, Some, None}
+use Rattle.std.specs.Prelude.{flat_map, sum_by}
 use Rattle.small_types.specs.declared.limits.TheConstants.{NUMBER_LIMIT}
 use Rattle.identity.specs.declared.key.Key.{Key}
 use Rattle.identity.specs.declared.version.Version.{Version}
@@ -10,12 +11,13 @@ use Rattle.machine.specs.declared.event.Event.TheVariants.{Line}
 use Rattle.machine.specs.declared.event.Heard.{Heard}
 use Rattle.machine.specs.declared.reply.Reply.{Reply}
 use Rattle.machine.specs.declared.reply.Reply.TheVariants as says
+use Rattle.machine.specs.Blocks.{blocks_of, standing_files}
 use Rattle.machine.specs.Laws.{FetchesWithoutJobs, IsAnswered, IsAnswerable}
 use Rattle.machine.specs.Machine.{effect, moment_set, refusals}
 use Rattle.machine.specs.Minimums.{minimum_of}
 use Rattle.machine.specs.Rows.{ChangeNothing, PassesAll, Refusal, Refuses}
-use Rattle.machine.specs.Shape.{Shape, shape_of}
-use Rattle.machine.specs.Sound.{Sound}
+use Rattle.machine.specs.Shape.{BareData, BareView, Shape, bare_view, shape_of}
+use Rattle.machine.specs.Sound.{Sound, program_files_of}
 use Rattle.machine.specs.Store.{Session, Store}
 use Rattle.machine.specs.Valid.{Valid}
 use Rattle.machine.specs.Words.{IsCommand}
@@ -120,8 +122,18 @@ kept_unchanged command refusals old reply new same refused =
 
 -- ---- a row
 
+-- the program files of all views are the same, and data files take no more blocks
+pub record Shrinks (old new : Store) : Type 0 where
+  pub programs : program_files_of new ≡ program_files_of old
+  pub standing : standing_files (map bare_view new.views) ≡ standing_files (map bare_view old.views)
+  pub data_blocks : sum_by (λ (file : BareData). blocks_of file.length)
+      (flat_map (λ (view : BareView). view.data_files) (map bare_view new.views))
+      ≤ sum_by (λ (file : BareData). blocks_of file.length)
+      (flat_map (λ (view : BareView). view.data_files) (map bare_view old.views))
+
 -- Its refusals keep a store and set no moment. Its effect acts so, and keeps a store valid and
--- sound. It leaves the views, or there is no open job. And there is an answer.
+-- sound. It leaves the views, or takes no more of them, or there is no open job. And there is an
+-- answer.
 pub record RowFacts (now : ℕ) (heard : List (List ℕ)) (command : Command) : Type 0 where
   pub refused : (old : Session) (reply : Reply) (new : Session)
       → Refuses (refusals now heard (shape_of old.store) command) old reply new
@@ -140,6 +152,6 @@ pub record RowFacts (now : ℕ) (heard : List (List ℕ)) (command : Command) : 
   pub views : (old : Session) (reply : Reply) (new : Session) (at : ℕ) (with_texts : Heard)
       → FetchesWithoutJobs (Line command at with_texts) old
       → effect now heard command old reply new
-      → (new.store.views ≡ old.store.views) ⊎ (old.jobs ≡ [])
+      → (new.store.views ≡ old.store.views) ⊎ Shrinks old.store new.store ⊎ (old.jobs ≡ [])
   pub answered : (old : Session) → Valid old.store → IsAnswerable command heard old.store
       → IsAnswered now heard old command

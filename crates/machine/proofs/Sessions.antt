@@ -1,5 +1,6 @@
 -- Steps keep a session sound.
 use Rattle.std.proofs.Common.{◌≡◌, ◌≤◌, ◌⊎◌, ◌∙◌, ◌++◌, inl, inr, ℕ, List, [], length, map, sum_by, All, Option, refl, sym, ap, subst, arith}
+use Rattle.std.specs.Prelude.{filter, flat_map}
 use Rattle.std.proofs.lemmas.List.{append-nil}
 use Rattle.std.proofs.lemmas.List.Elements.{All-nil}
 use Rattle.small_types.specs.declared.limits.TheConstants.{JOB_LIMIT}
@@ -18,11 +19,11 @@ use Rattle.machine.specs.Sound.{ShareBytes, Sound, program_files_of}
 use Rattle.machine.specs.SoundSession.{IsSoundJob, SoundSession, blocks_with, program_files_in, session_blocks}
 use Rattle.machine.specs.Store.{Job, Session, Store, session_over}
 use Rattle.machine.specs.Valid.{AreNumbers}
-use Rattle.machine.specs.Views.{View}
+use Rattle.machine.specs.Views.{ListedFile, View, is_required}
 use Rattle.machine.specs.Words.{IsEvent}
 use Rattle.machine.proofs.EachRow.{facts}
 use Rattle.machine.proofs.Refusals.{kept_or_effect}
-use Rattle.machine.proofs.RowFacts.{Kept}
+use Rattle.machine.proofs.RowFacts.{Kept, Shrinks}
 use Rattle.machine.proofs.Stepping.{step_blocks, step_leaves, step_sound}
 
 -- a session of the same views, jobs and numbers, over a sound store
@@ -41,6 +42,26 @@ same_sound old new views blocks jobs next store sound = record {
   room = subst (λ (js : List Job). blocks_with (map bare_view new.store.views) js ≤ new.store.blocks) (sym jobs)
       (subst (λ (vs : List View). blocks_with (map bare_view vs) old.jobs ≤ new.store.blocks) (sym views)
       (subst (λ n. session_blocks old ≤ n) (sym blocks) sound.room));
+}
+
+-- a session whose views have the same program files, and data files that take no more blocks
+shrunk_sound : (old new : Session) → Shrinks old.store new.store
+    → new.store.blocks ≡ old.store.blocks → new.jobs ≡ old.jobs → new.next_job ≡ old.next_job
+    → Sound new.store → SoundSession old → SoundSession new
+shrunk_sound old new shrinks blocks jobs next store sound = record {
+  store = store;
+  job_numbers = subst (λ (js : List Job). AreNumbers new.next_job (map (λ job. job.number) js)) (sym jobs)
+      (subst (λ n. AreNumbers n (map (λ (job : Job). job.number) old.jobs)) (sym next) sound.job_numbers);
+  few_jobs = subst (λ (js : List Job). length js ≤ JOB_LIMIT) (sym jobs) sound.few_jobs;
+  jobs = subst (All IsSoundJob) (sym jobs) sound.jobs;
+  shared = subst (λ (js : List Job). ShareBytes (program_files_of new.store ++ program_files_in js)) (sym jobs)
+      (subst (λ (files : List ListedFile). ShareBytes (files ++ program_files_in old.jobs))
+      (sym shrinks.programs) sound.shared);
+  room = subst (λ (js : List Job). blocks_with (map bare_view new.store.views) js ≤ new.store.blocks) (sym jobs)
+      (let room = sound.room in
+      let files = ap (λ (es : List FileEntry). sum_by (λ entry. blocks_of entry.size) (distinct (es
+      ++ flat_map (λ (job : Job). filter is_required job.application.files) old.jobs))) shrinks.standing in
+      omega (arith, room, files, shrinks.data_blocks, blocks));
 }
 
 pub step_jobs : (now : ℕ) (old : Session) (event : Event) (reply : Option Reply) (new : Session)
@@ -99,17 +120,17 @@ module _ (now : ℕ) (old : Session) (reply : Option Reply) (new : Session) (sou
       same_sound old new views (step_blocks now old event reply new step) (step_jobs now old event reply new step)
       (step_next now old event reply new step) (step_sound now old event reply new is step sound.store) sound
 
-  -- a line leaves the views, or there is no open job
+  -- a line leaves the views, or takes no more of them, or there is no open job
   line_views : (command : Command) (at : ℕ) (heard : Heard) → Step now old (Line command at heard) reply new
       → FetchesWithoutJobs (Line command at heard) old
-      → (new.store.views ≡ old.store.views) ⊎ (old.jobs ≡ [])
+      → (new.store.views ≡ old.store.views) ⊎ Shrinks old.store new.store ⊎ (old.jobs ≡ [])
   line_views command at heard step none =
       by (kept_or_effect now heard.texts old command step.answer new step.answers)
     where
       by : Kept command old step.answer new
           ⊎ (PassesAll (refusals now heard.texts (shape_of old.store) command)
           × effect now heard.texts command old step.answer new)
-          → (new.store.views ≡ old.store.views) ⊎ (old.jobs ≡ [])
+          → (new.store.views ≡ old.store.views) ⊎ Shrinks old.store new.store ⊎ (old.jobs ≡ [])
       by (inl kept) = inl kept.views
       by (inr done) = (facts now heard.texts command).views old step.answer new at heard none done.1
 
@@ -118,9 +139,16 @@ module _ (now : ℕ) (old : Session) (reply : Option Reply) (new : Session) (sou
       → FetchesWithoutJobs (Line command at heard) old → SoundSession new
   line_session command at heard is step none = by (line_views command at heard step none)
     where
-      by : (new.store.views ≡ old.store.views) ⊎ (old.jobs ≡ []) → SoundSession new
+      by : (new.store.views ≡ old.store.views) ⊎ Shrinks old.store new.store ⊎ (old.jobs ≡ [])
+          → SoundSession new
       by (inl views) = same_views (Line command at heard) is step views
-      by (inr no_jobs) =
+      by (inr (inl shrinks)) =
+          shrunk_sound old new shrinks
+          (step_blocks now old (Line command at heard) reply new step)
+          (step_jobs now old (Line command at heard) reply new step)
+          (step_next now old (Line command at heard) reply new step)
+          (step_sound now old (Line command at heard) reply new is step sound.store) sound
+      by (inr (inr no_jobs)) =
           without_jobs old new no_jobs (step_jobs now old (Line command at heard) reply new step)
           (step_next now old (Line command at heard) reply new step)
           (step_sound now old (Line command at heard) reply new is step sound.store) sound

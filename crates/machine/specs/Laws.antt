@@ -18,7 +18,7 @@ use Rattle.manifests.specs.Applications.{application_of}
 use Rattle.manifests.specs.Deployments.{deployment_of}
 use Rattle.machine.specs.declared.app.AppState.{AppState}
 use Rattle.machine.specs.declared.command.Command.{Command}
-use Rattle.machine.specs.declared.command.Command.TheVariants.{At, Require, Install, Check, Skip, Launch, Read, Group, Finish}
+use Rattle.machine.specs.declared.command.Command.TheVariants.{At, Require, Install, Check, Skip, Launch, Read, Local, Put, Remove, Group, Finish}
 use Rattle.machine.specs.declared.event.Event.{Event}
 use Rattle.machine.specs.declared.event.Event.TheVariants.{Boot, Line, Unread}
 use Rattle.machine.specs.declared.reply.Reply.{Reply}
@@ -174,6 +174,13 @@ pub record RowsAreExact : Type 0 where
   pub read : (now : ℕ) (heard : List (List ℕ)) (shape : Shape) (lease : ℕ) (name : List ℕ)
       (from count : ℕ)
       → AreExact (refusals now heard shape (Read lease name from count))
+  pub local : (now : ℕ) (heard : List (List ℕ)) (shape : Shape) (lease : ℕ) (name : List ℕ)
+      (from count : ℕ)
+      → AreExact (refusals now heard shape (Local lease name from count))
+  pub put : (now : ℕ) (heard : List (List ℕ)) (shape : Shape) (lease : ℕ) (name bytes : List ℕ)
+      → AreExact (refusals now heard shape (Put lease name bytes))
+  pub remove : (now : ℕ) (heard : List (List ℕ)) (shape : Shape) (lease : ℕ) (name : List ℕ)
+      → AreExact (refusals now heard shape (Remove lease name))
   pub group : (shape : Shape) (lease : ℕ) (group : List ℕ)
       → AreExact (room_refusals lease group shape)
   pub finish : (now : ℕ) (heard : List (List ℕ)) (shape : Shape) (lease : ℕ)
@@ -217,6 +224,13 @@ pub record RowsChangeNothing : Type 0 where
   pub read : (now : ℕ) (heard : List (List ℕ)) (shape : Shape) (lease : ℕ) (name : List ℕ)
       (from count : ℕ)
       → ChangeNothing (refusals now heard shape (Read lease name from count))
+  pub local : (now : ℕ) (heard : List (List ℕ)) (shape : Shape) (lease : ℕ) (name : List ℕ)
+      (from count : ℕ)
+      → ChangeNothing (refusals now heard shape (Local lease name from count))
+  pub put : (now : ℕ) (heard : List (List ℕ)) (shape : Shape) (lease : ℕ) (name bytes : List ℕ)
+      → ChangeNothing (refusals now heard shape (Put lease name bytes))
+  pub remove : (now : ℕ) (heard : List (List ℕ)) (shape : Shape) (lease : ℕ) (name : List ℕ)
+      → ChangeNothing (refusals now heard shape (Remove lease name))
   pub group : (now : ℕ) (heard : List (List ℕ)) (shape : Shape) (lease : ℕ) (group : List ℕ)
       → ChangeNothing (refusals now heard shape (Group lease group))
   pub finish : (now : ℕ) (heard : List (List ℕ)) (shape : Shape) (lease : ℕ)
@@ -253,6 +267,9 @@ IsAnswerable (Check key) heard store = heard ≡ []
 IsAnswerable (Skip key) heard store = Unit {0}
 IsAnswerable (Launch key) heard store = Unit {0}
 IsAnswerable (Read lease name from count) heard store = Unit {0}
+IsAnswerable (Local lease name from count) heard store = Unit {0}
+IsAnswerable (Put lease name bytes) heard store = Unit {0}
+IsAnswerable (Remove lease name) heard store = Unit {0}
 IsAnswerable (Group lease group) heard store = Sound store
 IsAnswerable (Finish lease) heard store = Unit {0}
 
@@ -345,10 +362,11 @@ RunsKeepSound = (now : ℕ) (old : Session) (events : List Event) (replies : Lis
     (new : Session)
     → All IsEvent events → Run now old events replies new → Sound old.store → Sound new.store
 
--- An install or a group finds no open job. One that does may bring other bytes than a job has for a
--- content, or take blocks that a job counts.
+-- An install, a group or a put finds no open job. One that does may bring other bytes than a job has
+-- for a content, or take blocks that a job counts.
 abbrev pub FetchesWithoutJobs : Event → Session → Type 0
 FetchesWithoutJobs (Line (Install url) now heard) old = old.jobs ≡ []
+FetchesWithoutJobs (Line (Put lease name bytes) now heard) old = old.jobs ≡ []
 FetchesWithoutJobs (Line (Group lease group) now heard) old = old.jobs ≡ []
 FetchesWithoutJobs _ old = Unit {0}
 

@@ -4,6 +4,8 @@ pub mod Blocks
 pub mod CheckLaws
 pub mod CheckRow
 pub mod Current
+pub mod DataFiles
+pub mod DataLaws
 pub mod Due
 pub mod Entries
 pub mod Fields
@@ -20,10 +22,13 @@ pub mod LaunchRow
 pub mod Laws
 pub mod LeaseLaws
 pub mod Leases
+pub mod LocalRow
 pub mod Machine
 pub mod Migrated
 pub mod Minimums
+pub mod PutRow
 pub mod ReadRow
+pub mod RemoveRow
 pub mod RequireRow
 pub mod Rows
 pub mod Shape

@@ -1,7 +1,7 @@
 -- The machine: what an event may answer, and what it leaves.
 use Rattle.std.specs.Prelude.{◌≡◌, ℕ, List, [], ◌∷◌, Option, Some, None, unwrap_or}
 use Rattle.machine.specs.declared.command.Command.{Command}
-use Rattle.machine.specs.declared.command.Command.TheVariants.{At, Require, Install, Check, Skip, Launch, Read, Group, Finish}
+use Rattle.machine.specs.declared.command.Command.TheVariants.{At, Require, Install, Check, Skip, Launch, Read, Local, Put, Remove, Group, Finish}
 use Rattle.machine.specs.declared.event.Event.{Event}
 use Rattle.machine.specs.declared.event.Event.TheVariants.{Boot, Line, Unread}
 use Rattle.machine.specs.declared.event.Heard.{Heard}
@@ -14,10 +14,13 @@ use Rattle.machine.specs.CheckRow.{CheckEffect, HearsOffer, check_refusals}
 use Rattle.machine.specs.SkipRow.{SkipEffect, skip_refusals}
 use Rattle.machine.specs.LaunchRow.{LaunchEffect, launch_refusals}
 use Rattle.machine.specs.ReadRow.{ReadEffect, read_refusals}
+use Rattle.machine.specs.LocalRow.{LocalEffect, local_refusals}
+use Rattle.machine.specs.PutRow.{PutEffect, put_refusals}
+use Rattle.machine.specs.RemoveRow.{RemoveEffect, remove_refusals}
 use Rattle.machine.specs.GroupRow.{GroupEffect, group_refusals}
 use Rattle.machine.specs.FinishRow.{finish_effect, finish_refusals}
 use Rattle.machine.specs.InstallReplies.{install_replies}
-use Rattle.machine.specs.declared.views.TheConstants.{INSTALLED_LOCALS}
+use Rattle.small_types.specs.declared.limits.TheConstants.{LOCAL_COUNT_LIMIT}
 use Rattle.machine.specs.Rows.{Refusal, maybe, FirstOf}
 use Rattle.machine.specs.Shape.{Shape, shape_of}
 use Rattle.machine.specs.Store.{Session, booted}
@@ -33,6 +36,9 @@ Hears shape (Check key) heard = HearsOffer key shape heard
 Hears shape (Skip key) heard = heard ≡ []
 Hears shape (Launch key) heard = heard ≡ []
 Hears shape (Read lease name from count) heard = heard ≡ []
+Hears shape (Local lease name from count) heard = heard ≡ []
+Hears shape (Put lease name bytes) heard = heard ≡ []
+Hears shape (Remove lease name) heard = heard ≡ []
 Hears shape (Group lease group) heard = heard ≡ []
 Hears shape (Finish lease) heard = heard ≡ []
 
@@ -42,11 +48,14 @@ abbrev pub refusals : ℕ → List (List ℕ) → Shape → Command → List (Re
 refusals now heard shape (At next) = at_refusals
 refusals now heard shape (Require key version) = require_refusals key shape
 refusals now heard shape (Install url) =
-    install_refusals install_replies INSTALLED_LOCALS url heard shape
+    install_refusals install_replies LOCAL_COUNT_LIMIT url heard shape
 refusals now heard shape (Check key) = check_refusals key heard shape
 refusals now heard shape (Skip key) = skip_refusals key now shape
 refusals now heard shape (Launch key) = launch_refusals key now shape
 refusals now heard shape (Read lease name from count) = read_refusals lease name shape
+refusals now heard shape (Local lease name from count) = local_refusals lease name shape
+refusals now heard shape (Put lease name bytes) = put_refusals lease name bytes shape
+refusals now heard shape (Remove lease name) = remove_refusals lease name shape
 refusals now heard shape (Group lease group) = group_refusals lease group shape
 refusals now heard shape (Finish lease) = finish_refusals lease shape
 
@@ -59,6 +68,9 @@ effect now heard (Check key) = CheckEffect key heard now
 effect now heard (Skip key) = SkipEffect key
 effect now heard (Launch key) = LaunchEffect key now
 effect now heard (Read lease name from count) = ReadEffect lease name from count
+effect now heard (Local lease name from count) = LocalEffect lease name from count
+effect now heard (Put lease name bytes) = PutEffect lease name bytes
+effect now heard (Remove lease name) = RemoveEffect lease name
 effect now heard (Group lease group) = GroupEffect lease group
 effect now heard (Finish lease) = finish_effect lease
 

@@ -5,7 +5,7 @@ use Rattle.small_types.specs.Name.{IsName}
 use Rattle.identity.specs.Key.{IsKey}
 use Rattle.identity.specs.Version.{IsVersion}
 use Rattle.machine.specs.declared.command.Command.{Command}
-use Rattle.machine.specs.declared.command.Command.TheVariants.{At, Require, Install, Check, Skip, Launch, Read, Group, Finish}
+use Rattle.machine.specs.declared.command.Command.TheVariants.{At, Require, Install, Check, Skip, Launch, Read, Local, Put, Remove, Group, Finish}
 use Rattle.machine.specs.declared.event.Event.{Event}
 use Rattle.machine.specs.declared.event.Event.TheVariants.{Boot, Line, Unread}
 use Rattle.machine.specs.Fields.{IsShort}
@@ -31,6 +31,11 @@ IsCommand (Skip key) = IsKey key
 IsCommand (Launch key) = IsKey key
 IsCommand (Read lease name from count) =
     (lease ≤ NUMBER_LIMIT) × IsName name × (from ≤ NUMBER_LIMIT) × (count ≤ PIECE_LIMIT)
+IsCommand (Local lease name from count) =
+    (lease ≤ NUMBER_LIMIT) × IsName name × (from ≤ NUMBER_LIMIT) × (count ≤ PIECE_LIMIT)
+IsCommand (Put lease name bytes) =
+    (lease ≤ NUMBER_LIMIT) × IsName name × (length bytes ≤ PIECE_LIMIT)
+IsCommand (Remove lease name) = (lease ≤ NUMBER_LIMIT) × IsName name
 IsCommand (Group lease group) = (lease ≤ NUMBER_LIMIT) × IsGroup group
 IsCommand (Finish lease) = lease ≤ NUMBER_LIMIT
 

@@ -38,6 +38,24 @@ pub enum Command {
         from: u64,
         count: u64,
     },
+    /// `data L NAME FROM COUNT`: bytes of a data file of the leased view, from a place on, at most so many.
+    Local {
+        lease: u64,
+        name: Name,
+        from: u64,
+        count: u64,
+    },
+    /// `put L NAME HEX`: the data file of the leased view has these bytes.
+    Put {
+        lease: u64,
+        name: Name,
+        bytes: Bytes,
+    },
+    /// `remove L NAME`: the data file of the leased view is gone.
+    Remove {
+        lease: u64,
+        name: Name,
+    },
     /// `group L GROUP`: the files of the group stand in the leased view.
     Group {
         lease: u64,

@@ -5,6 +5,7 @@
 mod app;
 mod check_laws;
 mod command;
+mod data_laws;
 mod due;
 mod event;
 mod group_laws;
@@ -14,11 +15,11 @@ mod lease;
 mod lease_laws;
 mod reply;
 mod report;
-mod views;
 
 pub use app::AppState;
 pub use check_laws::{checks_count, skipped_offers_are_not_due};
 pub use command::{Command, LineFault};
+pub use data_laws::{data_files_stay, data_is_of_files, one_data_file_is_changed};
 pub use due::Due;
 pub use event::{Event, Heard};
 pub use group_laws::{group_files_suffice, groups_may_come, one_group_is_given};
@@ -41,4 +42,3 @@ pub use lease_laws::{
 };
 pub use reply::Reply;
 pub use report::{Report, ReportLine};
-pub use views::INSTALLED_LOCALS;

@@ -44,6 +44,10 @@ pub enum Reply {
         length: u64,
         bytes: Bytes,
     },
+    /// The data file has the bytes that were given.
+    Put,
+    /// The data file is gone.
+    Removed,
     /// The number of files of the group, which stands in the leased view.
     Group {
         files: u64,
@@ -60,8 +64,10 @@ pub enum Reply {
     NoGroup,
     /// No version is offered.
     NothingOffered,
-    /// No program file of that name stands in the leased view.
+    /// No program file of that name stands in the leased view, or it has no such data file.
     NoFile,
+    /// No data file can be put under the name: its first part is `.pre`, or it has more than 235 bytes.
+    BadName,
     /// The application is to be checked before each start, and no install or check came since the last one.
     CheckFirst,
     /// The minimum of the application, below which its current version is.

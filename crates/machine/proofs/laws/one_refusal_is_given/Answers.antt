@@ -5,6 +5,8 @@ use Rattle.machine.proofs.CheckFacts.{check_exact}
 use Rattle.machine.proofs.FinishFacts.{finish_exact}
 use Rattle.machine.proofs.GroupFacts.{room_exact}
 use Rattle.machine.proofs.LaunchFacts.{launch_exact}
+use Rattle.machine.proofs.LocalFacts.{local_exact}
+use Rattle.machine.proofs.PutFacts.{put_exact}
 use Rattle.machine.proofs.ReadFacts.{read_exact}
 use Rattle.machine.proofs.RequireFacts.{require_exact}
 use Rattle.machine.proofs.SkipFacts.{skip_exact}
@@ -19,6 +21,9 @@ returns-clause-rows c = record {
   skip = λ now heard shape key. skip_exact key now shape;
   launch = λ now heard shape key. launch_exact key now shape;
   read = λ now heard shape lease name from count. read_exact lease name shape;
+  local = λ now heard shape lease name from count. local_exact lease name shape;
+  put = λ now heard shape lease name bytes. put_exact lease name bytes shape;
+  remove = λ now heard shape lease name. local_exact lease name shape;
   group = λ shape lease group. room_exact lease group shape;
   finish = λ now heard shape lease. finish_exact lease shape;
 }

@@ -1,5 +1,5 @@
 use Rattle.std.proofs.Common.{refl}
-use Rattle.machine.specs.declared.views.TheConstants.{INSTALLED_LOCALS}
+use Rattle.small_types.specs.declared.limits.TheConstants.{LOCAL_COUNT_LIMIT}
 use Rattle.machine.specs.InstallReplies.{install_replies}
 use Rattle.machine.specs.Machine.{refusals}
 use Rattle.machine.proofs.CheckFacts.{check_refused}
@@ -7,6 +7,8 @@ use Rattle.machine.proofs.Choosing.{unchanged_at}
 use Rattle.machine.proofs.GroupFacts.{group_unchanged}
 use Rattle.machine.proofs.InstallFacts.{install_unchanged}
 use Rattle.machine.proofs.LaunchFacts.{launch_unchanged}
+use Rattle.machine.proofs.LocalFacts.{local_unchanged}
+use Rattle.machine.proofs.PutFacts.{put_unchanged}
 use Rattle.machine.proofs.SkipFacts.{skip_unchanged}
 use Rattle.machine.proofs.laws.refusals_change_nothing.Goals as goal
 
@@ -17,10 +19,13 @@ pub returns-clause-rows : goal.returns-clause-rows
 returns-clause-rows c = record {
   at = λ now heard shape next. tt;
   require = λ now heard shape key version. ((λ s. refl), tt);
-  install = λ now heard shape url. install_unchanged install_replies INSTALLED_LOCALS url heard shape;
+  install = λ now heard shape url. install_unchanged install_replies LOCAL_COUNT_LIMIT url heard shape;
   skip = λ now heard shape key. skip_unchanged key now shape;
   launch = λ now heard shape key. launch_unchanged key now shape;
   read = λ now heard shape lease name from count. ((λ s. refl), ((λ s. refl), tt));
+  local = λ now heard shape lease name from count. local_unchanged lease name shape;
+  put = λ now heard shape lease name bytes. put_unchanged lease name bytes shape;
+  remove = λ now heard shape lease name. local_unchanged lease name shape;
   group = λ now heard shape lease group. group_unchanged lease group shape;
   finish = λ now heard shape lease. ((λ s. refl), tt);
 }
