@@ -44,8 +44,8 @@ pub fn finish(state: &mut StoreState, lease: u64)
     };
 }
 
-/// Makes any change that fits the tables. It takes memory only for a new entry, an install and a
-/// group, fails only for want of it, and then changes nothing.
+/// Makes any change that fits the tables. It takes memory only for a new entry, an install, a group
+/// and a data file that is put, fails only for want of it, and then changes nothing.
 pub fn make(alloc: Global, state: &mut StoreState, change: Change) -> Result<(), StateFault>
     requires { Fits state.old change }
     ensures ok { OnOk result (state.new ≡ effect change state.old) }

@@ -13,7 +13,6 @@ use Rattle.std.proofs.lemmas.Slice.Eq.{bytes_eq-Decides}
 use Rattle.manifests.specs.declared.facts.Application.{Application}
 use Rattle.manifests.specs.declared.facts.FileEntry.{FileEntry}
 use Rattle.machine.specs.Blocks.{standing_files}
-use Rattle.machine.specs.Fields.{IsApplication}
 use Rattle.machine.specs.Groups.{group_files, group_stands, is_group, is_in}
 use Rattle.machine.specs.Shape.{BareView}
 use Rattle.machine.specs.Views.{standing_entries, stands_by}
@@ -24,7 +23,7 @@ use Rattle.machine.proofs.Needing.{in_passes, passes_in}
 use Rattle.store_state.specs.declared.change.Change.TheVariants.{Group}
 use Rattle.store_state.specs.declared.view.Content.{Content}
 use Rattle.store_state.specs.declared.view.View.{View}
-use Rattle.store_state.specs.Change.{FitsGroup, MayGrow, effect, grown}
+use Rattle.store_state.specs.Change.{FitsGroup, IsRow, MayGrow, effect, grown}
 use Rattle.store_state.specs.Contents.{AreContentsOf, Brings, content_of, is_content_of}
 use Rattle.store_state.specs.Kept.{AreTables}
 use Rattle.store_state.specs.Named.{AreNameIndexes, IsNameIndex}
@@ -195,7 +194,7 @@ listed_is group application read result same is = (
 some_and : {X : Type 0} (P : X → Type 0) (o : Option X) (x : X) → o ≡ Some x → IsSomeAnd o P → P x
 some_and P o x is holds = subst (λ (p : Option _). IsSomeAnd p P) is holds
 
-some_with : {X : Type 0} (P : X → Type 0) (o : Option X) → IsSomeAnd o P
+pub some_with : {X : Type 0} (P : X → Type 0) (o : Option X) → IsSomeAnd o P
     → (x : X) × (o ≡ Some x) × P x
 some_with P None holds = absurd holds
 some_with P (Some x) holds = (x, refl, holds)
@@ -299,6 +298,17 @@ module _ (number : ℕ) (group : List ℕ) (views : List View) (view : View)
       same_contents (before_files ++ new_files) (standing_files (map bare_row made)) (old ++ new)
       standing_there standing_back (joined before_files new_files old new are brings)
 
+-- a view with one more group is still what an install could bring
+grown_row : (group : List ℕ) (view : View) → IsRow view → IsRow (grown group view)
+grown_row group view is = record {
+  deployment = is.deployment;
+  application = is.application;
+  base = is.base;
+  order = is.order;
+  locals = is.locals;
+  few = is.few;
+}
+
 pub grown_tables : (tables : Tables) (number : ℕ) (group : List ℕ) (contents : List Content)
     (view : View) → AreTables tables → row_at number tables.views ≡ Some view
     → MayGrow tables group contents view
@@ -323,12 +333,10 @@ grown_tables tables number group contents view are kept may =
       );
       lease_numbers = are.lease_numbers;
       few_leases = are.few_leases;
-      applications = each_grown number group tables.views view are.rising kept
-          (λ (v : View). IsApplication v.application)
-          (all_in (λ (v : View). IsApplication v.application) tables.views view are.applications
-          (view_there number group tables.views view are.rising kept))
-          (λ other of unlike. all_in (λ (v : View). IsApplication v.application) tables.views other
-          are.applications of);
+      rows = each_grown number group tables.views view are.rising kept IsRow
+          (grown_row group view (all_in IsRow tables.views view are.rows
+          (view_there number group tables.views view are.rising kept)))
+          (λ other of unlike. all_in IsRow tables.views other are.rows of);
       contents = contents_grown number group tables.views view are.rising kept tables.contents
           contents are.contents may.brings;
     }

@@ -28,7 +28,7 @@ use Rattle.machine.proofs.Members.{pairs_push}
 use Rattle.store_state.specs.declared.change.Change.TheVariants.{Install}
 use Rattle.store_state.specs.declared.view.Content.{Content}
 use Rattle.store_state.specs.declared.view.View.{View}
-use Rattle.store_state.specs.Change.{FitsInstall, effect}
+use Rattle.store_state.specs.Change.{FitsInstall, IsRow, effect}
 use Rattle.store_state.specs.Contents.{AreContentsOf}
 use Rattle.store_state.specs.Kept.{AreTables}
 use Rattle.store_state.specs.Tables.{Tables, bare_row}
@@ -45,7 +45,7 @@ with_apps tables apps are order few = record {
   few_files = are.few_files;
   lease_numbers = are.lease_numbers;
   few_leases = are.few_leases;
-  applications = are.applications;
+  rows = are.rows;
   contents = are.contents;
 }
 
@@ -61,7 +61,7 @@ with_leases tables boot next leases are numbers few = record {
   few_files = are.few_files;
   lease_numbers = numbers;
   few_leases = few;
-  applications = are.applications;
+  rows = are.rows;
   contents = are.contents;
 }
 
@@ -140,9 +140,7 @@ installed_tables tables view contents provider now are fits =
           ));
       lease_numbers = are.lease_numbers;
       few_leases = are.few_leases;
-      applications =
-          All-push (λ (v : View). IsApplication v.application) tables.views view are.applications
-          fits.row.application;
+      rows = All-push IsRow tables.views view are.rows fits.row;
       contents =
           subst (λ (entries : List FileEntry). AreContentsOf entries (tables.contents ++ contents))
           (sym (standing_push tables.views view))

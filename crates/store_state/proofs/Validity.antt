@@ -6,7 +6,7 @@ use Rattle.std.proofs.lemmas.List.{length-map}
 use Rattle.std.proofs.lemmas.List.Elements.{All-map, All-weaker}
 use Rattle.std.proofs.lemmas.Option.{MatchOption-at_some}
 use Rattle.std.proofs.lemmas.Slice.Eq.{bytes_eq-Decides}
-use Rattle.small_types.specs.declared.limits.TheConstants.{APPLICATION_LIMIT, BLOCK_LIMIT, LEASE_LIMIT, NAME_LIMIT, NUMBER_LIMIT}
+use Rattle.small_types.specs.declared.limits.TheConstants.{APPLICATION_LIMIT, BLOCK_LIMIT, LEASE_LIMIT, LOCAL_COUNT_LIMIT, NAME_LIMIT, NUMBER_LIMIT}
 use Rattle.small_types.specs.declared.target.Target.{Target}
 use Rattle.identity.specs.Printed.{text_cmp}
 use Rattle.identity.specs.declared.key.Key.{Key}
@@ -18,7 +18,8 @@ use Rattle.machine.specs.declared.app.AppState.{AppState}
 use Rattle.machine.specs.declared.lease.Lease.{Lease}
 use Rattle.machine.specs.Blocks.{used_blocks}
 use Rattle.machine.specs.CheckRow.{heard_app, unheard, unheard_app}
-use Rattle.machine.specs.Current.{current_of}
+use Rattle.machine.specs.Current.{current_of, view_at}
+use Rattle.machine.specs.DataFiles.{data_name, put_in, removed_in, with_named}
 use Rattle.machine.specs.Entries.{AreInOrder, entry_of, with_entry}
 use Rattle.machine.specs.Fields.{HasEntry, IsApplication, IsShort}
 use Rattle.machine.specs.FinishRow.{finished}
@@ -42,21 +43,25 @@ use Rattle.machine.proofs.Leasing.{finished_ordered, launched_ordered}
 use Rattle.machine.proofs.Members.{In, all_in, contains_in, filter_in, in_contains, in_map, pairs_map, sum_map}
 use Rattle.machine.proofs.SkipFacts.{skipped_is_app}
 use Rattle.store_state.specs.declared.change.Change.{Change}
-use Rattle.store_state.specs.declared.change.Change.TheVariants.{Boot, Finish, Group, Heard, Install, Launch, Require, Skip, Unheard}
+use Rattle.store_state.specs.declared.change.Change.TheVariants.{Boot, Finish, Group, Heard, Install, Launch, Put, Remove, Require, Skip, Unheard}
 use Rattle.store_state.specs.declared.view.Content.{Content}
 use Rattle.store_state.specs.declared.view.LocalFile.{LocalFile}
 use Rattle.store_state.specs.declared.view.View.{View}
-use Rattle.store_state.specs.Change.{Fits, FitsInstall, IsLocal, Replays, effect}
+use Rattle.store_state.specs.Change.{Fits, FitsInstall, FitsPut, IsLocal, MayPut, Replays, effect}
 use Rattle.store_state.specs.Laws.{ShowsOrdered, stand_files}
-use Rattle.store_state.specs.Rows.{current_at, current_row, listed_files, offer_at}
+use Rattle.store_state.specs.Locals.{outside_locals, with_local}
+use Rattle.store_state.specs.Rows.{current_at, current_row, listed_files, offer_at, row_at}
 use Rattle.store_state.specs.Shows.{Shows, shown_data, shown_file, shown_view}
 use Rattle.store_state.specs.Tables.{Tables, bare_row, empty}
 use Rattle.store_state.proofs.Checking.{current_entry, entry_ordered, own_entry, shows_heard, shows_skipped, shows_unheard, version_shown}
 use Rattle.store_state.proofs.Firsts.{in_place}
 use Rattle.store_state.proofs.GroupShown.{group_shown}
-use Rattle.store_state.proofs.Growing.{of_view, row_grows, some_in}
+use Rattle.store_state.proofs.Growing.{of_view, row_grows, some_in, some_with}
 use Rattle.store_state.proofs.Holding.{room_is}
+use Rattle.store_state.proofs.LocalsOrdered.{outside_data, put_ordered, removed_ordered}
+use Rattle.store_state.proofs.LocalsShown.{put_agrees, puts_shown, removals_shown}
 use Rattle.store_state.proofs.Showing.{data_files, files, installed, shape_shown, shows_booted, shows_empty, shows_finished, shows_installed, shows_launched, shows_required}
+use Rattle.store_state.proofs.ShownFiles.{row_shown}
 
 -- the store that tables show has their applications
 apps_shown : {blocks : ℕ} {tables : Tables} {image : List ℕ} {store : Store}
@@ -197,6 +202,20 @@ group_short group application is listed =
     (all_in IsFile application.files one.0 is.facts.each of.1).group
     (all_in HasEntry application.files one.0 is.files of.1).group
 
+-- the view of a data file that is put
+put_row : (number : ℕ) (file : LocalFile) (tables : Tables) → FitsPut tables number file
+    → (view : View) × (row_at number tables.views ≡ Some view) × MayPut file view
+put_row number file tables fits = some_with (MayPut file) (row_at number tables.views) fits
+
+few_with : (file : LocalFile) (view : View)
+    → outside_locals (with_local file view).locals ≤ LOCAL_COUNT_LIMIT
+    → outside_data (with_named data_name (shown_data file) (map shown_data view.locals))
+    ≤ LOCAL_COUNT_LIMIT
+few_with file view few =
+    let same = ap (λ (files : List DataFile). outside_data files) (put_agrees file view.locals)
+    ∙ count_data (with_local file view).locals in
+    omega (arith, few, same)
+
 pub changed_shown : (blocks : ℕ) (image : List ℕ) (old : Tables) (change : Change) → Fits old change
     → Shown blocks old image → Shown blocks (effect change old) image
 changed_shown blocks image old (Boot boot) fits shown = record {
@@ -325,6 +344,26 @@ changed_shown blocks image old (Group number group contents) fits shown =
           row.2.listed)
           shown.ordered;
     }
+changed_shown blocks image old (Put number file) fits shown =
+    let row = put_row number file old fits in
+    let c = old.contents in
+    let there = ap (λ (s : Store). view_at number s.views) shown.shows.is
+    ∙ row_shown number c old.views ∙ ap (option_map (shown_view c)) row.1 in
+    record {
+      store = put_in number (shown_data file) shown.store;
+      shows =
+          puts_shown blocks old number file image image shown.store shown.shows
+          row.2.local.measured;
+      ordered =
+          put_ordered number (shown_data file) (shown_view c row.0) shown.store there
+          (record { name = row.2.local.name; short = row.2.local.short })
+          (few_with file row.0 row.2.few) shown.ordered;
+    }
+changed_shown blocks image old (Remove number name) fits shown = record {
+  store = removed_in number name shown.store;
+  shows = removals_shown blocks old number name image image shown.store shown.shows;
+  ordered = removed_ordered number name shown.store shown.ordered;
+}
 
 replays_shown : (blocks : ℕ) (image : List ℕ) (old last : Tables) (changes : List Change)
     → Shown blocks old image → Replays old changes last → Shown blocks last image

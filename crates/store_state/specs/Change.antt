@@ -1,5 +1,5 @@
 -- Changes of tables: which fit, and what they do.
-use Rattle.std.specs.Prelude.{◌≡◌, ◌≢◌, ◌+◌, ◌<◌, ◌≤◌, ◌==◌, if◌then◌else◌, ℕ, false, not, List, [], ◌∷◌, ◌++◌, All, AllPairs, IfSome, IsSome, IsSomeAnd, Option, count_by, length, None, unwrap_or}
+use Rattle.std.specs.Prelude.{◌≡◌, ◌≢◌, ◌+◌, ◌<◌, ◌≤◌, ◌==◌, if◌then◌else◌, ℕ, false, List, [], ◌∷◌, ◌++◌, All, AllPairs, IfSome, IsSome, IsSomeAnd, Option, length, None, unwrap_or}
 use Rattle.std.specs.declared.cmp.Ordering.TheVariants.{Less}
 use Rattle.small_types.specs.declared.limits.TheConstants.{APPLICATION_LIMIT, FILE_COUNT_LIMIT, LEASE_LIMIT, LOCAL_COUNT_LIMIT, LOCAL_NAME_LIMIT, NUMBER_LIMIT, VIEW_LIMIT}
 use Rattle.small_types.specs.declared.target.Target.{Target}
@@ -9,7 +9,6 @@ use Rattle.identity.specs.declared.version.Version.{Version}
 use Rattle.identity.specs.Printed.{text_cmp}
 use Rattle.identity.specs.Version.{IsVersion}
 use Rattle.manifests.specs.declared.facts.FileEntry.{FileEntry}
-use Rattle.manifests.specs.Applications.{is_below_pre}
 use Rattle.machine.specs.CheckRow.{heard_app, unheard_app}
 use Rattle.machine.specs.Entries.{entry_of, with_entry}
 use Rattle.machine.specs.Fields.{IsApplication, IsDeployment, IsShortKey, IsTarget}
@@ -21,11 +20,12 @@ use Rattle.machine.specs.RequireRow.{required}
 use Rattle.machine.specs.SkipRow.{skipped_app}
 use Rattle.machine.specs.Views.{standing_entries}
 use Rattle.store_state.specs.declared.change.Change.{Change}
-use Rattle.store_state.specs.declared.change.Change.TheVariants.{Boot, Require, Install, Heard, Unheard, Skip, Launch, Finish, Group}
+use Rattle.store_state.specs.declared.change.Change.TheVariants.{Boot, Require, Install, Heard, Unheard, Skip, Launch, Finish, Group, Put, Remove}
 use Rattle.store_state.specs.declared.view.Content.{Content}
 use Rattle.store_state.specs.declared.view.LocalFile.{LocalFile}
 use Rattle.store_state.specs.declared.view.View.{View}
 use Rattle.store_state.specs.Contents.{Brings}
+use Rattle.store_state.specs.Locals.{local_at, outside_locals, with_local, without_local}
 use Rattle.store_state.specs.Rows.{current_at, current_row, current_version, listed_files, offer_at, row_at, with_app, with_row}
 use Rattle.store_state.specs.Tables.{Tables}
 
@@ -45,7 +45,7 @@ pub record IsRow (view : View) : Type 0 where
   pub base : IsTarget view.base
   pub order : AllPairs (λ (f g : LocalFile). text_cmp f.name g.name ≡ Less) view.locals
   pub locals : All IsLocal view.locals
-  pub few : count_by (λ file. not (is_below_pre file.name)) view.locals ≤ LOCAL_COUNT_LIMIT
+  pub few : outside_locals view.locals ≤ LOCAL_COUNT_LIMIT
 
 -- ---- changes
 
@@ -92,6 +92,16 @@ abbrev pub FitsGroup : Tables → ℕ → List ℕ → List Content → Type 0
 FitsGroup old number group contents =
     IsSomeAnd (row_at number old.views) (MayGrow old group contents)
 
+-- A data file has a name within its limit, and the view has few enough of them then. It may be one
+-- that the view has, and it may be below `.pre`.
+pub record MayPut (file : LocalFile) (view : View) : Type 0 where
+  pub local : IsLocal file
+  pub few : outside_locals (with_local file view).locals ≤ LOCAL_COUNT_LIMIT
+
+-- A data file is put into a view that is kept.
+abbrev pub FitsPut : Tables → ℕ → LocalFile → Type 0
+FitsPut old number file = IsSomeAnd (row_at number old.views) (MayPut file)
+
 -- A launch names the place of an application with a current view. There is room for one more lease,
 -- and a number is left.
 pub record FitsLaunch (old : Tables) (app : ℕ) : Type 0 where
@@ -100,7 +110,8 @@ pub record FitsLaunch (old : Tables) (app : ℕ) : Type 0 where
   pub next : old.next_lease < NUMBER_LIMIT
 
 -- A change may be made: no limit is exceeded, and a new application finds fewer than may be. That a
--- part of a key is empty is no hindrance. The lease that a finish names is there.
+-- part of a key is empty is no hindrance. The lease that a finish names is there, and the data file
+-- that is removed.
 abbrev pub Fits : Tables → Change → Type 0
 Fits old (Boot boot) = boot ≤ NUMBER_LIMIT
 Fits old (Require key version) =
@@ -113,6 +124,8 @@ Fits old (Skip app) = FitsSkip old app
 Fits old (Launch app) = FitsLaunch old app
 Fits old (Finish lease) = IsSome (lease_of lease old.leases)
 Fits old (Group view group contents) = FitsGroup old view group contents
+Fits old (Put view file) = FitsPut old view file
+Fits old (Remove view name) = IsSome (local_at view name old)
 
 -- The tables make it by their own call. A launch and a finish are made by calls of their own.
 abbrev pub IsPlain : Change → Type 0
@@ -125,8 +138,10 @@ IsPlain (Skip app) = Unit {0}
 IsPlain (Launch app) = ⊥
 IsPlain (Finish lease) = ⊥
 IsPlain (Group view group contents) = Unit {0}
+IsPlain (Put view file) = Unit {0}
+IsPlain (Remove view name) = Unit {0}
 
--- what takes memory: an entry that is made, an install, and a group
+-- what takes memory: an entry that is made, an install, a group, and a data file
 abbrev pub TakesMemory : Tables → Change → Type 0
 TakesMemory old (Boot boot) = ⊥
 TakesMemory old (Require key version) = entry_of key old.apps ≡ None
@@ -137,6 +152,8 @@ TakesMemory old (Skip app) = ⊥
 TakesMemory old (Launch app) = ⊥
 TakesMemory old (Finish lease) = ⊥
 TakesMemory old (Group view group contents) = Unit {0}
+TakesMemory old (Put view file) = Unit {0}
+TakesMemory old (Remove view name) = ⊥
 
 -- what takes memory before it is made, where it is tested whether it fits: an install, and a group
 abbrev pub TestsWithMemory : Change → Type 0
@@ -149,6 +166,8 @@ TestsWithMemory (Skip app) = ⊥
 TestsWithMemory (Launch app) = ⊥
 TestsWithMemory (Finish lease) = ⊥
 TestsWithMemory (Group view group contents) = Unit {0}
+TestsWithMemory (Put view file) = ⊥
+TestsWithMemory (Remove view name) = ⊥
 
 -- the tables with one more lease, on that view
 abbrev pub leased : ℕ → Tables → Tables
@@ -190,6 +209,8 @@ effect (Group view group contents) old = record old {
   views = with_row view (grown group) old.views;
   contents = old.contents ++ contents;
 }
+effect (Put view file) old = record old { views = with_row view (with_local file) old.views }
+effect (Remove view name) old = record old { views = with_row view (without_local name) old.views }
 
 -- one change after another leads from old to new, and each fits
 abbrev pub Replays : Tables → List Change → Tables → Type 0

@@ -1,5 +1,5 @@
 -- What is true of tables and the stores that they show.
-use Rattle.std.specs.Prelude.{◌≡◌, ◌≤◌, ◌++◌, ℕ, List, [], ◌∷◌, Some, is_some, map, option_and_then, option_map, slice_get}
+use Rattle.std.specs.Prelude.{◌≡◌, ◌≤◌, ◌++◌, ℕ, List, [], ◌∷◌, Some, is_some, length, map, option_and_then, option_map, slice_get}
 use Rattle.small_types.specs.declared.limits.TheConstants.{BLOCK_LIMIT}
 use Rattle.small_types.specs.declared.target.Target.{Target}
 use Rattle.identity.specs.declared.key.Key.{Key}
@@ -8,6 +8,7 @@ use Rattle.manifests.specs.declared.facts.Deployment.{Deployment}
 use Rattle.machine.specs.Blocks.{used_blocks}
 use Rattle.machine.specs.CheckRow.{checked, unheard}
 use Rattle.machine.specs.Current.{bare_view_at, current_of, current_version, view_at}
+use Rattle.machine.specs.DataFiles.{bare_data_named, data_named, put_in, removed_in}
 use Rattle.machine.specs.Entries.{AreInOrder, entry_of}
 use Rattle.machine.specs.FinishRow.{finished}
 use Rattle.machine.specs.Grouped.{StandAmong, grouped}
@@ -21,11 +22,13 @@ use Rattle.machine.specs.Store.{Store}
 use Rattle.machine.specs.Valid.{Ordered, Valid}
 use Rattle.machine.specs.Views.{ListedFile, standing_entries}
 use Rattle.store_state.specs.declared.change.Change.{Change}
-use Rattle.store_state.specs.declared.change.Change.TheVariants.{Install, Heard, Unheard, Skip, Launch, Finish, Group}
+use Rattle.store_state.specs.declared.change.Change.TheVariants.{Install, Heard, Unheard, Skip, Launch, Finish, Group, Put, Remove}
 use Rattle.store_state.specs.declared.view.Content.{Content}
+use Rattle.store_state.specs.declared.view.LocalFile.{LocalFile}
 use Rattle.store_state.specs.declared.view.View.{View}
 use Rattle.store_state.specs.Change.{Fits, Replays, effect}
 use Rattle.store_state.specs.Kept.{AreTables}
+use Rattle.store_state.specs.Locals.{local_at}
 use Rattle.store_state.specs.Named.{file_at}
 use Rattle.store_state.specs.Rows.{row_at}
 use Rattle.store_state.specs.Shows.{Shows, shown_data, shown_file, shown_view}
@@ -133,6 +136,33 @@ GroupsShowTheFiles = (blocks : ℕ) (tables : Tables) (number : ℕ) (group : Li
     → Shows blocks tables image store → AreTables tables → row_at number tables.views ≡ Some row
     → Fits tables (Group number group contents)
     → ShowsGroup blocks tables number group contents row later store
+
+-- A data file that is put, and one that is removed, lead to tables that show the store with it and
+-- without it. The bytes that are put are as many as the length says.
+abbrev pub PutsShowTheFile : Type 0
+PutsShowTheFile = (blocks : ℕ) (tables : Tables) (number : ℕ) (file : LocalFile)
+    (image later : List ℕ) (store : Store) → Shows blocks tables image store
+    → length file.bytes ≡ file.length
+    → Shows blocks (effect (Put number file) tables) later (put_in number (shown_data file) store)
+
+abbrev pub RemovalsShowTheRest : Type 0
+RemovalsShowTheRest = (blocks : ℕ) (tables : Tables) (number : ℕ) (name : List ℕ)
+    (image later : List ℕ) (store : Store) → Shows blocks tables image store
+    → Shows blocks (effect (Remove number name) tables) later (removed_in number name store)
+
+-- a data file that is found in the tables is that of the view that is shown
+abbrev pub LocalsShowFiles : Type 0
+LocalsShowFiles = (blocks : ℕ) (tables : Tables) (number : ℕ) (name image : List ℕ) (store : Store)
+    → Shows blocks tables image store
+    → option_map shown_data (local_at number name tables)
+    ≡ option_and_then (λ view. data_named name view.data_files) (view_at number store.views)
+
+-- where none is found, no data file of that name stands in the view
+abbrev pub LocalsShowNames : Type 0
+LocalsShowNames = (blocks : ℕ) (tables : Tables) (number : ℕ) (name : List ℕ)
+    → is_some (local_at number name tables) ≡ is_some (option_and_then
+    (λ view. bare_data_named name view.data_files)
+    (bare_view_at number (table_shape blocks tables).views))
 
 -- the bytes that are found in the tables are those of the file in the view that is shown
 abbrev pub ReadsShowFiles : Type 0

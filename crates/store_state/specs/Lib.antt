@@ -2,6 +2,7 @@ pub mod Change
 pub mod Contents
 pub mod Kept
 pub mod Laws
+pub mod Locals
 pub mod Named
 pub mod Notes
 pub mod Places

@@ -1,7 +1,7 @@
 // What a line changes in a store.
-use crate::{Content, View};
+use crate::{Content, LocalFile, View};
 use identity::{Key, Version};
-use small_types::{List, Target, Text};
+use small_types::{List, Name, Target, Text};
 
 /// A change of the store, as the journal keeps it.
 #[derive(Drop, Debug, PartialEq, Eq)]
@@ -53,5 +53,15 @@ pub enum Change {
         view: u64,
         group: Text,
         contents: List<Content>,
+    },
+    /// A data file of the view of that number. It takes the place of one of its name.
+    Put {
+        view: u64,
+        file: LocalFile,
+    },
+    /// The data file of that name of the view of that number is gone.
+    Remove {
+        view: u64,
+        name: Name,
     },
 }

@@ -1,6 +1,5 @@
 // Whether the fields of a view are ones that the tables may have.
 ghost use Rattle.std.specs.Prelude.{◌≡◌, ◌↔◌, ◌≤◌, ◌<◌, ◌^◌, true, All, AllPairs, length, not, IsTrue, IfOk, IfSome, IsUtf8};
-ghost use Rattle.std.specs.List.{count_by};
 ghost use Rattle.std.specs.declared.cmp.Ordering.TheVariants.{Less};
 ghost use Rattle.small_types.specs.declared.limits.TheConstants as limits;
 ghost use Rattle.small_types.specs.Name.{IsName, IsBelowPre};
@@ -10,6 +9,7 @@ ghost use Rattle.digest_list.specs.Count.{IsCount};
 ghost use Rattle.manifests.specs.Applications.{is_below_pre};
 ghost use Rattle.machine.specs.Fields.{HasEntry, HasIdentity, IsApplication, IsDeployment, IsShort, IsShortKey, IsTarget};
 ghost use Rattle.store_state.specs.Change.{IsLocal, IsRow};
+ghost use Rattle.store_state.specs.Locals.{outside_locals};
 
 use crate::{LocalFile, View};
 use digest_list::DigestList;
@@ -158,7 +158,7 @@ fn is_short_name(name: &Name) -> bool
     name.is_below_pre() || name.as_bytes().len() <= LOCAL_NAME_LIMIT
 }
 
-fn is_local(file: &LocalFile) -> bool
+pub(crate) fn is_local(file: &LocalFile) -> bool
     ensures { IsTrue result ↔ IsLocal file.now }
 {
     is_file_name(&file.name)
@@ -193,15 +193,15 @@ fn are_in_order(files: &[LocalFile]) -> bool
 }
 
 // Whether the first part of the name is not `.pre`.
-fn is_outside(name: &Name) -> bool
+pub(crate) fn is_outside(name: &Name) -> bool
     ensures { result ≡ not (is_below_pre name.now) }
 {
     !name.is_below_pre()
 }
 
 // How many are not below `.pre`.
-fn count_outside(files: &[LocalFile]) -> usize
-    ensures { result ≡ count_by (λ file. not (is_below_pre file.name)) files.now }
+pub(crate) fn count_outside(files: &[LocalFile]) -> usize
+    ensures { result ≡ outside_locals files.now }
 {
     files.iter().filter(|file| is_outside(&file.name)).count()
 }

@@ -5,20 +5,22 @@ ghost use Rattle.identity.specs.Version.{IsVersion};
 ghost use Rattle.machine.specs.Entries.{entry_of};
 ghost use Rattle.machine.specs.Fields.{IsShortKey, IsTarget};
 ghost use Rattle.manifests.specs.declared.facts.FileEntry.{FileEntry};
-ghost use Rattle.store_state.specs.Change.{Fits, FitsGroup, FitsHeard, FitsInstall, FitsLaunch, FitsSkip, MayGrow, TestsWithMemory};
+ghost use Rattle.store_state.specs.Change.{Fits, FitsGroup, FitsHeard, FitsInstall, FitsLaunch, FitsPut, FitsSkip, MayGrow, MayPut, TestsWithMemory};
 ghost use Rattle.store_state.specs.Contents.{Brings};
+ghost use Rattle.store_state.specs.Locals.{local_at};
 ghost use Rattle.store_state.specs.Rows.{current_at, listed_files, offer_at};
 ghost use Rattle.store_state.specs.Signs.{entry_sign};
 
 use crate::bringing::{agree, are_measured, group_signs, standing_signs};
-use crate::fields::{is_row, is_short_key, is_some_version, is_target, is_version};
+use crate::fields::{is_local, is_row, is_short_key, is_some_version, is_target, is_version};
+use crate::local_files::has_room_for;
 use crate::sign::{Sign, signs_of, sort_signs};
-use crate::{Change, Content, StateFault, StoreState, View};
+use crate::{Change, Content, LocalFile, StateFault, StoreState, View};
 use identity::{Key, Version};
 use small_types::limits::{
     APPLICATION_LIMIT, FILE_COUNT_LIMIT, LEASE_LIMIT, NUMBER_LIMIT, VIEW_LIMIT,
 };
-use small_types::{List, Target, Text};
+use small_types::{List, Name, Target, Text};
 use std::alloc::Global;
 
 impl StoreState {
@@ -31,7 +33,9 @@ impl StoreState {
     /// or did not hear is of a key with a current view, at a moment of at most 2 ^ 62, and a skip
     /// names the place of an application with a current view and an offer. A group comes to a view
     /// that lists it and in which it does not stand, and its contents are exactly those that the
-    /// tables lack. It takes memory for an install and a group alone.
+    /// tables lack. A data file has a name within its limit and comes to a view that has few enough
+    /// of them then, and a view has the one that is removed. It takes memory for an install and a
+    /// group alone.
     pub fn fits(&self, alloc: Global, change: &Change) -> Result<bool, StateFault>
         ensures answer { IfOk result (λ answer. IsTrue answer ↔ Fits self.now change.now) }
         ensures memory { OnErr result (TestsWithMemory change.now) }
@@ -60,6 +64,8 @@ impl StoreState {
                 group,
                 contents,
             } => self.fits_group(alloc, *view, group, contents),
+            Change::Put { view, file } => Ok(self.fits_put(*view, file)),
+            Change::Remove { view, name } => Ok(self.has_local(*view, name)),
         }
     }
 
@@ -204,6 +210,26 @@ impl StoreState {
         self.is_brought(alloc, standing, contents.as_slice())
     }
 
+    // Whether the data file may be put into the view of that number.
+    fn fits_put(&self, number: u64, file: &LocalFile) -> bool
+        ensures { IsTrue result ↔ FitsPut self.now number file.now }
+    {
+        match self.view(number) {
+            Some(view) => may_put(view, file),
+            None => false,
+        }
+    }
+
+    // Whether the view of that number has a data file of the name.
+    fn has_local(&self, number: u64, name: &Name) -> bool
+        ensures { IsTrue result ↔ IsSome (local_at number name.now self.now) }
+    {
+        match self.view(number) {
+            Some(view) => view.local(name).is_some(),
+            None => false,
+        }
+    }
+
     // Whether the contents are exactly those that the tables lack of files with these signs.
     fn is_brought(
         &self,
@@ -231,4 +257,11 @@ fn has_place(others: usize, files: usize) -> bool
     ensures { IsTrue result ↔ others + files ≤ limits.FILE_COUNT_LIMIT }
 {
     files <= FILE_COUNT_LIMIT - others
+}
+
+// Whether the view may have the data file.
+fn may_put(view: &View, file: &LocalFile) -> bool
+    ensures { IsTrue result ↔ MayPut file.now view.now }
+{
+    is_local(file) && has_room_for(view.locals.as_slice(), file)
 }

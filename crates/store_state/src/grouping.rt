@@ -15,7 +15,7 @@ use std::mem::replace;
 
 impl StoreState {
     // The place of the view of that number.
-    fn view_place(&self, number: u64) -> Option<usize>
+    pub(crate) fn view_place(&self, number: u64) -> Option<usize>
         ensures found { IfSome result (λ place. (place < length self.now.views)
             × (slice_get self.now.views place ≡ row_at number self.now.views)) }
         ensures none { IfNone result (row_at number self.now.views ≡ None) }

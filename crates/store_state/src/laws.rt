@@ -50,6 +50,22 @@ pub fn groups_show_the_files()
     ensures { laws.GroupsShowTheFiles }
 {}
 
+/// A data file that is put leads to tables that show the store with it.
+pub fn puts_show_the_file()
+    ensures { laws.PutsShowTheFile }
+{}
+
+/// A data file that is removed leads to tables that show the store without it.
+pub fn removals_show_the_rest()
+    ensures { laws.RemovalsShowTheRest }
+{}
+
+/// A data file that is found in the tables by its name is that of the view that they show.
+pub fn locals_show_files()
+    ensures bytes { laws.LocalsShowFiles }
+    ensures names { laws.LocalsShowNames }
+{}
+
 /// What is found in the tables by a name is the file of that name in the view that they show.
 pub fn reads_show_files()
     ensures bytes { laws.ReadsShowFiles }

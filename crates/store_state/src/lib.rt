@@ -14,6 +14,7 @@ mod installing;
 mod laws;
 mod lease_list;
 mod leasing;
+mod local_files;
 mod names;
 mod noting;
 mod numbers;
@@ -26,8 +27,9 @@ mod views;
 pub use change::Change;
 pub use laws::{
     changes_show_ordered_stores, checks_show_the_entry, finishes_show_the_rest,
-    groups_show_the_files, installs_show_the_view, launches_show_the_lease, one_store_is_shown,
-    reads_show_files, shapes_are_shown, skips_show_the_entry,
+    groups_show_the_files, installs_show_the_view, launches_show_the_lease, locals_show_files,
+    one_store_is_shown, puts_show_the_file, reads_show_files, removals_show_the_rest,
+    shapes_are_shown, skips_show_the_entry,
 };
 pub use lease_list::LeaseList;
 pub use state::{StateFault, StoreState};

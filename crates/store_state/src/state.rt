@@ -129,8 +129,8 @@ impl StoreState {
     }
 
     /// Makes a change that fits the tables and is neither a launch nor a finish. It takes memory
-    /// only for a new entry, an install and a group, fails only for want of it, and then changes
-    /// nothing.
+    /// only for a new entry, an install, a group and a data file, fails only for want of it, and
+    /// then changes nothing.
     pub fn apply(&mut self, alloc: Global, change: Change) -> Result<(), StateFault>
         requires fits { Fits self.old change }
         requires plain { IsPlain change }
@@ -172,6 +172,11 @@ impl StoreState {
                 group,
                 contents,
             } => self.add_group(alloc, view, group, contents),
+            Change::Put { view, file } => self.put(alloc, view, file),
+            Change::Remove { view, name } => {
+                self.cut_local(alloc, view, &name);
+                Ok(())
+            }
             Change::Launch { .. } | Change::Finish { .. } => unreachable!(),
         }
     }

@@ -1,9 +1,13 @@
 // What the tables have of views and of their files.
 ghost use Rattle.std.specs.Prelude.{◌≡◌, ◌≢◌, ◌↔◌, [], List, IsTrue, bytes_eq};
 ghost use Rattle.std.specs.List.{list_any};
+ghost use Rattle.std.specs.Option.{option_copied};
 ghost use Rattle.manifests.specs.declared.facts.FileEntry.{FileEntry};
 ghost use Rattle.machine.specs.Groups.{group_files, group_stands, is_in};
+ghost use Rattle.store_state.specs.Locals.{local_named, outside_locals};
 
+use crate::fields::count_outside;
+use crate::local_files::find_local;
 use digest_list::DigestList;
 use manifests::{Application, Deployment, FileEntry};
 use small_types::{Bytes, List, Name, Target, Text};
@@ -46,6 +50,20 @@ impl View {
         ensures { result ≡ group_stands group.now self.now.groups }
     {
         is_one_of(self.groups.as_slice(), group)
+    }
+
+    /// The data file of that name.
+    pub fn local(&self, name: &Name) -> Option<&LocalFile>
+        ensures { option_copied result ≡ local_named name.now self.now.locals }
+    {
+        find_local(self.locals.as_slice(), name)
+    }
+
+    /// How many of its data files are outside `.pre`.
+    pub fn outside_count(&self) -> usize
+        ensures { result ≡ outside_locals self.now.locals }
+    {
+        count_outside(self.locals.as_slice())
     }
 
     /// Whether the application lists a program file of the group.
