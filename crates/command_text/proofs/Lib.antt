@@ -1,6 +1,7 @@
 pub mod Asking
 mod FileWords
 mod GroupWords
+mod HexWords
 pub mod InputLemmas
 pub mod Joining
 mod UrlWords

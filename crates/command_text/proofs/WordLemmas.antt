@@ -22,6 +22,15 @@ three_words line rest more first second two =
     let some = some_part 32 more in
     omega (arith, ap (length {A = List ℕ}) first, ap (length {A = List ℕ}) second)
 
+-- a line that is cut three times has not three words
+pub four_words : {a b c : List ℕ} (line second third more : List ℕ)
+    → words_of line ≡ a ∷ words_of second → words_of second ≡ b ∷ words_of third
+    → words_of third ≡ c ∷ words_of more → length (words_of line) ≢ 3
+four_words line second third more cut cut_second cut_third three =
+    let some = some_part 32 more in
+    let count : List (List ℕ) → ℕ = length {A = List ℕ} in
+    omega (arith, ap count cut, ap count cut_second, ap count cut_third)
+
 -- a line that is cut four times has not four words
 pub five_words : {a b c d : List ℕ} (line second third fourth more : List ℕ)
     → words_of line ≡ a ∷ words_of second → words_of second ≡ b ∷ words_of third

@@ -2,3 +2,4 @@ pub mod Input
 pub mod Lines
 pub mod Numbers
 pub mod Pieces
+pub mod Spans

@@ -1,5 +1,5 @@
 -- How lines are read, and how replies are written.
-use Rattle.std.specs.Prelude.{◌≡◌, ℕ, Bool, true, false, ◌&&◌, List, [], ◌∷◌, ◌++◌, length, map, nat_le, nat_lt, if◌then◌else◌, codes, Option, Some, None, Result, Ok, Err}
+use Rattle.std.specs.Prelude.{◌≡◌, ◌≤◌, ◌*◌, ◌%◌, ℕ, Bool, true, false, ◌&&◌, List, [], ◌∷◌, ◌++◌, length, map, nat_le, nat_lt, if◌then◌else◌, codes, Option, Some, None, Result, Ok, Err}
 use Rattle.std.specs.Fmt.{decimal}
 use Rattle.std.specs.List.{join_with_byte, list_all}
 use Rattle.std.specs.Str.{bytes_eq, is_utf8}
@@ -12,7 +12,8 @@ use Rattle.identity.specs.Version.{version_of, version_text}
 use Rattle.identity.specs.Key.{comma, key_of, key_text}
 use Rattle.digest_list.specs.declared.difference.Difference.TheVariants.{Digest, Size}
 use Rattle.digest_list.specs.Algorithm.{name_of}
-use Rattle.hex.specs.Hex.{encode_lower}
+use Rattle.hex.specs.declared.error.FromHexError.{FromHexError}
+use Rattle.hex.specs.Hex.{decode_of, encode_lower}
 use Rattle.percent_encoding.specs.Percent.{percent_decode}
 use Rattle.causes.specs.declared.cause.Cause.{Cause}
 use Rattle.causes.specs.declared.cause.Cause.TheVariants.{Differs, Down, Missing, TooLong}
@@ -21,7 +22,7 @@ use Rattle.manifests.specs.declared.releases.ReleaseFault.{ReleaseFault}
 use Rattle.manifests.specs.declared.releases.ReleaseFault.TheVariants as unlike
 use Rattle.manifest_text.specs.Lines.{refusal_text, two}
 use Rattle.machine.specs.declared.command.Command.{Command}
-use Rattle.machine.specs.declared.command.Command.TheVariants.{At, Require, Install, Check, Skip, Launch, Read, Group, Finish}
+use Rattle.machine.specs.declared.command.Command.TheVariants.{At, Require, Install, Check, Skip, Launch, Read, Local, Put, Remove, Group, Finish}
 use Rattle.machine.specs.declared.command.LineFault.{LineFault}
 use Rattle.machine.specs.declared.command.LineFault.TheVariants.{LineTooLong, NoSuchCommand, WordCount, BadWord}
 use Rattle.machine.specs.declared.command.LineFault.TheVariants as fault
@@ -29,14 +30,15 @@ use Rattle.machine.specs.declared.event.Event.{Event}
 use Rattle.machine.specs.declared.event.Event.TheVariants.{Boot, Line, Unread}
 use Rattle.small_types.specs.Cuts.{parts_between}
 use Rattle.small_types.specs.Limit.{limit_text}
-use Rattle.small_types.specs.declared.limits.TheConstants.{LEASE_LIMIT, LINE_LIMIT, NAME_LIMIT, URL_LIMIT}
+use Rattle.small_types.specs.declared.limits.TheConstants.{LEASE_LIMIT, LINE_LIMIT, NAME_LIMIT, PIECE_LIMIT, URL_LIMIT}
 use Rattle.small_types.specs.declared.name.NameFault.{NameFault}
 use Rattle.small_types.specs.declared.target.Target.{Target}
 use Rattle.small_types.specs.Name as names
 use Rattle.small_types.specs.Reading.{◌>>=◌}
+use Rattle.command_text.specs.declared.file_lines.Span.{Span}
 use Rattle.command_text.specs.Numbers.{count_of, number_of}
 use Rattle.machine.specs.declared.reply.Reply.{Reply}
-use Rattle.machine.specs.declared.reply.Reply.TheVariants.{AllLinks, BadUrl, BelowMinimum, CheckFirst, Checked, Finished, Full, Installed, Lease, LeasesFull, Manifest, Minimum, NoFile, NoGroup, NoLease, NotHttp, NotInstalled, NotNewer, NothingOffered, Offered, Release, Required, Skipped, Spent, TooMany}
+use Rattle.machine.specs.declared.reply.Reply.TheVariants.{AllLinks, BadName, BadUrl, BelowMinimum, CheckFirst, Checked, Finished, Full, Installed, Lease, LeasesFull, Manifest, Minimum, NoFile, NoGroup, NoLease, NotHttp, NotInstalled, NotNewer, NothingOffered, Offered, Release, Removed, Required, Skipped, Spent, TooMany}
 use Rattle.machine.specs.declared.reply.Reply.TheVariants as reply
 
 -- words are separated by one space each
@@ -119,20 +121,77 @@ launch_words args = do
 abbrev pub file_of : List ℕ → Result (List ℕ) NameFault
 file_of word = names.name_of (percent_decode word)
 
--- what the first word that cannot be read makes of the four words of a `read`
-abbrev pub read_of : Option ℕ → Result (List ℕ) NameFault → Option ℕ → Option ℕ
-    → Result Command LineFault
-read_of None name from count = Err (BadWord 1)
-read_of (Some lease) (Err name) from count = Err (BadWord 2)
-read_of (Some lease) (Ok name) None count = Err (BadWord 3)
-read_of (Some lease) (Ok name) (Some from) None = Err (BadWord 4)
-read_of (Some lease) (Ok name) (Some from) (Some count) = Ok (Read lease name from count)
+-- what the first word that cannot be read makes of the four words of a `read` or a `data`
+abbrev pub span_of : Option ℕ → Result (List ℕ) NameFault → Option ℕ → Option ℕ
+    → Result Span LineFault
+span_of None name from count = Err (BadWord 1)
+span_of (Some lease) (Err name) from count = Err (BadWord 2)
+span_of (Some lease) (Ok name) None count = Err (BadWord 3)
+span_of (Some lease) (Ok name) (Some from) None = Err (BadWord 4)
+span_of (Some lease) (Ok name) (Some from) (Some count) =
+    Ok (record { lease = lease; name = name; from = from; count = count })
+
+-- the four words after `read` or `data`
+abbrev pub span_words : List (List ℕ) → Result Span LineFault
+span_words (lease ∷ name ∷ from ∷ count ∷ []) =
+    span_of (number_of lease) (file_of name) (number_of from) (count_of count)
+span_words _ = Err WordCount
 
 -- the words after `read`
 abbrev pub read_words : List (List ℕ) → Result Command LineFault
-read_words (lease ∷ name ∷ from ∷ count ∷ []) =
-    read_of (number_of lease) (file_of name) (number_of from) (count_of count)
-read_words _ = Err WordCount
+read_words args = do
+  span ← span_words args
+  Ok (Read span.lease span.name span.from span.count)
+
+-- the words after `data`
+abbrev pub data_words : List (List ℕ) → Result Command LineFault
+data_words args = do
+  span ← span_words args
+  Ok (Local span.lease span.name span.from span.count)
+
+-- it has two digits for each of 1 to 30,000 bytes
+abbrev pub HasLength : List ℕ → Type 0
+HasLength word =
+    (1 ≤ length word) × (length word ≤ 2 * PIECE_LIMIT) × (length word % 2 ≡ 0)
+
+-- decoded bytes, where there are 1 to 30,000
+abbrev pub bytes_in : Result (List ℕ) FromHexError → Option (List ℕ)
+bytes_in (Err fault) = None
+bytes_in (Ok bytes) =
+    if nat_le 1 (length bytes) && nat_le (length bytes) PIECE_LIMIT then Some bytes else None
+
+-- the bytes that a word of hexadecimal digits in either case spells, two for each
+unfoldable pub digit_bytes : List ℕ → Option (List ℕ)
+digit_bytes word = bytes_in (decode_of word)
+
+-- the bytes of a word: none for a dash
+unfoldable pub bytes_word : List ℕ → Option (List ℕ)
+bytes_word word = if bytes_eq word (codes "-") then Some [] else digit_bytes word
+
+-- what the first word that cannot be read makes of the three words of a `put`
+abbrev pub put_of : Option ℕ → Result (List ℕ) NameFault → Option (List ℕ)
+    → Result Command LineFault
+put_of None name bytes = Err (BadWord 1)
+put_of (Some lease) (Err name) bytes = Err (BadWord 2)
+put_of (Some lease) (Ok name) None = Err (BadWord 3)
+put_of (Some lease) (Ok name) (Some bytes) = Ok (Put lease name bytes)
+
+-- the words after `put`
+abbrev pub put_words : List (List ℕ) → Result Command LineFault
+put_words (lease ∷ name ∷ bytes ∷ []) =
+    put_of (number_of lease) (file_of name) (bytes_word bytes)
+put_words _ = Err WordCount
+
+-- what the first word that cannot be read makes of the two words of a `remove`
+abbrev pub remove_of : Option ℕ → Result (List ℕ) NameFault → Result Command LineFault
+remove_of None name = Err (BadWord 1)
+remove_of (Some lease) (Err name) = Err (BadWord 2)
+remove_of (Some lease) (Ok name) = Ok (Remove lease name)
+
+-- the words after `remove`
+abbrev pub remove_words : List (List ℕ) → Result Command LineFault
+remove_words (lease ∷ name ∷ []) = remove_of (number_of lease) (file_of name)
+remove_words _ = Err WordCount
 
 -- a group is UTF-8 of 1 to 240 bytes
 unfoldable pub is_group : List ℕ → Bool
@@ -181,6 +240,9 @@ command_words (name ∷ args) =
     else if bytes_eq name (codes "skip") then skip_words args
     else if bytes_eq name (codes "launch") then launch_words args
     else if bytes_eq name (codes "read") then read_words args
+    else if bytes_eq name (codes "data") then data_words args
+    else if bytes_eq name (codes "put") then put_words args
+    else if bytes_eq name (codes "remove") then remove_words args
     else if bytes_eq name (codes "group") then group_words args
     else if bytes_eq name (codes "finish") then finish_words args
     else Err NoSuchCommand
@@ -313,6 +375,8 @@ reply_text (Checked offer minimum) = checked_text offer minimum
 reply_text (Skipped version) = codes "ok skipped " ++ (version_text version ++ codes "\n")
 reply_text (Lease lease version check_due) = lease_text lease version check_due
 reply_text (reply.Read size bytes) = read_text size bytes
+reply_text reply.Put = codes "ok put\n"
+reply_text Removed = codes "ok removed\n"
 reply_text (reply.Group files) = codes "ok group " ++ (decimal files ++ codes "\n")
 reply_text (Finished lease) = codes "ok finished " ++ (decimal lease ++ codes "\n")
 reply_text NotInstalled = codes "no not-installed\n"
@@ -320,6 +384,7 @@ reply_text NoLease = codes "no no-lease\n"
 reply_text NoGroup = codes "no no-group\n"
 reply_text NothingOffered = codes "no nothing-offered\n"
 reply_text NoFile = codes "no no-file\n"
+reply_text BadName = codes "no bad-name\n"
 reply_text CheckFirst = codes "no check-first\n"
 reply_text (Required minimum) = codes "no required " ++ (version_text minimum ++ codes "\n")
 reply_text (Offered version) = codes "no offered " ++ (version_text version ++ codes "\n")

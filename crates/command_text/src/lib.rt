@@ -3,6 +3,8 @@
 
 mod check_replies;
 mod escapes;
+mod file_lines;
+mod hexes;
 mod key_lines;
 mod lease_lines;
 mod lease_replies;

@@ -7,8 +7,9 @@ ghost use Rattle.std.specs.Option.{option_copied};
 ghost use Rattle.machine.specs.Words.{IsCommand};
 ghost use Rattle.command_text.specs.Lines.{Gives, at_words, command_of, install_words, require_of, require_words, words_behind};
 
+use crate::file_lines::{data_line, file_line, put_line, remove_line};
 use crate::key_lines::{check_line, launch_line, skip_line};
-use crate::lease_lines::{file_line, finish_line, group_line};
+use crate::lease_lines::{finish_line, group_line};
 use crate::numbers::read_number;
 use crate::urls::is_url;
 use crate::words::{first_word, one_word, two_words};
@@ -130,6 +131,15 @@ pub fn read_line(alloc: Global, line: &[u8]) -> Result<Command, LineFault>
     }
     if name == b"read".as_slice() {
         return file_line(alloc, args);
+    }
+    if name == b"data".as_slice() {
+        return data_line(alloc, args);
+    }
+    if name == b"put".as_slice() {
+        return put_line(alloc, args);
+    }
+    if name == b"remove".as_slice() {
+        return remove_line(alloc, args);
     }
     if name == b"group".as_slice() {
         return group_line(alloc, args);

@@ -40,6 +40,20 @@ pub(crate) fn two_words(line: &[u8]) -> Option<(&[u8], &[u8])>
     }
 }
 
+/// The words, where there are three.
+pub(crate) fn three_words(line: &[u8]) -> Option<(&[u8], &[u8], &[u8])>
+    ensures words { IfSome result (λ w. words_of line.now ≡ w.0.now ∷ w.1.now ∷ w.2.now ∷ []) }
+    ensures count { IfNone result (length (words_of line.now) ≢ 3) }
+{
+    let (first, rest) = first_word(line);
+    let (second, rest) = first_word(rest?);
+    let (third, more) = first_word(rest?);
+    match more {
+        Some(_) => None,
+        None => Some((first, second, third)),
+    }
+}
+
 /// The words, where there are four.
 pub(crate) fn four_words(line: &[u8]) -> Option<(&[u8], &[u8], &[u8], &[u8])>
     ensures words { IfSome result

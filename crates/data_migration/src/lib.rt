@@ -11,3 +11,4 @@ mod same;
 pub use fault::MigrateFault;
 pub use migrating::migrate;
 pub use plan::LocalPlan;
+pub use same::same_content;

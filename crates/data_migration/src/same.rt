@@ -28,8 +28,8 @@ fn same_digests(a: &[Digest], b: &[Digest]) -> bool
     true
 }
 
-// Whether the files have equal sizes and equal digests.
-pub(crate) fn same_content(a: &FileEntry, b: &FileEntry) -> bool
+/// Whether the files have equal sizes and equal digests: then they have one content.
+pub fn same_content(a: &FileEntry, b: &FileEntry) -> bool
     ensures { result ≡ same_content a.now b.now }
 {
     a.size == b.size && same_digests(a.list.as_slice(), b.list.as_slice())

@@ -7,6 +7,7 @@ use Rattle.std.proofs.lemmas.List.Elements.{All-head, All-tail}
 use Rattle.std.proofs.lemmas.Nat.{mul-le}
 use Rattle.small_types.specs.declared.limits.TheConstants.{FILE_COUNT_LIMIT, IDENTITY_PART_LIMIT, NAME_LIMIT, URL_LIMIT}
 use Rattle.small_types.specs.declared.target.Target.{Target}
+use Rattle.small_types.specs.Name.{IsName}
 use Rattle.identity.specs.declared.identity.Identity.{Identity}
 use Rattle.identity.specs.declared.key.Key.{Key}
 use Rattle.identity.specs.declared.version.Version.{Version}
@@ -19,7 +20,7 @@ use Rattle.manifests.specs.declared.facts.Rule.{Rule}
 use Rattle.manifests.specs.declared.facts.Rule.TheVariants.{Never, Before, Age}
 use Rattle.machine.specs.Fields.{IsShort, IsShortKey, IsTarget}
 use Rattle.store_state.specs.declared.change.Change.{Change}
-use Rattle.store_state.specs.declared.change.Change.TheVariants.{Boot, Require, Install, Heard, Unheard, Skip, Launch, Finish, Group}
+use Rattle.store_state.specs.declared.change.Change.TheVariants.{Boot, Require, Install, Heard, Unheard, Skip, Launch, Finish, Group, Put, Remove}
 use Rattle.store_state.specs.declared.view.Content.{Content}
 use Rattle.store_state.specs.declared.view.LocalFile.{LocalFile}
 use Rattle.store_state.specs.declared.view.View.{View}
@@ -29,7 +30,7 @@ use Rattle.record_codec.specs.Spelling.{application_field, content_field, deploy
 use Rattle.record_codec.specs.Values.{AreDigests, IsApplication, IsContent, IsDeployment, IsEntry, IsGroup, IsHeard, IsIdentity, IsInstall, IsLocal, IsView}
 use Rattle.record_codec.proofs.Long.{length-text_field, length-list_field, length-key_field, length-version_field, length-truth_field}
 use Rattle.record_codec.proofs.Sizes.{digest_le, name_le}
-use Rattle.record_codec.proofs.Written.{length-change_text_boot, length-change_text_require, length-change_text_unheard, length-change_text_skip, length-change_text_launch, length-change_text_finish}
+use Rattle.record_codec.proofs.Written.{length-change_text_boot, length-change_text_require, length-change_text_unheard, length-change_text_skip, length-change_text_launch, length-change_text_finish, length-change_text_put, length-change_text_remove}
 
 -- ---- lists and options
 
@@ -211,7 +212,7 @@ content_le c is =
       length-append l b,
     )
 
-local_le : (f : LocalFile) → IsLocal f → length (local_field f) ≤ 4294967551
+pub local_le : (f : LocalFile) → IsLocal f → length (local_field f) ≤ 4294967551
 unfolding local_field
 local_le f is =
     let s = to_be_bytes w64 f.length in
@@ -304,6 +305,9 @@ group_le view group contents is =
       length-append g c,
     )
 
+pub named_le : (name : List ℕ) → IsName name → length (text_field name) ≤ 244
+named_le name is = omega (arith, name_le name is, length-text_field name)
+
 -- ---- changes
 
 pub change_le : (change : Change) → IsChange change
@@ -319,6 +323,9 @@ change_le (Skip app) is = omega (arith, length-change_text_skip app)
 change_le (Launch app) is = omega (arith, length-change_text_launch app)
 change_le (Finish lease) is = omega (arith, length-change_text_finish lease)
 change_le (Group view group contents) is = group_le view group contents is
+change_le (Put view file) is = omega (arith, length-change_text_put view file, local_le file is.1)
+change_le (Remove view name) is =
+    omega (arith, length-change_text_remove view name, named_le name is.1)
 
 pub installed_le : {change : Change} {view : View} {contents : List Content} {provider : Target}
     {now : ℕ} → change ≡ Install view contents provider now → IsChange change

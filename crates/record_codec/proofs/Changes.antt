@@ -6,29 +6,32 @@ use Rattle.std.proofs.lemmas.Bool.{cases_Bool, eqb-true, eq-eqb}
 use Rattle.std.proofs.lemmas.List.{append-nil}
 use Rattle.small_types.specs.declared.limits.TheConstants.{FILE_COUNT_LIMIT, NAME_LIMIT}
 use Rattle.small_types.specs.declared.target.Target.{Target}
+use Rattle.small_types.specs.Name.{IsName}
 use Rattle.small_types.specs.Reading.{◌>>=◌}
 use Rattle.identity.specs.declared.key.Key.{Key}
 use Rattle.identity.specs.declared.version.Version.{Version}
 use Rattle.machine.specs.Fields.{IsShortKey}
 use Rattle.store_state.specs.declared.change.Change.{Change}
-use Rattle.store_state.specs.declared.change.Change.TheVariants.{Boot, Require, Install, Heard, Unheard, Skip, Launch, Finish, Group}
+use Rattle.store_state.specs.declared.change.Change.TheVariants.{Boot, Require, Install, Heard, Unheard, Skip, Launch, Finish, Group, Put, Remove}
 use Rattle.store_state.specs.declared.view.Content.{Content}
+use Rattle.store_state.specs.declared.view.LocalFile.{LocalFile}
 use Rattle.store_state.specs.declared.view.View.{View}
 use Rattle.record_codec.specs.declared.fault.CodecFault.{CodecFault}
 use Rattle.record_codec.specs.declared.fault.CodecFault.TheVariants.{Bad}
-use Rattle.record_codec.specs.Codec.{change_text, group_text, heard_text, install_text, IsChange}
+use Rattle.record_codec.specs.Codec.{change_text, group_text, heard_text, install_text, put_text, remove_text, IsChange}
 use Rattle.record_codec.specs.Fields.{key_field, text_field, version_field}
 use Rattle.record_codec.specs.Places.{Stands}
 use Rattle.record_codec.specs.Reading.{Gives, number_at, text_at, key_at, version_at}
-use Rattle.record_codec.specs.Parts.{Reader, list_at, option_at, target_at}
-use Rattle.record_codec.specs.Records.{content_at, view_at}
-use Rattle.record_codec.specs.Changes.{boot_at, require_at, install_at, heard_at, unheard_at, skip_at, launch_at, finish_at, group_at, change_at, change_of}
-use Rattle.record_codec.specs.Spelling.{content_field, list_field, option_field, target_field, view_field}
-use Rattle.record_codec.specs.Values.{IsGroup, IsHeard, IsInstall}
+use Rattle.record_codec.specs.Parts.{Reader, list_at, name_at, option_at, target_at}
+use Rattle.record_codec.specs.Records.{content_at, local_at, view_at}
+use Rattle.record_codec.specs.Changes.{boot_at, require_at, install_at, heard_at, unheard_at, skip_at, launch_at, finish_at, group_at, put_at, remove_at, change_at, change_of}
+use Rattle.record_codec.specs.Spelling.{content_field, list_field, local_field, option_field, target_field, view_field}
+use Rattle.record_codec.specs.Values.{IsGroup, IsHeard, IsInstall, IsLocal}
 use Rattle.record_codec.proofs.Fields.{bind_ok, ok_is, passed_test, IsBytes, Stands-then, Stands-first, Stands-second, wide32, wide64, number_takes, number_again, text_takes, text_again}
+use Rattle.record_codec.proofs.Bytes.{name_reads}
 use Rattle.record_codec.proofs.Keys.{Stands-four, four_stand, key_takes, key_again, version_takes, version_again}
 use Rattle.record_codec.proofs.Lists.{list_reads, option_reads}
-use Rattle.record_codec.proofs.Records.{content_reads, number64_reads, view_reads}
+use Rattle.record_codec.proofs.Records.{content_reads, local_reads, number64_reads, view_reads}
 use Rattle.record_codec.proofs.Structs.{target_reads, version_reads}
 
 -- ---- changes
@@ -202,6 +205,64 @@ group_again rest view group contents next is stands =
     let third = Stands-second bytes g c (1 + length v) next behind in
     rw (number64_reads.again bytes 1 view _ is.view first, text_again NAME_LIMIT bytes _ group _ (omega arith) is.group second, (list_reads content_reads FILE_COUNT_LIMIT (omega arith)).again bytes _ contents next (is.few, is.contents) third) refl
 
+put_takes : (rest : List ℕ) (x : Change × ℕ) → IsBytes (10 ∷ rest) → put_at (10 ∷ rest) 1 ≡ Ok x
+    → Takes (10 ∷ rest) x
+unfolding put_at change_text put_text
+put_takes rest x fits e =
+    let bytes : List ℕ = 10 ∷ rest in
+    let a = bind_ok (number_at w64 bytes 1) (λ view. local_at bytes view.1 >>= λ file. Ok (Put view.0 file.0, file.1)) x e in
+    let b = bind_ok (local_at bytes a.0.1) (λ file. Ok (Put a.0.0 file.0, file.1)) x a.2 in
+    let ta = number64_reads.takes bytes 1 a.0 fits (omega arith) a.1 in
+    let tb = local_reads.takes bytes a.0.1 b.0 fits ta.0.within b.1 in
+    let made : Change × ℕ = (Put a.0.0 b.0.0, b.0.1) in
+    let view = to_be_bytes w64 a.0.0 in
+    let file = local_field b.0.0 in
+    let fields = Stands-then bytes view file 1 a.0.1 b.0.1 ta.0 tb.0 in
+    let stands = Stands-then bytes (10 ∷ []) (view ++ file) 0 1 b.0.1 (kind_stands 10 rest) fields in
+    subst (λ (y : Change × ℕ). Takes bytes y) (ok_is made x b.2) (stands, (ta.1, tb.1))
+
+put_again : (rest : List ℕ) (view : ℕ) (file : LocalFile) (next : ℕ)
+    → IsChange (Put view file)
+    → Stands (10 ∷ rest) 1 (to_be_bytes w64 view ++ local_field file) next
+    → put_at (10 ∷ rest) 1 ≡ Ok (Put view file, next)
+unfolding put_at
+put_again rest view file next is stands =
+    let bytes : List ℕ = 10 ∷ rest in
+    let v = to_be_bytes w64 view in
+    let f = local_field file in
+    let first = Stands-first bytes v f 1 next stands in
+    let second = Stands-second bytes v f 1 next stands in
+    rw (number64_reads.again bytes 1 view _ is.0 first, local_reads.again bytes _ file next is.1 second) refl
+
+remove_takes : (rest : List ℕ) (x : Change × ℕ) → IsBytes (11 ∷ rest) → remove_at (11 ∷ rest) 1 ≡ Ok x
+    → Takes (11 ∷ rest) x
+unfolding remove_at change_text remove_text
+remove_takes rest x fits e =
+    let bytes : List ℕ = 11 ∷ rest in
+    let a = bind_ok (number_at w64 bytes 1) (λ view. name_at bytes view.1 >>= λ name. Ok (Remove view.0 name.0, name.1)) x e in
+    let b = bind_ok (name_at bytes a.0.1) (λ name. Ok (Remove a.0.0 name.0, name.1)) x a.2 in
+    let ta = number64_reads.takes bytes 1 a.0 fits (omega arith) a.1 in
+    let tb = name_reads.takes bytes a.0.1 b.0 fits ta.0.within b.1 in
+    let made : Change × ℕ = (Remove a.0.0 b.0.0, b.0.1) in
+    let view = to_be_bytes w64 a.0.0 in
+    let name = text_field b.0.0 in
+    let fields = Stands-then bytes view name 1 a.0.1 b.0.1 ta.0 tb.0 in
+    let stands = Stands-then bytes (11 ∷ []) (view ++ name) 0 1 b.0.1 (kind_stands 11 rest) fields in
+    subst (λ (y : Change × ℕ). Takes bytes y) (ok_is made x b.2) (stands, (ta.1, tb.1))
+
+remove_again : (rest : List ℕ) (view : ℕ) (name : List ℕ) (next : ℕ)
+    → IsChange (Remove view name)
+    → Stands (11 ∷ rest) 1 (to_be_bytes w64 view ++ text_field name) next
+    → remove_at (11 ∷ rest) 1 ≡ Ok (Remove view name, next)
+unfolding remove_at
+remove_again rest view name next is stands =
+    let bytes : List ℕ = 11 ∷ rest in
+    let v = to_be_bytes w64 view in
+    let t = text_field name in
+    let first = Stands-first bytes v t 1 next stands in
+    let second = Stands-second bytes v t 1 next stands in
+    rw (number64_reads.again bytes 1 view _ is.0 first, name_reads.again bytes _ name next is.1 second) refl
+
 -- what is read of a kind, and what of any other
 by_kind : (n kind : ℕ) (rest : List ℕ) (f : Reader Change) (others : Result (Change × ℕ) CodecFault)
     (x : Change × ℕ) → (IsBytes (n ∷ rest) → f (n ∷ rest) 1 ≡ Ok x → Takes (n ∷ rest) x)
@@ -229,11 +290,13 @@ change_takes (kind ∷ rest) x fits e =
     (by_kind 5 kind rest skip_at _ x (skip_takes rest x)
     (by_kind 7 kind rest launch_at _ x (launch_takes rest x)
     (by_kind 8 kind rest finish_at _ x (finish_takes rest x)
-    (by_kind 9 kind rest group_at _ x (group_takes rest x) (λ bytes none. absurd cc)))))))))
+    (by_kind 9 kind rest group_at _ x (group_takes rest x)
+    (by_kind 10 kind rest put_at _ x (put_takes rest x)
+    (by_kind 11 kind rest remove_at _ x (remove_takes rest x) (λ bytes none. absurd cc)))))))))))
     fits e
 
 change_again : (bytes : List ℕ) (c : Change) (next : ℕ) → IsChange c → Stands bytes 0 (change_text c) next → change_at bytes ≡ Ok (c, next)
-unfolding change_at boot_at require_at unheard_at skip_at launch_at finish_at change_text install_text heard_text group_text
+unfolding change_at boot_at require_at unheard_at skip_at launch_at finish_at change_text install_text heard_text group_text put_text remove_text
 change_again [] (Boot boot) next fits stands = absurd (let e = stands.parts in cc)
 change_again [] (Require key version) next fits stands = absurd (let e = stands.parts in cc)
 change_again [] (Install view contents provider now) next fits stands = absurd (let e = stands.parts in cc)
@@ -243,6 +306,8 @@ change_again [] (Skip app) next fits stands = absurd (let e = stands.parts in cc
 change_again [] (Launch app) next fits stands = absurd (let e = stands.parts in cc)
 change_again [] (Finish lease) next fits stands = absurd (let e = stands.parts in cc)
 change_again [] (Group view group contents) next fits stands = absurd (let e = stands.parts in cc)
+change_again [] (Put view file) next fits stands = absurd (let e = stands.parts in cc)
+change_again [] (Remove view name) next fits stands = absurd (let e = stands.parts in cc)
 change_again (kind ∷ rest) (Boot boot) next fits stands =
     let is : kind ≡ 0 = (let e = stands.parts in cc) in
     let field = subst (λ (k : ℕ). Stands (k ∷ rest) 1 (to_be_bytes w64 boot) next) is (Stands-second (kind ∷ rest) (0 ∷ []) (to_be_bytes w64 boot) 0 next stands) in
@@ -288,6 +353,16 @@ change_again (kind ∷ rest) (Group view group contents) next fits stands =
     let is : kind ≡ 9 = (let e = stands.parts in cc) in
     let behind = subst (λ (k : ℕ). Stands (k ∷ rest) 1 fields next) is (Stands-second (kind ∷ rest) (9 ∷ []) fields 0 next stands) in
     rw is (group_again rest view group contents next fits behind)
+change_again (kind ∷ rest) (Put view file) next fits stands =
+    let fields = to_be_bytes w64 view ++ local_field file in
+    let is : kind ≡ 10 = (let e = stands.parts in cc) in
+    let behind = subst (λ (k : ℕ). Stands (k ∷ rest) 1 fields next) is (Stands-second (kind ∷ rest) (10 ∷ []) fields 0 next stands) in
+    rw is (put_again rest view file next fits behind)
+change_again (kind ∷ rest) (Remove view name) next fits stands =
+    let fields = to_be_bytes w64 view ++ text_field name in
+    let is : kind ≡ 11 = (let e = stands.parts in cc) in
+    let behind = subst (λ (k : ℕ). Stands (k ∷ rest) 1 fields next) is (Stands-second (kind ∷ rest) (11 ∷ []) fields 0 next stands) in
+    rw is (remove_again rest view name next fits behind)
 
 -- ---- all of the bytes
 

@@ -6,12 +6,13 @@ use Rattle.small_types.specs.declared.target.Target.{Target}
 use Rattle.identity.specs.declared.version.Version.{Version}
 use Rattle.identity.specs.declared.key.Key.{Key}
 use Rattle.store_state.specs.declared.change.Change.{Change}
-use Rattle.store_state.specs.declared.change.Change.TheVariants.{Boot, Require, Install, Heard, Unheard, Skip, Launch, Finish, Group}
+use Rattle.store_state.specs.declared.change.Change.TheVariants.{Boot, Require, Install, Heard, Unheard, Skip, Launch, Finish, Group, Put, Remove}
 use Rattle.store_state.specs.declared.view.Content.{Content}
+use Rattle.store_state.specs.declared.view.LocalFile.{LocalFile}
 use Rattle.store_state.specs.declared.view.View.{View}
-use Rattle.record_codec.specs.Codec.{change_text, group_text, heard_text, install_text}
+use Rattle.record_codec.specs.Codec.{change_text, group_text, heard_text, install_text, put_text, remove_text}
 use Rattle.record_codec.specs.Fields.{key_field, text_field, version_field}
-use Rattle.record_codec.specs.Spelling.{content_field, list_field, option_field, target_field, view_field}
+use Rattle.record_codec.specs.Spelling.{content_field, list_field, local_field, option_field, target_field, view_field}
 use Rattle.record_codec.specs.Places.{written, Writes}
 use Rattle.record_codec.proofs.Long.{length-version_field}
 
@@ -123,6 +124,15 @@ pub change_text_group : (view : ℕ) (group : List ℕ) (contents : List Content
 unfolding change_text
 change_text_group view group contents = refl
 
+pub change_text_put : (view : ℕ) (file : LocalFile) → change_text (Put view file) ≡ put_text view file
+unfolding change_text
+change_text_put view file = refl
+
+pub change_text_remove : (view : ℕ) (name : List ℕ)
+    → change_text (Remove view name) ≡ remove_text view name
+unfolding change_text
+change_text_remove view name = refl
+
 -- ---- how long changes are
 
 pub length-change_text_boot : (boot : ℕ) → length (change_text (Boot boot)) ≡ 9
@@ -148,6 +158,18 @@ length-change_text_launch app = refl
 pub length-change_text_finish : (lease : ℕ) → length (change_text (Finish lease)) ≡ 9
 unfolding change_text
 length-change_text_finish lease = refl
+
+pub length-change_text_put : (view : ℕ) (file : LocalFile)
+    → length (change_text (Put view file)) ≡ 9 + length (local_field file)
+unfolding change_text put_text
+length-change_text_put view file =
+    omega (arith, length-append (to_be_bytes w64 view) (local_field file))
+
+pub length-change_text_remove : (view : ℕ) (name : List ℕ)
+    → length (change_text (Remove view name)) ≡ 9 + length (text_field name)
+unfolding change_text remove_text
+length-change_text_remove view name =
+    omega (arith, length-append (to_be_bytes w64 view) (text_field name))
 
 -- the moment takes eight bytes, whatever it is
 length-install_text : (view : View) (contents : List Content) (provider : Target) (now other : ℕ)
@@ -225,6 +247,18 @@ length-grouped {change} {view} {group} {contents} {list} other is same =
     ap (λ (l : List Content). length (group_text other group l)) same
     ∙ length-group_text other view group contents
     ∙ ap (length {A = ℕ}) (sym (change_text_group view group contents))
+    ∙ sym (ap (λ (c : Change). length (change_text c)) is)
+
+pub length-put : {change : Change} {view : ℕ} {file : LocalFile} → change ≡ Put view file
+    → length (put_text view file) ≡ length (change_text change)
+length-put {change} {view} {file} is =
+    ap (length {A = ℕ}) (sym (change_text_put view file))
+    ∙ sym (ap (λ (c : Change). length (change_text c)) is)
+
+pub length-removed : {change : Change} {view : ℕ} {name : List ℕ} → change ≡ Remove view name
+    → length (remove_text view name) ≡ length (change_text change)
+length-removed {change} {view} {name} is =
+    ap (length {A = ℕ}) (sym (change_text_remove view name))
     ∙ sym (ap (λ (c : Change). length (change_text c)) is)
 
 -- ---- room for a change

@@ -4,12 +4,12 @@ use Rattle.std.specs.Int.{w32, w64}
 use Rattle.small_types.specs.declared.limits.TheConstants.{FILE_COUNT_LIMIT, NAME_LIMIT}
 use Rattle.small_types.specs.Reading.{◌>>=◌}
 use Rattle.store_state.specs.declared.change.Change.{Change}
-use Rattle.store_state.specs.declared.change.Change.TheVariants.{Boot, Require, Install, Heard, Unheard, Skip, Launch, Finish, Group}
+use Rattle.store_state.specs.declared.change.Change.TheVariants.{Boot, Require, Install, Heard, Unheard, Skip, Launch, Finish, Group, Put, Remove}
 use Rattle.record_codec.specs.declared.fault.CodecFault.{CodecFault}
 use Rattle.record_codec.specs.declared.fault.CodecFault.TheVariants.{Bad}
 use Rattle.record_codec.specs.Reading.{number_at, text_at, key_at, version_at}
-use Rattle.record_codec.specs.Parts.{Reader, list_at, option_at, target_at}
-use Rattle.record_codec.specs.Records.{content_at, view_at}
+use Rattle.record_codec.specs.Parts.{Reader, list_at, name_at, option_at, target_at}
+use Rattle.record_codec.specs.Records.{content_at, local_at, view_at}
 
 unfoldable pub boot_at : Reader Change
 boot_at bytes place = do
@@ -69,6 +69,20 @@ group_at bytes place = do
   contents ← list_at FILE_COUNT_LIMIT content_at bytes group.1
   Ok (Group view.0 group.0 contents.0, contents.1)
 
+-- the number of a view, and a data file that it has then
+unfoldable pub put_at : Reader Change
+put_at bytes place = do
+  view ← number_at w64 bytes place
+  file ← local_at bytes view.1
+  Ok (Put view.0 file.0, file.1)
+
+-- the number of a view, and the name of a data file
+unfoldable pub remove_at : Reader Change
+remove_at bytes place = do
+  view ← number_at w64 bytes place
+  name ← name_at bytes view.1
+  Ok (Remove view.0 name.0, name.1)
+
 -- what stands behind the number of a kind; no other number is one
 abbrev pub kind_at : ℕ → List ℕ → Result (Change × ℕ) CodecFault
 kind_at kind bytes =
@@ -81,6 +95,8 @@ kind_at kind bytes =
     else if kind == 7 then launch_at bytes 1
     else if kind == 8 then finish_at bytes 1
     else if kind == 9 then group_at bytes 1
+    else if kind == 10 then put_at bytes 1
+    else if kind == 11 then remove_at bytes 1
     else Err (Bad 0)
 
 -- the number of the kind, and the fields

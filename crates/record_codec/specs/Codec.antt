@@ -2,17 +2,19 @@
 use Rattle.std.specs.Prelude.{◌<◌, ◌^◌, List, ℕ, Option, ◌∷◌, ◌++◌}
 use Rattle.std.specs.Int.{to_be_bytes, w32, w64}
 use Rattle.small_types.specs.declared.target.Target.{Target}
+use Rattle.small_types.specs.Name.{IsName}
 use Rattle.identity.specs.declared.key.Key.{Key}
 use Rattle.identity.specs.declared.version.Version.{Version}
 use Rattle.identity.specs.Version.{IsVersion}
 use Rattle.machine.specs.Fields.{IsShortKey}
 use Rattle.store_state.specs.declared.change.Change.{Change}
-use Rattle.store_state.specs.declared.change.Change.TheVariants.{Boot, Require, Install, Heard, Unheard, Skip, Launch, Finish, Group}
+use Rattle.store_state.specs.declared.change.Change.TheVariants.{Boot, Require, Install, Heard, Unheard, Skip, Launch, Finish, Group, Put, Remove}
 use Rattle.store_state.specs.declared.view.Content.{Content}
+use Rattle.store_state.specs.declared.view.LocalFile.{LocalFile}
 use Rattle.store_state.specs.declared.view.View.{View}
 use Rattle.record_codec.specs.Fields.{key_field, text_field, version_field}
-use Rattle.record_codec.specs.Spelling.{content_field, list_field, option_field, target_field, view_field}
-use Rattle.record_codec.specs.Values.{IsGroup, IsHeard, IsInstall}
+use Rattle.record_codec.specs.Spelling.{content_field, list_field, local_field, option_field, target_field, view_field}
+use Rattle.record_codec.specs.Values.{IsGroup, IsHeard, IsInstall, IsLocal}
 
 -- the number of the kind, and the fields
 unfoldable pub install_text : View → List Content → Target → ℕ → List ℕ
@@ -29,6 +31,12 @@ unfoldable pub group_text : ℕ → List ℕ → List Content → List ℕ
 group_text view group contents =
     9 ∷ (to_be_bytes w64 view ++ (text_field group ++ list_field content_field contents))
 
+unfoldable pub put_text : ℕ → LocalFile → List ℕ
+put_text view file = 10 ∷ (to_be_bytes w64 view ++ local_field file)
+
+unfoldable pub remove_text : ℕ → List ℕ → List ℕ
+remove_text view name = 11 ∷ (to_be_bytes w64 view ++ text_field name)
+
 -- the bytes of a change: the number of its kind, and its fields
 unfoldable pub change_text : Change → List ℕ
 change_text (Boot boot) = 0 ∷ to_be_bytes w64 boot
@@ -40,9 +48,11 @@ change_text (Skip app) = 5 ∷ to_be_bytes w32 app
 change_text (Launch app) = 7 ∷ to_be_bytes w32 app
 change_text (Finish lease) = 8 ∷ to_be_bytes w64 lease
 change_text (Group view group contents) = group_text view group contents
+change_text (Put view file) = put_text view file
+change_text (Remove view name) = remove_text view name
 
 -- The fields are within their limits: just such a change has an encoding. A part of a key may be
--- empty, as any text.
+-- empty, as any text. A data file may be below `.pre`, and of any length that four bytes can say.
 abbrev pub IsChange : Change → Type 0
 IsChange (Boot boot) = boot < 2 ^ 64
 IsChange (Require key version) = IsShortKey key × IsVersion version
@@ -53,6 +63,8 @@ IsChange (Skip app) = app < 2 ^ 32
 IsChange (Launch app) = app < 2 ^ 32
 IsChange (Finish lease) = lease < 2 ^ 64
 IsChange (Group view group contents) = IsGroup view group contents
+IsChange (Put view file) = (view < 2 ^ 64) × IsLocal file
+IsChange (Remove view name) = (view < 2 ^ 64) × IsName name
 
 -- the most bytes of an encoding
 abbrev pub length_limit : Change → ℕ
@@ -65,3 +77,5 @@ length_limit (Skip app) = 5
 length_limit (Launch app) = 5
 length_limit (Finish lease) = 9
 length_limit (Group view group contents) = 2 ^ 48
+length_limit (Put view file) = 2 ^ 33
+length_limit (Remove view name) = 253

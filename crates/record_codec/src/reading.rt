@@ -5,10 +5,11 @@ ghost use Rattle.std.specs.Str.{is_utf8};
 ghost use Rattle.store_state.specs.declared.change.Change.{Change};
 ghost use Rattle.record_codec.specs.Codec.{change_text, IsChange};
 ghost use Rattle.record_codec.specs.Reading.{Gives, IsWithin, number_at, sized_at, text_at, key_at, version_at};
-ghost use Rattle.record_codec.specs.Changes.{boot_at, require_at, install_at, heard_at, unheard_at, skip_at, launch_at, finish_at, group_at, change_at, change_of};
+ghost use Rattle.record_codec.specs.Changes.{boot_at, require_at, install_at, heard_at, unheard_at, skip_at, launch_at, finish_at, group_at, put_at, remove_at, change_at, change_of};
 
 use crate::CodecFault;
-use crate::list_reading::list_here;
+use crate::byte_reading::name_here;
+use crate::list_reading::{Readable, list_here};
 use crate::option_reading::version_option_here;
 use crate::part_reading::target_here;
 use crate::view_reading::view_here;
@@ -16,7 +17,7 @@ use identity::{Key, Version};
 use small_types::Text;
 use small_types::limits::{FILE_COUNT_LIMIT, IDENTITY_PART_LIMIT, NAME_LIMIT};
 use std::alloc::Global;
-use store_state::{Change, Content};
+use store_state::{Change, Content, LocalFile};
 
 // The fault of the field that begins at the place.
 pub(crate) fn bad(place: usize) -> CodecFault
@@ -319,6 +320,32 @@ fn read_group(alloc: Global, bytes: &[u8], place: usize) -> Result<(Change, usiz
     Ok((change, next))
 }
 
+// The number of a view and a data file that it has then, at the place.
+#[tactic(auto, unfolding(crate::specs::Changes::put_at))]
+fn read_put(alloc: Global, bytes: &[u8], place: usize) -> Result<(Change, usize), CodecFault>
+    requires { place ≤ length bytes.now }
+    ensures exact { Gives result (put_at bytes.now place) }
+    ensures next { IfOk result (λ x. x.1 ≤ length bytes.now) }
+    ensures fault { IfErr result (IsWithin (length bytes.now)) }
+{
+    let (view, next) = read_u64(bytes, place)?;
+    let (file, next) = LocalFile::read_here(alloc, bytes, next)?;
+    Ok((Change::Put { view, file }, next))
+}
+
+// The number of a view and the name of a data file, at the place.
+#[tactic(auto, unfolding(crate::specs::Changes::remove_at))]
+fn read_remove(alloc: Global, bytes: &[u8], place: usize) -> Result<(Change, usize), CodecFault>
+    requires { place ≤ length bytes.now }
+    ensures exact { Gives result (remove_at bytes.now place) }
+    ensures next { IfOk result (λ x. x.1 ≤ length bytes.now) }
+    ensures fault { IfErr result (IsWithin (length bytes.now)) }
+{
+    let (view, next) = read_u64(bytes, place)?;
+    let (name, next) = name_here(alloc, bytes, next)?;
+    Ok((Change::Remove { view, name }, next))
+}
+
 // The change at the front.
 #[tactic(auto, unfolding(crate::specs::Changes::change_at))]
 fn read_change(alloc: Global, bytes: &[u8]) -> Result<(Change, usize), CodecFault>
@@ -336,6 +363,8 @@ fn read_change(alloc: Global, bytes: &[u8]) -> Result<(Change, usize), CodecFaul
         [7, ..] => read_launch(bytes, 1),
         [8, ..] => read_finish(bytes, 1),
         [9, ..] => read_group(alloc, bytes, 1),
+        [10, ..] => read_put(alloc, bytes, 1),
+        [11, ..] => read_remove(alloc, bytes, 1),
         _ => Err(bad(0)),
     }
 }

@@ -6,8 +6,10 @@ ghost use Rattle.record_codec.specs.Codec.{change_text, IsChange, length_limit};
 ghost use Rattle.record_codec.specs.Fields.{text_field, key_field, version_field};
 ghost use Rattle.record_codec.specs.Places.{Writes};
 
-use crate::change_writing::{write_group, write_heard};
-use crate::lengths::{group_length, heard_length, install_length, key_length};
+use crate::change_writing::{write_group, write_heard, write_put, write_remove};
+use crate::lengths::{
+    bytes_length, group_length, heard_length, install_length, key_length, local_length,
+};
 use crate::view_writing::write_install;
 use identity::{Key, Version};
 use small_types::Text;
@@ -96,8 +98,8 @@ pub fn write_version(out: &mut [u8], place: usize, version: Version) -> usize
 
 /// How many bytes the change's encoding has: 9 of a boot number, at most 457 of a requirement, at
 /// most 2^48 of an installation, at most 474 of what a check heard, at most 449 of a check that
-/// heard nothing, 5 of a skip and of a launch, 9 of the end of a lease, and at most 2^48 of a
-/// group.
+/// heard nothing, 5 of a skip and of a launch, 9 of the end of a lease, at most 2^48 of a group, at
+/// most 2^33 of a data file, and at most 253 of its removal.
 pub fn encoded_length(change: &Change) -> u64
     requires { IsChange change.now }
     ensures length { result ≡ length (change_text change.now) }
@@ -127,6 +129,8 @@ pub fn encoded_length(change: &Change) -> u64
             contents,
             ..
         } => group_length(group, contents.as_slice()),
+        Change::Put { file, .. } => 9 + local_length(file),
+        Change::Remove { name, .. } => 9 + bytes_length(name.as_bytes()),
     }
 }
 
@@ -181,5 +185,7 @@ pub fn encode_change(change: &Change, out: &mut [u8]) -> usize
             group,
             contents,
         } => write_group(out, *view, group, contents.as_slice()),
+        Change::Put { view, file } => write_put(out, *view, file),
+        Change::Remove { view, name } => write_remove(out, *view, name),
     }
 }

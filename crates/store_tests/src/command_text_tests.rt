@@ -35,7 +35,37 @@ fn is_key(key: &Key, parts: &Parts) -> bool {
 enum Wanted {
     At(u64),
     Require(Parts, Version),
+    Local(u64, &'static str, u64, u64),
+    Put(u64, &'static str, &'static [u8]),
+    Remove(u64, &'static str),
     Fault(LineFault),
+}
+
+// Whether it is that command of a data file.
+fn is_of_a_file(command: &Command, wanted: &Wanted) -> bool {
+    match (command, wanted) {
+        (
+            Command::Local {
+                lease,
+                name,
+                from,
+                count,
+            },
+            Wanted::Local(want, file, start, most),
+        ) => {
+            let is_place = *lease == *want && *from == *start && *count == *most;
+            is_place && same(name.as_bytes(), file.as_bytes())
+        }
+        (Command::Put { lease, name, bytes }, Wanted::Put(want, file, held)) => {
+            *lease == *want
+                && same(name.as_bytes(), file.as_bytes())
+                && same(bytes.as_slice(), held)
+        }
+        (Command::Remove { lease, name }, Wanted::Remove(want, file)) => {
+            *lease == *want && same(name.as_bytes(), file.as_bytes())
+        }
+        _ => false,
+    }
 }
 
 fn is_wanted(read: &Result<Command, LineFault>, wanted: &Wanted) -> bool {
@@ -44,6 +74,7 @@ fn is_wanted(read: &Result<Command, LineFault>, wanted: &Wanted) -> bool {
         (Ok(Command::Require { key, version }), Wanted::Require(parts, want)) => {
             is_key(key, parts) && *version == *want
         }
+        (Ok(command), _) => is_of_a_file(command, wanted),
         (Err(fault), Wanted::Fault(want)) => *fault == *want,
         _ => false,
     }
@@ -78,6 +109,18 @@ const COMMANDS: &[(&str, Wanted)] = &[
     ("at 0", Wanted::At(0)),
     ("at 0001700000000", Wanted::At(1_700_000_000)),
     ("at 4611686018427387904", Wanted::At(NUMBER_LIMIT)),
+    (
+        "data 07 lib%5Ca%20b.dat 1 30000",
+        Wanted::Local(7, "lib/a b.dat", 1, 30_000),
+    ),
+    ("data 0 .pre/a 0 0", Wanted::Local(0, ".pre/a", 0, 0)),
+    ("put 1 a -", Wanted::Put(1, "a", b"")),
+    ("put 1 a 00", Wanted::Put(1, "a", b"\x00")),
+    (
+        "put 7 .pre/a 616263AaFf",
+        Wanted::Put(7, ".pre/a", b"abc\xaa\xff"),
+    ),
+    ("remove 7 lib%2Fa", Wanted::Remove(7, "lib/a")),
 ];
 
 #[test]
@@ -126,6 +169,27 @@ const FAULTS: &[(&str, LineFault)] = &[
     ("install a\r", LineFault::BadWord { place: 1 }),
     ("install a\u{7f}", LineFault::BadWord { place: 1 }),
     ("install h\u{e9}", LineFault::BadWord { place: 1 }),
+    ("datas 1 a 0 1", LineFault::NoSuchCommand),
+    ("data 1 a 0", LineFault::WordCount),
+    ("data x .. y z 1", LineFault::WordCount),
+    ("data x .. y z", LineFault::BadWord { place: 1 }),
+    ("data 1 .. y z", LineFault::BadWord { place: 2 }),
+    ("data 1 a y z", LineFault::BadWord { place: 3 }),
+    ("data 1 a 0 30001", LineFault::BadWord { place: 4 }),
+    ("Put 1 a 00", LineFault::NoSuchCommand),
+    ("put x ..", LineFault::WordCount),
+    ("put x .. 0 1", LineFault::WordCount),
+    ("put x .. 0", LineFault::BadWord { place: 1 }),
+    ("put 1 .. 0", LineFault::BadWord { place: 2 }),
+    ("put 1 a 0", LineFault::BadWord { place: 3 }),
+    ("put 1 a 0g", LineFault::BadWord { place: 3 }),
+    ("put 1 a --", LineFault::BadWord { place: 3 }),
+    ("put 1 a ", LineFault::BadWord { place: 3 }),
+    ("removes 1 a", LineFault::NoSuchCommand),
+    ("remove x", LineFault::WordCount),
+    ("remove x .. y", LineFault::WordCount),
+    ("remove x ..", LineFault::BadWord { place: 1 }),
+    ("remove 1 ..", LineFault::BadWord { place: 2 }),
 ];
 
 #[test]

@@ -42,6 +42,21 @@ const GROUP_CONTENT: &[u8] = &[
     0x50, 0xc2, 0x6c, 0x9c, 0xd0, 0xd8, 0x9d, 0, 0, 0, 3, b'a', b'b', b'c',
 ];
 
+// An empty one, and one of three bytes in a folder. The number says how long it is.
+const PUT_EMPTY: &[u8] = &[
+    10, 0, 0, 0, 0, 0, 0, 0, 1, 0, 0, 0, 1, b'd', 0, 0, 0, 0, 0, 0, 0, 0, 0, 0, 0, 0,
+];
+
+const PUT: &[u8] = &[
+    10, 1, 2, 3, 4, 5, 6, 7, 8, 0, 0, 0, 7, b'd', b'/', b'a', b'.', b'd', b'a', b't', 0, 0, 0, 0,
+    0, 0, 0, 3, 0, 0, 0, 3, b'a', b'b', b'c',
+];
+
+// Below `.pre`, which is a name like any other.
+const REMOVE: &[u8] = &[
+    11, 1, 2, 3, 4, 5, 6, 7, 8, 0, 0, 0, 6, b'.', b'p', b'r', b'e', b'/', b'a',
+];
+
 #[tactic(auto, using(machine::proofs::Shortness::short_key))]
 fn requirement(key: Key) -> Change
     requires { IsKey key }
@@ -69,6 +84,10 @@ enum Said {
     Finish(u64),
     // The view, how many bytes the group has, how many contents, and how many bytes the first has.
     Group(u64, usize, [usize; 2]),
+    // The view, how many bytes the name has, the length, and how many bytes there are.
+    Put(u64, usize, u64, usize),
+    // The view, and how many bytes the name has.
+    Remove(u64, usize),
     Bad(u64),
     Other,
 }
@@ -113,6 +132,13 @@ fn short_form(change: &Change) -> Said {
             group,
             contents,
         } => Said::Group(*view, group.as_bytes().len(), sizes(contents.as_slice())),
+        Change::Put { view, file } => Said::Put(
+            *view,
+            file.name.as_bytes().len(),
+            file.length,
+            file.bytes.as_slice().len(),
+        ),
+        Change::Remove { view, name } => Said::Remove(*view, name.as_bytes().len()),
     }
 }
 
@@ -199,6 +225,9 @@ const WRITTEN: &[&[u8]] = &[
     SKIP,
     GROUP,
     GROUP_CONTENT,
+    PUT_EMPTY,
+    PUT,
+    REMOVE,
 ];
 
 #[test]
@@ -234,6 +263,9 @@ const READ: &[(&[u8], Said)] = &[
     ),
     (GROUP, Said::Group(0x0102_0304_0506_0708, 4, [0, 0])),
     (GROUP_CONTENT, Said::Group(1, 1, [1, 3])),
+    (PUT_EMPTY, Said::Put(1, 1, 0, 0)),
+    (PUT, Said::Put(0x0102_0304_0506_0708, 7, 3, 3)),
+    (REMOVE, Said::Remove(0x0102_0304_0506_0708, 6)),
     (REQUIRE, Said::Require(1, 4, [1, 1, 1, 1])),
     // Parts may be empty.
     (
@@ -255,7 +287,7 @@ const READ: &[(&[u8], Said)] = &[
     (&[], Said::Bad(0)),
     (&[6], Said::Bad(0)),
     (&[6, 0, 0, 1, 2], Said::Bad(0)),
-    (&[10], Said::Bad(0)),
+    (&[12], Said::Bad(0)),
     // It ends too soon.
     (&[0], Said::Bad(1)),
     (&[2], Said::Bad(1)),
@@ -264,6 +296,8 @@ const READ: &[(&[u8], Said)] = &[
     (&[5, 0, 0, 1], Said::Bad(1)),
     (&[7, 0, 0, 1], Said::Bad(1)),
     (&[9], Said::Bad(1)),
+    (&[10], Said::Bad(1)),
+    (&[11], Said::Bad(1)),
     // A byte is left over.
     (&[0, 0, 0, 0, 0, 0, 0, 0, 1, 0], Said::Bad(9)),
     (&[5, 0, 0, 1, 2, 0], Said::Bad(5)),
@@ -273,6 +307,12 @@ const READ: &[(&[u8], Said)] = &[
         &[9, 0, 0, 0, 0, 0, 0, 0, 1, 0, 0, 0, 1, 0xff, 0, 0, 0, 0],
         Said::Bad(9),
     ),
+    // The name of a data file is none that a file may have.
+    (
+        &[11, 0, 0, 0, 0, 0, 0, 0, 1, 0, 0, 0, 2, b'.', b'.'],
+        Said::Bad(9),
+    ),
+    (&[11, 0, 0, 0, 0, 0, 0, 0, 1, 0, 0, 0, 0], Said::Bad(9)),
     // There are 16,384 contents, of which the first is missing, and one too many.
     (
         &[9, 0, 0, 0, 0, 0, 0, 0, 1, 0, 0, 0, 1, b'g', 0, 0, 64, 0],
@@ -311,6 +351,12 @@ const CUT: &[(&[u8], usize, u64)] = &[
     (GROUP_CONTENT, 18, 18),
     (GROUP_CONTENT, 54, 31),
     (GROUP_CONTENT, 61, 55),
+    (PUT, 8, 1),
+    (PUT, 19, 9),
+    (PUT, 27, 20),
+    (PUT, 34, 28),
+    (REMOVE, 8, 1),
+    (REMOVE, 18, 9),
 ];
 
 fn is_cut(alloc: Global, bytes: &[u8], length: usize, place: u64) -> bool {
@@ -338,6 +384,11 @@ const CHANGED: &[(&[u8], usize, u8, u64)] = &[
     // A byte is left over.
     (HEARD_MINIMUM, 29, 0, 38),
     (GROUP_CONTENT, 58, 2, 61),
+    (PUT, 31, 2, 34),
+    (REMOVE, 12, 4, 17),
+    // Each is read as its own kind alone.
+    (PUT, 0, 11, 20),
+    (REMOVE, 0, 10, 19),
 ];
 
 fn is_changed(

@@ -11,7 +11,7 @@ use manifest_parts::ManifestFault;
 use manifest_tree::{TreeFault, TreeKind};
 use manifests::ReleaseFault;
 use outside::MemSink;
-use small_types::{Bytes, Limit, List, Target, Text};
+use small_types::{Bytes, Limit, List, Name, Target, Text};
 use std::alloc::{AllocError, Global};
 use std::io::{self, ErrorKind};
 
@@ -90,6 +90,13 @@ fn checks(rt: &HostRuntime) -> io::Result<()> {
     say(rt, Reply::Group { files: 0 })?;
     say(rt, Reply::Group { files: 16_384 })?;
     say(rt, Reply::NoGroup)
+}
+
+// Data files, and why there is none.
+fn locals(rt: &HostRuntime) -> io::Result<()> {
+    say(rt, Reply::Put)?;
+    say(rt, Reply::Removed)?;
+    say(rt, Reply::BadName)
 }
 
 // So many bytes, of all values.
@@ -310,6 +317,16 @@ fn manifests(rt: &HostRuntime) -> io::Result<()> {
     Ok(())
 }
 
+// The bytes that a data file gets, or how many they are.
+fn tell_put(rt: &HostRuntime, lease: u64, name: &Name, bytes: &[u8]) -> io::Result<()> {
+    let name = name.as_str();
+    let length = bytes.len();
+    if length > 9 {
+        return println!(rt; "{length} bytes in <{name}> on {lease}");
+    }
+    println!(rt; "{bytes:?} in <{name}> on {lease}")
+}
+
 // What a command asks for.
 fn tell_command(rt: &HostRuntime, command: Command) -> io::Result<()> {
     match command {
@@ -337,6 +354,20 @@ fn tell_command(rt: &HostRuntime, command: Command) -> io::Result<()> {
         } => {
             let name = name.as_str();
             println!(rt; "a read on {lease} of <{name}> from {from}, {count}")
+        }
+        Command::Local {
+            lease,
+            name,
+            from,
+            count,
+        } => {
+            let name = name.as_str();
+            println!(rt; "data on {lease} of <{name}> from {from}, {count}")
+        }
+        Command::Put { lease, name, bytes } => tell_put(rt, lease, &name, bytes.as_slice()),
+        Command::Remove { lease, name } => {
+            let name = name.as_str();
+            println!(rt; "no more <{name}> on {lease}")
         }
         Command::Group { lease, group } => {
             let group = group.as_str();
@@ -379,6 +410,23 @@ fn addresses(rt: &HostRuntime) -> io::Result<()> {
     Ok(())
 }
 
+// The line that puts so many digits.
+fn put_line(alloc: Global, digits: usize) -> Result<Bytes, AllocError> {
+    let mut line = Bytes::from_slice(alloc, b"put 1 a ")?;
+    let word = vec![in alloc; b'f'; digits]?;
+    line.extend(&word)?;
+    Ok(line)
+}
+
+// Data files of the most bytes that a line may give, and of more.
+fn long_puts(rt: &HostRuntime) -> io::Result<()> {
+    for digits in [60_000, 60_002] {
+        let line = put_line(rt.alloc(), digits)?;
+        tell(rt, line.as_slice())?;
+    }
+    Ok(())
+}
+
 // What the lines of the input are read as.
 fn lines(rt: &HostRuntime) -> io::Result<()> {
     for line in rt.lines(rt.alloc()) {
@@ -392,6 +440,7 @@ fn main(rt: HostRuntime) -> io::Result<()> {
     plain(&rt)?;
     leases(&rt)?;
     checks(&rt)?;
+    locals(&rt)?;
     reads(&rt)?;
     counts(&rt)?;
     faults(&rt)?;
@@ -402,5 +451,6 @@ fn main(rt: HostRuntime) -> io::Result<()> {
     names(&rt)?;
     manifests(&rt)?;
     addresses(&rt)?;
+    long_puts(&rt)?;
     lines(&rt)
 }

@@ -1,7 +1,7 @@
 use Rattle.std.proofs.Common.{length, ap, subst, arith}
 use Rattle.store_state.specs.declared.change.Change.{Change}
 use Rattle.record_codec.specs.Codec.{change_text, IsChange}
-use Rattle.record_codec.proofs.Written.{length-change_text_boot, length-change_text_require, length-installed, length-heard, length-grouped, then, at_front, boot_room, require_room, unheard_room, skip_room, launch_room, finish_room, length-change_text_unheard, length-change_text_skip, length-change_text_launch, length-change_text_finish, change_text_boot, change_text_require, change_text_install, change_text_heard, change_text_unheard, change_text_skip, change_text_launch, change_text_finish, change_text_group}
+use Rattle.record_codec.proofs.Written.{length-change_text_boot, length-change_text_require, length-installed, length-heard, length-grouped, length-put, length-removed, then, at_front, boot_room, require_room, unheard_room, skip_room, launch_room, finish_room, length-change_text_unheard, length-change_text_skip, length-change_text_launch, length-change_text_finish, change_text_boot, change_text_require, change_text_install, change_text_heard, change_text_unheard, change_text_skip, change_text_launch, change_text_finish, change_text_group, change_text_put, change_text_remove}
 use Rattle.record_codec.proofs.Long.{length-version_field}
 use Rattle.record_codec.proofs.writing.encode_change.Goals as goal
 
@@ -192,3 +192,45 @@ pub returns-in-Group-clause-text : goal.returns-in-Group-clause-text
 returns-in-Group-clause-text c =
     rw (c.in-Group.is, change_text_group, ← c.as_slice-in-Group.ensures)
     (at_front c.write_group.ensures)
+
+-- ---- a data file
+
+pub write_put-requires-clause-file : goal.write_put-requires-clause-file
+write_put-requires-clause-file c =
+    let fits = subst IsChange c.in-Put.is c.requires.change in
+    fits.1
+
+pub write_put-requires-clause-room : goal.write_put-requires-clause-room
+write_put-requires-clause-room c =
+    let long = length-put c.in-Put.is in
+    omega (arith, c.requires.room)
+
+pub returns-in-Put-clause-length : goal.returns-in-Put-clause-length
+returns-in-Put-clause-length c =
+    let long = length-put c.in-Put.is in
+    omega (arith, c.write_put.ensures.behind)
+
+pub returns-in-Put-clause-text : goal.returns-in-Put-clause-text
+returns-in-Put-clause-text c =
+    rw (c.in-Put.is, change_text_put) (at_front c.write_put.ensures)
+
+-- ---- a data file that is removed
+
+pub write_remove-requires-clause-name : goal.write_remove-requires-clause-name
+write_remove-requires-clause-name c =
+    let fits = subst IsChange c.in-Remove.is c.requires.change in
+    fits.1
+
+pub write_remove-requires-clause-room : goal.write_remove-requires-clause-room
+write_remove-requires-clause-room c =
+    let long = length-removed c.in-Remove.is in
+    omega (arith, c.requires.room)
+
+pub returns-in-Remove-clause-length : goal.returns-in-Remove-clause-length
+returns-in-Remove-clause-length c =
+    let long = length-removed c.in-Remove.is in
+    omega (arith, c.write_remove.ensures.behind)
+
+pub returns-in-Remove-clause-text : goal.returns-in-Remove-clause-text
+returns-in-Remove-clause-text c =
+    rw (c.in-Remove.is, change_text_remove) (at_front c.write_remove.ensures)
