@@ -25,6 +25,7 @@ use Rattle.links.specs.Links.{LinksState}
 use Rattle.fetcher.specs.Causes.{IsFileCause, IsTextCause}
 use Rattle.fetcher.specs.Fetched.{Kept}
 use Rattle.fetcher.specs.Given.{FitsText}
+use Rattle.data_migration.specs.declared.plan.LocalPlan.{LocalPlan}
 use Rattle.install_plan.specs.declared.plan.Plan.{Plan}
 use Rattle.install_plan.specs.declared.plan.WantedFile.{WantedFile}
 use Rattle.install_plan.specs.Judging.{Refused, address_checks, deployment_checks, release_checks}
@@ -74,11 +75,11 @@ module _ {shape : Shape} {url : List ℕ} {a : LinksState} {none : List (List �
           at_provider {reply = reply} memory = subst (λ (ts : List (List ℕ)). IsRefused shape url ts a c reply) (sym (grown second.text second.noted (grown hears.text hears.noted empty)))
               (memory_end shape url target read a b one hears.text d hears.got hears.tells base joined passed c two second.text second.got reply memory)
 
-          pub at_plan : {provider : Target} {files : List WantedFile} → IsProvidedBy target d.provider provider
+          pub at_plan : {provider : Target} {files : List WantedFile} {locals : List LocalPlan} → IsProvidedBy target d.provider provider
               → map (λ file. slice_get app.files file.place) files ≡ map Some (wanted shape.views app)
               → map (λ entry. file_target_of base d.mapped entry.name) (wanted shape.views app) ≡ map (λ file. Ok file.target) files
-              → (base_of url d ≡ Ok base → IsApplication app → PassesAll (release_checks url shape d app)) → IsPlanned shape url both a c (record { deployment = d; application = app; url = target; base = base; provider = provider; wanted = files })
-          at_plan {provider = provider} {files = files} provided places targets last =
-              let plan : Plan = record { deployment = d; application = app; url = target; base = base; provider = provider; wanted = files } in
+              → (base_of url d ≡ Ok base → IsApplication app → PassesAll (release_checks url shape d app)) → IsPlanned shape url both a c (record { deployment = d; application = app; url = target; base = base; provider = provider; wanted = files; locals = locals })
+          at_plan {provider = provider} {files = files} {locals = locals} provided places targets last =
+              let plan : Plan = record { deployment = d; application = app; url = target; base = base; provider = provider; wanted = files; locals = locals } in
               subst (λ (ts : List (List ℕ)). IsPlanned shape url ts a c plan) (sym (grown second.text second.noted (grown hears.text hears.noted empty)))
               (plan_end shape url target read a b one hears.text d hears.got hears.tells base joined passed c two second.text second.got app second.tells plan refl refl refl refl provided places (targets ∙ sym (oks files)) (last (base_is url d target (Ok base) read joined) (application_read second.text app second.tells)))

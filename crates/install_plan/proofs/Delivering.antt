@@ -1,5 +1,5 @@
 -- The program files of the new view: a kept view has their contents, or they were fetched.
-use Rattle.std.proofs.Common.{◌≡◌, ◌∙◌, ◌⊎◌, ◌++◌, inl, inr, refl, sym, ap, subst, ℕ, true, List, [], ◌∷◌, map, Option, Some, None, IsSome, Result, Ok}
+use Rattle.std.proofs.Common.{◌≡◌, ◌∙◌, ◌⊎◌, ◌++◌, inl, inr, refl, sym, ap, subst, ℕ, true, List, [], ◌∷◌, map, All, Option, Some, None, IsSome, Result, Ok}
 use Rattle.std.specs.Prelude.{Any}
 use Rattle.small_types.specs.declared.target.Target.{Target}
 use Rattle.addresses.specs.declared.fault.UrlFault.{UrlFault}
@@ -8,10 +8,14 @@ use Rattle.digest_list.specs.Matches.{Matches}
 use Rattle.manifests.specs.declared.facts.FileEntry.{FileEntry}
 use Rattle.machine.specs.Blocks.{standing_files}
 use Rattle.machine.specs.Installed.{new_view}
-use Rattle.machine.specs.Views.{content_key, same_content, standing_entries}
+use Rattle.machine.specs.Current.{current_view, data_of, listed_by}
+use Rattle.machine.specs.Migrated.{IsAside, IsFresh, IsKept, Migrated}
+use Rattle.machine.specs.Shape.{Shape, shape_of}
+use Rattle.machine.specs.Store.{Store}
+use Rattle.machine.specs.Views.{DataFile, ListedFile, content_key, same_content, standing_entries}
 use Rattle.machine.specs.Views.{View as KeptView}
 use Rattle.machine.specs.Wanted.{is_held, wanted}
-use Rattle.machine.proofs.Members.{all_in, contains_in, in_all, in_contains, map_in}
+use Rattle.machine.proofs.Members.{In, all_in, contains_in, in_all, in_contains, map_in}
 use Rattle.machine.proofs.Needing.{in_passes, is_same}
 use Rattle.store_state.specs.declared.view.Content.{Content}
 use Rattle.store_state.specs.Contents.{AreContentsOf, Brings, content_of, is_content_of}
@@ -19,10 +23,12 @@ use Rattle.store_state.specs.Shows.{bytes_in, shown_file}
 use Rattle.store_state.specs.Tables.{Tables, bare_row, table_shape}
 use Rattle.links.specs.Links.{LinksState}
 use Rattle.install_plan.specs.declared.plan.Plan.{Plan}
-use Rattle.install_plan.specs.Brought.{AreContentsFor, IsBrought, IsHeldOrFetched}
+use Rattle.install_plan.specs.Brought.{AreContentsFor, IsBrought, IsCarriedOrFetched, IsHeldOrFetched}
 use Rattle.install_plan.specs.Given.{IsFrom}
 use Rattle.install_plan.specs.Plans.{IsPlan, targets_of}
 use Rattle.install_plan.proofs.Aligning.{for_one, rest_is}
+use Rattle.install_plan.proofs.Fetched.{IsOriginal}
+use Rattle.install_plan.proofs.Sufficing.{wanted_within}
 use Rattle.install_plan.proofs.Keyed.{content_is, find_right, found, kept_key}
 
 -- a list ends in one item
@@ -30,10 +36,10 @@ last_is : {X : Type 0} (xs : List X) (x y : X) → xs ++ x ∷ [] ≡ xs ++ y �
 last_is [] x y e = cc
 last_is (z ∷ xs) x y e = last_is xs x y (rest_is z z (xs ++ x ∷ []) (xs ++ y ∷ []) e)
 
-module _ (blocks : ℕ) (tables : Tables) (url : List ℕ) (texts : List (List ℕ)) (plan : Plan) (is : IsPlan (table_shape blocks tables) url texts plan) (a c : LinksState) (contents : List Content)
+module _ (blocks : ℕ) (tables : Tables) (url : List ℕ) (texts : List (List ℕ)) (plan : Plan) (is : IsPlan (table_shape blocks tables) url texts plan) (a c : LinksState) (contents new : List Content) (within : (content : Content) → In content new → In content contents)
     (are : AreContentsOf (standing_files (map bare_row tables.views)) tables.contents)
     (fetched : AreContentsFor a c (wanted (map bare_row tables.views) plan.application) (targets_of plan) contents)
-    (brings : Brings tables.contents (standing_entries [] plan.application) contents) where
+    (brings : Brings tables.contents (standing_entries [] plan.application) new) where
   abbrev held : List FileEntry
   held = standing_files (map bare_row tables.views)
 
@@ -41,7 +47,7 @@ module _ (blocks : ℕ) (tables : Tables) (url : List ℕ) (texts : List (List �
   wants = wanted (map bare_row tables.views) plan.application
 
   abbrev after : List Content
-  after = tables.contents ++ contents
+  after = tables.contents ++ new
 
   abbrev place_of : FileEntry → Result Target UrlFault
   place_of entry = file_target_of plan.base plan.deployment.mapped entry.name
@@ -64,9 +70,9 @@ module _ (blocks : ℕ) (tables : Tables) (url : List ℕ) (texts : List (List �
   new_one : (entry : FileEntry) → content_of tables.contents entry ≡ None → IsSome (content_of after entry) → IsFetchedFor entry
   unfolding IsFetchedFor
   new_one entry none some =
-      let right = find_right (is_content_of entry) tables.contents contents none in
-      let first = found (is_content_of entry) contents (subst (λ (o : Option Content). IsSome o) right some) in
-      let one = for_one a c place_of wants (targets_of plan) contents first.item fetched is.targets first.there in
+      let right = find_right (is_content_of entry) tables.contents new none in
+      let first = found (is_content_of entry) new (subst (λ (o : Option Content). IsSome o) right some) in
+      let one = for_one a c place_of wants (targets_of plan) contents first.item fetched is.targets (within first.item first.there) in
       let bytes : (shown_file after entry).bytes ≡ first.item.bytes = ap bytes_in (right ∙ first.is) in
       let key : kept_key first.item ≡ content_key one.entry =
       ap (λ (n : ℕ). record (kept_key first.item) { size = n }) one.is.size ∙ ap (λ l. record (content_key one.entry) { list = l }) one.is.list in
@@ -90,17 +96,54 @@ module _ (blocks : ℕ) (tables : Tables) (url : List ℕ) (texts : List (List �
       by None e = inr (new_one entry e some)
       by (Some content) e = inl (kept_one entry (subst (λ (o : Option Content). IsSome o) (sym e) refl))
 
-  abbrev view : ℕ → KeptView
-  view number = new_view number plan.base plan.deployment plan.application (map (shown_file after) (standing_entries [] plan.application)) []
+  abbrev view : ℕ → List DataFile → KeptView
+  view number others = new_view number plan.base plan.deployment plan.application (map (shown_file after) (standing_entries [] plan.application)) others
 
-  pub brought_view : (number : ℕ) → IsBrought (table_shape blocks tables) a c (view number)
+  files_brought : (number : ℕ) (others : List DataFile) → All (IsHeldOrFetched (table_shape blocks tables) a c (view number others)) (view number others).program_files
   unfolding IsFetchedFor
-  brought_view number = record {
-    files = in_all (IsHeldOrFetched (table_shape blocks tables) a c (view number)) (view number).program_files (λ file there.
-        let of = map_in (shown_file after) (standing_entries [] plan.application) file there in
-        let some = all_in (λ (e : FileEntry). IsSome (content_of after e)) (standing_entries [] plan.application) of.0 brings.each of.1 in
-        subst (IsHeldOrFetched (table_shape blocks tables) a c (view number)) of.2 (either of.0 some));
-  }
+  files_brought number others = in_all (IsHeldOrFetched (table_shape blocks tables) a c (view number others)) (view number others).program_files (λ file there.
+      let of = map_in (shown_file after) (standing_entries [] plan.application) file there in
+      let some = all_in (λ (e : FileEntry). IsSome (content_of after e)) (standing_entries [] plan.application) of.0 brings.each of.1 in
+      subst (IsHeldOrFetched (table_shape blocks tables) a c (view number others)) of.2 (either of.0 some))
 
-  pub brought_last : (number : ℕ) (views : List KeptView) (last : KeptView) → views ++ view number ∷ [] ≡ views ++ last ∷ [] → IsBrought (table_shape blocks tables) a c last
-  brought_last number views last same = subst (IsBrought (table_shape blocks tables) a c) (last_is views (view number) last same) (brought_view number)
+  module _ (old : Store) (number : ℕ) (others : List DataFile) (originals : List ListedFile)
+      (migrated : Migrated (data_of (current_view plan.deployment.identity.key old)) (listed_by (current_view plan.deployment.identity.key old)) plan.application.files originals others)
+      (each : (file : ListedFile) → In file originals → IsOriginal a c place_of wants file) where
+    abbrev Kept : DataFile → Type 0
+    Kept file = IsKept (data_of (current_view plan.deployment.identity.key old)) (listed_by (current_view plan.deployment.identity.key old)) plan.application.files file
+
+    abbrev Aside : DataFile → Type 0
+    Aside file = IsAside (data_of (current_view plan.deployment.identity.key old)) (listed_by (current_view plan.deployment.identity.key old)) plan.application.files file
+
+    abbrev Comes : DataFile → Type 0
+    Comes file = IsFresh (data_of (current_view plan.deployment.identity.key old)) (listed_by (current_view plan.deployment.identity.key old)) plan.application.files originals file
+
+    carried : (file : DataFile) → Kept file ⊎ Aside file ⊎ Comes file → IsCarriedOrFetched old a c (view number others) file
+    carried file (inl kept) = inl kept
+    carried file (inr (inl aside)) = inr (inl aside)
+    carried file (inr (inr fresh)) =
+        let of = each fresh.original (in_contains originals fresh.original fresh.deployed) in
+        let entry = fresh.original.entry in
+        let at = contains_in plan.application.files entry (wanted_within plan.application.files held entry of.there) in
+        inr (inr (
+          at.0,
+          entry,
+          at.1,
+          at.2,
+          (
+            of.target,
+            of.local,
+            sym fresh.name,
+            of.named,
+            subst (λ (bs : List ℕ). IsFrom (Matches entry.list entry.size) of.target a c bs) (sym fresh.bytes) of.from,
+          ),
+        ))
+
+    brought_view : shape_of old ≡ table_shape blocks tables → IsBrought old a c (view number others)
+    brought_view same = record {
+      files = subst (λ (s : Shape). All (IsHeldOrFetched s a c (view number others)) (view number others).program_files) (sym same) (files_brought number others);
+      data_files = in_all (IsCarriedOrFetched old a c (view number others)) others (λ file there. carried file ((migrated.files file).0 (contains_in others file there)));
+    }
+
+    pub brought_last : shape_of old ≡ table_shape blocks tables → (views : List KeptView) (last : KeptView) → views ++ view number others ∷ [] ≡ views ++ last ∷ [] → IsBrought old a c last
+    brought_last same views last is = subst (IsBrought old a c) (last_is views (view number others) last is) (brought_view same)

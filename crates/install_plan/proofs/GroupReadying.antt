@@ -17,7 +17,7 @@ use Rattle.machine.proofs.Members.{all_in}
 use Rattle.store_state.specs.declared.change.Change.TheVariants as change
 use Rattle.store_state.specs.declared.view.Content.{Content}
 use Rattle.store_state.specs.declared.view.View.{View}
-use Rattle.store_state.specs.Change.{Fits, MayGrow}
+use Rattle.store_state.specs.Change.{Fits, IsRow, MayGrow}
 use Rattle.store_state.specs.Contents.{Brings}
 use Rattle.store_state.specs.Kept.{AreTables}
 use Rattle.store_state.specs.Laws.{GroupsShowTheFiles, ShowsGroup, stand_files}
@@ -43,8 +43,7 @@ use Rattle.install_plan.proofs.Ungrouping.{few_of_group, same_contents}
 pub leased_held : (blocks : ℕ) (tables : Tables) (lease : ℕ) (view : View) → AreTables tables
     → IsLeased blocks tables lease view → IsApplication view.application
 leased_held blocks tables lease view are leased =
-    all_in (λ (v : View). IsApplication v.application) tables.views view are.applications
-    (row_there leased)
+    (all_in IsRow tables.views view are.rows (row_there leased)).application
 
 module _ (blocks : ℕ) (tables : Tables) (lease : ℕ) (group : List ℕ) (view : View)
     (leased : IsLeased blocks tables lease view)

@@ -1,6 +1,7 @@
 pub mod Absent
 pub mod Aligning
 pub mod Asking
+pub mod Carried
 pub mod Causes
 pub mod CheckEnds
 pub mod Coming
@@ -11,6 +12,7 @@ pub mod Ends
 pub mod Entry
 pub mod Exits
 pub mod Extends
+pub mod Fetched
 pub mod Fetches
 pub mod Fitting
 pub mod GroupOver
@@ -22,10 +24,10 @@ pub mod Keyed
 pub mod Knowing
 pub mod LeasedRows
 pub mod Listed
-pub mod Locals
-pub mod NoData
 pub mod Noted
 pub mod Outcome
+pub mod Parting
+pub mod Planned
 pub mod Readying
 pub mod Released
 pub mod Rows

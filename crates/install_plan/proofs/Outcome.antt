@@ -1,17 +1,18 @@
 -- The change that a plan comes to fits the tables, and leads to the store in which the release is installed.
-use Rattle.std.proofs.Common.{◌≡◌, ◌⊎◌, ◌++◌, ◌+◌, ◌<◌, ◌≤◌, inl, inr, refl, sym, ap, subst, ℕ, true, List, [], ◌∷◌, length, map, All, None, Option, Some, arith}
+use Rattle.std.proofs.Common.{◌≡◌, ◌∙◌, ◌⊎◌, ◌++◌, ◌+◌, ◌<◌, ◌≤◌, inl, inr, refl, sym, ap, subst, ℕ, true, List, [], ◌∷◌, length, map, None, Option, Some, Result, arith}
 use Rattle.std.specs.Prelude.{sum_by}
 use Rattle.std.proofs.lemmas.Bool.{cases_lt}
 use Rattle.std.proofs.lemmas.List.{length-map}
-use Rattle.small_types.specs.declared.limits.TheConstants.{APPLICATION_LIMIT, FILE_COUNT_LIMIT, NUMBER_LIMIT, VIEW_LIMIT}
+use Rattle.small_types.specs.declared.limits.TheConstants.{APPLICATION_LIMIT, FILE_COUNT_LIMIT, LOCAL_COUNT_LIMIT, NUMBER_LIMIT, VIEW_LIMIT}
+use Rattle.small_types.specs.declared.target.Target.{Target}
+use Rattle.addresses.specs.declared.fault.UrlFault.{UrlFault}
+use Rattle.addresses.specs.Join.{file_target_of}
 use Rattle.manifests.specs.declared.facts.Application.{Application}
 use Rattle.manifests.specs.declared.facts.Deployment.{Deployment}
-use Rattle.manifests.specs.Applications.{is_below_pre}
-use Rattle.manifests.specs.Facts.{IsFile}
+use Rattle.manifests.specs.declared.facts.FileEntry.{FileEntry}
 use Rattle.machine.specs.declared.command.Command.TheVariants.{Install as InstallCommand}
 use Rattle.machine.specs.declared.reply.Reply.TheVariants.{Installed as IsInstalled}
-use Rattle.machine.specs.declared.views.TheConstants.{INSTALLED_LOCALS}
-use Rattle.machine.specs.Current.{bare_data_of, bare_listed_by, current_bare, current_view, data_of, listed_by}
+use Rattle.machine.specs.Current.{current_view, data_of, listed_by}
 use Rattle.machine.specs.Fields.{IsApplication, IsDeployment, IsTarget}
 use Rattle.machine.specs.Installed.{IsProvidedBy, with_view}
 use Rattle.machine.specs.InstallReplies.{install_replies}
@@ -19,30 +20,34 @@ use Rattle.machine.specs.InstallRow.{InstallEffect, LacksEntry, OfDeployment, Of
 use Rattle.machine.specs.Machine.{Answers}
 use Rattle.machine.specs.Migrated.{Migrated}
 use Rattle.machine.specs.Rows.{PassesAll, Refusal}
-use Rattle.machine.specs.Shape.{BareData, BareView, Shape, bare_data, shape_of}
+use Rattle.machine.specs.Shape.{BareView, Shape, shape_of}
 use Rattle.machine.specs.Sound.{Sound}
 use Rattle.machine.specs.Store.{Session, Store}
-use Rattle.machine.specs.Views.{DataFile, content_key, standing_entries}
+use Rattle.machine.specs.Views.{DataFile, ListedFile, standing_entries}
 use Rattle.machine.specs.Wanted.{wanted}
 use Rattle.machine.proofs.Addresses.{codebase_is_held, text_is_held}
-use Rattle.machine.proofs.Bringing.{bare_data_current}
-use Rattle.machine.proofs.Members.{In, all_in, in_map, sum_map}
-use Rattle.machine.proofs.Names.{outside_test}
+use Rattle.machine.proofs.Members.{sum_map}
 use Rattle.machine.proofs.ReadApplications.{application_read}
 use Rattle.machine.proofs.ReadDeployments.{deployment_read}
 use Rattle.store_state.specs.declared.view.Content.{Content}
+use Rattle.store_state.specs.declared.view.View.{View}
+use Rattle.links.specs.Links.{LinksState}
 use Rattle.store_state.specs.Change.{Fits, effect}
 use Rattle.store_state.specs.Kept.{AreTables}
 use Rattle.store_state.specs.Laws.{InstallsShowTheView, ShapesAreShown}
-use Rattle.store_state.specs.Shows.{Shows, shown_file}
+use Rattle.store_state.specs.Locals.{outside_locals}
+use Rattle.store_state.specs.Rows.{current_row}
+use Rattle.store_state.specs.Shows.{Shows, shown_data, shown_file}
 use Rattle.store_state.specs.Tables.{Tables, bare_row, table_shape}
 use Rattle.install_plan.specs.declared.plan.Plan.{Plan}
-use Rattle.install_plan.specs.Changes.{change_of_plan, view_of}
+use Rattle.install_plan.specs.Carried.{row_files, row_locals}
+use Rattle.install_plan.specs.Changes.{change_of_plan, listed_at, made_locals, plan_contents, plan_locals, plan_originals, view_of}
 use Rattle.install_plan.specs.Plans.{IsPlan}
-use Rattle.install_plan.proofs.Keyed.{kept_key}
-use Rattle.install_plan.proofs.NoData.{each_below, migrated_none, none_deployed}
+use Rattle.install_plan.proofs.Carried.{made_are, made_order, made_outside, migrated, plan_names}
+use Rattle.install_plan.proofs.Fetched.{ArePartsOf, whole_originals}
+use Rattle.install_plan.proofs.Planned.{IsInOrder, counted, row_are}
 use Rattle.install_plan.proofs.Showing.{fetched}
-use Rattle.install_plan.proofs.Sufficing.{HasNoData, IsWholeContent, brings}
+use Rattle.install_plan.proofs.Sufficing.{brings}
 use Rattle.install_plan.proofs.Told.{deployment_of_release, release_map}
 
 not_less : (a b : ℕ) → ¬ (a < b) → b ≤ a
@@ -97,18 +102,22 @@ module _ (blocks : ℕ) (tables : Tables) (url : List ℕ) (texts : List (List �
       by None given = subst IsTarget (sym given) (text_is_held url plan.url is.read)
       by (Some text) read = text_is_held text plan.provider read
 
-  few_locals : locals_after shape d a ≤ 0
-  few_locals = not_less INSTALLED_LOCALS (locals_after shape d a) (λ many. is.release.1.1.1.1.0 (of_release {P = λ x y. INSTALLED_LOCALS < locals_after shape x y} many))
-
-  pub no_data : HasNoData a
-  no_data entry there =
-      none_deployed (map (λ (file : BareData). file.name) (bare_data_of (current_bare d.identity.key shape))) (bare_listed_by (current_bare d.identity.key shape)) a.files few_locals entry there
-      (outside_test entry.name (all_in IsFile a.files entry held_application.facts.each there).above)
+  few_locals : locals_after shape d a ≤ LOCAL_COUNT_LIMIT
+  few_locals = not_less LOCAL_COUNT_LIMIT (locals_after shape d a) (λ many. is.release.1.1.1.1.0 (of_release {P = λ x y. LOCAL_COUNT_LIMIT < locals_after shape x y} many))
 
   -- ---- it fits
 
-  pub plan_fits : (contents : List Content) (now : ℕ) → AreTables tables → now ≤ NUMBER_LIMIT → map kept_key contents ≡ map content_key (wanted (map bare_row tables.views) a) → All IsWholeContent contents → Fits tables (change_of_plan tables plan contents now)
-  plan_fits contents now are moment keys whole = record {
+  abbrev place_of : FileEntry → Result Target UrlFault
+  place_of entry = file_target_of plan.base d.mapped entry.name
+
+  abbrev row : Option View
+  row = current_row d.identity.key tables
+
+  outside_are : (originals : List ListedFile) → IsInOrder tables plan → outside_locals (made_locals (row_locals row) originals plan.locals) ≡ locals_after shape d a
+  outside_are originals has = made_outside (row_locals row) originals plan.locals ∙ counted d.identity.key tables blocks a.files plan.locals has.are
+
+  pub plan_fits : (before behind : LinksState) (contents : List Content) (now : ℕ) → AreTables tables → now ≤ NUMBER_LIMIT → IsInOrder tables plan → ArePartsOf before behind place_of (map bare_row tables.views) a contents (listed_at a.files plan.wanted) → Fits tables (change_of_plan tables plan contents now)
+  plan_fits before behind contents now are moment has parts = record {
     number = refl;
     next = less_than tables.next_view NUMBER_LIMIT (λ le. is.deployment.1.1.1.1.1.1.0 (omega (arith, are.limit, le)));
     moment = moment;
@@ -116,13 +125,14 @@ module _ (blocks : ℕ) (tables : Tables) (url : List ℕ) (texts : List (List �
       deployment = held_deployment;
       application = held_application;
       base = held_base;
-      order = λ i j x lt within. absurd (omega arith);
-      locals = λ k x within. absurd (omega arith);
-      few = omega arith;
+      order = made_order (row_locals row) (plan_originals plan contents) plan.locals has.order;
+      locals = made_are (row_locals row) (plan_originals plan contents) plan.locals
+          (plan_names (row_locals row) (row_files row) a (row_are d.identity.key tables row refl are) held_application plan.locals has.are.names);
+      few = subst (λ (n : ℕ). n ≤ LOCAL_COUNT_LIMIT) (sym (outside_are (plan_originals plan contents) has)) few_locals;
     };
     groups = refl;
     has_provider = held_provider;
-    brings = brings (map bare_row tables.views) a tables.contents contents are.contents no_data keys whole;
+    brings = brings (map bare_row tables.views) a tables.contents (plan_contents plan contents) are.contents parts.keys parts.whole;
     application = λ none. less_than (length tables.apps) APPLICATION_LIMIT (λ many. is.deployment.1.1.1.1.0 (of_deployment {P = LacksEntry shape} (none, many)));
     views = (let less = less_than (length (map bare_row tables.views)) VIEW_LIMIT is.deployment.1.1.1.1.1.0 in omega (arith, less, length-map tables.views bare_row));
     files = (let most = not_less FILE_COUNT_LIMIT _ (λ many. is.release.1.1.1.0 (of_release {P = λ x y. FILE_COUNT_LIMIT < sum_by (λ (view : BareView). length view.application.files) shape.views + length y.files} many)) in
@@ -131,37 +141,34 @@ module _ (blocks : ℕ) (tables : Tables) (url : List ℕ) (texts : List (List �
 
   -- ---- all refusals are passed
 
-  pub plan_passes : PassesAll (install_refusals install_replies INSTALLED_LOCALS url texts shape)
+  pub plan_passes : PassesAll (install_refusals install_replies LOCAL_COUNT_LIMIT url texts shape)
   plan_passes =
-      joined_passes (address_refusals install_replies url) (deployment_refusals install_replies url texts shape ++ release_refusals install_replies INSTALLED_LOCALS url texts shape ++ file_refusals install_replies url texts shape) is.address
-      (joined_passes (deployment_refusals install_replies url texts shape) (release_refusals install_replies INSTALLED_LOCALS url texts shape ++ file_refusals install_replies url texts shape) is.deployment
-      (joined_passes (release_refusals install_replies INSTALLED_LOCALS url texts shape) (file_refusals install_replies url texts shape) is.release (tt, tt)))
+      joined_passes (address_refusals install_replies url) (deployment_refusals install_replies url texts shape ++ release_refusals install_replies LOCAL_COUNT_LIMIT url texts shape ++ file_refusals install_replies url texts shape) is.address
+      (joined_passes (deployment_refusals install_replies url texts shape) (release_refusals install_replies LOCAL_COUNT_LIMIT url texts shape ++ file_refusals install_replies url texts shape) is.deployment
+      (joined_passes (release_refusals install_replies LOCAL_COUNT_LIMIT url texts shape) (file_refusals install_replies url texts shape) is.release (tt, tt)))
 
   -- ---- what it leads to
 
-  module _ (shapes : ShapesAreShown) (image : List ℕ) (old : Session) (contents : List Content) (now : ℕ) (shows : Shows blocks tables image old.store) (are : AreTables tables) (whole : All IsWholeContent contents) (fits : Fits tables (change_of_plan tables plan contents now)) where
+  module _ (shapes : ShapesAreShown) (image : List ℕ) (old : Session) (before behind : LinksState) (contents : List Content) (now : ℕ) (shows : Shows blocks tables image old.store) (are : AreTables tables) (has : IsInOrder tables plan)
+      (parts : ArePartsOf before behind place_of (map bare_row tables.views) a contents (listed_at a.files plan.wanted)) (fits : Fits tables (change_of_plan tables plan contents now)) where
     abbrev after : List Content
-    after = tables.contents ++ contents
+    after = tables.contents ++ plan_contents plan contents
+
+    abbrev pub led_data : List DataFile
+    led_data = map shown_data (plan_locals tables plan contents)
 
     -- the store with the new view
     abbrev pub led_store : Store
-    led_store = with_view plan.provider plan.base d a (map (shown_file after) (standing_entries [] a)) [] now old.store
+    led_store = with_view plan.provider plan.base d a (map (shown_file after) (standing_entries [] a)) led_data now old.store
 
     abbrev pub led : Session
     led = record old { store = led_store }
 
-    same_shape : shape_of old.store ≡ shape
+    pub same_shape : shape_of old.store ≡ shape
     same_shape = shapes blocks tables image old.store shows
 
-    old_data : (file : DataFile) → In file (data_of (current_view d.identity.key old.store)) → is_below_pre file.name ≡ true
-    old_data file there =
-        let bare : In (bare_data file) (bare_data_of (current_bare d.identity.key (shape_of old.store))) = subst (λ (files : List BareData). In (bare_data file) files) (sym (bare_data_current d.identity.key old.store)) (in_map bare_data (data_of (current_view d.identity.key old.store)) file there) in
-        let row : In (bare_data file) (bare_data_of (current_bare d.identity.key shape)) = subst (λ (s : Shape). In (bare_data file) (bare_data_of (current_bare d.identity.key s))) same_shape bare in
-        each_below (map (λ (file : BareData). file.name) (bare_data_of (current_bare d.identity.key shape))) (bare_listed_by (current_bare d.identity.key shape)) a.files few_locals no_data file.name
-        (in_map (λ (file : BareData). file.name) (bare_data_of (current_bare d.identity.key shape)) (bare_data file) row)
-
-    migrated : Migrated (data_of (current_view d.identity.key old.store)) (listed_by (current_view d.identity.key old.store)) a.files [] []
-    migrated = migrated_none (data_of (current_view d.identity.key old.store)) (listed_by (current_view d.identity.key old.store)) a.files old_data
+    pub led_migrated : Sound old.store → Migrated (data_of (current_view d.identity.key old.store)) (listed_by (current_view d.identity.key old.store)) a.files (plan_originals plan contents) led_data
+    led_migrated sound = migrated blocks tables image old.store shows d.identity.key a held_application sound plan.locals has.are (plan_originals plan contents) parts.deployed
 
     next_is : old.store.next_view ≡ tables.next_view
     next_is = ap (λ (s : Store). s.next_view) shows.is
@@ -176,14 +183,15 @@ module _ (blocks : ℕ) (tables : Tables) (url : List ℕ) (texts : List (List �
       base = plan.base;
       joined = is.joined;
       files = map (shown_file after) (standing_entries [] a);
-      originals = [];
-      fetched = fetched blocks tables image old.store contents shows are.contents sound whole a no_data fits.brings;
+      originals = plan_originals plan contents;
+      fetched = fetched blocks tables image old.store (plan_contents plan contents) shows are.contents sound parts.whole a (plan_originals plan contents) parts.deployed
+          (whole_originals before behind place_of (wanted (map bare_row tables.views) a) (plan_originals plan contents) parts.originals) fits.brings;
       store = led_store;
       installed = record {
         provider = plan.provider;
         provided = is.provided;
-        data_files = [];
-        migrated = migrated;
+        data_files = led_data;
+        migrated = led_migrated sound;
         is = refl;
       };
       is = refl;
@@ -191,7 +199,7 @@ module _ (blocks : ℕ) (tables : Tables) (url : List ℕ) (texts : List (List �
     }
 
     pub plan_step : Sound old.store → Answers now texts old (InstallCommand url) (IsInstalled d.identity.key d.identity.version tables.next_view) led
-    plan_step sound = inr ((tt, subst (λ (s : Shape). PassesAll (install_refusals install_replies INSTALLED_LOCALS url texts s)) (sym same_shape) plan_passes), plan_effect sound)
+    plan_step sound = inr ((tt, subst (λ (s : Shape). PassesAll (install_refusals install_replies LOCAL_COUNT_LIMIT url texts s)) (sym same_shape) plan_passes), plan_effect sound)
 
     pub plan_shows : InstallsShowTheView → (later : List ℕ) → Shows blocks (effect (change_of_plan tables plan contents now) tables) later led_store
-    plan_shows law later = law blocks tables (view_of tables plan) contents plan.provider now image later old.store shows fits
+    plan_shows law later = law blocks tables (view_of tables plan (plan_locals tables plan contents)) (plan_contents plan contents) plan.provider now image later old.store shows fits

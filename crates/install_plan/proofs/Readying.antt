@@ -1,7 +1,10 @@
 -- All that is ready once the files of a plan are fetched.
-use Rattle.std.proofs.Common.{◌≡◌, ◌≤◌, refl, sym, subst, ℕ, Bool, true, false, cond, not, ◌&&◌, List, [], ◌∷◌, length, map, arith}
-use Rattle.std.proofs.lemmas.List.{append-nil}
+use Rattle.std.proofs.Common.{◌≡◌, ◌≤◌, refl, sym, subst, ℕ, Bool, true, false, cond, not, ◌&&◌, List, [], ◌∷◌, length, map, Option, Result, arith}
+use Rattle.std.proofs.lemmas.List.{append-nil, length-map}
 use Rattle.small_types.specs.declared.limits.TheConstants.{FILE_COUNT_LIMIT, NUMBER_LIMIT}
+use Rattle.small_types.specs.declared.target.Target.{Target}
+use Rattle.addresses.specs.declared.fault.UrlFault.{UrlFault}
+use Rattle.addresses.specs.Join.{file_target_of}
 use Rattle.manifests.specs.declared.facts.FileEntry.{FileEntry}
 use Rattle.machine.specs.declared.reply.Reply.{Reply}
 use Rattle.machine.specs.declared.reply.Reply.TheVariants.{Memory}
@@ -15,19 +18,25 @@ use Rattle.store_state.specs.declared.view.Content.{Content}
 use Rattle.store_state.specs.Change.{Fits}
 use Rattle.store_state.specs.Kept.{AreTables}
 use Rattle.store_state.specs.Laws.{InstallsShowTheView, ShapesAreShown}
-use Rattle.store_state.specs.Shows.{Shows}
+use Rattle.store_state.specs.Rows.{current_row}
+use Rattle.store_state.specs.Shows.{Shows, shown_data}
 use Rattle.store_state.specs.Tables.{Tables, bare_row, table_shape}
+use Rattle.data_migration.specs.declared.plan.LocalPlan.{LocalPlan}
+use Rattle.data_migration.specs.Migration.{made}
 use Rattle.links.specs.Links.{LinksState}
 use Rattle.install_plan.specs.declared.plan.Plan.{Plan}
 use Rattle.install_plan.specs.Brought.{AreContentsFor}
-use Rattle.install_plan.specs.Changes.{change_of_plan, installed_of}
+use Rattle.install_plan.specs.Carried.{HasLocals, row_locals}
+use Rattle.install_plan.specs.Changes.{AreShort, change_of_plan, installed_of, listed_at, local_of, plan_contents, plan_locals, plan_originals}
 use Rattle.install_plan.specs.Fetching.{ArePlaces, HasFetched}
 use Rattle.install_plan.specs.Plans.{IsPlan, IsPlanned, IsRefused, targets_of}
 use Rattle.install_plan.specs.Ready.{IsReady, IsStep}
-use Rattle.install_plan.proofs.Aligning.{are_places, contents_for, count_for, keys_for, whole_for}
+use Rattle.install_plan.proofs.Aligning.{are_places, contents_for, count_for}
 use Rattle.install_plan.proofs.Delivering.{brought_last}
+use Rattle.install_plan.proofs.Fetched.{ArePartsOf, parts_are}
 use Rattle.install_plan.proofs.Fetches.{all_from}
-use Rattle.install_plan.proofs.Outcome.{held_application, led, plan_effect, plan_fits, plan_passes, plan_shows}
+use Rattle.install_plan.proofs.Outcome.{held_application, led, led_data, led_migrated, plan_effect, plan_fits, plan_passes, plan_shows}
+use Rattle.install_plan.proofs.Planned.{IsInOrder, in_order}
 use Rattle.install_plan.proofs.Serving.{no_memory, served_all}
 
 -- no more files are wanted than there are
@@ -61,18 +70,38 @@ module _ (blocks : ℕ) (tables : Tables) (url : List ℕ) (texts : List (List �
       let few = (held_application blocks tables url texts plan planned.is).facts.files.few in
       omega (arith, few, few_wanted plan.application.files (standing_files (map bare_row tables.views)), count_for a c entries (targets_of plan) contents contents_are)
 
-  module _ (now : ℕ) (are : AreTables tables) (moment : now ≤ NUMBER_LIMIT) (shapes : ShapesAreShown) (law : InstallsShowTheView) where
+  abbrev place_of : FileEntry → Result Target UrlFault
+  place_of entry = file_target_of plan.base plan.deployment.mapped entry.name
+
+  abbrev places : List (Option FileEntry)
+  places = listed_at plan.application.files plan.wanted
+
+  parts : ArePartsOf a c place_of (map bare_row tables.views) plan.application contents places
+  parts = parts_are a c place_of (map bare_row tables.views) plan.application contents places (targets_of plan) planned.is.places contents_are planned.is.targets
+
+  module _ (now : ℕ) (are : AreTables tables) (moment : now ≤ NUMBER_LIMIT) (shapes : ShapesAreShown) (law : InstallsShowTheView) (known : HasLocals tables plan) (short : AreShort (plan_locals tables plan contents)) where
+    has : IsInOrder tables plan
+    has = in_order plan.deployment.identity.key tables are plan.application (held_application blocks tables url texts plan planned.is) plan.locals known
+
     fits : Fits tables (change_of_plan tables plan contents now)
-    fits = plan_fits blocks tables url texts plan planned.is contents now are moment
-        (keys_for a c entries (targets_of plan) contents contents_are) (whole_for a c entries (targets_of plan) contents contents_are)
+    fits = plan_fits blocks tables url texts plan planned.is a c contents now are moment has parts
 
     step : (image : List ℕ) (old : Session) → Shows blocks tables image old.store → Sound old.store → IsStep blocks tables url texts a c now (change_of_plan tables plan contents now) (installed_of tables plan) old
     step image old shows sound = record {
-      new = led blocks tables url texts plan planned.is shapes image old contents now shows are (whole_for a c entries (targets_of plan) contents contents_are) fits;
-      installs = plan_effect blocks tables url texts plan planned.is shapes image old contents now shows are (whole_for a c entries (targets_of plan) contents contents_are) fits sound;
-      shows = λ later. plan_shows blocks tables url texts plan planned.is shapes image old contents now shows are (whole_for a c entries (targets_of plan) contents contents_are) fits law later;
-      brought = λ view same. brought_last blocks tables url texts plan planned.is a c contents are.contents contents_are fits.brings old.store.next_view old.store.views view same;
+      new = led blocks tables url texts plan planned.is shapes image old a c contents now shows are has parts fits;
+      installs = plan_effect blocks tables url texts plan planned.is shapes image old a c contents now shows are has parts fits sound;
+      shows = λ later. plan_shows blocks tables url texts plan planned.is shapes image old a c contents now shows are has parts fits law later;
+      brought = λ view same. brought_last blocks tables url texts plan planned.is a c contents (plan_contents plan contents) parts.within are.contents contents_are fits.brings
+          old.store old.store.next_view (led_data blocks tables url texts plan planned.is shapes image old a c contents now shows are has parts fits) (plan_originals plan contents)
+          (led_migrated blocks tables url texts plan planned.is shapes image old a c contents now shows are has parts fits sound) parts.originals
+          (shapes blocks tables image old.store shows) old.store.views view same;
     }
+
+    few_locals : length (plan_locals tables plan contents) ≤ FILE_COUNT_LIMIT
+    few_locals = subst (λ (n : ℕ). n ≤ FILE_COUNT_LIMIT) (sym (length-map plan.locals (λ (p : LocalPlan). local_of (made (map shown_data (row_locals (current_row plan.deployment.identity.key tables))) (plan_originals plan contents) p)))) has.few
+
+    few_programs : length (plan_contents plan contents) ≤ FILE_COUNT_LIMIT
+    few_programs = (let few = parts.few in omega (arith, few, few_contents))
 
     ready : IsReady blocks tables url texts a c now (change_of_plan tables plan contents now) (installed_of tables plan)
     ready = record {
@@ -81,7 +110,7 @@ module _ (blocks : ℕ) (tables : Tables) (url : List ℕ) (texts : List (List �
       replied = (plan.deployment.identity.key, plan.deployment.identity.version, tables.next_view, refl);
       served = served_all (table_shape blocks tables) url texts a b c plan planned got.kept plan.deployment.identity.key plan.deployment.identity.version tables.next_view got.grown;
       fits = fits;
-      few = (refl, few_contents);
+      few = (few_programs, few_locals, short);
       step = step;
     }
 

@@ -1,6 +1,7 @@
 -- The judgement of a release, call by call.
-use Rattle.std.proofs.Common.{◌≡◌, ◌⊎◌, ◌++◌, ℕ, inl, inr, refl, subst, List, Ok, Err, map}
+use Rattle.std.proofs.Common.{◌≡◌, ◌⊎◌, ◌++◌, ◌<◌, ℕ, inl, inr, refl, subst, List, Ok, Err, map}
 use Rattle.std.specs.Prelude.{Any}
+use Rattle.small_types.specs.declared.limits.TheConstants.{FILE_COUNT_LIMIT}
 use Rattle.small_types.specs.declared.target.Target.{Target}
 use Rattle.addresses.specs.declared.fault.UrlFault.TheVariants.{BadUrl}
 use Rattle.addresses.specs.Join.{file_target_of}
@@ -10,15 +11,20 @@ use Rattle.manifests.specs.declared.facts.FileEntry.{FileEntry}
 use Rattle.machine.specs.declared.reply.Reply.{Reply}
 use Rattle.machine.specs.declared.reply.Reply.TheVariants as says
 use Rattle.machine.specs.Blocks.{free_blocks}
-use Rattle.machine.specs.InstallRow.{OfWanted, base_of}
+use Rattle.machine.specs.InstallRow.{OfWanted, base_of, files_after}
 use Rattle.machine.specs.Rows.{PassesAll}
 use Rattle.machine.specs.Shape.{Shape}
 use Rattle.machine.specs.Wanted.{install_need, wanted}
 use Rattle.install_plan.specs.declared.plan.WantedFile.{WantedFile}
-use Rattle.install_plan.specs.Judging.{Refused, file_checks, identity_checks, release_checks, room_checks, target_checks}
+use Rattle.install_plan.specs.Judging.{Refused, file_checks, identity_checks, local_checks, release_checks, room_checks, target_checks}
 use Rattle.install_plan.proofs.Listed.{passes_both, refused_left, refused_right}
 use Rattle.install_plan.proofs.Told.{ok_one}
 use Rattle.install_plan.proofs.Wants.{none_refused}
+
+-- not too many files are listed
+pub behind_count : (shape : Shape) (d : Deployment) (a : Application) → (FILE_COUNT_LIMIT < files_after shape a → ⊥) → (reply : Reply) → Refused (local_checks shape d a) reply → Refused (file_checks shape d a) reply
+behind_count shape d a few reply (inl memory) = inl memory
+behind_count shape d a few reply (inr refuses) = inr (λ old. inr (few, refuses old))
 
 module _ (shape : Shape) (url : List ℕ) (d : Deployment) (a : Application) (base : Target)
     (at : base_of url d ≡ Ok base) where

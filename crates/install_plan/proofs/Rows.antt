@@ -3,7 +3,7 @@ use Rattle.std.proofs.Common.{◌≡◌, ◌≢◌, ◌∙◌, inl, inr, refl, s
 use Rattle.std.specs.Prelude.{◌<◌, ◌≤◌, Result, drop, length, slice_get}
 use Rattle.small_types.specs.Reading.{◌>>=◌}
 use Rattle.small_types.specs.declared.limit.Limit.TheVariants.{Applications, Views, Files, Locals}
-use Rattle.small_types.specs.declared.limits.TheConstants.{APPLICATION_LIMIT, FILE_COUNT_LIMIT, NUMBER_LIMIT, VIEW_LIMIT}
+use Rattle.small_types.specs.declared.limits.TheConstants.{APPLICATION_LIMIT, FILE_COUNT_LIMIT, LOCAL_COUNT_LIMIT, NUMBER_LIMIT, VIEW_LIMIT}
 use Rattle.small_types.specs.declared.target.Target.{Target}
 use Rattle.addresses.specs.declared.fault.UrlFault.{UrlFault}
 use Rattle.addresses.specs.declared.fault.UrlFault.TheVariants.{BadUrl, NotHttp}
@@ -24,7 +24,6 @@ use Rattle.manifests.specs.Deployments.{deployment_of}
 use Rattle.manifests.specs.Releases.{RefusesIdentity}
 use Rattle.machine.specs.declared.reply.Reply.{Reply}
 use Rattle.machine.specs.declared.reply.Reply.TheVariants as says
-use Rattle.machine.specs.declared.views.TheConstants.{INSTALLED_LOCALS}
 use Rattle.machine.specs.Blocks.{free_blocks}
 use Rattle.machine.specs.InstallReplies.{install_replies}
 use Rattle.machine.specs.InstallRow.{IsBelowMinimum, IsNotNewer, IsRefused, LacksEntry, OfDeployment, OfRelease, OfWanted, base_of, deployment_refusals, files_after, locals_after, release_refusals}
@@ -131,14 +130,14 @@ module _ (shape : Shape) (url : List ℕ) (heard : List (List ℕ)) (d : Deploym
   all_checks = release_checks url shape d a
 
   abbrev others : List (Refusal Reply Session)
-  others = drop 2 (release_refusals {C = Cause} install_replies INSTALLED_LOCALS url heard shape)
+  others = drop 2 (release_refusals {C = Cause} install_replies LOCAL_COUNT_LIMIT url heard shape)
 
   similar : AreAlike all_checks others
   similar =
       let identity = exactly_with_alike (λ reason. RefusesIdentity d a reason × (reason ≢ unlike.Memory)) (λ reason. OfRelease heard (λ x y. RefusesIdentity x y reason) × (reason ≢ unlike.Memory)) (λ reason. says.Release reason)
       (λ reason w. (of_both (λ x y. RefusesIdentity x y reason) w.0, w.1)) (λ reason v. (is_both (λ x y. RefusesIdentity x y reason) v.0, v.1)) in
       let files = exactly_alike (FILE_COUNT_LIMIT < files_after shape a) (OfRelease heard (λ x y. FILE_COUNT_LIMIT < files_after shape y)) (says.TooMany Files FILE_COUNT_LIMIT) (of_both (λ x y. FILE_COUNT_LIMIT < files_after shape y)) (is_both (λ x y. FILE_COUNT_LIMIT < files_after shape y)) in
-      let locals = exactly_alike (INSTALLED_LOCALS < locals_after shape d a) (OfRelease heard (λ x y. INSTALLED_LOCALS < locals_after shape x y)) (says.TooMany Locals INSTALLED_LOCALS) (of_both (λ x y. INSTALLED_LOCALS < locals_after shape x y)) (is_both (λ x y. INSTALLED_LOCALS < locals_after shape x y)) in
+      let locals = exactly_alike (LOCAL_COUNT_LIMIT < locals_after shape d a) (OfRelease heard (λ x y. LOCAL_COUNT_LIMIT < locals_after shape x y)) (says.TooMany Locals LOCAL_COUNT_LIMIT) (of_both (λ x y. LOCAL_COUNT_LIMIT < locals_after shape x y)) (is_both (λ x y. LOCAL_COUNT_LIMIT < locals_after shape x y)) in
       let targets = exactly_alike (OfWanted url shape d a (λ found. found ≡ Err BadUrl)) (OfRelease heard (λ x y. OfWanted url shape x y (λ found. found ≡ Err BadUrl))) says.BadUrl (of_both (λ x y. OfWanted url shape x y (λ found. found ≡ Err BadUrl))) (is_both (λ x y. OfWanted url shape x y (λ found. found ≡ Err BadUrl))) in
       let room = exactly_with_alike (λ need. (need ≡ install_need shape d a) × (free_blocks shape < need)) (λ need. OfRelease heard (λ x y. (need ≡ install_need shape x y) × (free_blocks shape < need))) (λ need. says.Full need (free_blocks shape))
       (λ need. of_both (λ x y. (need ≡ install_need shape x y) × (free_blocks shape < need))) (λ need. is_both (λ x y. (need ≡ install_need shape x y) × (free_blocks shape < need))) in
@@ -150,9 +149,9 @@ module _ (shape : Shape) (url : List ℕ) (heard : List (List ℕ)) (d : Deploym
   read_other : (x : ManifestFault) → IsRefused application_of 1 heard x → ⊥
   read_other x refused = unrefused application_of told.4.0 told.4.1 told.4.3 1 heard told.4.2 x refused
 
-  pub release_passed : PassesAll all_checks → PassesAll (release_refusals {C = Cause} install_replies INSTALLED_LOCALS url heard shape)
+  pub release_passed : PassesAll all_checks → PassesAll (release_refusals {C = Cause} install_replies LOCAL_COUNT_LIMIT url heard shape)
   release_passed passes = (heard_other, (read_other, passes_alike all_checks others similar passes))
 
-  pub release_refused : (reply : Reply) → Refused all_checks reply → Refused (release_refusals {C = Cause} install_replies INSTALLED_LOCALS url heard shape) reply
+  pub release_refused : (reply : Reply) → Refused all_checks reply → Refused (release_refusals {C = Cause} install_replies LOCAL_COUNT_LIMIT url heard shape) reply
   release_refused reply (inl memory) = inl memory
   release_refused reply (inr refuses) = inr (λ old. inr (heard_other, inr (read_other, refuses_alike all_checks others old reply old similar (refuses old))))

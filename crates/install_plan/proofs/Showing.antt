@@ -1,7 +1,7 @@
 -- The files of the new view: each is whole, and files with equal content keys have equal bytes.
 use Rattle.std.proofs.Common.{◌≡◌, ◌∙◌, ◌⊎◌, ◌++◌, ◌<◌, inl, inr, refl, sym, ap, subst, ℕ, true, List, [], ◌∷◌, length, map, All, Option, Some, None, IsSome, arith}
-use Rattle.std.specs.Prelude.{slice_index_or}
-use Rattle.std.proofs.lemmas.List.Elements.{All-append, All-nil}
+use Rattle.std.specs.Prelude.{filter, slice_index_or}
+use Rattle.std.proofs.lemmas.List.Elements.{All-append}
 use Rattle.digest_list.specs.Matches.{Matches}
 use Rattle.manifests.specs.declared.facts.Application.{Application}
 use Rattle.manifests.specs.declared.facts.FileEntry.{FileEntry}
@@ -19,8 +19,8 @@ use Rattle.store_state.specs.declared.view.View.{View}
 use Rattle.store_state.specs.Contents.{AreContentsOf, Brings, content_of, is_content_of}
 use Rattle.store_state.specs.Shows.{Shows, bytes_in, shown_file, shown_view}
 use Rattle.store_state.specs.Tables.{Tables, bare_row}
-use Rattle.install_plan.proofs.Keyed.{content_by_key, content_is, filter_none, find_left, find_right, flat_map_in, found}
-use Rattle.install_plan.proofs.Sufficing.{HasNoData, IsWholeContent}
+use Rattle.install_plan.proofs.Keyed.{content_by_key, content_is, find_left, find_right, flat_map_in, found}
+use Rattle.install_plan.proofs.Sufficing.{IsWholeContent}
 
 -- ---- the standing files of views and of rows
 
@@ -113,16 +113,17 @@ module _ (blocks : ℕ) (tables : Tables) (image : List ℕ) (store : Store) (ne
           subst (λ (o : Option Content). Matches entry.list entry.size (bytes_in o)) (sym (find_right (is_content_of entry) tables.contents new fresh.0 ∙ first.is))
           (subst (λ (key : ContentKey). Matches key.list key.size first.item.bytes) (sym (content_is entry first.item first.passes)) is)
 
-  pub fetched : Sound store → All IsWholeContent new → (a : Application) → HasNoData a → Brings tables.contents (standing_entries [] a) new → AreFetched store a (map (shown_file after) (standing_entries [] a)) []
-  fetched sound whole a no_data brings =
+  pub fetched : Sound store → All IsWholeContent new → (a : Application) (originals : List ListedFile) → map (λ (file : ListedFile). file.entry) originals ≡ filter (λ (entry : FileEntry). entry.local) a.files → All IsWhole originals
+      → Brings tables.contents (standing_entries [] a) new → AreFetched store a (map (shown_file after) (standing_entries [] a)) originals
+  fetched sound whole a originals deployed whole_data brings =
       let entries = standing_entries [] a in
       record {
         required = entries_of_shown after entries ∙ standing_required a;
-        deployed = sym (filter_none (λ (entry : FileEntry). entry.local) a.files no_data);
+        deployed = deployed;
         whole = in_all IsWhole (map (shown_file after) entries) (λ file there.
             let of = map_in (shown_file after) entries file there in
             subst IsWhole of.2 (whole_after sound whole of.0 (all_in (λ (e : FileEntry). IsSome (content_of after e)) entries of.0 brings.each of.1)));
-        whole_data = All-nil IsWhole;
+        whole_data = whole_data;
         shared = share_in after (program_files_of store ++ map (shown_file after) entries) (All-append (HasBytesIn after) (program_files_of store) (map (shown_file after) entries)
             (in_all (HasBytesIn after) (program_files_of store) kept_bytes)
             (in_all (HasBytesIn after) (map (shown_file after) entries) (λ file there.

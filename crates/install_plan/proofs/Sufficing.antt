@@ -50,15 +50,11 @@ wanted_required (e ∷ es) held x there program = by e.local (is_required e && n
 
 -- ---- the contents of the wanted files
 
--- no file is a data file
-abbrev pub HasNoData : Application → Type 0
-HasNoData a = (entry : FileEntry) → In entry a.files → entry.local ≡ false
-
 -- the bytes of a content match what is said of it
 abbrev pub IsWholeContent : Content → Type 0
 IsWholeContent content = Matches content.list content.size content.bytes
 
-module _ (views : List BareView) (a : Application) (contents new : List Content) (are : AreContentsOf (standing_files views) contents) (no_data : HasNoData a) (keys : map kept_key new ≡ map content_key (wanted views a)) (whole : All IsWholeContent new) where
+module _ (views : List BareView) (a : Application) (contents new : List Content) (are : AreContentsOf (standing_files views) contents) (keys : map kept_key new ≡ map content_key (filter is_required (wanted views a))) (whole : All IsWholeContent new) where
   abbrev held : List FileEntry
   held = standing_files views
 
@@ -68,16 +64,16 @@ module _ (views : List BareView) (a : Application) (contents new : List Content)
   abbrev suffices : AreWanted views a
   suffices = are_wanted views a
 
-  programs : filter is_required (wanted views a) ≡ wanted views a
-  programs = filter_all is_required (wanted views a) (λ x there. wanted_required a.files (standing_files views) x there (no_data x (wanted_within a.files (standing_files views) x there)))
+  abbrev programs : List FileEntry
+  programs = filter is_required (wanted views a)
 
   -- the content that was brought for a wanted file
-  brought : (entry : FileEntry) → In entry (wanted views a) → (content : Content) × In content new × (kept_key content ≡ content_key entry)
-  brought entry there = map_in kept_key new (content_key entry) (subst (λ (ks : List ContentKey). In (content_key entry) ks) (sym keys) (in_map content_key (wanted views a) entry there))
+  brought : (entry : FileEntry) → In entry programs → (content : Content) × In content new × (kept_key content ≡ content_key entry)
+  brought entry there = map_in kept_key new (content_key entry) (subst (λ (ks : List ContentKey). In (content_key entry) ks) (sym keys) (in_map content_key programs entry there))
 
   -- the wanted file that a content was brought for
-  pub brought_for : (content : Content) → In content new → (entry : FileEntry) × In entry (wanted views a) × (content_key entry ≡ kept_key content)
-  brought_for content there = map_in content_key (wanted views a) (kept_key content) (subst (λ (ks : List ContentKey). In (kept_key content) ks) keys (in_map kept_key new content there))
+  pub brought_for : (content : Content) → In content new → (entry : FileEntry) × In entry programs × (content_key entry ≡ kept_key content)
+  brought_for content there = map_in content_key programs (kept_key content) (subst (λ (ks : List ContentKey). In (kept_key content) ks) keys (in_map kept_key new content there))
 
   has_content : (entry : FileEntry) → In entry entries → IsSome (content_of (contents ++ new) entry)
   has_content entry there =
@@ -89,7 +85,7 @@ module _ (views : List BareView) (a : Application) (contents new : List Content)
           let first = found (is_content_of file) contents (all_in (λ (e : FileEntry). IsSome (content_of contents e)) held file are.each there) in
           some_found (is_content_of entry) (contents ++ new) first.item (in_left contents new first.item first.there) (is_content entry first.item (same ∙ content_is file first.item first.passes))
 
-      brought_by : (file : FileEntry) → In file (wanted views a) → content_key entry ≡ content_key file → IsSome (content_of (contents ++ new) entry)
+      brought_by : (file : FileEntry) → In file programs → content_key entry ≡ content_key file → IsSome (content_of (contents ++ new) entry)
       brought_by file there same =
           let from = brought file there in
           some_found (is_content_of entry) (contents ++ new) from.0 (in_right contents new from.0 from.1) (is_content entry from.0 (same ∙ sym from.2))
@@ -98,13 +94,14 @@ module _ (views : List BareView) (a : Application) (contents new : List Content)
       by (inl old) = let file = passes_in (same_content entry) held old in held_by file.0 file.1 (same_is entry file.0 file.2)
       by (inr fresh) =
           let file = passes_in (same_content entry) (filter is_required (wanted views a)) fresh in
-          brought_by file.0 (filter_in is_required (wanted views a) file.0 file.1).1 (same_is entry file.0 file.2)
+          brought_by file.0 file.1 (same_is entry file.0 file.2)
 
   of_entry : (content : Content) → In content new → Any (λ entry. is_content_of entry content ≡ true) entries
   of_entry content there =
       let from = brought_for content there in
-      let within = wanted_within a.files (standing_files views) from.0 from.1 in
-      any_of (λ entry. is_content_of entry content ≡ true) entries from.0 (in_filter is_required a.files from.0 (wanted_required a.files (standing_files views) from.0 from.1 (no_data from.0 within)) within) (is_content from.0 content from.2)
+      let of = filter_in is_required (wanted views a) from.0 from.1 in
+      let within = wanted_within a.files (standing_files views) from.0 of.1 in
+      any_of (λ entry. is_content_of entry content ≡ true) entries from.0 (in_filter is_required a.files from.0 of.0 within) (is_content from.0 content from.2)
 
   is_lacking : (content other : Content) → In content new → In other contents → same_contents other content ≡ false
   is_lacking content other there kept = by (same_contents other content) refl
@@ -115,14 +112,13 @@ module _ (views : List BareView) (a : Application) (contents new : List Content)
           let of = all_in (λ (c : Content). Any (λ entry. is_content_of entry c ≡ true) held) contents other are.only kept in
           let file : In of.1 held = in_contains held of.1 (of.0, of.2, of.3) in
           let same : content_key from.0 ≡ content_key of.1 = from.2 ∙ sym (same_kept other content e) ∙ sym (content_is of.1 other of.4) in
-          let fresh = all_in (λ (entry : FileEntry). is_held held entry ≡ false) (filter is_required (wanted views a)) from.0 suffices.new (subst (λ (xs : List FileEntry). In from.0 xs) (sym programs) from.1) in
+          let fresh = all_in (λ (entry : FileEntry). is_held held entry ≡ false) (filter is_required (wanted views a)) from.0 suffices.new from.1 in
           both (is_held held from.0) (in_passes (same_content from.0) held of.1 file (is_same from.0 of.1 same)) fresh
       by false e = e
 
   are_once : AllPairs (λ (x y : Content). same_contents x y ≡ false) new
   are_once =
-      let apart = pairs_map content_key (λ (x y : FileEntry). ◌≢◌ {A = ContentKey} (content_key x) (content_key y)) (λ (x y : ContentKey). x ≢ y) (wanted views a) (λ x y differ. differ)
-      (subst (AllPairs (λ (x y : FileEntry). ◌≢◌ {A = ContentKey} (content_key x) (content_key y))) programs suffices.once) in
+      let apart = pairs_map content_key (λ (x y : FileEntry). ◌≢◌ {A = ContentKey} (content_key x) (content_key y)) (λ (x y : ContentKey). x ≢ y) programs (λ x y differ. differ) suffices.once in
       let kept = pairs_before kept_key (λ (x y : ContentKey). x ≢ y) new (subst (AllPairs (λ (x y : ContentKey). x ≢ y)) (sym keys) apart) in
       pairs_weaker (λ (x y : Content). ◌≢◌ {A = ContentKey} (kept_key x) (kept_key y)) (λ (x y : Content). same_contents x y ≡ false) new (λ x y differ. other x y differ (same_contents x y) refl) kept
     where

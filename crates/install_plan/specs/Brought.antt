@@ -5,8 +5,11 @@ use Rattle.addresses.specs.Join.{file_target_of}
 use Rattle.digest_list.specs.Matches.{Matches}
 use Rattle.manifests.specs.declared.facts.FileEntry.{FileEntry}
 use Rattle.machine.specs.Blocks.{standing_files}
-use Rattle.machine.specs.Shape.{Shape}
-use Rattle.machine.specs.Views.{ListedFile, View, same_content}
+use Rattle.machine.specs.Current.{current_view, data_of, listed_by}
+use Rattle.machine.specs.Migrated.{IsAside, IsKept}
+use Rattle.machine.specs.Shape.{Shape, shape_of}
+use Rattle.machine.specs.Store.{Store}
+use Rattle.machine.specs.Views.{DataFile, ListedFile, View, key_of, same_content}
 use Rattle.machine.specs.Wanted.{is_held, wanted}
 use Rattle.store_state.specs.declared.view.Content.{Content}
 use Rattle.links.specs.Links.{LinksState}
@@ -43,6 +46,20 @@ IsHeldOrFetched shape before after view file =
     × IsFrom (Matches entry.list entry.size) target before after file.bytes)
     (wanted shape.views view.application)
 
--- so are all program files of a view that an install brings to a store of this shape
-pub record IsBrought (shape : Shape) (before after : LinksState) (view : View) : Type 0 where
-  pub files : All (IsHeldOrFetched shape before after view) view.program_files
+-- It is a data file of the view that was current, which stays or is kept aside; or its bytes were got
+-- at the address of a data file that the release deploys under the name.
+abbrev pub IsCarriedOrFetched : Store → LinksState → LinksState → View → DataFile → Type 0
+IsCarriedOrFetched old before after view file =
+    IsKept (data_of (current_view (key_of view) old)) (listed_by (current_view (key_of view) old))
+    view.application.files file
+    ⊎ IsAside (data_of (current_view (key_of view) old))
+    (listed_by (current_view (key_of view) old)) view.application.files file
+    ⊎ Any (λ (entry : FileEntry). (target : Target) × (entry.local ≡ true) × (entry.name ≡ file.name)
+    × (file_target_of view.base view.deployment.mapped entry.name ≡ Ok target)
+    × IsFrom (Matches entry.list entry.size) target before after file.bytes)
+    view.application.files
+
+-- so are all files of a view that an install brings to a store
+pub record IsBrought (old : Store) (before after : LinksState) (view : View) : Type 0 where
+  pub files : All (IsHeldOrFetched (shape_of old) before after view) view.program_files
+  pub data_files : All (IsCarriedOrFetched old before after view) view.data_files

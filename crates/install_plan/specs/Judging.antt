@@ -1,7 +1,7 @@
 -- The refusals of a row one by one, where the texts are read, and what a judgement of some answers.
 use Rattle.std.specs.Prelude.{◌≡◌, ◌≢◌, ◌⊎◌, ◌<◌, ◌≤◌, ℕ, List, [], ◌∷◌, ◌++◌, Result, Ok, Err, length}
 use Rattle.small_types.specs.declared.limit.Limit.TheVariants.{Applications, Views, Files, Locals}
-use Rattle.small_types.specs.declared.limits.TheConstants.{APPLICATION_LIMIT, FILE_COUNT_LIMIT, NUMBER_LIMIT, VIEW_LIMIT}
+use Rattle.small_types.specs.declared.limits.TheConstants.{APPLICATION_LIMIT, FILE_COUNT_LIMIT, LOCAL_COUNT_LIMIT, NUMBER_LIMIT, VIEW_LIMIT}
 use Rattle.small_types.specs.declared.target.Target.{Target}
 use Rattle.addresses.specs.declared.fault.UrlFault.{UrlFault}
 use Rattle.addresses.specs.declared.fault.UrlFault.TheVariants as no_address
@@ -11,7 +11,6 @@ use Rattle.manifests.specs.declared.releases.ReleaseFault.TheVariants as unlike
 use Rattle.manifests.specs.Releases.{RefusesIdentity}
 use Rattle.machine.specs.declared.reply.Reply.{Reply}
 use Rattle.machine.specs.declared.reply.Reply.TheVariants as says
-use Rattle.machine.specs.declared.views.TheConstants.{INSTALLED_LOCALS}
 use Rattle.machine.specs.Blocks.{free_blocks}
 use Rattle.machine.specs.InstallRow.{IsBelowMinimum, IsNotNewer, LacksEntry, OfWanted, files_after, locals_after}
 use Rattle.machine.specs.Rows.{PassesAll, Refusal, Refuses, exactly, exactly_with}
@@ -58,12 +57,17 @@ identity_checks d a =
     exactly_with (λ reason. RefusesIdentity d a reason × (reason ≢ unlike.Memory))
     (λ reason. says.Release reason) ∷ []
 
+-- there is no place for its data files
+abbrev pub local_checks : Shape → Deployment → Application → List (Refusal Reply Session)
+local_checks shape d a =
+    exactly (LOCAL_COUNT_LIMIT < locals_after shape d a) (says.TooMany Locals LOCAL_COUNT_LIMIT)
+    ∷ []
+
 -- there is no place for its files
 abbrev pub file_checks : Shape → Deployment → Application → List (Refusal Reply Session)
 file_checks shape d a =
     exactly (FILE_COUNT_LIMIT < files_after shape a) (says.TooMany Files FILE_COUNT_LIMIT)
-    ∷ exactly (INSTALLED_LOCALS < locals_after shape d a) (says.TooMany Locals INSTALLED_LOCALS)
-    ∷ []
+    ∷ local_checks shape d a
 
 -- so many blocks are needed, and fewer are free
 abbrev pub room_checks : ℕ → ℕ → List (Refusal Reply Session)

@@ -1,4 +1,5 @@
 pub mod Brought
+pub mod Carried
 pub mod Changes
 pub mod Checks
 pub mod Fetching
@@ -8,6 +9,7 @@ pub mod GroupReady
 pub mod Hearing
 pub mod Judging
 pub mod Offers
+pub mod Parts
 pub mod Plans
 pub mod Ready
 pub mod Replies

@@ -5,7 +5,7 @@ use Rattle.addresses.specs.Address.{target_of_text}
 use Rattle.addresses.specs.Join.{app_target_of, file_target_of}
 use Rattle.machine.specs.declared.reply.Reply.{Reply}
 use Rattle.machine.specs.declared.reply.Reply.TheVariants.{Memory}
-use Rattle.machine.specs.declared.views.TheConstants.{INSTALLED_LOCALS}
+use Rattle.small_types.specs.declared.limits.TheConstants.{LOCAL_COUNT_LIMIT}
 use Rattle.machine.specs.InstallReplies.{install_replies}
 use Rattle.machine.specs.InstallRow.{HearsRelease, OfRelease, address_refusals, deployment_refusals, install_refusals, release_refusals}
 use Rattle.machine.specs.Installed.{IsProvidedBy}
@@ -37,7 +37,7 @@ pub record IsPlan (shape : Shape) (url : List ℕ) (texts : List (List ℕ)) (pl
       ≡ map Ok (targets_of plan)
   pub address : PassesAll (address_refusals install_replies url)
   pub deployment : PassesAll (deployment_refusals install_replies url texts shape)
-  pub release : PassesAll (release_refusals install_replies INSTALLED_LOCALS url texts shape)
+  pub release : PassesAll (release_refusals install_replies LOCAL_COUNT_LIMIT url texts shape)
 
 -- both manifests were heard, and there is a plan; nothing else was asked for
 pub record IsPlanned (shape : Shape) (url : List ℕ) (texts : List (List ℕ))
@@ -52,5 +52,5 @@ pub record IsRefused (shape : Shape) (url : List ℕ) (texts : List (List ℕ))
     (before after : LinksState) (reply : Reply) : Type 0 where
   pub hears : HearsRelease install_replies url shape texts
   pub refused : (reply ≡ Memory) ⊎ ((old : Session)
-      → Refuses (install_refusals install_replies INSTALLED_LOCALS url texts shape) old reply old)
+      → Refuses (install_refusals install_replies LOCAL_COUNT_LIMIT url texts shape) old reply old)
   pub served : Served shape url texts before after reply

@@ -1,11 +1,10 @@
 -- What an install comes to once all that it wants is fetched: a change of the tables, and a reply.
-use Rattle.std.specs.Prelude.{◌≡◌, ◌≤◌, ℕ, List, [], ◌∷◌, ◌++◌, length}
-use Rattle.small_types.specs.declared.limits.TheConstants.{FILE_COUNT_LIMIT}
+use Rattle.std.specs.Prelude.{◌≡◌, ◌<◌, ◌≤◌, ◌^◌, ℕ, List, [], ◌∷◌, ◌++◌, All, length}
+use Rattle.small_types.specs.declared.limits.TheConstants.{FILE_COUNT_LIMIT, LOCAL_COUNT_LIMIT}
 use Rattle.identity.specs.declared.key.Key.{Key}
 use Rattle.identity.specs.declared.version.Version.{Version}
 use Rattle.machine.specs.declared.reply.Reply.{Reply}
 use Rattle.machine.specs.declared.reply.Reply.TheVariants.{Installed}
-use Rattle.machine.specs.declared.views.TheConstants.{INSTALLED_LOCALS}
 use Rattle.machine.specs.InstallReplies.{install_replies}
 use Rattle.machine.specs.InstallRow.{HearsRelease, InstallEffect, install_refusals}
 use Rattle.machine.specs.Rows.{PassesAll}
@@ -14,6 +13,7 @@ use Rattle.machine.specs.Store.{Session}
 use Rattle.machine.specs.Views.{View}
 use Rattle.store_state.specs.declared.change.Change.{Change}
 use Rattle.store_state.specs.declared.change.Change.TheVariants.{Install}
+use Rattle.store_state.specs.declared.view.LocalFile.{LocalFile}
 use Rattle.store_state.specs.Change.{Fits, effect}
 use Rattle.store_state.specs.Shows.{Shows}
 use Rattle.store_state.specs.Tables.{Tables, table_shape}
@@ -21,10 +21,12 @@ use Rattle.links.specs.Links.{LinksState}
 use Rattle.install_plan.specs.Brought.{IsBrought}
 use Rattle.install_plan.specs.Hearing.{Served}
 
--- it is an install without data files, and of as many contents as a release may have files
+-- It is an install of as many contents as a release may have files, and of no more data files. Each
+-- of these has fewer bytes than a journal's number tells.
 abbrev pub HasFew : Change → Type 0
 HasFew (Install view contents provider now) =
-    (view.locals ≡ []) × (length contents ≤ FILE_COUNT_LIMIT)
+    (length contents ≤ FILE_COUNT_LIMIT) × (length view.locals ≤ FILE_COUNT_LIMIT)
+    × All (λ (file : LocalFile). length file.bytes < 2 ^ 32) view.locals
 HasFew _ = ⊥
 
 -- the step of a session over the store that the tables show
@@ -35,12 +37,12 @@ pub record IsStep (blocks : ℕ) (tables : Tables) (url : List ℕ) (texts : Lis
   pub installs : InstallEffect install_replies url texts now old reply new
   pub shows : (image : List ℕ) → Shows blocks (effect change tables) image new.store
   pub brought : (view : View) → new.store.views ≡ old.store.views ++ view ∷ []
-      → IsBrought (table_shape blocks tables) before after view
+      → IsBrought old.store before after view
 
 pub record IsReady (blocks : ℕ) (tables : Tables) (url : List ℕ) (texts : List (List ℕ))
     (before after : LinksState) (now : ℕ) (change : Change) (reply : Reply) : Type 0 where
   pub hears : HearsRelease install_replies url (table_shape blocks tables) texts
-  pub passes : PassesAll (install_refusals install_replies INSTALLED_LOCALS url texts
+  pub passes : PassesAll (install_refusals install_replies LOCAL_COUNT_LIMIT url texts
       (table_shape blocks tables))
   pub replied : (key : Key) × (version : Version) × (view : ℕ)
       × (reply ≡ Installed key version view)

@@ -2,30 +2,48 @@
 ghost use Rattle.std.specs.Prelude.{◌≡◌, ◌≤◌, [], IfOk, IfErr};
 ghost use Rattle.small_types.specs.declared.limits.TheConstants.{NUMBER_LIMIT};
 ghost use Rattle.machine.specs.declared.reply.Reply.TheVariants.{Memory};
+ghost use Rattle.store_state.specs.declared.change.Change.TheVariants as change;
+ghost use Rattle.store_state.specs.Rows.{current_row};
 ghost use Rattle.store_state.specs.Tables.{table_shape};
-ghost use Rattle.install_plan.specs.Changes.{change_of_plan, installed_of};
+ghost use Rattle.install_plan.specs.Carried.{row_locals};
+ghost use Rattle.install_plan.specs.Changes.{AreShort, change_of_plan, installed_of, plan_locals, view_of};
 ghost use Rattle.install_plan.specs.Fetching.{ArePlaces, HasFetched, IsStopped};
 ghost use Rattle.install_plan.specs.Plans.{IsRefused};
 ghost use Rattle.install_plan.specs.Ready.{IsReady};
 
 use crate::bringing::fetch_wanted;
+use crate::migrating::{moved_locals, parts_of};
 use crate::{Plan, hear};
+use identity::Key;
 use links::Links;
 use machine::{Heard, Reply};
 use small_types::{Bytes, Duplicate, List};
 use std::alloc::Global;
-use store_state::{Change, Content, StoreState, View, installs_show_the_view, shapes_are_shown};
+use store_state::{
+    Change, Content, LocalFile, StoreState, View, installs_show_the_view, shapes_are_shown,
+};
 
-// The change that the plan comes to with the contents of its wanted files: the next view, with no
-// group and no data file. It takes no memory.
-fn change_of(
+// The data files of the view that is current for the key.
+fn old_locals<'a>(state: &'a StoreState, key: &Key) -> &'a [LocalFile]
+    ensures { result.now ≡ row_locals (current_row key.now state.now) }
+{
+    match state.current(key) {
+        Some(view) => view.locals.as_slice(),
+        None => &[],
+    }
+}
+
+// The change that the plan comes to with these data files and contents: the next view, with no
+// group. It takes no memory.
+fn change_with(
     alloc: Global,
     state: &StoreState,
     plan: Plan,
+    locals: List<LocalFile>,
     contents: List<Content>,
     now: u64,
 ) -> Change
-    ensures { result ≡ change_of_plan state.now plan contents now }
+    ensures { result ≡ change.Install (view_of state.now plan locals) contents plan.provider now }
 {
     Change::Install {
         view: View {
@@ -34,12 +52,40 @@ fn change_of(
             application: plan.application,
             base: plan.base,
             groups: List::from_vec(Vec::new(alloc)),
-            locals: List::from_vec(Vec::new(alloc)),
+            locals,
         },
         contents,
         provider: plan.provider,
         now,
     }
+}
+
+// The change that the plan comes to with the contents of its wanted files: those of data files
+// become data files.
+fn change_of(
+    alloc: Global,
+    state: &StoreState,
+    plan: Plan,
+    contents: List<Content>,
+    now: u64,
+) -> Result<Change, Reply>
+    ensures made { IfOk result (λ made. made ≡ change_of_plan state.now plan contents now) }
+    ensures short { IfOk result (λ made. AreShort (plan_locals state.now plan contents)) }
+    ensures memory { IfErr result (λ reply. reply ≡ Memory) }
+{
+    let files = plan.application.files.as_slice();
+    let parts = match parts_of(alloc, files, plan.wanted.as_slice(), contents) {
+        Ok(parts) => parts,
+        Err(reply) => return Err(reply),
+    };
+    let old = old_locals(state, &plan.deployment.identity.key);
+    let fetched = parts.locals.as_slice();
+    let locals = match moved_locals(alloc, old, fetched, plan.locals.as_slice()) {
+        Ok(locals) => locals,
+        Err(reply) => return Err(reply),
+    };
+    let contents = List::from_vec(parts.programs);
+    Ok(change_with(alloc, state, plan, locals, contents, now))
 }
 
 // The reply once that change is made, or want of memory.
@@ -74,8 +120,9 @@ fn fetch_planned<L: Links>(
 }
 
 /// Hears the manifests of the release at the address, judges them, and fetches the files that no
-/// kept view has. What it gives is the change of the tables, which fits them, and the reply that is
-/// then due. An `Err` is the reply, and nothing is to be changed.
+/// kept view has. Data files come to the new view as the migration says. What it gives is the change
+/// of the tables, which fits them, and the reply that is then due. An `Err` is the reply, and nothing
+/// is to be changed.
 pub fn prepare<L: Links>(
     alloc: Global,
     state: &StoreState,
@@ -104,8 +151,12 @@ pub fn prepare<L: Links>(
         Ok(reply) => reply,
         Err(reply) => return Err(reply),
     };
+    let change = match change_of(alloc, state, plan, contents, now) {
+        Ok(change) => change,
+        Err(reply) => return Err(reply),
+    };
     state.are_tables();
     shapes_are_shown();
     installs_show_the_view();
-    Ok((change_of(alloc, state, plan, contents, now), reply))
+    Ok((change, reply))
 }

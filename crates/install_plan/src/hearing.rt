@@ -1,6 +1,7 @@
 // The manifests of an install.
 ghost use Rattle.std.specs.Prelude.{◌≡◌, [], IfErr, IfOk};
 ghost use Rattle.machine.specs.Installed.{IsProvidedBy};
+ghost use Rattle.install_plan.specs.Carried.{HasLocals};
 ghost use Rattle.install_plan.specs.Plans.{IsPlanned, IsRefused};
 ghost use Rattle.store_state.specs.Tables.{table_shape};
 
@@ -48,6 +49,7 @@ pub fn hear<L: Links>(
     requires empty { heard.old.texts ≡ [] }
     ensures plan { IfOk result (IsPlanned (table_shape blocks state.now) url.now heard.new.texts
         (L.links links.old) (L.links links.new)) }
+    ensures locals { IfOk result (HasLocals state.now) }
     ensures refused { IfErr result (IsRefused (table_shape blocks state.now) url.now heard.new.texts
         (L.links links.old) (L.links links.new)) }
 {
@@ -67,8 +69,8 @@ pub fn hear<L: Links>(
         Ok(application) => application,
         Err(reply) => return Err(reply),
     };
-    let wanted = match judge_release(alloc, state, blocks, &base, &deployment, &application) {
-        Ok(wanted) => wanted,
+    let needs = match judge_release(alloc, state, blocks, &base, &deployment, &application) {
+        Ok(needs) => needs,
         Err(reply) => return Err(reply),
     };
     match provider_of(alloc, &target, &deployment) {
@@ -78,7 +80,8 @@ pub fn hear<L: Links>(
             url: target,
             base,
             provider,
-            wanted,
+            wanted: needs.wanted,
+            locals: needs.locals,
         }),
         Err(reply) => Err(reply),
     }

@@ -4,11 +4,13 @@
 
 mod basket;
 mod bringing;
+mod carrying;
 mod changing;
 mod checking;
 mod grouping;
 mod hearing;
 mod judging;
+mod migrating;
 mod offers;
 mod plan;
 mod release;

@@ -1,4 +1,5 @@
 // What an install comes to.
+use data_migration::LocalPlan;
 use manifests::{Application, Deployment};
 use small_types::{List, Target};
 
@@ -23,4 +24,6 @@ pub struct Plan {
     pub provider: Target,
     /// The files that are fetched, in their order.
     pub wanted: List<WantedFile>,
+    /// Where its data files come from, in order of their names.
+    pub locals: List<LocalPlan>,
 }

@@ -1,29 +1,28 @@
 // Whether an application is the listed one, and whether there is a place for its files.
-ghost use Rattle.std.specs.Prelude.{◌≡◌, ◌↔◌, ◌<◌, ◌+◌, ◌-◌, ◌^◌, ◌&&◌, ◌⊎◌, ℕ, Any, Err, IfErr, IfOk, IsTrue, List, Ok, Some, length, map, min, not, slice_get, sum_by};
-ghost use Rattle.std.specs.List.{list_any};
+ghost use Rattle.std.specs.Prelude.{◌≡◌, ◌↔◌, ◌<◌, ◌+◌, ◌-◌, ◌^◌, ◌⊎◌, ℕ, Any, Err, IfErr, IfOk, IsTrue, List, Ok, Some, length, map, min, slice_get, sum_by};
 ghost use Rattle.small_types.specs.declared.limits.TheConstants as limits;
 ghost use Rattle.addresses.specs.declared.fault.UrlFault.TheVariants as no_address;
 ghost use Rattle.addresses.specs.Join.{file_target_of};
-ghost use Rattle.manifests.specs.Applications.{is_below_pre};
-ghost use Rattle.machine.specs.declared.views.TheConstants as views;
 ghost use Rattle.machine.specs.Blocks.{blocks_of, free_blocks, standing_files};
-ghost use Rattle.machine.specs.Current.{bare_data_of, current_bare};
 ghost use Rattle.machine.specs.Fields.{IsApplication};
-ghost use Rattle.machine.specs.InstallRow.{base_of, locals_after};
+ghost use Rattle.machine.specs.InstallRow.{base_of};
 ghost use Rattle.machine.specs.Wanted.{wanted, wanted_beside};
-ghost use Rattle.store_state.specs.Rows.{listed_files};
+ghost use Rattle.store_state.specs.Rows.{current_row, listed_files};
 ghost use Rattle.store_state.specs.Tables.{bare_row, table_shape};
+ghost use Rattle.install_plan.specs.Carried.{ArePlans};
 ghost use Rattle.install_plan.specs.Judging.{Judges, file_checks, identity_checks, release_checks, room_checks};
 
 use crate::WantedFile;
+use crate::carrying::{copied_blocks, judge_locals};
 use crate::wanting::{blocks_needed, wanted_files, wanted_places};
+use data_migration::LocalPlan;
 use identity::Key;
-use machine::{INSTALLED_LOCALS, Reply};
+use machine::Reply;
 use manifests::{Application, Deployment, FileEntry, ReleaseFault};
 use small_types::limits::FILE_COUNT_LIMIT;
-use small_types::{Duplicate, Limit, List, Name, Target};
+use small_types::{Duplicate, Limit, List, Target};
 use std::alloc::Global;
-use store_state::{LocalFile, StoreState};
+use store_state::StoreState;
 
 // The refusal of an application of another key.
 fn other_key(alloc: Global, listed: &Key, found: &Key) -> Reply
@@ -69,51 +68,17 @@ fn lists_too_many(state: &StoreState, a: &Application) -> bool
     listed > FILE_COUNT_LIMIT || more > FILE_COUNT_LIMIT - listed
 }
 
-// Whether the name is outside `.pre`.
-fn is_outside(name: &Name) -> bool
-    ensures { result ≡ not (is_below_pre name.now) }
-{
-    !name.is_below_pre()
-}
-
-// Whether one of the data files is outside `.pre`.
-fn has_outside(files: &[LocalFile]) -> bool
-    ensures { result ≡ list_any (λ file. not (is_below_pre file.name)) files.now }
-{
-    files.iter().any(|file| is_outside(&file.name))
-}
-
-// Whether the current view of the application has data files outside `.pre`.
-fn has_old_data(state: &StoreState, key: &Key) -> bool
-    ensures { (blocks : ℕ) → result ≡ list_any (λ file. not (is_below_pre file.name))
-        (bare_data_of (current_bare key.now (table_shape blocks state.now))) }
-{
-    match state.current(key) {
-        Some(view) => has_outside(view.locals.as_slice()),
-        None => false,
-    }
-}
-
-// Whether the files have a data file outside `.pre`.
-fn has_new_data(files: &[FileEntry]) -> bool
-    ensures { result ≡ list_any (λ entry. entry.local && not (is_below_pre entry.name)) files.now }
-{
-    files
-        .iter()
-        .any(|entry| entry.local && is_outside(&entry.name))
-}
-
-// Whether the new view would have data files outside `.pre`.
-fn has_data(state: &StoreState, d: &Deployment, a: &Application) -> bool
-    ensures { (blocks : ℕ) → IsTrue result
-        ↔ views.INSTALLED_LOCALS < locals_after (table_shape blocks state.now) d.now a.now }
-{
-    has_old_data(state, &d.identity.key) || has_new_data(a.files.as_slice())
-}
-
-// Whether there is a place for the files of the application.
-pub(crate) fn judge_files(state: &StoreState, d: &Deployment, a: &Application) -> Result<(), Reply>
-    ensures { (blocks : ℕ)
+// Whether there is a place for the files of the application. What it gives is where the data files
+// of the new view come from.
+pub(crate) fn judge_files(
+    alloc: Global,
+    state: &StoreState,
+    d: &Deployment,
+    a: &Application,
+) -> Result<List<LocalPlan>, Reply>
+    ensures plans { IfOk result
+        (ArePlans (current_row d.now.identity.key state.now) a.now.files) }
+    ensures judged { (blocks : ℕ)
         → Judges (file_checks (table_shape blocks state.now) d.now a.now) result }
 {
     if lists_too_many(state, a) {
@@ -122,13 +87,10 @@ pub(crate) fn judge_files(state: &StoreState, d: &Deployment, a: &Application) -
             limit: FILE_COUNT_LIMIT as u64,
         });
     }
-    if has_data(state, d, a) {
-        return Err(Reply::TooMany {
-            what: Limit::Locals,
-            limit: INSTALLED_LOCALS,
-        });
+    match judge_locals(alloc, state, d, a) {
+        Ok(plans) => Ok(plans),
+        Err(reply) => Err(reply),
     }
-    Ok(())
 }
 
 // Whether so many blocks are free.
@@ -179,7 +141,26 @@ pub(crate) fn wants(
     }
 }
 
-// Judges the release that was heard, and answers the files that are wanted.
+// What is fetched of a release that passes, and where its data files come from.
+#[derive(Drop)]
+pub(crate) struct ReleaseNeeds {
+    pub(crate) wanted: List<WantedFile>,
+    pub(crate) locals: List<LocalPlan>,
+}
+
+// The blocks of the wanted files and of the data files that are copied, as far as a number goes.
+fn sum_needed(wanted: u64, copied: u64) -> Result<u64, Reply>
+    ensures sum { IfOk result (λ need. need ≡ wanted + copied) }
+    ensures memory { IfErr result (λ reply. reply ≡ Reply.Memory) }
+{
+    match wanted.checked_add(copied) {
+        Some(need) => Ok(need),
+        None => Err(Reply::Memory),
+    }
+}
+
+// Judges the release that was heard, and answers the files that are wanted, and where its data files
+// come from.
 pub(crate) fn judge_release(
     alloc: Global,
     state: &StoreState,
@@ -187,27 +168,41 @@ pub(crate) fn judge_release(
     base: &Target,
     d: &Deployment,
     a: &Application,
-) -> Result<List<WantedFile>, Reply>
-    ensures places { IfOk result (λ w. map (λ file. slice_get a.now.files file.place) w
+) -> Result<ReleaseNeeds, Reply>
+    ensures places { IfOk result (λ w. map (λ file. slice_get a.now.files file.place) w.wanted
         ≡ map Some (wanted (map bare_row state.now.views) a.now)) }
     ensures targets { IfOk result (λ w.
         map (λ entry. file_target_of base.now d.now.mapped entry.name)
-        (wanted (map bare_row state.now.views) a.now) ≡ map (λ file. Ok file.target) w) }
+        (wanted (map bare_row state.now.views) a.now) ≡ map (λ file. Ok file.target) w.wanted) }
+    ensures locals { IfOk result (λ w.
+        ArePlans (current_row d.now.identity.key state.now) a.now.files w.locals) }
     ensures judged { (url : List ℕ) → base_of url d.now ≡ Ok base.now → IsApplication a.now
         → Judges (release_checks url (table_shape blocks state.now) d.now a.now) result }
 {
     if let Err(reply) = judge_identity(alloc, d, a) {
         return Err(reply);
     }
-    if let Err(reply) = judge_files(state, d, a) {
-        return Err(reply);
-    }
+    let locals = match judge_files(alloc, state, d, a) {
+        Ok(locals) => locals,
+        Err(reply) => return Err(reply),
+    };
     let wants = match wants(alloc, state, base, d.mapped, a.files.as_slice()) {
         Ok(wants) => wants,
         Err(reply) => return Err(reply),
     };
-    match judge_room(state, blocks, wants.need) {
-        Ok(()) => Ok(wants.files),
+    let copied = match copied_blocks(state, &d.identity.key) {
+        Ok(copied) => copied,
+        Err(reply) => return Err(reply),
+    };
+    let need = match sum_needed(wants.need, copied) {
+        Ok(need) => need,
+        Err(reply) => return Err(reply),
+    };
+    match judge_room(state, blocks, need) {
+        Ok(()) => Ok(ReleaseNeeds {
+            wanted: wants.files,
+            locals,
+        }),
         Err(reply) => Err(reply),
     }
 }

@@ -2,47 +2,17 @@
 ghost use Rattle.std.specs.Prelude.{◌≡◌, ◌∷◌, [], ◌++◌, ℕ, List, IfOk, IfErr, OnOk, string_bytes, slice_get, slice_index_or, if◌then◌else◌};
 ghost use Rattle.std.specs.Str.{bytes_eq};
 ghost use Rattle.manifests.specs.declared.facts.FileEntry.{FileEntry};
-ghost use Rattle.machine.specs.Views.{same_content, same_digest};
 ghost use Rattle.machine.specs.Wanted.{is_held};
 ghost use Rattle.install_plan.specs.Wanting as spec;
 ghost use Rattle.install_plan.specs.Wanting.{Knows, is_among, row};
-ghost use lib.Pointwise.{pointwise};
 
+use data_migration::same_content;
 use digest_list::Digest;
 use machine::Reply;
 use manifests::FileEntry;
 use small_types::List;
 use std::alloc::Global;
 use std::collections::BTreeMap;
-
-// Whether the digests are equal.
-fn same_digest(a: &Digest, b: &Digest) -> bool
-    ensures { result ≡ same_digest a.now b.now }
-{
-    a.algorithm.name() == b.algorithm.name() && a.value.as_slice() == b.value.as_slice()
-}
-
-// Whether each digest of the one list is equal to that of the other one in its place.
-fn same_digests(a: &[Digest], b: &[Digest]) -> bool
-    ensures { result ≡ pointwise same_digest a.now b.now }
-{
-    if a.len() != b.len() {
-        return false;
-    }
-    for place in 0..a.len() {
-        if !same_digest(&a[place], &b[place]) {
-            return false;
-        }
-    }
-    true
-}
-
-// Whether the files have one content.
-fn same_content(a: &FileEntry, b: &FileEntry) -> bool
-    ensures { result ≡ same_content a.now b.now }
-{
-    a.size == b.size && same_digests(a.list.as_slice(), b.list.as_slice())
-}
 
 // The digest as it stands in the text of a content.
 fn digest_text(alloc: Global, digest: &Digest) -> Result<String, Reply>

@@ -149,7 +149,7 @@ pub(crate) fn wanted_files(
 }
 
 // The blocks of so many bytes.
-fn blocks_of(bytes: u64) -> u64
+pub(crate) fn blocks_of(bytes: u64) -> u64
     ensures { result ≡ blocks_of bytes }
 {
     let block = BLOCK_SIZE as u64;

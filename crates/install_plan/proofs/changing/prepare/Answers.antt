@@ -23,10 +23,18 @@ returns-in-Err-installed_reply-clause-refused g c =
     (state c.args.links.now) (state c.hear.new.links) (state c.fetch_planned.new.links) c.in-Ok.plan c.in-Ok.ensures.plan
     c.in-Ok-fetch_planned.contents c.in-Ok-fetch_planned.ensures.fetched c.in-Err-installed_reply.reply c.in-Err-installed_reply.ensures.memory
 
+pub returns-in-Err-change_of-clause-refused : goal.returns-in-Err-change_of-clause-refused
+returns-in-Err-change_of-clause-refused g c =
+    let state = g.L.Links.links in
+    refused_behind c.args.blocks c.args.state.now c.args.url.now c.hear.new.heard.texts
+    (state c.args.links.now) (state c.hear.new.links) (state c.fetch_planned.new.links) c.in-Ok.plan c.in-Ok.ensures.plan
+    c.in-Ok-fetch_planned.contents c.in-Ok-fetch_planned.ensures.fetched c.in-Err-change_of.reply c.in-Err-change_of.ensures.memory
+
 pub returns-clause-ready : goal.returns-clause-ready
 returns-clause-ready g c =
     let state = g.L.Links.links in
     ready_with c.args.blocks c.args.state.now c.args.url.now c.hear.new.heard.texts
     (state c.args.links.now) (state c.hear.new.links) (state c.fetch_planned.new.links) c.in-Ok.plan c.in-Ok.ensures.plan
     c.in-Ok-fetch_planned.contents c.in-Ok-fetch_planned.ensures.fetched c.args.now c.are_tables.ensures c.requires.moment
-    c.shapes_are_shown.ensures c.installs_show_the_view.ensures c.change_of.result c.in-Ok-installed_reply.reply c.change_of.ensures c.in-Ok-installed_reply.ensures.made
+    c.shapes_are_shown.ensures c.installs_show_the_view.ensures c.in-Ok.ensures.locals c.in-Ok-change_of.ensures.short
+    c.in-Ok-change_of.change c.in-Ok-installed_reply.reply c.in-Ok-change_of.ensures.made c.in-Ok-installed_reply.ensures.made

@@ -1,9 +1,16 @@
-use Rattle.std.proofs.Common.{◌+◌, ◌<◌, inl, inr, length, refl, arith}
+use Rattle.std.proofs.Common.{◌+◌, ◌<◌, length, arith}
 use Rattle.store_state.specs.Rows.{listed_files}
+use Rattle.store_state.specs.Tables.{table_shape}
 use Rattle.install_plan.proofs.Judged.{listed_rows, not_so}
+use Rattle.install_plan.proofs.Released.{behind_count}
 use Rattle.install_plan.proofs.release.judge_files.Goals as goal
 
-pub returns-then-has_data : goal.returns-then-has_data
-returns-then-has_data c = λ blocks.
+pub returns-in-Ok-clause-judged : goal.returns-in-Ok-clause-judged
+returns-in-Ok-clause-judged c = λ blocks.
     let few = not_so c.lists_too_many.result (16384 < listed_files c.args.state.now.views + length c.args.a.now.files) c.lists_too_many.ensures c.if-lists_too_many.false in
-    inr (λ old. inr ((λ many. few (omega (arith, many, listed_rows c.args.state.now.views))), inl (((c.has_data.ensures blocks).0 c.if-has_data.true, refl), refl)))
+    ((λ many. few (omega (arith, many, listed_rows c.args.state.now.views))), c.in-Ok.ensures.judged blocks)
+
+pub returns-in-Err-clause-judged : goal.returns-in-Err-clause-judged
+returns-in-Err-clause-judged c = λ blocks.
+    let few = not_so c.lists_too_many.result (16384 < listed_files c.args.state.now.views + length c.args.a.now.files) c.lists_too_many.ensures c.if-lists_too_many.false in
+    behind_count (table_shape blocks c.args.state.now) c.args.d.now c.args.a.now (λ many. few (omega (arith, many, listed_rows c.args.state.now.views))) c.in-Err.reply (c.in-Err.ensures.judged blocks)

@@ -1,0 +1,163 @@
+-- The data files of the new view, beside those of the view that was current.
+use Rattle.std.proofs.Common.{◌≡◌, ◌≢◌, ◌∙◌, ◌⊎◌, ◌&&◌, ◌≤◌, inl, inr, refl, sym, ap, subst, ℕ, Bool, true, false, cond, not, List, [], ◌∷◌, length, map, All, AllPairs, Option, Some, None, ◌==◌, arith}
+use Rattle.std.specs.Prelude.{count_by, filter, flat_map, option_map}
+use Rattle.std.specs.List.Sorted.{IsPermutation}
+use Rattle.std.specs.declared.cmp.Ordering.TheVariants.{Less}
+use Rattle.std.proofs.lemmas.List.Kept.{AllPairs-filter}
+use Rattle.std.proofs.lemmas.List.Sorted.{All-permutation}
+use Rattle.small_types.specs.declared.limits.TheConstants.{LOCAL_COUNT_LIMIT, LOCAL_NAME_LIMIT}
+use Rattle.small_types.specs.Name.{IsBelowPre, IsName}
+use Rattle.identity.specs.declared.key.Key.{Key}
+use Rattle.identity.specs.Printed.{text_cmp}
+use Rattle.manifests.specs.declared.facts.Application.{Application}
+use Rattle.manifests.specs.declared.facts.FileEntry.{FileEntry}
+use Rattle.manifests.specs.Applications.{is_below_pre}
+use Rattle.manifests.specs.Facts.{IsFile}
+use Rattle.machine.specs.Current.{current_view, data_of, listed_by}
+use Rattle.machine.specs.Fields.{HasEntry, IsApplication}
+use Rattle.machine.specs.Migrated.{Migrated, aside, is_fresh, migrated_names, moved, stays}
+use Rattle.machine.specs.Sound.{IsSoundView, Sound}
+use Rattle.machine.specs.Store.{Store}
+use Rattle.machine.specs.Views.{DataFile, ListedFile}
+use Rattle.machine.proofs.Members.{In, all_in, filter_in, in_all, in_either, in_map, map_in, pairs_map, sum_agree, sum_map}
+use Rattle.machine.proofs.Names.{aside_below, aside_is_name, test_outside}
+use Rattle.store_state.specs.declared.view.Content.{Content}
+use Rattle.store_state.specs.declared.view.LocalFile.{LocalFile}
+use Rattle.store_state.specs.declared.view.View.{View}
+use Rattle.store_state.specs.Change.{IsLocal}
+use Rattle.store_state.specs.Kept.{AreTables}
+use Rattle.store_state.specs.Locals.{outside_locals}
+use Rattle.store_state.specs.Rows.{current_row}
+use Rattle.store_state.specs.Shows.{Shows, shown_data, shown_view}
+use Rattle.store_state.specs.Tables.{Tables}
+use Rattle.data_migration.specs.declared.plan.LocalPlan.{LocalPlan}
+use Rattle.data_migration.specs.declared.plan.LocalPlan.TheVariants.{Copy, Fresh}
+use Rattle.data_migration.specs.Migration.{AreApart, applied, deployed_files, made}
+use Rattle.data_migration.specs.Plans.{local_names, plan_name}
+use Rattle.install_plan.specs.Carried.{ArePlans, Rise, row_files, row_locals}
+use Rattle.install_plan.specs.Changes.{local_of, made_locals}
+use Rattle.install_plan.proofs.Currents.{current_shown}
+use Rattle.install_plan.proofs.Keyed.{flat_map_in, pairs_before}
+use Rattle.install_plan.proofs.Planned.{current_in, one_outside, row_are}
+
+-- ---- the files that plans make
+
+module _ (old : List LocalFile) (originals : List ListedFile) where
+  abbrev make : LocalPlan → LocalFile
+  make plan = local_of (made (map shown_data old) originals plan)
+
+  made_name : (plan : LocalPlan) → (make plan).name ≡ plan_name plan
+  made_name (Copy from to) = refl
+  made_name (Fresh name) = refl
+
+  made_back : (plan : LocalPlan) → made (map shown_data old) originals plan ≡ shown_data (make plan)
+  made_back (Copy from to) = refl
+  made_back (Fresh name) = refl
+
+  pub made_shown : (plans : List LocalPlan) → applied (map shown_data old) originals plans ≡ map shown_data (made_locals old originals plans)
+  made_shown [] = refl
+  made_shown (plan ∷ plans) =
+      ap (λ (file : DataFile). file ∷ applied (map shown_data old) originals plans) (made_back plan)
+      ∙ ap (λ (files : List DataFile). shown_data (make plan) ∷ files) (made_shown plans)
+
+  -- they stand in order
+  pub made_order : (plans : List LocalPlan) → Rise plans → AllPairs (λ (f g : LocalFile). text_cmp f.name g.name ≡ Less) (made_locals old originals plans)
+  made_order plans rise = pairs_map make (λ (p q : LocalPlan). text_cmp (plan_name p) (plan_name q) ≡ Less) (λ (f g : LocalFile). text_cmp f.name g.name ≡ Less) plans
+      (λ p q less. subst (λ (n : List ℕ). text_cmp n (make q).name ≡ Less) (sym (made_name p)) (subst (λ (n : List ℕ). text_cmp (plan_name p) n ≡ Less) (sym (made_name q)) less)) rise
+
+  -- as many are outside `.pre` as the plans say
+  pub made_outside : (plans : List LocalPlan) → outside_locals (made_locals old originals plans) ≡ count_by (λ (p : LocalPlan). not (is_below_pre (plan_name p))) plans
+  made_outside plans =
+      sum_map make (λ (file : LocalFile). one_outside file.name) plans
+      ∙ sum_agree (λ (p : LocalPlan). one_outside (make p).name) (λ (p : LocalPlan). one_outside (plan_name p)) plans
+      (in_all (λ (p : LocalPlan). one_outside (make p).name ≡ one_outside (plan_name p)) plans (λ p there. ap one_outside (made_name p)))
+
+  -- each has a name within its limit, where the plans have
+  pub made_are : (plans : List LocalPlan) → ((p : LocalPlan) → In p plans → IsName (plan_name p) × (¬ IsBelowPre (plan_name p) → length (plan_name p) ≤ LOCAL_NAME_LIMIT)) → All IsLocal (made_locals old originals plans)
+  made_are plans each = in_all IsLocal (made_locals old originals plans) (λ file there.
+      let of = map_in make plans file there in
+      let is = each of.0 of.1 in
+      subst IsLocal of.2 (record {
+        name = subst IsName (sym (made_name of.0)) is.0;
+        short = subst (λ (n : List ℕ). ¬ IsBelowPre n → length n ≤ LOCAL_NAME_LIMIT) (sym (made_name of.0)) is.1;
+        measured = refl;
+      }))
+
+-- ---- their names
+
+abbrev IsLocalName : List ℕ → Type 0
+IsLocalName name = IsName name × (¬ IsBelowPre name → length name ≤ LOCAL_NAME_LIMIT)
+
+module _ (old : List LocalFile) (old_files : List FileEntry) (a : Application) (each_old : (file : LocalFile) → In file old → IsLocal file) (is : IsApplication a) where
+  abbrev names : List (List ℕ)
+  names = migrated_names (local_names old) old_files a.files
+
+  moved_name : (b s : Bool) (file : LocalFile) (name : List ℕ) → is_below_pre file.name ≡ b → IsLocal file → In name (cond b [] (cond s (file.name ∷ []) (aside file.name ∷ []))) → IsLocalName name
+  moved_name true s file name below local there = absurd there
+  moved_name false true file name below local (inl same) = subst IsLocalName same (local.name, local.short)
+  moved_name false true file name below local (inr none) = absurd none
+  moved_name false false file name below local (inl same) =
+      subst IsLocalName same (aside_is_name file.name local.name (local.short (test_outside file.name below)), λ outside. absurd (outside (aside_below file.name)))
+  moved_name false false file name below local (inr none) = absurd none
+
+  name_is : (name : List ℕ) → In name names → IsLocalName name
+  name_is name there = by (in_either (flat_map (moved old_files a.files) (local_names old)) (filter (is_fresh (local_names old) old_files a.files) (map (λ (e : FileEntry). e.name) (filter (λ (e : FileEntry). e.local) a.files))) name there)
+    where
+      by : In name (flat_map (moved old_files a.files) (local_names old)) ⊎ In name (filter (is_fresh (local_names old) old_files a.files) (map (λ (e : FileEntry). e.name) (filter (λ (e : FileEntry). e.local) a.files))) → IsLocalName name
+      by (inl here) =
+          let from = flat_map_in (moved old_files a.files) (local_names old) name here in
+          let file = map_in (λ (f : LocalFile). f.name) old from.0 from.1 in
+          moved_name (is_below_pre file.0.name) (stays old_files a.files file.0.name) file.0 name refl (each_old file.0 file.1)
+          (subst (λ (n : List ℕ). In name (moved old_files a.files n)) (sym file.2) from.2)
+      by (inr fresh) =
+          let from = map_in (λ (e : FileEntry). e.name) (filter (λ (e : FileEntry). e.local) a.files) name (filter_in (is_fresh (local_names old) old_files a.files) (map (λ (e : FileEntry). e.name) (filter (λ (e : FileEntry). e.local) a.files)) name fresh).1 in
+          let entry = filter_in (λ (e : FileEntry). e.local) a.files from.0 from.1 in
+          let short = (all_in IsFile a.files from.0 is.facts.each entry.1).short entry.0 in
+          subst IsLocalName from.2 ((all_in HasEntry a.files from.0 is.files entry.1).name, λ outside. short)
+
+  pub plan_names : (plans : List LocalPlan) → IsPermutation names (map plan_name plans) → (p : LocalPlan) → In p plans → IsLocalName (plan_name p)
+  plan_names plans same p there = all_in IsLocalName (map plan_name plans) (plan_name p) (All-permutation IsLocalName names (map plan_name plans) same (in_all IsLocalName names name_is)) (in_map plan_name plans p there)
+
+-- ---- the view that was current, in the store that is shown
+
+data_shown : (contents : List Content) (row : Option View) → data_of (option_map (shown_view contents) row) ≡ map shown_data (row_locals row)
+data_shown contents None = refl
+data_shown contents (Some view) = refl
+
+files_shown : (contents : List Content) (row : Option View) → listed_by (option_map (shown_view contents) row) ≡ row_files row
+files_shown contents None = refl
+files_shown contents (Some view) = refl
+
+module _ (blocks : ℕ) (tables : Tables) (image : List ℕ) (store : Store) (shows : Shows blocks tables image store) (key : Key) where
+  abbrev row : Option View
+  row = current_row key tables
+
+  data_are : data_of (current_view key store) ≡ map shown_data (row_locals row)
+  data_are = ap data_of (current_shown shows key) ∙ data_shown tables.contents row
+
+  files_are : listed_by (current_view key store) ≡ row_files row
+  files_are = ap listed_by (current_shown shows key) ∙ files_shown tables.contents row
+
+  old_apart : Sound store → (o : Option View) → row ≡ o → AllPairs (λ (f g : LocalFile). ◌≢◌ {A = List ℕ} f.name g.name) (row_locals o)
+  old_apart sound None e = λ i j d lt within. absurd (omega arith)
+  old_apart sound (Some view) e =
+      let there = in_map (shown_view tables.contents) tables.views view (current_in key tables view e) in
+      let is = all_in IsSoundView store.views (shown_view tables.contents view) sound.views (subst (λ (s : Store). In (shown_view tables.contents view) s.views) (sym shows.is) there) in
+      pairs_before shown_data (λ (f g : DataFile). ◌≢◌ {A = List ℕ} f.name g.name) view.locals is.data_names
+
+  module _ (a : Application) (is : IsApplication a) (sound : Sound store) where
+    apart : AreApart (row_locals row) a.files
+    apart = record {
+      old_names = old_apart sound row refl;
+      new_names = AllPairs-filter (λ (e f : FileEntry). ◌≢◌ {A = List ℕ} e.name f.name) (λ (e : FileEntry). e.local) a.files is.facts.files.differ;
+      outside = in_all (λ (e : FileEntry). ¬ IsBelowPre e.name) (deployed_files a.files) (λ e there. (all_in IsFile a.files e is.facts.each (filter_in (λ (x : FileEntry). x.local) a.files e there).1).above);
+    }
+
+    -- the data files that the plans make are those of the new version
+    pub migrated : (plans : List LocalPlan) → ArePlans row a.files plans → (originals : List ListedFile) → map (λ (file : ListedFile). file.entry) originals ≡ deployed_files a.files
+        → Migrated (data_of (current_view key store)) (listed_by (current_view key store)) a.files originals (map shown_data (made_locals (row_locals row) originals plans))
+    migrated plans are originals deployed =
+        subst (λ (old : List DataFile). Migrated old (listed_by (current_view key store)) a.files originals (map shown_data (made_locals (row_locals row) originals plans))) (sym data_are)
+        (subst (λ (files : List FileEntry). Migrated (map shown_data (row_locals row)) files a.files originals (map shown_data (made_locals (row_locals row) originals plans))) (sym files_are)
+        (subst (λ (new : List DataFile). Migrated (map shown_data (row_locals row)) (row_files row) a.files originals new) (made_shown (row_locals row) originals plans)
+        (are.migrated originals apart deployed)))

@@ -1,0 +1,7 @@
+use Rattle.std.proofs.Common.{◌≡◌, length, map}
+use Rattle.install_plan.specs.Changes.{data_part, deployed_local, listed_at, program_part}
+use Rattle.install_plan.proofs.Parting.{Split}
+use Rattle.install_plan.proofs.migrating.parts_of.Given as goal
+
+abbrev pub invariant-loop-content : goal.invariant-loop-content
+invariant-loop-content l = Split l.files l.wanted l.yielded l.parts.programs.items l.parts.locals.items l.place

@@ -1,0 +1,56 @@
+-- Which data files a new view has, and where they come from.
+use Rattle.std.specs.Prelude.{◌≡◌, ℕ, List, [], AllPairs, map, not, Option, Some, None, if◌then◌else◌, sum_by}
+use Rattle.std.specs.List.Sorted.{IsPermutation}
+use Rattle.std.specs.declared.cmp.Ordering.TheVariants.{Less}
+use Rattle.identity.specs.Printed.{text_cmp}
+use Rattle.manifests.specs.declared.facts.FileEntry.{FileEntry}
+use Rattle.manifests.specs.Applications.{is_below_pre}
+use Rattle.machine.specs.Blocks.{blocks_of}
+use Rattle.machine.specs.Migrated.{migrated_names}
+use Rattle.store_state.specs.declared.view.LocalFile.{LocalFile}
+use Rattle.store_state.specs.declared.view.View.{View}
+use Rattle.store_state.specs.Rows.{current_row}
+use Rattle.store_state.specs.Tables.{Tables}
+use Rattle.data_migration.specs.declared.plan.LocalPlan.{LocalPlan}
+use Rattle.data_migration.specs.Migration.{AreApart, IsMigration}
+use Rattle.data_migration.specs.Plans.{local_names, plan_name}
+use Rattle.install_plan.specs.declared.plan.Plan.{Plan}
+
+-- ---- the view that was current
+
+-- its data files, and the files that its application lists; of no view there are none
+abbrev pub row_locals : Option View → List LocalFile
+row_locals None = []
+row_locals (Some view) = view.locals
+
+abbrev pub row_files : Option View → List FileEntry
+row_files None = []
+row_files (Some view) = view.application.files
+
+-- ---- plans
+
+-- the names of the data files rise
+abbrev pub Rise : List LocalPlan → Type 0
+Rise plans = AllPairs (λ p q. text_cmp (plan_name p) (plan_name q) ≡ Less) plans
+
+-- they are those of the new view's data files
+pub record ArePlans (row : Option View) (files : List FileEntry) (plans : List LocalPlan)
+    : Type 0 where
+  pub migrated : IsMigration (row_locals row) (row_files row) files plans
+  pub names : IsPermutation (migrated_names (local_names (row_locals row)) (row_files row) files)
+      (map plan_name plans)
+  pub once : AreApart (row_locals row) files → Rise plans
+
+-- so are those of a plan, beside the view that was current in the tables
+abbrev pub HasLocals : Tables → Plan → Type 0
+HasLocals tables plan =
+    ArePlans (current_row plan.deployment.identity.key tables) plan.application.files plan.locals
+
+-- ---- blocks
+
+-- a data file outside `.pre` is copied
+abbrev pub copied_blocks_of : LocalFile → ℕ
+copied_blocks_of file = if not (is_below_pre file.name) then blocks_of file.length else 0
+
+abbrev pub copied_in : List LocalFile → ℕ
+copied_in files = sum_by copied_blocks_of files
