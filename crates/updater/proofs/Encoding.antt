@@ -38,7 +38,8 @@ use Rattle.store_state.specs.declared.change.Change.TheVariants.{Group, Heard, I
 use Rattle.store_state.specs.declared.view.Content.{Content}
 use Rattle.store_state.specs.declared.view.LocalFile.{LocalFile}
 use Rattle.store_state.specs.declared.view.View.{View}
-use Rattle.store_state.specs.Change.{Fits, FitsInstall, MayGrow}
+use Rattle.store_state.specs.Change as kept
+use Rattle.store_state.specs.Change.{Fits, FitsInstall, IsRow, MayGrow}
 use Rattle.store_state.specs.Contents.{is_content_of}
 use Rattle.store_state.specs.Kept.{AreTables}
 use Rattle.store_state.specs.Rows.{row_at}
@@ -162,8 +163,11 @@ content_among entries c few any measured = content_encodes any.1 c any.4 (All-co
 
 -- ---- installs
 
-no_locals : (locals : List LocalFile) → locals ≡ [] → All IsLocal locals
-no_locals locals none = subst (All IsLocal) (sym none) (All-nil IsLocal)
+local_encodes : (f : LocalFile) → kept.IsLocal f → length f.bytes < 2 ^ 32 → IsLocal f
+local_encodes f is few = record { name = is.name; size = let same = is.measured in omega (arith, same, few); bytes = few }
+
+locals_encode : (locals : List LocalFile) → All kept.IsLocal locals → All (λ (f : LocalFile). length f.bytes < 2 ^ 32) locals → All IsLocal locals
+locals_encode locals are few = λ k d within. local_encodes _ (are k d within) (few k d within)
 
 no_groups : (groups : List (List ℕ)) → groups ≡ [] → All (IsShort NAME_LIMIT) groups
 no_groups groups none = subst (All (IsShort NAME_LIMIT)) (sym none) (All-nil (IsShort NAME_LIMIT))
@@ -171,8 +175,8 @@ no_groups groups none = subst (All (IsShort NAME_LIMIT)) (sym none) (All-nil (Is
 few_none : {X : Type 0} (xs : List X) → xs ≡ [] → length xs ≤ FILE_COUNT_LIMIT
 few_none xs none = let long : length xs ≡ 0 = ap length none in omega arith
 
-install_encodes : (tables : Tables) (view : View) (contents : List Content) (provider : Target) (now : ℕ) → FitsInstall tables view contents provider now → view.locals ≡ [] → length contents ≤ FILE_COUNT_LIMIT → IsInstall view contents provider now
-install_encodes tables view contents provider now fits none few =
+install_encodes : (tables : Tables) (view : View) (contents : List Content) (provider : Target) (now : ℕ) → FitsInstall tables view contents provider now → HasFew (Install view contents provider now) → IsInstall view contents provider now
+install_encodes tables view contents provider now fits few =
     let number = fits.number in
     let next = fits.next in
     let moment = fits.moment in
@@ -186,17 +190,17 @@ install_encodes tables view contents provider now fits none few =
         base = fits.row.base;
         few_groups = few_none view.groups fits.groups;
         groups = no_groups view.groups fits.groups;
-        few_locals = few_none view.locals none;
-        locals = no_locals view.locals none;
+        few_locals = few.1;
+        locals = locals_encode view.locals fits.row.locals few.2;
       };
-      few = few;
+      few = few.0;
       contents = λ k d within. content_among (standing_entries view.groups view.application) _ standing (fits.brings.only k d within) (fits.brings.measured k d within);
       provider = fits.has_provider;
       now = omega arith;
     }
 
 pub encodes : (tables : Tables) (change : Change) → Fits tables change → HasFew change → IsChange change
-encodes tables (Install view contents provider now) fits few = install_encodes tables view contents provider now fits few.0 few.1
+encodes tables (Install view contents provider now) fits few = install_encodes tables view contents provider now fits few
 encodes tables _ fits few = absurd few
 
 -- ---- checks
@@ -230,8 +234,7 @@ group_encodes tables group (Group number other contents) are short is fits =
         (in_map (λ (view : View). view.number) tables.views row found.0) in
         let same : row.number ≡ number = eqb-true row.number number found.1 in
         let limit = are.limit in
-        let application = all_in (λ (view : View). fields.IsApplication view.application)
-        tables.views row are.applications found.0 in
+        let application = (all_in IsRow tables.views row are.rows found.0).application in
         let few : All IsFew (group_files other row.application) =
         All-filter _ IsFew row.application.files
         (few_entries row.application.files application.facts.each application.files) in

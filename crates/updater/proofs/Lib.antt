@@ -1,6 +1,8 @@
 pub mod Changing
 pub mod Checking
 pub mod Commanding
+pub mod DataPut
+pub mod DataRemoved
 pub mod Declining
 pub mod Encoding
 pub mod Finishing
@@ -8,9 +10,12 @@ pub mod GroupEnds
 pub mod Installing
 pub mod Keeping
 pub mod Launching
+pub mod LeasedData
 pub mod LeasedFiles
 pub mod Loading
 pub mod Opening
+pub mod PutFits
+pub mod PutRefused
 pub mod Recovering
 pub mod Requiring
 pub mod ShownViews

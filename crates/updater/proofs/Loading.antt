@@ -3,13 +3,13 @@ use Rattle.std.proofs.Common.{◌≡◌, ℕ, suc, ◌+◌, ◌<◌, ◌≤◌, 
 use Rattle.std.proofs.lemmas.Grind.{common_steps}
 use Rattle.record_codec.specs.declared.fault.CodecFault.{CodecFault}
 use Rattle.record_codec.specs.declared.fault.CodecFault.TheVariants.{Bad}
-use Rattle.record_codec.specs.Codec.{change_text, group_text, heard_text, install_text, IsChange}
+use Rattle.record_codec.specs.Codec.{change_text, group_text, heard_text, install_text, put_text, remove_text, IsChange}
 use Rattle.record_codec.specs.Reading.{Gives}
 use Rattle.record_codec.proofs.Changes.{change_text_injective}
 use Rattle.std.specs.Prelude.{IfOk, OnOk}
 use Rattle.store_state.specs.declared.state.StateFault.{StateFault}
 use Rattle.store_state.specs.declared.change.Change.{Change}
-use Rattle.store_state.specs.declared.change.Change.TheVariants.{Boot, Require, Install, Heard, Unheard, Skip, Launch, Finish, Group}
+use Rattle.store_state.specs.declared.change.Change.TheVariants.{Boot, Require, Install, Heard, Unheard, Skip, Launch, Finish, Group, Put, Remove}
 use Rattle.store_state.specs.Change.{Fits, Replays, effect}
 use Rattle.store_state.specs.Tables.{Tables, empty}
 use Rattle.updater.specs.Stands.{Encodes, Loads}
@@ -17,7 +17,7 @@ use Rattle.updater.specs.Replay.{FitsNone, IsMade, Makes, Tests, Tries}
 
 -- a change has some text
 pub some_text : (change : Change) → 1 ≤ length (change_text change)
-unfolding change_text install_text heard_text group_text
+unfolding change_text install_text heard_text group_text put_text remove_text
 some_text (Boot boot) = omega arith
 some_text (Require key version) = omega arith
 some_text (Install view contents provider now) = omega arith
@@ -27,6 +27,8 @@ some_text (Skip app) = omega arith
 some_text (Launch app) = omega arith
 some_text (Finish lease) = omega arith
 some_text (Group view group contents) = omega arith
+some_text (Put view file) = omega arith
+some_text (Remove view name) = omega arith
 
 -- a text encodes one change
 pub one_encoded : (a b : Change) (text : List ℕ) → Encodes a text → Encodes b text → a ≡ b

@@ -13,7 +13,7 @@ use Rattle.install_plan.specs.GroupAsked.{AreBrought, GroupServed}
 use Rattle.install_plan.specs.Hearing.{Served}
 use Rattle.install_plan.specs.Offers.{OfferServed}
 use Rattle.machine.specs.declared.command.Command.{Command}
-use Rattle.machine.specs.declared.command.Command.TheVariants.{At, Require, Install, Check, Skip, Launch, Read, Group, Finish}
+use Rattle.machine.specs.declared.command.Command.TheVariants.{At, Require, Install, Check, Skip, Launch, Read, Local, Put, Remove, Group, Finish}
 use Rattle.machine.specs.declared.reply.Reply.{Reply}
 use Rattle.machine.specs.Machine.{Answers, Hears, moment_after}
 use Rattle.machine.specs.Shape.{shape_of}
@@ -37,6 +37,9 @@ SoundFor (Check key) store = Unit {0}
 SoundFor (Skip key) store = Unit {0}
 SoundFor (Launch key) store = Unit {0}
 SoundFor (Read lease name from count) store = Unit {0}
+SoundFor (Local lease name from count) store = Unit {0}
+SoundFor (Put lease name bytes) store = Unit {0}
+SoundFor (Remove lease name) store = Unit {0}
 SoundFor (Group lease group) store = Sound store
 SoundFor (Finish lease) store = Unit {0}
 
@@ -49,12 +52,16 @@ LeavesLinks (Check key) old new = Unit {0}
 LeavesLinks (Skip key) old new = new ≡ old
 LeavesLinks (Launch key) old new = new ≡ old
 LeavesLinks (Read lease name from count) old new = new ≡ old
+LeavesLinks (Local lease name from count) old new = new ≡ old
+LeavesLinks (Put lease name bytes) old new = new ≡ old
+LeavesLinks (Remove lease name) old new = new ≡ old
 LeavesLinks (Group lease group) old new = Unit {0}
 LeavesLinks (Finish lease) old new = new ≡ old
 
 -- What the links did for a step from one store to another. An install asked them for what it heard,
--- and for each file of the new view whose content no kept view has. A check asked for the manifest
--- that it heard, and a group for each of its files whose content no kept view has.
+-- for each program file of the new view whose content no kept view has, and for each data file that
+-- the release deploys. A check asked for the manifest that it heard, and a group for each of its
+-- files whose content no kept view has.
 abbrev pub Serves :
     Command → List (List ℕ) → LinksState → LinksState → Store → Reply → Store → Type 0
 Serves (At next) heard before after old reply new = Unit {0}
@@ -62,12 +69,15 @@ Serves (Require key version) heard before after old reply new = Unit {0}
 Serves (Install url) heard before after old reply new =
     Served (shape_of old) url heard before after reply
     × ((view : View) → new.views ≡ old.views ++ view ∷ []
-    → IsBrought (shape_of old) before after view)
+    → IsBrought old before after view)
 Serves (Check key) heard before after old reply new =
     OfferServed key (shape_of old) heard before after reply
 Serves (Skip key) heard before after old reply new = Unit {0}
 Serves (Launch key) heard before after old reply new = Unit {0}
 Serves (Read lease name from count) heard before after old reply new = Unit {0}
+Serves (Local lease name from count) heard before after old reply new = Unit {0}
+Serves (Put lease name bytes) heard before after old reply new = Unit {0}
+Serves (Remove lease name) heard before after old reply new = Unit {0}
 Serves (Group lease group) heard before after old reply new =
     GroupServed lease group (shape_of old) before after reply
     × AreBrought lease group (shape_of old) before after new

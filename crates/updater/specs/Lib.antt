@@ -1,10 +1,12 @@
 pub mod Answer
 pub mod Commanded
+pub mod DataFiles
 pub mod Keeps
 pub mod Leased
 pub mod Loaded
 pub mod Moments
 pub mod Opened
+pub mod Putting
 pub mod Replay
 pub mod Requirement
 pub mod Skipping

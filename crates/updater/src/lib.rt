@@ -1,10 +1,12 @@
 //! The commands over a disk: each is one step of the machine, and durable once it is answered.
 #![tactic(auto)]
 
+mod data_files;
 mod fault;
 mod laws;
 mod leased;
 mod piece;
+mod putting;
 mod refusal;
 mod replay;
 mod requirement;

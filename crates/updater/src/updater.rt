@@ -1,6 +1,7 @@
 // The store in memory and on the disk, and the commands on it.
-ghost use Rattle.std.specs.Prelude.{◌≡◌, ◌≤◌, ℕ, List, [], map};
-ghost use Rattle.small_types.specs.declared.limits.TheConstants.{NUMBER_LIMIT};
+ghost use Rattle.std.specs.Prelude.{◌≡◌, ◌≤◌, ◌<◌, ◌^◌, ℕ, List, [], length, map};
+ghost use Rattle.small_types.specs.declared.limits.TheConstants.{NUMBER_LIMIT, PIECE_LIMIT};
+ghost use Rattle.small_types.specs.Name.{IsName};
 ghost use Rattle.identity.specs.Key.{IsKey};
 ghost use Rattle.identity.specs.Version.{IsVersion};
 ghost use Rattle.machine.specs.declared.command.Command.TheVariants as command;
@@ -12,6 +13,7 @@ ghost use Rattle.machine.specs.Store.{Store};
 ghost use Rattle.machine.specs.Valid.{Valid};
 ghost use Rattle.machine.specs.Words.{IsCommand, IsGroup};
 ghost use Rattle.record_codec.specs.Codec.{IsChange};
+ghost use Rattle.store_state.specs.declared.change.Change.TheVariants as change;
 ghost use Rattle.store_state.specs.Change.{Fits};
 ghost use Rattle.store_state.specs.Shows.{Shows};
 ghost use Rattle.store_state.specs.Tables.{table_shape};
@@ -19,9 +21,11 @@ ghost use Rattle.updater.specs.Answer.{IsAnswer};
 ghost use Rattle.updater.specs.Requirement.{Raises};
 
 use crate::RecoverFault;
+use crate::data_files::{local_of, removal_of};
 use crate::fault::StepFault;
 use crate::leased::{leased_file, part_of};
 use crate::piece::piece_of;
+use crate::putting::{local_file, putting_of};
 use crate::refusal::{finish_refusal, require_refusal};
 use crate::replay::settle;
 use crate::requirement::minimum_that_stays;
@@ -31,12 +35,12 @@ use disks::Disk;
 use identity::{Key, Version};
 use install_plan::{prepare, prepare_check, prepare_group};
 use links::Links;
-use machine::{Command, Heard, Reply};
+use machine::{Command, Heard, Reply, one_data_file_is_changed};
 use outside::Failed;
 use small_types::{Bytes, Duplicate, Name, Text};
 use std::alloc::Global;
 use store_log::{Log, LogFault};
-use store_state::{Change, StoreState};
+use store_state::{Change, LocalFile, StoreState, puts_show_the_file, removals_show_the_rest};
 
 /// A store that is open: its log, its number of blocks and its tables.
 #[derive(Debug, Drop)]
@@ -122,6 +126,16 @@ impl Updater {
                 from,
                 count,
             } => self.read(alloc, disk, links, now, *lease, name, *from, *count),
+            Command::Local {
+                lease,
+                name,
+                from,
+                count,
+            } => self.read_local(alloc, disk, links, now, *lease, name, *from, *count),
+            Command::Put { lease, name, bytes } => self.put(
+                alloc, disk, links, now, *lease, name, bytes,
+            ),
+            Command::Remove { lease, name } => self.remove(alloc, disk, links, now, *lease, name),
             Command::Group { lease, group } => self.group(alloc, disk, links, now, *lease, group),
             Command::Finish { lease } => self.finish(alloc, disk, links, now, *lease),
         }
@@ -368,6 +382,102 @@ impl Updater {
             Ok(bytes) => Ok(Reply::Read { length, bytes }),
             Err(_) => Ok(Reply::Memory),
         }
+    }
+
+    // Reads bytes of a data file of the leased view. Neither the disk nor the links are asked.
+    fn read_local<D: Disk, L: Links>(
+        &self,
+        alloc: Global,
+        _disk: &D,
+        _links: &L,
+        now: u64,
+        lease: u64,
+        name: &Name,
+        from: u64,
+        count: u64,
+    ) -> Result<Reply, Failed>
+        requires { now ≤ NUMBER_LIMIT }
+        ensures { Commanded D.Disk L.Links now [] (command.Local lease name.now from count)
+            self.now _disk.now _links.now result self.now _disk.now _links.now }
+    {
+        let file = match local_of(&self.state, lease, name) {
+            Ok(file) => file,
+            Err(reply) => return Ok(reply),
+        };
+        let held = file.bytes.as_slice();
+        let length = held.len() as u64;
+        match part_of(alloc, held, from, count) {
+            Ok(bytes) => Ok(Reply::Read { length, bytes }),
+            Err(_) => Ok(Reply::Memory),
+        }
+    }
+
+    // Puts a data file with these bytes into the leased view. Where they stand there already,
+    // nothing is written. The links are not asked.
+    fn put<D: Disk, L: Links>(
+        &mut self,
+        alloc: Global,
+        disk: &mut D,
+        _links: &L,
+        now: u64,
+        lease: u64,
+        name: &Name,
+        bytes: &Bytes,
+    ) -> Result<Reply, Failed>
+        requires words { (lease ≤ NUMBER_LIMIT) × IsName name.now
+            × (length bytes.now ≤ PIECE_LIMIT) }
+        requires moment { now ≤ NUMBER_LIMIT }
+        ensures { Commanded D.Disk L.Links now [] (command.Put lease name.now bytes.now)
+            self.old disk.old _links.now result self.new disk.new _links.now }
+    {
+        let putting = match putting_of(&self.state, self.blocks, lease, name, bytes) {
+            Ok(putting) => putting,
+            Err(reply) => return Ok(reply),
+        };
+        if putting.stands {
+            return Ok(Reply::Put);
+        }
+        let Ok(file) = local_file(alloc, name, bytes) else {
+            return Ok(Reply::Memory);
+        };
+        let change = Change::Put {
+            view: putting.view,
+            file,
+        };
+        self.state.are_tables();
+        puts_show_the_file();
+        one_data_file_is_changed();
+        answer(self.keep(alloc, disk, change), Reply::Put)
+    }
+
+    // Removes the data file of the leased view. The links are not asked.
+    fn remove<D: Disk, L: Links>(
+        &mut self,
+        alloc: Global,
+        disk: &mut D,
+        _links: &L,
+        now: u64,
+        lease: u64,
+        name: &Name,
+    ) -> Result<Reply, Failed>
+        requires words { (lease ≤ NUMBER_LIMIT) × IsName name.now }
+        requires moment { now ≤ NUMBER_LIMIT }
+        ensures { Commanded D.Disk L.Links now [] (command.Remove lease name.now)
+            self.old disk.old _links.now result self.new disk.new _links.now }
+    {
+        let view = match removal_of(&self.state, lease, name) {
+            Ok(view) => view,
+            Err(reply) => return Ok(reply),
+        };
+        let Ok(name) = name.copy(alloc) else {
+            return Ok(Reply::Memory);
+        };
+        removals_show_the_rest();
+        one_data_file_is_changed();
+        answer(
+            self.keep(alloc, disk, Change::Remove { view, name }),
+            Reply::Removed,
+        )
     }
 
     // Brings the files of the group to the leased view.

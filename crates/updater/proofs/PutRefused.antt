@@ -1,0 +1,116 @@
+-- The refusals of a put, as the tables give them.
+use Rattle.std.proofs.Common.{◌≡◌, ◌∙◌, ◌↔◌, ◌<◌, ◌≤◌, inl, inr, refl, sym, ap, subst, ℕ, Bool, true, false, cond, not, List, map, length, Option, Some, None, arith}
+use Rattle.std.specs.Bool.{IsTrue}
+use Rattle.std.proofs.lemmas.Bool.{both_ways}
+use Rattle.small_types.specs.declared.limit.Limit.TheVariants.{Locals}
+use Rattle.small_types.specs.declared.limits.TheConstants.{LOCAL_COUNT_LIMIT}
+use Rattle.manifests.specs.Applications.{is_below_pre}
+use Rattle.machine.specs.declared.reply.Reply.TheVariants as says
+use Rattle.machine.specs.Blocks.{blocks_of, free_blocks}
+use Rattle.machine.specs.PutRow.{IsBadName, IsOneTooMany, outside_count, put_refusals}
+use Rattle.machine.specs.Rows.{PassesAll, Refuses}
+use Rattle.machine.specs.Shape.{BareData, BareView}
+use Rattle.machine.specs.Store.{Session}
+use Rattle.machine.proofs.Members.{sum_map}
+use Rattle.store_state.specs.declared.view.LocalFile.{LocalFile}
+use Rattle.store_state.specs.declared.view.View.{View}
+use Rattle.store_state.specs.Locals.{local_named, outside_locals}
+use Rattle.store_state.specs.Rows.{leased_row}
+use Rattle.store_state.specs.Tables.{Tables, bare_local, bare_row, table_shape}
+use Rattle.updater.proofs.LeasedData.{bare, bare_none, lives, none_bare, one_bare}
+
+-- what a test says no to
+pub no_from : {P : Type 0} (b : Bool) → (IsTrue b ↔ P) → b ≡ false → ¬ P
+no_from b tells differs holds = both_ways b differs (tells.1 holds)
+
+pub outside_bare : (files : List LocalFile) → outside_count (map bare_local files) ≡ outside_locals files
+outside_bare files =
+    sum_map bare_local (λ (file : BareData). cond (not (is_below_pre file.name)) 1 0) files
+
+-- the name is a new one, and there are as many as may be
+abbrev pub IsFull : List ℕ → View → Type 0
+IsFull name row =
+    (local_named name row.locals ≡ None) × (LOCAL_COUNT_LIMIT ≤ outside_locals row.locals)
+
+module _ (lease blocks : ℕ) (name bytes : List ℕ) (tables : Tables) (row : View)
+    (leased : leased_row lease tables ≡ Some row) where
+  pub bad_name : (old : Session) → IsBadName name
+      → Refuses (put_refusals lease name bytes (table_shape blocks tables)) old says.BadName old
+  bad_name old bad = inr (lives lease name blocks tables row leased, inl ((bad, refl), refl))
+
+  module _ (good : ¬ IsBadName name) where
+    pub too_many : (old : Session) → IsFull name row
+        → Refuses (put_refusals lease name bytes (table_shape blocks tables)) old
+        (says.TooMany Locals LOCAL_COUNT_LIMIT) old
+    too_many old full =
+        let many = full.1 in
+        let same = outside_bare row.locals in
+        inr (
+          lives lease name blocks tables row leased,
+          inr (
+            good,
+            inl (
+              (
+                (
+                  bare_row row,
+                  bare lease name blocks tables row leased,
+                  bare_none lease name blocks tables row leased full.0,
+                  subst (λ (n : ℕ). LOCAL_COUNT_LIMIT ≤ n) (sym same) many,
+                ),
+                refl,
+              ),
+              refl,
+            ),
+          ),
+        )
+
+    module _ (some : ¬ IsFull name row) where
+      few : ¬ IsOneTooMany lease name (table_shape blocks tables)
+      few many =
+          let one = one_bare lease name blocks tables row leased many.0 many.1 in
+          let count = ap (λ (v : BareView). outside_count v.data_files) one in
+          let same = outside_bare row.locals in
+          let least = many.3 in
+          some (
+            none_bare lease name blocks tables row leased many.0 many.1 many.2,
+            subst (λ (n : ℕ). LOCAL_COUNT_LIMIT ≤ n) (sym count ∙ same) least,
+          )
+
+      pub no_room : (old : Session) (need free : ℕ) → need ≡ blocks_of (length bytes)
+          → free ≡ free_blocks (table_shape blocks tables) → free < need
+          → Refuses (put_refusals lease name bytes (table_shape blocks tables)) old
+          (says.Full need free) old
+      no_room old need free is room less =
+          inr (
+            lives lease name blocks tables row leased,
+            inr (
+              good,
+              inr (
+                few,
+                inl (
+                  (need, (is, subst (λ (n : ℕ). n < need) room less), ap (says.Full need) room),
+                  refl,
+                ),
+              ),
+            ),
+          )
+
+      pub put_passes : (need free : ℕ) → need ≡ blocks_of (length bytes)
+          → free ≡ free_blocks (table_shape blocks tables) → ¬ (free < need)
+          → PassesAll (put_refusals lease name bytes (table_shape blocks tables))
+      put_passes need free is room enough = (
+        lives lease name blocks tables row leased,
+        (
+          good,
+          (
+            few,
+            (
+              (λ other less.
+                  enough (subst (λ (n : ℕ). n < need) (sym room)
+                  (subst (λ (n : ℕ). free_blocks (table_shape blocks tables) < n) (less.0 ∙ sym is)
+                  less.1))),
+              tt,
+            ),
+          ),
+        ),
+      )

@@ -1,0 +1,41 @@
+use Rattle.std.proofs.Common.{refl, sym, arith}
+use Rattle.std.proofs.lemmas.Bool.{both_ways}
+use Rattle.updater.proofs.PutRefused.{bad_name, no_from, no_room, put_passes, too_many}
+use Rattle.updater.proofs.putting.putting_of.Goals as goal
+
+pub returns-then-is_bad_name-clause-refused : goal.returns-then-is_bad_name-clause-refused
+returns-then-is_bad_name-clause-refused c = λ keeps old.
+    bad_name c.args.lease c.args.blocks c.args.name.now c.args.bytes.now c.args.state.now
+    c.in-Some.view.now (sym c.in-Some.ensures.row) old
+    (c.is_bad_name.ensures.0 c.if-is_bad_name.true)
+
+pub returns-then-is_one_too_many-clause-refused : goal.returns-then-is_one_too_many-clause-refused
+returns-then-is_one_too_many-clause-refused c = λ keeps old.
+    too_many c.args.lease c.args.blocks c.args.name.now c.args.bytes.now c.args.state.now
+    c.in-Some.view.now (sym c.in-Some.ensures.row)
+    (no_from c.is_bad_name.result c.is_bad_name.ensures c.if-is_bad_name.false) old
+    (c.is_one_too_many.ensures.0 c.if-is_one_too_many.true)
+
+pub returns-then-free-need-clause-refused : goal.returns-then-free-need-clause-refused
+returns-then-free-need-clause-refused c = λ keeps old.
+    no_room c.args.lease c.args.blocks c.args.name.now c.args.bytes.now c.args.state.now
+    c.in-Some.view.now (sym c.in-Some.ensures.row)
+    (no_from c.is_bad_name.result c.is_bad_name.ensures c.if-is_bad_name.false)
+    (no_from c.is_one_too_many.result c.is_one_too_many.ensures c.if-is_one_too_many.false)
+    old c.blocks_of-need.result c.free_blocks-free.result c.blocks_of-need.ensures
+    c.free_blocks-free.ensures (let less = c.if-free-need.true in omega (arith, less))
+
+pub returns-clause-putting : goal.returns-clause-putting
+returns-clause-putting c = record {
+  passes = put_passes c.args.lease c.args.blocks c.args.name.now c.args.bytes.now
+      c.args.state.now c.in-Some.view.now (sym c.in-Some.ensures.row)
+      (no_from c.is_bad_name.result c.is_bad_name.ensures c.if-is_bad_name.false)
+      (no_from c.is_one_too_many.result c.is_one_too_many.ensures c.if-is_one_too_many.false)
+      c.blocks_of-need.result c.free_blocks-free.result c.blocks_of-need.ensures
+      c.free_blocks-free.ensures (λ less. let enough = c.if-free-need.false in omega (arith, enough, less));
+  row = c.in-Some.view.now;
+  leased = sym c.in-Some.ensures.row;
+  view = refl;
+  stands = λ is. c.has_bytes.ensures.0 is;
+  other = λ differs same. both_ways c.has_bytes.result differs (c.has_bytes.ensures.1 same);
+}

@@ -1,0 +1,55 @@
+use Rattle.std.proofs.Common.{[], ◌≤◌, ℕ, List, rules, subst, sym}
+use Rattle.small_types.specs.declared.limits.TheConstants.{NUMBER_LIMIT}
+use Rattle.machine.specs.declared.command.Command.TheVariants as command
+use Rattle.machine.specs.declared.reply.Reply.TheVariants as says
+use Rattle.small_types.specs.Name.{IsName}
+use Rattle.store_state.specs.declared.change.Change.TheVariants as change
+use Rattle.store_state.specs.Change.{Fits}
+use Rattle.updater.proofs.Commanding.{Does, kept, memory_missed, refused, unlinked}
+use Rattle.updater.proofs.DataRemoved.{removal_does, removal_fits}
+use Rattle.updater.proofs.ShownViews.{keeps_view}
+use Rattle.updater.proofs.updater.Updater.remove.Goals as goal
+
+pub returns-in-Err : goal.returns-in-Err
+returns-in-Err g c =
+    refused g.D.Disk g.L.Links c.args.now (command.Remove c.args.lease c.args.name.now)
+    c.args.self.now c.args.disk.now c.args._links.now
+    (g.met.D.Disk.seen_left c.args.disk.now) c.requires.moment tt c.in-Err.reply
+    (subst (λ (n : ℕ). n ≤ NUMBER_LIMIT) (sym (c.in-Err.ensures.still c.args.now))
+    c.requires.moment)
+    (λ old s. c.in-Err.ensures.refused (keeps_view s.shows c.args.lease s.valid.ordered)
+    c.args.self.now.blocks old)
+
+pub keep-requires : goal.keep-requires
+keep-requires g c = (
+  subst (λ (name : List ℕ). Fits c.args.self.now.state (change.Remove c.in-Ok.view name))
+      (sym c.in-Ok-copy.ensures)
+      (removal_fits c.args.lease c.args.name.now c.args.self.now.state c.in-Ok.view
+      c.in-Ok.ensures.removal),
+  (
+    search rules,
+    subst (λ (name : List ℕ). IsName name) (sym c.in-Ok-copy.ensures)
+        c.requires.words.1,
+  ),
+)
+
+pub returns : goal.returns
+returns g c =
+    let command = command.Remove c.args.lease c.args.name.now in
+    kept g.D.Disk g.L.Links c.args.now [] command
+    c.args.self.now c.args.disk.now c.args._links.now c.args._links.now
+    (g.met.D.Disk.seen_left c.args.disk.now) c.requires.moment
+    (unlinked g.L.Links command c.args.self.now c.args._links.now)
+    (change.Remove c.in-Ok.view c.in-Ok-copy.name) says.Removed c.requires.moment
+    (λ old s. subst
+    (λ (name : List ℕ). Does c.args.now [] command (g.L.Links.links c.args._links.now)
+    (g.L.Links.links c.args._links.now) (change.Remove c.in-Ok.view name) c.args.self.now.state old
+    says.Removed) (sym c.in-Ok-copy.ensures)
+    (removal_does c.args.now c.args.lease c.args.self.now.blocks c.args.name.now
+    c.args.self.now.state _ _ _ old s.shows s.valid c.requires.words c.requires.moment
+    c.in-Ok.view c.in-Ok.ensures.removal c.removals_show_the_rest.ensures
+    c.one_data_file_is_changed.ensures.removed))
+    (memory_missed g.D.Disk g.L.Links c.args.now command
+    c.args.self.now c.args.disk.now c.args._links.now
+    (g.met.D.Disk.seen_left c.args.disk.now) c.requires.moment tt)
+    c.keep.new.self c.keep.new.disk c.keep.result c.answer.result c.keep.ensures c.answer.ensures
