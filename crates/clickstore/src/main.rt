@@ -32,8 +32,9 @@ asked of the URL's host over HTTP.
   session --boot N --now N     answers the lines of the input: `at N`,
                                `require KEY V`, `install URL`, `check KEY`,
                                `skip KEY`, `launch KEY`,
-                               `read L NAME FROM COUNT`, `group L GROUP` and
-                               `finish L`
+                               `read L NAME FROM COUNT`,
+                               `data L NAME FROM COUNT`, `put L NAME HEX`,
+                               `remove L NAME`, `group L GROUP` and `finish L`
   inspect deployment           says what the deployment manifest in the input says
   inspect application          the same for an application manifest
   publish --name N --release V --entry E --from F --to T MARK..

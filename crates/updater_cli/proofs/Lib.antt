@@ -8,6 +8,15 @@ pub mod Inputs
 pub mod Leased
 pub mod Opened
 pub mod Prefix
+pub mod Premises
+pub mod PublishedDigests
+pub mod PublishedFiles
+pub mod PublishedLaw
+pub mod PublishedOut
+pub mod PublishedRelease
+pub mod PublishedRuns
+pub mod PublishedTexts
+pub mod PublishedUses
 pub mod Publishing
 pub mod Reading
 pub mod Running

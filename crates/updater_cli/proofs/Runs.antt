@@ -7,7 +7,7 @@ use Rattle.machine.specs.declared.event.Event.{Event}
 use Rattle.machine.specs.declared.reply.Reply.{Reply}
 use Rattle.machine.specs.declared.report.ReportLine.{ReportLine}
 use Rattle.machine.specs.Machine.{Step, Run, moment_after}
-use Rattle.machine.specs.declared.command.Command.TheVariants.{Group, Install}
+use Rattle.machine.specs.declared.command.Command.TheVariants.{Group, Install, Put}
 use Rattle.machine.specs.declared.event.Event.TheVariants.{Line}
 use Rattle.machine.specs.Laws.{FetchesWithoutJobs}
 use Rattle.machine.specs.Words.{IsEvent}
@@ -22,6 +22,7 @@ use Rattle.updater_cli.specs.Report.{Origin, origin_after, events_of, replies_of
 without_jobs : (event : Event) (old : Session) → old.jobs ≡ [] → FetchesWithoutJobs event old
 without_jobs (Line (Install url) now heard) old none = none
 without_jobs (Line (Group lease group) now heard) old none = none
+without_jobs (Line (Put lease name bytes) now heard) old none = none
 without_jobs _ old none = tt
 
 pub step_settled : (now : ℕ) (old : Session) (event : Event) (reply : Option Reply) (new : Session) → IsEvent event → Step now old event reply new → IsSettled old → IsSettled new

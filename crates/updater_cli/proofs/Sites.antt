@@ -7,7 +7,7 @@ use Rattle.links.specs.Links.{LinksState}
 use Rattle.fetcher.specs.Fetched.{AllTell, Kept}
 use Rattle.fetcher.proofs.Sequence.{kept_then, site_before, tell_after}
 use Rattle.identity.specs.declared.key.Key.{Key}
-use Rattle.install_plan.specs.Brought.{IsBrought, IsHeldOrFetched}
+use Rattle.install_plan.specs.Brought.{IsBrought, IsCarriedOrFetched, IsHeldOrFetched}
 use Rattle.install_plan.specs.GroupAsked.{AreBrought, IsHeldOrCame}
 use Rattle.install_plan.specs.Hearing.{Hearing, IsApplicationText, IsDeploymentText}
 use Rattle.install_plan.specs.Offers.{IsOfferText, OfferHearing}
@@ -21,11 +21,11 @@ use Rattle.machine.specs.Groups.{group_wanted}
 use Rattle.machine.specs.Machine.{Step}
 use Rattle.machine.specs.Shape.{Shape, shape_of}
 use Rattle.machine.specs.Store.{Session, Store}
-use Rattle.machine.specs.Views.{ListedFile, View}
+use Rattle.machine.specs.Views.{DataFile, ListedFile, View}
 use Rattle.machine.specs.Wanted.{wanted}
 use Rattle.updater.specs.Commanded.{Serves}
 use Rattle.updater_cli.specs.Report.{AreServed, IsServed, Origin, origin_after}
-use Rattle.updater_cli.specs.Sites.{AreOfSites, HeardOfSites, GroupOfSites, IsHeldOrOfSite, IsLineOfSites, OfferOfSites}
+use Rattle.updater_cli.specs.Sites.{AreOfSites, HeardOfSites, GroupOfSites, IsCarriedOrOfSite, IsHeldOrOfSite, IsLineOfSites, OfferOfSites}
 
 some_as : {A : Type 0} (o : Option A) (P Q : A → Type 0) → ((x : A) → P x → Q x) → IfSome o P → IfSome o Q
 some_as None P Q on is = tt
@@ -53,6 +53,13 @@ module _ (first before after : LinksState) (kept : Kept first before) (tell : Al
       let from = fetched.4 in
       inr (fetched.0, fetched.1, fetched.2, fetched.3, (from.0, from.1, from.2, site_before first before from.0 file.bytes kept tell (from.3.site (tell_after first before kept tell))))
 
+  carried_of : (old : Store) (view : View) (file : DataFile) → IsCarriedOrFetched old before after view file → IsCarriedOrOfSite first old view file
+  carried_of old view file (inl kept) = inl kept
+  carried_of old view file (inr (inl aside)) = inr (inl aside)
+  carried_of old view file (inr (inr fetched)) =
+      let from = fetched.4 in
+      inr (inr (fetched.0, fetched.1, fetched.2, fetched.3, (from.0, from.1, from.2, from.3, from.4.fits, site_before first before from.0 file.bytes kept tell (from.4.site (tell_after first before kept tell)))))
+
   -- what a group brought
   came_of : (group : List ℕ) (shape : Shape) (view : View) (file : ListedFile) → IsHeldOrCame group shape before after view file → IsHeldOrOfSite first shape (group_wanted shape.views group view.application) view file
   came_of group shape view file (inl held) = inl held
@@ -70,8 +77,11 @@ module _ (first before after : LinksState) (kept : Kept first before) (tell : Al
   served_of (Install url) texts old new reply now serves = record {
     heard = heard_of (shape_of old) url texts serves.0.hearing;
     brought = λ view is.
-        let brought : IsBrought (shape_of old) before after view = serves.1 view is in
+        let brought : IsBrought old before after view = serves.1 view is in
         All-weaker (IsHeldOrFetched (shape_of old) before after view) (IsHeldOrOfSite first (shape_of old) (wanted (shape_of old).views view.application) view) (file_of (shape_of old) view) view.program_files brought.files;
+    data_files = λ view is.
+        let brought : IsBrought old before after view = serves.1 view is in
+        All-weaker (IsCarriedOrFetched old before after view) (IsCarriedOrOfSite first old view) (carried_of old view) view.data_files brought.data_files;
   }
   served_of (Check key) texts old new reply now serves = offer_of key old texts serves.hearing
   served_of (Group lease group) texts old new reply now serves = group_of lease group old new serves.1

@@ -2,7 +2,10 @@ pub mod Devices
 pub mod Format
 pub mod Headline
 pub mod Lines
+pub mod Offered
 pub mod Opening
+pub mod Premises
+pub mod Published
 pub mod Report
 pub mod Requests
 pub mod Session

@@ -4,22 +4,25 @@ use Rattle.small_types.specs.declared.target.Target.{Target}
 use Rattle.addresses.specs.Address.{target_of_text}
 use Rattle.addresses.specs.Join.{file_target_of}
 use Rattle.identity.specs.declared.key.Key.{Key}
+use Rattle.digest_list.specs.Matches.{Matches}
 use Rattle.manifests.specs.declared.facts.FileEntry.{FileEntry}
 use Rattle.links.specs.Links.{LinksState}
 use Rattle.fetcher.specs.Given.{IsOfSite}
-use Rattle.machine.specs.declared.command.Command.TheVariants.{At, Require, Install, Check, Skip, Launch, Read, Group, Finish}
+use Rattle.machine.specs.declared.command.Command.TheVariants.{At, Require, Install, Check, Skip, Launch, Read, Local, Put, Remove, Group, Finish}
 use Rattle.machine.specs.declared.event.Event.{Event}
 use Rattle.machine.specs.declared.event.Event.TheVariants.{Boot, Line, Unread}
 use Rattle.machine.specs.declared.report.ReportLine.{ReportLine}
 use Rattle.machine.specs.Blocks.{standing_files}
 use Rattle.machine.specs.CheckRow.{provider_of}
+use Rattle.machine.specs.Current.{current_view, data_of, listed_by}
 use Rattle.machine.specs.Groups.{group_wanted}
 use Rattle.machine.specs.InstallRow.{OfDeployment, base_of}
 use Rattle.machine.specs.Leases.{leased_view}
 use Rattle.machine.specs.Machine.{Step}
+use Rattle.machine.specs.Migrated.{IsAside, IsKept}
 use Rattle.machine.specs.Shape.{Shape, shape_of}
 use Rattle.machine.specs.Store.{Session, Store}
-use Rattle.machine.specs.Views.{ListedFile, View, same_content}
+use Rattle.machine.specs.Views.{DataFile, ListedFile, View, key_of, same_content}
 use Rattle.machine.specs.Wanted.{is_held, wanted}
 use Rattle.updater_cli.specs.Report.{Origin, origin_after}
 
@@ -53,6 +56,19 @@ IsHeldOrOfSite links shape wants view file =
     × (same_content entry file.entry ≡ true) × IsOfSite links target file.bytes)
     wants
 
+-- It is a data file of the view that was current, which stays or is kept aside; or its bytes match and
+-- are of a site at the address of a data file that the release deploys under the name.
+abbrev pub IsCarriedOrOfSite : LinksState → Store → View → DataFile → Type 0
+IsCarriedOrOfSite links old view file =
+    IsKept (data_of (current_view (key_of view) old)) (listed_by (current_view (key_of view) old))
+    view.application.files file
+    ⊎ IsAside (data_of (current_view (key_of view) old))
+    (listed_by (current_view (key_of view) old)) view.application.files file
+    ⊎ Any (λ (entry : FileEntry). (target : Target) × (entry.local ≡ true) × (entry.name ≡ file.name)
+    × (file_target_of view.base view.deployment.mapped entry.name ≡ Ok target)
+    × Matches entry.list entry.size file.bytes × IsOfSite links target file.bytes)
+    view.application.files
+
 -- what an install heard, and the files of the view that it brought, if it brought one
 pub record IsOfSites (links : LinksState) (url : List ℕ) (texts : List (List ℕ)) (old new : Store)
     : Type 0 where
@@ -60,6 +76,8 @@ pub record IsOfSites (links : LinksState) (url : List ℕ) (texts : List (List �
   pub brought : (view : View) → new.views ≡ old.views ++ view ∷ []
       → All (IsHeldOrOfSite links (shape_of old) (wanted (shape_of old).views view.application)
       view) view.program_files
+  pub data_files : (view : View) → new.views ≡ old.views ++ view ∷ []
+      → All (IsCarriedOrOfSite links old view) view.data_files
 
 -- all program files that stand in the leased view behind a group's line, those of the group among
 -- them
@@ -81,6 +99,9 @@ IsLineOfSites links (Line (Check key) now heard) old new = OfferOfSites links ke
 IsLineOfSites links (Line (Skip key) now heard) old new = Unit {0}
 IsLineOfSites links (Line (Launch key) now heard) old new = Unit {0}
 IsLineOfSites links (Line (Read lease name from count) now heard) old new = Unit {0}
+IsLineOfSites links (Line (Local lease name from count) now heard) old new = Unit {0}
+IsLineOfSites links (Line (Put lease name bytes) now heard) old new = Unit {0}
+IsLineOfSites links (Line (Remove lease name) now heard) old new = Unit {0}
 IsLineOfSites links (Line (Group lease group) now heard) old new =
     GroupOfSites links lease group old new
 IsLineOfSites links (Line (Finish lease) now heard) old new = Unit {0}

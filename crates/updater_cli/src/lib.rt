@@ -2,6 +2,7 @@
 #![tactic(auto)]
 
 mod course;
+mod laws;
 mod line;
 mod opening;
 mod session;
@@ -9,6 +10,7 @@ mod status;
 mod top;
 mod words;
 
+pub use laws::published_is_read;
 pub use machine::{Report, ReportLine};
 pub use top::run;
 pub use words::Request;

@@ -48,10 +48,11 @@ fn format<D: Disk>(alloc: Global, disk: &mut D, blocks: u64) -> Status
 /// `session --boot N --now N` answers the lines of the source on the sink over the store on the
 /// disk; the numbers are at most 2^62, and `now` is in seconds. The lines are `at N`,
 /// `require KEY V`, `install URL`, `check KEY`, `skip KEY`, `launch KEY`, `read L NAME FROM COUNT`,
-/// `group L GROUP` and `finish L`. What an `install` or a `group` wants is fetched over the links, and
-/// a `check` asks them what the application's provider offers. A `launch` gives a lease on the
-/// application's current view, whose files `read` reads as they are until `finish` or another boot
-/// number. The report then has what the session did.
+/// `data L NAME FROM COUNT`, `put L NAME HEX`, `remove L NAME`, `group L GROUP` and `finish L`. What
+/// an `install` or a `group` wants is fetched over the links, and a `check` asks them what the
+/// application's provider offers. A `launch` gives a lease on the application's current view, whose
+/// program files `read` reads as they are until `finish` or another boot number; `data` reads its data
+/// files, which `put` and `remove` change. The report then has what the session did.
 ///
 /// `inspect deployment` and `inspect application` read a manifest from the source, at most 4,194,305
 /// bytes, and write what it says, or why it is refused, to the sink.

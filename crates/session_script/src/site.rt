@@ -41,6 +41,43 @@ pub fn put_zeros(rt: &HostRuntime, folder: &mut MemFolder, words: &str) -> io::R
     put(rt, folder, file, &bytes)
 }
 
+/// The text, in which each `%` stands for the number.
+pub fn filled(alloc: Global, text: &str, number: u32) -> io::Result<String> {
+    let shown = format!(in alloc; "{number}")?;
+    let mut made = String::new(alloc);
+    for (place, part) in text.split('%').enumerate() {
+        if place > 0 {
+            made.push_str(shown.as_str())?;
+        }
+        made.push_str(part)?;
+    }
+    Ok(made)
+}
+
+// The head, so many items, in each of which `%` stands for its number, and the tail.
+fn repeated(alloc: Global, count: u32, text: &str) -> io::Result<String> {
+    let (head, rest) = text.split_once('|').unwrap_or((text, ""));
+    let (item, tail) = rest.split_once('|').unwrap_or((rest, ""));
+    let mut made = String::from_str(alloc, head)?;
+    for number in 0..count {
+        let part = filled(alloc, item, number)?;
+        made.push_str(part.as_str())?;
+    }
+    made.push_str(tail)?;
+    Ok(made)
+}
+
+/// Puts a file of repeated text there: how often, a space, its name, `=`, and what stands before the
+/// items, an item and what stands behind them, with `|` between.
+pub fn put_repeated(rt: &HostRuntime, folder: &mut MemFolder, words: &str) -> io::Result<()> {
+    let (count, rest) = words.split_once(' ').unwrap_or((words, ""));
+    let (Ok(count), Some((file, text))) = (count.parse::<u32>(), rest.split_once('=')) else {
+        return Err(ErrorKind::InvalidInput.into());
+    };
+    let made = repeated(rt.alloc(), count, text)?;
+    put(rt, folder, file, made.as_str().as_bytes())
+}
+
 // The text of a file.
 fn text_of(rt: &HostRuntime, folder: &mut MemFolder, file: &str) -> io::Result<String> {
     let alloc = rt.alloc();

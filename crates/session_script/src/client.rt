@@ -1,8 +1,9 @@
 // A client in memory: a disk, and a link to a folder of published files.
 use crate::running::{
-    Site, empty_disk, empty_folder, empty_report, print_calls, print_target, run_over, site_of,
+    Site, empty_disk, empty_folder, empty_report, print_calls, print_target, run_over, run_unheard,
+    site_of,
 };
-use crate::site::{folder_failing, folder_without, put};
+use crate::site::{folder_failing, folder_without};
 use disks::{Disk, MemDisk, Pick};
 use folders::MemFolder;
 use std::io::{self, ErrorKind};
@@ -68,6 +69,20 @@ fn run_counted(
     counted
 }
 
+// What a stop leaves of writes that were not synced.
+fn pick_of(word: &str) -> Option<Pick> {
+    if word == "kept" {
+        return Some(Pick::Kept);
+    }
+    if word == "lost" {
+        return Some(Pick::Lost);
+    }
+    if word == "filled" {
+        return Some(Pick::Filled(1));
+    }
+    None
+}
+
 impl Client {
     /// A client with an empty disk and an empty site.
     pub fn new(rt: &HostRuntime) -> Client {
@@ -110,28 +125,10 @@ impl Client {
         Ok(())
     }
 
-    // Puts a file of the group below `in`, and marks it.
-    fn add_file(&mut self, rt: &HostRuntime, group: &str, number: u32) -> io::Result<()> {
-        let alloc = rt.alloc();
-        let file = format!(in alloc; "in/{group}/{number}.txt")?;
-        let text = format!(in alloc; "{group} {number}")?;
-        let mark = format!(in alloc; " group:{group}:{group}/{number}.txt")?;
-        put(rt, self.folder(), file.as_str(), text.as_str().as_bytes())?;
-        self.marks.push_str(mark.as_str())?;
-        Ok(())
-    }
-
-    /// Puts files of a group below `in`, to be published next: the group, a space and their number.
-    pub fn add_group(&mut self, rt: &HostRuntime, words: &str) -> io::Result<()> {
-        let Some((group, count)) = words.split_once(' ') else {
-            return Err(ErrorKind::InvalidInput.into());
-        };
-        let Ok(count) = count.parse::<u32>() else {
-            return Err(ErrorKind::InvalidInput.into());
-        };
-        for number in 0..count {
-            self.add_file(rt, group, number)?;
-        }
+    /// Marks a file of what is published next: the mark.
+    pub fn mark(&mut self, mark: &str) -> io::Result<()> {
+        self.marks.push(' ')?;
+        self.marks.push_str(mark)?;
         Ok(())
     }
 
@@ -172,6 +169,21 @@ impl Client {
         Ok(())
     }
 
+    /// Adds a line that ends in zero bytes, in hexadecimal: their number, a space, and what stands
+    /// before them.
+    pub fn add_zeros(&mut self, words: &str) -> io::Result<()> {
+        let (count, line) = words.split_once(' ').unwrap_or((words, ""));
+        let Ok(count) = count.parse::<u32>() else {
+            return Err(ErrorKind::InvalidInput.into());
+        };
+        self.lines.push_str(line)?;
+        for _ in 0..count {
+            self.lines.push_str("00")?;
+        }
+        self.lines.push('\n')?;
+        Ok(())
+    }
+
     /// Adds its last line, without a line feed.
     pub fn add_last(&mut self, line: &str) -> io::Result<()> {
         self.lines.push_str(line)?;
@@ -195,6 +207,40 @@ impl Client {
         self.lines.clear();
         let asked = self.site.asked.as_slice().len().saturating_sub(self.asked);
         println!(rt; "  asked {asked}")
+    }
+
+    /// Runs a session with the lines, and prints nothing.
+    pub fn quiet_session(&mut self, rt: &HostRuntime, words: &str) -> io::Result<()> {
+        let mut report = empty_report(rt.alloc());
+        let mut folder = empty_folder(rt.alloc());
+        let ran = run_unheard(
+            rt.alloc(),
+            words,
+            self.lines.as_str().as_bytes(),
+            &mut self.disk,
+            &mut folder,
+            &mut self.site,
+            &mut report,
+        );
+        drop(folder);
+        drop(report);
+        self.lines.clear();
+        ran
+    }
+
+    /// Goes on with what a stop leaves: after so many calls of the last session, those of its opening
+    /// among them, and how: `kept`, `lost` or `filled`.
+    pub fn go_on(&mut self, rt: &HostRuntime, words: &str) -> io::Result<()> {
+        let (call, how) = words.split_once(' ').unwrap_or((words, ""));
+        let (Ok(call), Some(pick)) = (call.parse::<u64>(), pick_of(how)) else {
+            return Err(ErrorKind::InvalidInput.into());
+        };
+        let moment = self.opened.saturating_sub(1).saturating_add(call);
+        let Ok(image) = self.disk.stop(rt.alloc(), moment, pick) else {
+            return rt.println("no such moment");
+        };
+        self.disk = image;
+        Ok(())
     }
 
     /// Prints what the last session asked for.

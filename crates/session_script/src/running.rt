@@ -4,7 +4,7 @@ use fetcher::FolderLink;
 use folders::MemFolder;
 use links::Single;
 use outside::{MemSink, MemSource};
-use small_types::{Bytes, List, Word};
+use small_types::{Bytes, List, Target, Word};
 use std::alloc::{AllocError, Global};
 use std::io;
 use updater_cli::{Report, run};
@@ -35,6 +35,14 @@ pub fn empty_disk(alloc: Global) -> MemDisk {
     MemDisk::new(alloc, Bytes::from_vec(Vec::new(alloc)), nothing(alloc))
 }
 
+/// A report of nothing.
+pub fn empty_report(alloc: Global) -> Report {
+    Report {
+        lines: nothing(alloc),
+        begun: None,
+    }
+}
+
 // The words of a text, between spaces.
 fn words_of(alloc: Global, text: &str) -> Result<Vec<Word>, AllocError> {
     let mut words = Vec::new(alloc);
@@ -55,24 +63,20 @@ fn tell(rt: &HostRuntime, status: u8, output: &[u8]) -> io::Result<()> {
     }
 }
 
-/// Runs the words over the devices with this input, and prints what they write.
-pub fn run_over(
-    rt: &HostRuntime,
+// The status of the words over the devices with this input, and what they write.
+fn ran_over(
+    alloc: Global,
     words: &str,
     input: &[u8],
     disk: &mut MemDisk,
     folder: &mut MemFolder,
     links: &mut Site,
-) -> io::Result<()> {
-    let alloc = rt.alloc();
+    report: &mut Report,
+) -> io::Result<(u8, Vec<u8>)> {
     let words = words_of(alloc, words)?;
     let input = Bytes::from_slice(alloc, input)?;
     let mut source = MemSource::new(alloc, input, nothing(alloc));
     let mut sink = MemSink::new(alloc, Bytes::from_vec(Vec::new(alloc)), nothing(alloc));
-    let mut report = Report {
-        lines: nothing(alloc),
-        begun: None,
-    };
     let status = run(
         alloc,
         &words,
@@ -81,12 +85,60 @@ pub fn run_over(
         disk,
         folder,
         links,
-        &mut report,
+        report,
     );
-    let told = tell(rt, status, sink.taken());
-    drop(report);
+    let output = sink.taken().to_vec(alloc);
     drop(sink);
     drop(source);
     drop(words);
-    told
+    Ok((status, output?))
+}
+
+/// Runs the words over the devices with this input, and prints what they write.
+pub fn run_over(
+    rt: &HostRuntime,
+    words: &str,
+    input: &[u8],
+    disk: &mut MemDisk,
+    folder: &mut MemFolder,
+    links: &mut Site,
+    report: &mut Report,
+) -> io::Result<()> {
+    let (status, output) = ran_over(rt.alloc(), words, input, disk, folder, links, report)?;
+    tell(rt, status, &output)
+}
+
+/// Runs the words over the devices with this input, and prints nothing.
+pub fn run_unheard(
+    alloc: Global,
+    words: &str,
+    input: &[u8],
+    disk: &mut MemDisk,
+    folder: &mut MemFolder,
+    links: &mut Site,
+    report: &mut Report,
+) -> io::Result<()> {
+    let _ = ran_over(alloc, words, input, disk, folder, links, report)?;
+    Ok(())
+}
+
+/// Prints how many calls the disk had in the boot event, if there was one, and in each line. The
+/// session was open after so many calls.
+pub fn print_calls(rt: &HostRuntime, opened: u64, report: &Report) -> io::Result<()> {
+    rt.print("  disk calls:")?;
+    let mut before = opened;
+    for line in report.lines.as_slice() {
+        let made = line.mark.saturating_sub(before);
+        before = line.mark;
+        print!(rt; " {made}")?;
+    }
+    rt.println("")
+}
+
+/// Prints a target that was asked for.
+pub fn print_target(rt: &HostRuntime, target: &Target) -> io::Result<()> {
+    let host = target.host.as_str();
+    let port = target.port;
+    let path = target.path.as_str();
+    println!(rt; "  asked http://{host}:{port}{path}")
 }

@@ -1,0 +1,11 @@
+//! Sessions of the client by the top call, over devices in memory, as a script describes them. A
+//! script has a line for each thing that is to be done; what is printed is compared with what must
+//! be printed.
+#![tactic(auto)]
+
+mod client;
+mod running;
+mod script;
+mod site;
+
+pub use script::play;
