@@ -38,7 +38,7 @@ bare_at number (view ∷ views) =
     ap (λ (rest : Option BareView). cond (eqb view.number number) (Some (bare_view view)) rest) (bare_at number views)
     ∙ found_bare (eqb view.number number) view (view_at number views)
 
-bare_then : (number : Option ℕ) (views : List View) → option_and_then (λ (n : ℕ). bare_view_at n (map bare_view views)) number ≡ option_map bare_view (option_and_then (λ (n : ℕ). view_at n views) number)
+pub bare_then : (number : Option ℕ) (views : List View) → option_and_then (λ (n : ℕ). bare_view_at n (map bare_view views)) number ≡ option_map bare_view (option_and_then (λ (n : ℕ). view_at n views) number)
 bare_then None views = refl
 bare_then (Some number) views = bare_at number views
 

@@ -9,10 +9,10 @@ use Rattle.machine.specs.Entries.{KeepsKeys, entry_of, fresh, key_cmp, with_entr
 use Rattle.machine.proofs.Entering.{entry_of-other, entry_of-with_entry}
 use Rattle.machine.proofs.Raising.{entry_of-alike}
 
-less_apart : Less ≢ Equal
+pub less_apart : Less ≢ Equal
 less_apart e = cc
 
-greater_apart : Greater ≢ Equal
+pub greater_apart : Greater ≢ Equal
 greater_apart e = cc
 
 -- a part that f leaves, and that a fresh entry has not

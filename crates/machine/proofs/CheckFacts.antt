@@ -1,5 +1,5 @@
 -- The row of `check`.
-use Rattle.std.proofs.Common.{◌≡◌, ◌≢◌, ◌∙◌, ◌⊎◌, ◌≤◌, inl, inr, refl, sym, ap, subst, append-nil, ℕ, List, [], ◌∷◌, Option, Some, None}
+use Rattle.std.proofs.Common.{◌≡◌, ◌≢◌, ◌∙◌, ◌⊎◌, ◌≤◌, inl, inr, refl, sym, ap, subst, append-nil, ℕ, true, List, [], ◌∷◌, Option, Some, None}
 use Rattle.std.specs.Prelude.{IfSome, IsSome, option_and_then}
 use Rattle.std.proofs.lemmas.Option.{none-some}
 use Rattle.small_types.specs.declared.limits.TheConstants.{NUMBER_LIMIT}
@@ -35,11 +35,12 @@ use Rattle.machine.proofs.Finding.{some_there, value_of}
 use Rattle.machine.proofs.InstallExact.{reason_one, some_is_not_none, text_one}
 use Rattle.machine.proofs.Installing.{version-above, version-raised_by}
 use Rattle.machine.proofs.Keeping.{same_views_sound}
-use Rattle.machine.proofs.KnownApps.{known_valid}
+use Rattle.machine.proofs.KnownApps.{checked_is_app, known_valid}
 use Rattle.machine.proofs.Leased.{current_by, entry_in}
 use Rattle.machine.proofs.LeasesKept.{keeps_more}
 use Rattle.machine.proofs.Members.{all_in}
 use Rattle.machine.proofs.Moments.{SetsNone}
+use Rattle.machine.proofs.OtherReplies.{all_links_is_other, not_installed_is_other}
 use Rattle.machine.proofs.Raising.{raised_minimum}
 use Rattle.machine.proofs.ReadDeployments.{deployment_read}
 use Rattle.machine.proofs.RowFacts.{Acts, Kept, Rises, RowFacts, acts_on, kept_same, rises_as}
@@ -49,13 +50,6 @@ use Rattle.machine.proofs.Shortness.{short_key}
 
 checked_is_other : (offer minimum : Option Version) → says.Checked offer minimum ≢ says.Memory
 checked_is_other offer minimum e = cc
-
-not_installed_is_other : says.NotInstalled ≢ says.Memory
-not_installed_is_other e = cc
-
-all_links_is_other : (target : Target) (causes : List Cause)
-    → says.AllLinks target causes ≢ says.Memory
-all_links_is_other target causes e = cc
 
 not_installed_links : IsAllLinks says.NotInstalled → ⊥
 not_installed_links is = absurd (apart is.0 is.1 is.2)
@@ -148,20 +142,7 @@ unheard_minimum key apps other =
 
 pub unheard_is_app : (views : List View) (app : AppState) → IsApp views app
     → IsApp views (unheard_app app)
-unheard_is_app views app is = record {
-  key = is.key;
-  provider = is.provider;
-  current = is.current;
-  previous = is.previous;
-  minimum = is.minimum;
-  offer = is.offer;
-  skipped = is.skipped;
-  excluded = is.excluded;
-  last_check = is.last_check;
-  beside = is.beside;
-  other = is.other;
-  provided = is.provided;
-}
+unheard_is_app = checked_is_app true
 
 -- the key has an entry where a view is current
 pub known_app : (key : Key) (apps : List AppState) → (current_of key apps ≡ None → ⊥)
@@ -187,6 +168,7 @@ unheard_kept key old target causes installed = record {
   leases = keeps_more old.store (unheard key old.store) [] refl refl
       (sym (append-nil old.store.views));
   views = refl;
+  next_view = refl;
   valid = λ is valid. known_valid key unheard_app unheard_keys (λ app current. current) old.store
       (short_key is) (known_app key old.store.apps installed) (unheard_is_app old.store.views) valid;
 }

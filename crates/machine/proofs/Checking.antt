@@ -190,7 +190,7 @@ due_apart version rule app at checked =
     (ap (λ (b : Bool). checks_first rule && not b) checked ∙ no_more (checks_first rule))
 
 -- what is due of an entry, where a view is current
-abbrev due_by : Option BareView → ℕ → AppState → Option Due
+abbrev pub due_by : Option BareView → ℕ → AppState → Option Due
 due_by view at app =
     option_map (λ (v : BareView). due_of v.deployment.identity.version v.deployment.rule app at) view
 
@@ -279,7 +279,7 @@ skip_done now heard old key version new (inr done) = done.1
 one_version : (version : Version) → version_cmp version version ≡ Equal
 one_version version = grind arith
 
-is_itself : (version : Version) → is_version version (Some version) ≡ true
+pub is_itself : (version : Version) → is_version version (Some version) ≡ true
 is_itself version = ap is_equal (one_version version)
 
 -- what is skipped is declined

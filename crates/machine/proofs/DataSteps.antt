@@ -1,25 +1,28 @@
 -- What lines and runs leave of data files.
-use Rattle.std.proofs.Common.{◌≡◌, ◌≢◌, ◌∙◌, ◌⊎◌, ◌++◌, inl, inr, refl, sym, ap, subst, ℕ, Bool, true, false, cond, eqb, List, [], ◌∷◌, length, Option, Some, None}
+use Rattle.std.proofs.Common.{◌≡◌, ◌≢◌, ◌∙◌, ◌⊎◌, ◌++◌, ◌<◌, inl, inr, refl, sym, ap, subst, ℕ, Bool, true, false, cond, eqb, List, [], ◌∷◌, length, Option, Some, None, arith}
 use Rattle.std.specs.Prelude.{IsSome, option_and_then, option_map}
-use Rattle.std.proofs.lemmas.Bool.{cases_eq}
+use Rattle.std.proofs.lemmas.Bool.{cases_eq, false≢true}
 use Rattle.small_types.specs.declared.limit.Limit.{Limit}
 use Rattle.machine.specs.declared.command.Command.{Command}
-use Rattle.machine.specs.declared.command.Command.TheVariants.{At, Require, Install, Check, Skip, Launch, Read, Local, Put, Remove, Group, Finish}
+use Rattle.machine.specs.declared.command.Command.TheVariants.{At, Require, Install, Check, Skip, Rollback, Launch, Read, Local, Put, Remove, Group, Finish, Clean, Show}
+use Rattle.machine.specs.declared.command.Command.TheVariants as asks
 use Rattle.machine.specs.declared.event.Event.{Event}
 use Rattle.machine.specs.declared.event.Event.TheVariants.{Boot, Line, Unread}
 use Rattle.machine.specs.declared.event.Heard.{Heard}
 use Rattle.machine.specs.declared.lease.Lease.{Lease}
 use Rattle.machine.specs.declared.reply.Reply.{Reply}
 use Rattle.machine.specs.declared.reply.Reply.TheVariants as says
+use Rattle.machine.specs.CleanRow.{cleaned}
 use Rattle.machine.specs.Current.{view_at}
 use Rattle.machine.specs.DataFiles.{data_name, data_named, with_data, with_named, without_data, without_named}
-use Rattle.machine.specs.DataLaws.{ChangesData, HasData, IsDataOf, IsOn, NoneChangesData, data_at}
-use Rattle.machine.specs.Grouped.{Grouped, with_view_at}
+use Rattle.machine.specs.DataLaws.{ChangesData, HasData, IsDataOf, IsOn, NoneChangesData, NoneTakesView, TakesView, data_at}
+use Rattle.machine.specs.Grouped.{Grouped, with_group, with_view_at}
 use Rattle.machine.specs.GroupRow.{GroupEffect}
 use Rattle.machine.specs.Groups.{group_stands}
 use Rattle.machine.specs.InstallReplies.{install_replies}
 use Rattle.machine.specs.InstallRow.{InstallEffect}
 use Rattle.machine.specs.Installed.{new_view}
+use Rattle.machine.specs.InUse.{IsInUse, is_in_use}
 use Rattle.machine.specs.Leases.{leased_view}
 use Rattle.machine.specs.LocalRow.{LocalEffect, local_refusals}
 use Rattle.machine.specs.Machine.{Answers, Run, Step, effect, moment_after, refusals}
@@ -32,34 +35,34 @@ use Rattle.machine.specs.Store.{Session, Store}
 use Rattle.machine.specs.Valid.{Valid}
 use Rattle.machine.specs.Views.{DataFile, View}
 use Rattle.machine.proofs.Choosing.{AllGive, given_reply}
-use Rattle.machine.proofs.DataViews.{changed_at, other_at, own_at}
-use Rattle.machine.proofs.Finding.{find-front, value_of}
+use Rattle.machine.proofs.CleanedStores.{kept_used, used_at}
+use Rattle.machine.proofs.DataViews.{redone, redone_leaves}
+use Rattle.machine.proofs.Finding.{find-front, some_there, value_of}
 use Rattle.machine.proofs.GroupKept.{grouped_at}
-use Rattle.machine.proofs.Grouping.{left_of}
 use Rattle.machine.proofs.GroupStands.{leased_number}
 use Rattle.machine.proofs.Leased.{leased_by, view_in}
 use Rattle.machine.proofs.NamedItems.{named-with_other, named-with_own, named-without_other, named-without_own}
+use Rattle.machine.proofs.OneView.{changed_at, left_of, other_at, own_at}
 use Rattle.machine.proofs.Refusals.{kept_or_effect}
 use Rattle.machine.proofs.RowFacts.{Kept}
+use Rattle.machine.proofs.Using.{is_used, used_is}
+use Rattle.machine.proofs.ViewSteps.{run_numbers, step_numbers, view_below}
 
 -- ---- a view whose data files are others
 
 module _ (lease number : ℕ) (g : List DataFile → List DataFile) (old : Store) (view : View)
     (leased : leased_view lease old ≡ Some view) (own : number ≡ view.number) where
-  abbrev redone : View → View
-  redone v = record v { data_files = g v.data_files }
-
   pub leased_then :
-      leased_view lease (record old { views = with_view_at number redone old.views })
+      leased_view lease (record old { views = with_view_at number (redone g) old.views })
       ≡ Some (record view { data_files = g view.data_files })
   leased_then =
       let by = leased_by lease old view leased in
       let known = view_in by.0.view old.views view by.2 in
       let same : number ≡ by.0.view = own ∙ known.1 in
       ap (λ (o : Option Lease). option_and_then
-      (λ (l : Lease). view_at l.view (with_view_at number redone old.views)) o) by.1
-      ∙ ap (λ (n : ℕ). view_at n (with_view_at number redone old.views)) (sym same)
-      ∙ own_at number g old view
+      (λ (l : Lease). view_at l.view (with_view_at number (redone g) old.views)) o) by.1
+      ∙ ap (λ (n : ℕ). view_at n (with_view_at number (redone g) old.views)) (sym same)
+      ∙ own_at number (redone g) old (redone_leaves g) view
       (ap (λ (n : ℕ). view_at n old.views) own ∙ leased_number lease old view leased)
 
 -- the lease is on the view that it names
@@ -201,7 +204,7 @@ put_is_there now heard old lease name bytes new valid answers =
       others = λ other apart.
           named-with_other data_name file other (λ e. apart (sym e)) done.view.data_files;
       programs = refl;
-      views = λ number apart. other_at done.view.number g old.store number apart;
+      views = λ number apart. other_at done.view.number (redone g) old.store (redone_leaves g) number apart;
     })
 
 pub removed_is_gone : (now : ℕ) (heard : List (List ℕ)) (old : Session) (lease : ℕ)
@@ -219,7 +222,7 @@ removed_is_gone now heard old lease name new valid answers =
       there = named-without_own data_name name done.view.data_files;
       others = λ other apart. named-without_other data_name name other apart done.view.data_files;
       programs = refl;
-      views = λ number apart. other_at done.view.number g old.store number apart;
+      views = λ number apart. other_at done.view.number (redone g) old.store (redone_leaves g) number apart;
     })
 
 pub data_is : (now : ℕ) (heard : List (List ℕ)) (old : Session) (lease : ℕ) (name : List ℕ)
@@ -274,10 +277,10 @@ module _ (number : ℕ) (name : List ℕ) where
             views = with_view_at at (λ (v : View). record v { data_files = g v.data_files })
                 old.views;
           })
-      by (inr apart) = λ view is. (view, other_at at g old number apart ∙ is, refl)
+      by (inr apart) = λ view is. (view, other_at at (redone g) old (redone_leaves g) number apart ∙ is, refl)
       by (inl own) = λ view is. (
         cond (eqb view.number at) (record view { data_files = g view.data_files }) view,
-        changed_at at g old number view is,
+        changed_at at (redone g) old (redone_leaves g) number view is,
         left (eqb view.number at) view,
       )
         where
@@ -348,47 +351,84 @@ module _ (number : ℕ) (name : List ℕ) where
                 (record view { groups = view.groups ++ group ∷ []; program_files = grown.program_files })
                 view,
             grouped_at done.view.number group grown.program_files old.store number view is,
-            left_of done.view.number group grown.program_files old.store
+            left_of done.view.number (with_group group grown.program_files) old.store
                 (λ (v : View). data_named name v.data_files) (λ v. refl) view,
           ))
+
+  clean_keeps : (old : Store) → IsInUse number old.apps old.leases
+      → KeepsData number name old (cleaned old)
+  clean_keeps old used = λ view found. (view, used_at old number used ∙ found, refl)
+
+  -- the view is kept, or the event does not take it
+  abbrev IsLeft : Store → Event → Option Reply → Store → Type 0
+  IsLeft old event reply new =
+      IsSome (view_at number new.views) ⊎ (TakesView number old event reply → ⊥)
+
+  left_used : (at : ℕ) (given : Heard) (reply : Reply) (old : Store)
+      → IsLeft old (Line Clean at given) (Some reply) (cleaned old)
+      → IsInUse number old.apps old.leases
+  left_used at given reply old (inl kept) = kept_used old number kept
+  left_used at given reply old (inr takes) = by (is_in_use number old.apps old.leases) refl
+    where
+      by : (b : Bool) → is_in_use number old.apps old.leases ≡ b
+          → IsInUse number old.apps old.leases
+      by true is = used_is number old.apps old.leases is
+      by false not_so = absurd (takes (λ is.
+          false≢true (sym not_so ∙ is_used number old.apps old.leases is)))
 
   -- ---- each command
 
   effect_keeps : (now : ℕ) (heard : List (List ℕ)) (command : Command) (at : ℕ) (given : Heard)
       (old : Session) (reply : Reply) (new : Session) → effect now heard command old reply new
-      → (ChangesData number name old.store (Line command at given) → ⊥)
+      → (ChangesData number name old.store (Line command at given) (Some reply) → ⊥)
+      → IsLeft old.store (Line command at given) (Some reply) new.store
       → KeepsData number name old.store new.store
-  effect_keeps now heard (At next) at given old reply new done none =
+  effect_keeps now heard (At next) at given old reply new done none left =
       same_views old.store new.store (ap (λ (s : Session). s.store.views) done.1)
-  effect_keeps now heard (Require key version) at given old reply new done none =
+  effect_keeps now heard (Require key version) at given old reply new done none left =
       same_views old.store new.store (ap (λ (s : Session). s.store.views) done.1)
-  effect_keeps now heard (Install url) at given old reply new done none =
+  effect_keeps now heard (Install url) at given old reply new done none left =
       install_keeps url heard now old reply new done
-  effect_keeps now heard (Check key) at given old reply new done none =
+  effect_keeps now heard (Check key) at given old reply new done none left =
       same_views old.store new.store (ap (λ (s : Session). s.store.views) done.is)
-  effect_keeps now heard (Skip key) at given old reply new done none =
+  effect_keeps now heard (Skip key) at given old reply new done none left =
       same_views old.store new.store (ap (λ (s : Session). s.store.views) done.is)
-  effect_keeps now heard (Launch key) at given old reply new done none =
+  effect_keeps now heard (Rollback key) at given old reply new done none left =
       same_views old.store new.store (ap (λ (s : Session). s.store.views) done.is)
-  effect_keeps now heard (Read lease file from count) at given old reply new done none =
+  effect_keeps now heard (Launch key) at given old reply new done none left =
       same_views old.store new.store (ap (λ (s : Session). s.store.views) done.is)
-  effect_keeps now heard (Local lease file from count) at given old reply new done none =
+  effect_keeps now heard (Read lease file from count) at given old reply new done none left =
       same_views old.store new.store (ap (λ (s : Session). s.store.views) done.is)
-  effect_keeps now heard (Put lease file bytes) at given old reply new done none =
-      put_keeps lease file bytes old reply new done none
-  effect_keeps now heard (Remove lease file) at given old reply new done none =
-      remove_keeps lease file old reply new done none
-  effect_keeps now heard (Group lease group) at given old reply new done none =
+  effect_keeps now heard (Local lease file from count) at given old reply new done none left =
+      same_views old.store new.store (ap (λ (s : Session). s.store.views) done.is)
+  effect_keeps now heard (Put lease file bytes) at given old reply new done none left =
+      put_keeps lease file bytes old reply new done
+      (subst (λ (r : Reply). ChangesData number name old.store
+      (Line (Put lease file bytes) at given) (Some r) → ⊥) done.replied none)
+  effect_keeps now heard (Remove lease file) at given old reply new done none left =
+      remove_keeps lease file old reply new done
+      (subst (λ (r : Reply). ChangesData number name old.store
+      (Line (Remove lease file) at given) (Some r) → ⊥) done.replied none)
+  effect_keeps now heard (Group lease group) at given old reply new done none left =
       group_keeps lease group old reply new done
-  effect_keeps now heard (Finish lease) at given old reply new done none =
+  effect_keeps now heard (Finish lease) at given old reply new done none left =
       same_views old.store new.store (ap (λ (s : Session). s.store.views) done.1)
+  effect_keeps now heard Clean at given old reply new done none left =
+      subst (λ (s : Session). KeepsData number name old.store s.store) (sym done.1)
+      (clean_keeps old.store (left_used at given reply old.store
+      (subst (λ (s : Session). IsLeft old.store (Line Clean at given) (Some reply) s.store) done.1
+      left)))
+  effect_keeps now heard asks.List at given old reply new done none left =
+      same_views old.store new.store (ap (λ (s : Session). s.store.views) done.1)
+  effect_keeps now heard (Show key) at given old reply new done none left =
+      same_views old.store new.store (ap (λ (s : Session). s.store.views) done.is)
 
   step_keeps : (now : ℕ) (old : Session) (event : Event) (reply : Option Reply) (new : Session)
-      → Step now old event reply new → (ChangesData number name old.store event → ⊥)
-      → KeepsData number name old.store new.store
-  step_keeps now old (Boot boot) reply new step none =
+      → Step now old event reply new → (ChangesData number name old.store event reply → ⊥)
+      → IsLeft old.store event reply new.store → KeepsData number name old.store new.store
+  step_keeps now old (Boot boot) reply new step none left =
       same_views old.store new.store (ap (λ (s : Session). s.store.views) step.1)
-  step_keeps now old (Line command at heard) reply new step none =
+  step_keeps now old (Line command at heard) reply new step none left =
       by (kept_or_effect now heard.texts old command step.answer new step.answers)
     where
       by : Kept command old step.answer new
@@ -397,32 +437,80 @@ module _ (number : ℕ) (name : List ℕ) where
           → KeepsData number name old.store new.store
       by (inl kept) = same_views old.store new.store kept.views
       by (inr done) =
-          effect_keeps now heard.texts command at heard old step.answer new done.1 none
-  step_keeps now old (Unread fault) reply new step none =
+          effect_keeps now heard.texts command at heard old step.answer new done.1
+          (subst (λ (r : Option Reply). ChangesData number name old.store (Line command at heard) r
+          → ⊥) step.replied none)
+          (subst (λ (r : Option Reply). IsLeft old.store (Line command at heard) r new.store)
+          step.replied left)
+  step_keeps now old (Unread fault) reply new step none left =
       same_views old.store new.store (ap (λ (s : Session). s.store.views) step.1)
+
+  -- ---- a run
 
   run_keeps : (now : ℕ) (old : Session) (events : List Event) (replies : List (Option Reply))
       (new : Session) (run : Run now old events replies new)
       → NoneChangesData number name now old events replies new run
+      → NoneTakesView number now old events replies new run
       → KeepsData number name old.store new.store
-  run_keeps now old [] [] new run none =
+  run_keeps now old [] [] new run none takes =
       same_views old.store new.store (ap (λ (s : Session). s.store.views) run)
-  run_keeps now old [] (reply ∷ replies) new run none = absurd run
-  run_keeps now old (event ∷ events) [] new run none = absurd run
-  run_keeps now old (event ∷ events) (reply ∷ replies) new run none =
+  run_keeps now old [] (reply ∷ replies) new run none takes = absurd run
+  run_keeps now old (event ∷ events) [] new run none takes = absurd run
+  run_keeps now old (event ∷ events) (reply ∷ replies) new run none takes =
       chain old.store run.0.store new.store
-      (step_keeps now old event reply run.0 run.1 none.0)
-      (run_keeps (moment_after now reply) run.0 events replies new run.2 none.1)
+      (step_keeps now old event reply run.0 run.1 none.0 (inr takes.0))
+      (run_keeps (moment_after now reply) run.0 events replies new run.2 none.1 takes.1)
+
+  -- where the view is kept after it, it is kept all along
+  run_kept : (now : ℕ) (old : Session) (events : List Event) (replies : List (Option Reply))
+      (new : Session) (run : Run now old events replies new) → number < old.store.next_view
+      → IsSome (view_at number new.store.views)
+      → NoneChangesData number name now old events replies new run
+      → KeepsData number name old.store new.store
+  run_kept now old [] [] new run given kept none =
+      same_views old.store new.store (ap (λ (s : Session). s.store.views) run)
+  run_kept now old [] (reply ∷ replies) new run given kept none = absurd run
+  run_kept now old (event ∷ events) [] new run given kept none = absurd run
+  run_kept now old (event ∷ events) (reply ∷ replies) new run given kept none =
+      let numbers = step_numbers now old event reply run.0 run.1 in
+      let later : number < run.0.store.next_view = omega (arith, given, numbers.next) in
+      let last = value_of (view_at number new.store.views) kept in
+      let mid = run_numbers (moment_after now reply) run.0 events replies new number last.0 run.2
+      later last.1 in
+      chain old.store run.0.store new.store
+      (step_keeps now old event reply run.0 run.1 none.0
+      (inl (some_there (view_at number run.0.store.views) mid.0 mid.1)))
+      (run_kept (moment_after now reply) run.0 events replies new run.2 later kept none.1)
+
+-- what a view that keeps it has under the name
+same_data : (number : ℕ) (name : List ℕ) (old new : Store) → KeepsData number name old new
+    → IsSome (view_at number old.views) → data_at number name new ≡ data_at number name old
+same_data number name old new keeps is =
+    let view = value_of (view_at number old.views) is in
+    let kept = keeps view.0 view.1 in
+    ap (λ (o : Option View). option_and_then (λ (v : View). data_named name v.data_files) o) kept.1
+    ∙ kept.2
+    ∙ sym (ap (λ (o : Option View). option_and_then (λ (v : View). data_named name v.data_files) o)
+    view.1)
 
 pub data_stays : (number : ℕ) (name : List ℕ) (now : ℕ) (old : Session) (events : List Event)
     (replies : List (Option Reply)) (new : Session) (run : Run now old events replies new)
     → IsSome (view_at number old.store.views)
     → NoneChangesData number name now old events replies new run
+    → NoneTakesView number now old events replies new run
     → data_at number name new.store ≡ data_at number name old.store
-data_stays number name now old events replies new run is none =
-    let view = value_of (view_at number old.store.views) is in
-    let kept = run_keeps number name now old events replies new run none view.0 view.1 in
-    ap (λ (o : Option View). option_and_then (λ (v : View). data_named name v.data_files) o) kept.1
-    ∙ kept.2
-    ∙ sym (ap (λ (o : Option View). option_and_then (λ (v : View). data_named name v.data_files) o)
-    view.1)
+data_stays number name now old events replies new run is none takes =
+    same_data number name old.store new.store
+    (run_keeps number name now old events replies new run none takes) is
+
+pub kept_data_stays : (number : ℕ) (name : List ℕ) (now : ℕ) (old : Session)
+    (events : List Event) (replies : List (Option Reply)) (new : Session)
+    (run : Run now old events replies new)
+    → Valid old.store → IsSome (view_at number old.store.views)
+    → IsSome (view_at number new.store.views)
+    → NoneChangesData number name now old events replies new run
+    → data_at number name new.store ≡ data_at number name old.store
+kept_data_stays number name now old events replies new run valid is kept none =
+    same_data number name old.store new.store
+    (run_kept number name now old events replies new run (view_below number old.store valid.ordered is)
+    kept none) is

@@ -25,6 +25,12 @@ pub then_value : {X Y : Type 0} (f : X → Option Y) (o : Option X) (y : Y)
 then_value f None y is = absurd (none-some y is)
 then_value f (Some x) y is = (x, refl, is)
 
+-- what f made it of
+pub map_value : {X Y : Type 0} (f : X → Y) (o : Option X) (y : Y) → option_map f o ≡ Some y
+    → (x : X) × (o ≡ Some x) × (f x ≡ y)
+map_value f None y is = absurd (none-some y is)
+map_value f (Some x) y is = (x, refl, same_Some (f x) y is)
+
 or_none : {X : Type 0} (o : Option X) → option_or o None ≡ o
 or_none None = refl
 or_none (Some x) = refl

@@ -17,13 +17,11 @@ use Rattle.machine.proofs.Choosing.{exactly-exact}
 use Rattle.machine.proofs.Keeping.{same_views_sound}
 use Rattle.machine.proofs.LeasesKept.{finished_keeps}
 use Rattle.machine.proofs.Leasing.{finished_valid}
+use Rattle.machine.proofs.OtherReplies.{no_lease_is_other}
 use Rattle.machine.proofs.RowFacts.{RowFacts, acts_on, kept_unchanged, rises_as}
 
 finished_is_other : (lease : ℕ) → says.Finished lease ≢ says.Memory
 finished_is_other lease e = cc
-
-no_lease_is_other : says.NoLease ≢ says.Memory
-no_lease_is_other e = cc
 
 -- its refusals are exact
 pub finish_exact : (lease : ℕ) (shape : Shape) → AreExact (finish_refusals lease shape)

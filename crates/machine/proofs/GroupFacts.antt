@@ -4,7 +4,6 @@ use Rattle.std.specs.Prelude.{Any, option_map}
 use Rattle.std.proofs.lemmas.Bool.{cases_lt, false≢true}
 use Rattle.std.proofs.lemmas.Option.{none-some, same_Some}
 use Rattle.small_types.specs.declared.target.Target.{Target}
-use Rattle.causes.specs.declared.cause.Cause.{Cause}
 use Rattle.addresses.specs.declared.fault.UrlFault.{UrlFault}
 use Rattle.addresses.specs.declared.fault.UrlFault.TheVariants.{BadUrl}
 use Rattle.addresses.specs.Join.{file_target_of}
@@ -39,6 +38,7 @@ use Rattle.machine.proofs.Leased.{leased_bare_kept, leased_shape, leased_valid}
 use Rattle.machine.proofs.LeasesKept.{KeepsLeases}
 use Rattle.machine.proofs.Missing.{none_missing}
 use Rattle.machine.proofs.Moments.{SetsNone}
+use Rattle.machine.proofs.OtherReplies.{all_links_is_other, bad_url_is_other, full_is_other, no_lease_is_other}
 use Rattle.machine.proofs.RowFacts.{Acts, RowFacts, acts_not, acts_on, kept_unchanged, rises_as}
 use Rattle.machine.proofs.Weaving.{stand_among}
 
@@ -47,20 +47,8 @@ use Rattle.machine.proofs.Weaving.{stand_among}
 group_is_other : (files : ℕ) → says.Group files ≢ says.Memory
 group_is_other files e = cc
 
-no_lease_is_other : says.NoLease ≢ says.Memory
-no_lease_is_other e = cc
-
 no_group_is_other : says.NoGroup ≢ says.Memory
 no_group_is_other e = cc
-
-bad_url_is_other : says.BadUrl ≢ says.Memory
-bad_url_is_other e = cc
-
-full_is_other : (need free : ℕ) → says.Full need free ≢ says.Memory
-full_is_other need free e = cc
-
-links_is_other : (target : Target) (causes : List Cause) → says.AllLinks target causes ≢ says.Memory
-links_is_other target causes e = cc
 
 -- ---- its refusals
 
@@ -343,7 +331,7 @@ module _ (now : ℕ) (heard : List (List ℕ)) (lease : ℕ) (group : List ℕ) 
                   ),
                 ),
               ));
-              other = links_is_other t [];
+              other = all_links_is_other t [];
             }
 
             comes : wanted ≡ [] → IsAnswered now heard old (Group lease group)

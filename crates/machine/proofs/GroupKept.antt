@@ -1,6 +1,6 @@
 -- What a group that comes leaves of leased views.
-use Rattle.std.proofs.Common.{◌≡◌, ◌∙◌, ◌&&◌, ◌++◌, refl, sym, ap, subst, ℕ, Bool, true, false, cond, not, eqb, eqb-true, List, [], ◌∷◌, map, Option, Some, bytes_eq, arith}
-use Rattle.std.specs.Prelude.{filter, option_map}
+use Rattle.std.proofs.Common.{◌≡◌, ◌∙◌, ◌&&◌, ◌++◌, refl, sym, ap, subst, ℕ, Bool, true, false, cond, not, eqb, eqb-true, List, [], ◌∷◌, map, Some, bytes_eq, arith}
+use Rattle.std.specs.Prelude.{filter}
 use Rattle.std.proofs.lemmas.List.Kept.{AllPairs-filter}
 use Rattle.std.proofs.lemmas.Option.{same_Some}
 use Rattle.std.proofs.lemmas.Slice.Eq.{bytes_eq-Decides}
@@ -13,11 +13,12 @@ use Rattle.machine.specs.ReadRow.{file_named}
 use Rattle.machine.specs.Store.{Store}
 use Rattle.machine.specs.Views.{ListedFile, View, standing_entries, stands_by}
 use Rattle.machine.proofs.Mapping.{one_of, pairs_unmap}
-use Rattle.machine.proofs.Finding.{find_some, map_at}
-use Rattle.machine.proofs.Grouping.{left_of}
+use Rattle.machine.proofs.Finding.{find_some}
+use Rattle.machine.proofs.Grouping.{grows_leaves}
 use Rattle.machine.proofs.Leased.{file_in, view_in}
 use Rattle.machine.proofs.LeasesKept.{KeepsFiles, KeepsLeases, keeps_by}
 use Rattle.machine.proofs.Members.{In, filter_in}
+use Rattle.machine.proofs.OneView.{changed_at, left_of}
 
 -- ---- files by their names
 
@@ -65,19 +66,11 @@ module _ (number : ℕ) (group : List ℕ) (program_files : List ListedFile) (ol
   change view = cond (eqb view.number number) (with_group group program_files view) view
 
   -- the view of a number is what it was, changed
-  view_at_changed : (n : ℕ) (views : List View)
-      → view_at n (map change views) ≡ option_map change (view_at n views)
-  view_at_changed n [] = refl
-  view_at_changed n (v ∷ vs) =
-      ap (λ (k : ℕ). cond (eqb k n) (Some (change v)) (view_at n (map change vs)))
-      (left_of number group program_files old (λ (w : View). w.number) (λ w. refl) v)
-      ∙ ap (λ (rest : Option View). cond (eqb v.number n) (Some (change v)) rest)
-      (view_at_changed n vs)
-      ∙ map_at change (eqb v.number n) v (view_at n vs)
-
   pub grouped_at : (n : ℕ) (view : View) → view_at n old.views ≡ Some view
       → view_at n (grouped number group program_files old).views ≡ Some (change view)
-  grouped_at n view is = view_at_changed n old.views ∙ ap (option_map change) is
+  grouped_at n view is =
+      changed_at number (with_group group program_files) old (grows_leaves group program_files) n view
+      is
 
   pub grouped_keeps : (view : View) (files : List ListedFile)
       → view_at number old.views ≡ Some view → StandAmong group view files program_files
@@ -87,7 +80,7 @@ module _ (number : ℕ) (group : List ℕ) (program_files : List ListedFile) (ol
       (λ n lease v is at. (
         change v,
         grouped_at lease.view v at,
-        left_of number group program_files old (λ (w : View). w.application) (λ w. refl) v,
+        left_of number (with_group group program_files) old (λ (w : View). w.application) (λ w. refl) v,
         by lease.view v at (eqb v.number number) refl,
       ))
     where

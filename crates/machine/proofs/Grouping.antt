@@ -1,15 +1,11 @@
 -- A store in which a group stands in one more view.
-use Rattle.std.proofs.Common.{◌≡◌, ◌≢◌, ◌∙◌, ◌⊎◌, ◌++◌, ◌+◌, ◌≤◌, ◌<◌, ◌&&◌, inl, inr, refl, sym, ap, subst, ℕ, Bool, true, false, cond, not, eqb, eqb-true, List, [], ◌∷◌, length, map, All, Contains, Option, Some, None, bytes_eq, arith}
-use Rattle.std.specs.Prelude.{IfSome, flat_map, sum_by}
+use Rattle.std.proofs.Common.{◌≡◌, ◌≢◌, ◌∙◌, ◌⊎◌, ◌++◌, ◌+◌, ◌≤◌, ◌&&◌, inl, inr, refl, sym, ap, subst, ℕ, Bool, true, false, cond, not, eqb, List, [], ◌∷◌, map, Option, Some, None, bytes_eq, arith}
+use Rattle.std.specs.Prelude.{sum_by}
 use Rattle.std.proofs.lemmas.Bool.{and_from, and_parts}
-use Rattle.std.proofs.lemmas.List.{length-map}
-use Rattle.std.proofs.lemmas.List.Elements.{All-push, All-weaker}
+use Rattle.std.proofs.lemmas.List.Elements.{All-push}
 use Rattle.small_types.specs.declared.limits.TheConstants.{NAME_LIMIT}
-use Rattle.identity.specs.declared.key.Key.{Key}
 use Rattle.manifests.specs.declared.facts.Application.{Application}
 use Rattle.manifests.specs.declared.facts.FileEntry.{FileEntry}
-use Rattle.machine.specs.declared.app.AppState.{AppState}
-use Rattle.machine.specs.declared.lease.Lease.{Lease}
 use Rattle.machine.specs.Blocks.{blocks_of, distinct, standing_files, used_blocks}
 use Rattle.machine.specs.Current.{view_at}
 use Rattle.machine.specs.Fields.{IsShort}
@@ -18,12 +14,13 @@ use Rattle.machine.specs.Groups.{group_files, group_need, is_group, is_in}
 use Rattle.machine.specs.Shape.{BareData, BareView, bare_view}
 use Rattle.machine.specs.Sound.{IsSoundView, IsWhole, Sound, program_files_of}
 use Rattle.machine.specs.Store.{Store}
-use Rattle.machine.specs.Valid.{AreNumbers, IsApp, IsInstalled, IsView, IsViewOf, Ordered, Valid}
-use Rattle.machine.specs.Views.{ContentKey, ListedFile, View, content_key, key_of, standing_entries, stands_by}
-use Rattle.machine.proofs.Mapping.{all_mapped, any_mapped, flat_map_in, one_of, pairs_unmap, same_parts}
+use Rattle.machine.specs.Valid.{IsView, Ordered, Valid}
+use Rattle.machine.specs.Views.{ContentKey, ListedFile, View, content_key, standing_entries, stands_by}
+use Rattle.machine.proofs.Mapping.{all_mapped, flat_map_in}
 use Rattle.machine.proofs.Leased.{view_in}
-use Rattle.machine.proofs.Members.{In, all_in, filter_in, in_all, in_either, in_filter, in_flat_map, in_left, in_map, in_right, map_in, pairs_map, pairs_weaker, sum_agree, sum_map, sum_within}
+use Rattle.machine.proofs.Members.{In, all_in, filter_in, in_all, in_either, in_filter, in_flat_map, in_left, in_map, in_right, map_in, pairs_map, sum_map, sum_within}
 use Rattle.machine.proofs.Needing.{Apart, blocks_within, distinct_apart, distinct_in, each_stands, in_passes, passes_in}
+use Rattle.machine.proofs.OneView.{Leaves, by_number, only_one, same_bare_lists, with_one_ordered}
 use Rattle.machine.proofs.Shared.{each_alike, alike_each}
 
 -- ---- the files that stand with one more group
@@ -87,6 +84,16 @@ blocks_among xs ys among =
 
 -- ---- the store
 
+-- a group leaves of a view what no group changes
+pub grows_leaves : (group : List ℕ) (program_files : List ListedFile)
+    → Leaves (with_group group program_files)
+grows_leaves group program_files = record {
+  number = λ v. refl;
+  deployment = λ v. refl;
+  application = λ v. refl;
+  base = λ v. refl;
+}
+
 module _ (number : ℕ) (group : List ℕ) (program_files : List ListedFile) (old : Store) where
   abbrev grows : View → View
   grows view = with_group group program_files view
@@ -96,79 +103,6 @@ module _ (number : ℕ) (group : List ℕ) (program_files : List ListedFile) (ol
 
   abbrev views : List View
   views = with_view_at number (with_group group program_files) old.views
-
-  -- what a view has beside its groups and its program files
-  left_by : {X : Type 0} (part : View → X) → ((view : View) → part (grows view) ≡ part view)
-      → (b : Bool) (view : View) → part (cond b (grows view) view) ≡ part view
-  left_by part same true view = same view
-  left_by part same false view = refl
-
-  pub left_of : {X : Type 0} (part : View → X) → ((view : View) → part (grows view) ≡ part view)
-      → (view : View) → part (change view) ≡ part view
-  left_of part same view = left_by part same (eqb view.number number) view
-
-  -- it is of one view
-  pub only_one : Ordered old → (view other : View) → view_at number old.views ≡ Some view
-      → In other old.views → eqb other.number number ≡ true → other ≡ view
-  only_one was view other found there is =
-      let known = view_in number old.views view found in
-      one_of (λ (v : View). v.number) old.views
-      (pairs_weaker (λ (v w : View). v.number < w.number) (λ (v w : View). v.number ≢ w.number)
-      old.views (λ v w less e. omega (arith, less, e))
-      (pairs_unmap (λ (v : View). v.number) (λ (m n : ℕ). m < n) old.views was.view_numbers.rising))
-      other view there known.0 (eqb-true other.number number is ∙ sym known.1)
-
-  still : (key : Key) (n : Option ℕ) → IfSome n (IsViewOf old.views key)
-      → IfSome n (IsViewOf views key)
-  still key None is = tt
-  still key (Some n) is =
-      any_mapped change (λ (v : View). (v.number ≡ n) × (key_of v ≡ key))
-      (λ (v : View). (v.number ≡ n) × (key_of v ≡ key)) old.views
-      (λ v own. (
-        left_of (λ (w : View). w.number) (λ w. refl) v ∙ own.0,
-        left_of key_of (λ w. refl) v ∙ own.1,
-      )) is
-
-  same_app : (app : AppState) → IsApp old.views app → IsApp views app
-  same_app app is = record {
-    key = is.key;
-    provider = is.provider;
-    current = still app.key app.current is.current;
-    previous = still app.key app.previous is.previous;
-    minimum = is.minimum;
-    offer = is.offer;
-    skipped = is.skipped;
-    excluded = is.excluded;
-    last_check = is.last_check;
-    beside = is.beside;
-    other = is.other;
-    provided = is.provided;
-  }
-
-  same_numbers : map (λ (v : View). v.number) views ≡ map (λ (v : View). v.number) old.views
-  same_numbers =
-      same_parts change (λ (v : View). v.number) (left_of (λ (w : View). w.number) (λ w. refl))
-      old.views
-
-  same_count : sum_by (λ (v : View). length v.application.files) views
-      ≡ sum_by (λ (v : View). length v.application.files) old.views
-  same_count =
-      sum_map change (λ (v : View). length v.application.files) old.views
-      ∙ sum_agree (λ (v : View). length (change v).application.files)
-      (λ (v : View). length v.application.files) old.views
-      (in_all (λ (v : View). length (change v).application.files ≡ length v.application.files)
-      old.views
-      (λ v there. left_of (λ (w : View). length w.application.files) (λ w. refl) v))
-
-  data_left : (vs : List View)
-      → flat_map (λ (v : BareView). v.data_files) (map bare_view (map change vs))
-      ≡ flat_map (λ (v : BareView). v.data_files) (map bare_view vs)
-  data_left [] = refl
-  data_left (v ∷ vs) =
-      ap (λ (ds : List BareData). ds
-      ++ flat_map (λ (w : BareView). w.data_files) (map bare_view (map change vs)))
-      (left_of (λ (w : View). (bare_view w).data_files) (λ w. refl) v)
-      ∙ ap (λ (ds : List BareData). (bare_view v).data_files ++ ds) (data_left vs)
 
   module _ (view : View) (found : view_at number old.views ≡ Some view)
       (order : map (λ (file : ListedFile). file.entry) program_files
@@ -186,41 +120,12 @@ module _ (number : ℕ) (group : List ℕ) (program_files : List ListedFile) (ol
       few_data = is.few_data;
     }
 
-    by_number : (P : View → Type 0) → Ordered old → P (grows view) → (other : View)
-        → In other old.views → P other → P (change other)
-    by_number P was grown other there is = by (eqb other.number number) refl
-      where
-        by : (b : Bool) → eqb other.number number ≡ b → P (cond b (grows other) other)
-        by true same =
-            subst (λ (v : View). P (grows v)) (sym (only_one was view other found there same)) grown
-        by false differ = is
-
     pub grouped_ordered : IsShort NAME_LIMIT group → Ordered old
         → Ordered (grouped number group program_files old)
-    grouped_ordered short was = record {
-      some_blocks = was.some_blocks;
-      few_blocks = was.few_blocks;
-      boot = was.boot;
-      lease_numbers = was.lease_numbers;
-      few_leases = was.few_leases;
-      leased = subst (λ (ns : List ℕ). All (λ (l : Lease). Contains ns l.view) old.leases)
-          (sym same_numbers) was.leased;
-      view_numbers = subst (λ (ns : List ℕ). AreNumbers old.next_view ns) (sym same_numbers)
-          was.view_numbers;
-      few_views = omega (arith, was.few_views, length-map old.views change);
-      few_files = omega (arith, was.few_files, same_count);
-      views = all_mapped change IsView IsView old.views
-          (by_number IsView was (grown_view short
-          (all_in IsView old.views view was.views (view_in number old.views view found).0)))
-          was.views;
-      installed = all_mapped change (λ (v : View). IsInstalled old.apps (key_of v))
-          (λ (v : View). IsInstalled old.apps (key_of v)) old.views
-          (λ v there is. subst (λ (k : Key). IsInstalled old.apps k)
-          (sym (left_of key_of (λ w. refl) v)) is) was.installed;
-      order = was.order;
-      few_apps = was.few_apps;
-      apps = All-weaker (IsApp old.views) (IsApp views) same_app old.apps was.apps;
-    }
+    grouped_ordered short was =
+        with_one_ordered number grows old (grows_leaves group program_files) view found
+        (grown_view short (all_in IsView old.views view was.views (view_in number old.views view found).0))
+        was
 
     -- ---- room
 
@@ -258,7 +163,7 @@ module _ (number : ℕ) (group : List ℕ) (program_files : List ListedFile) (ol
             → In entry (standing_files (map bare_view old.views)
             ++ group_files group view.application)
         by v known true same own =
-            either v known (only_one was view v found known same)
+            either v known (only_one number old was view v found known same)
             (standing_more v.groups group v.application entry own)
         by v known false differ own =
             in_left (standing_files (map bare_view old.views)) (group_files group view.application)
@@ -273,7 +178,7 @@ module _ (number : ℕ) (group : List ℕ) (program_files : List ListedFile) (ol
         (standing_files bares ++ group_files group view.application) (stand_before was) in
         let within = blocks_within (standing_files bares) (group_files group view.application) in
         let same_data = ap (λ (ds : List BareData). sum_by (λ (d : BareData). blocks_of d.length) ds)
-        (data_left old.views) in
+        (same_bare_lists number grows old (λ (v : BareView). v.data_files) (λ v. refl) old.views) in
         omega (arith, among, within, same_data)
 
   -- ---- whole files
@@ -337,7 +242,7 @@ module _ (number : ℕ) (group : List ℕ) (program_files : List ListedFile) (ol
     grouped_sound valid sound = record {
       valid = valid;
       views = all_mapped change IsSoundView IsSoundView old.views
-          (by_number view found stand.order IsSoundView sound.valid.ordered
+          (by_number number grows old IsSoundView sound.valid.ordered view found
           (grown_sound (all_in IsSoundView old.views view sound.views
           (view_in number old.views view found).0))) sound.views;
       shared = alike_each (program_files_of (grouped number group program_files old))

@@ -27,7 +27,9 @@ use Rattle.machine.specs.Views.{DataFile, ListedFile, View, is_required, key_of,
 use Rattle.machine.proofs.Entering.{All-with_changed, entry_of-with_entry, order-with_entry}
 use Rattle.machine.proofs.Keeping.{installed-with_entry, length-with_entry, version-raised}
 use Rattle.machine.proofs.Keys.{equal_keys}
-use Rattle.machine.proofs.Members.{all_in, any_last, any_left, in_contains, in_map, pairs_push}
+use Rattle.machine.proofs.Members.{all_in, any_last, any_left, in_contains, in_map}
+use Rattle.machine.proofs.OtherViews.{same_app, still}
+use Rattle.machine.proofs.RisingNumbers.{push_numbers}
 use Rattle.machine.proofs.Shortness.{short_key}
 
 -- what the parts of a new view have to be, and what room the store has to have
@@ -69,15 +71,6 @@ pub version-raised_by : (heard old : Option Version) → IfSome heard IsVersion 
 version-raised_by None old first second = second
 version-raised_by (Some heard) old first second = version-raised old heard second first
 
--- ---- numbers
-
-push_numbers : (next : ℕ) (numbers : List ℕ) → AreNumbers next numbers → next < NUMBER_LIMIT → AreNumbers (next + 1) (numbers ++ next ∷ [])
-push_numbers next numbers are room = record {
-  rising = pairs_push (λ (m n : ℕ). m < n) numbers next are.below are.rising;
-  below = All-push (λ (n : ℕ). n < next + 1) numbers next (All-weaker (λ (n : ℕ). n < next) (λ (n : ℕ). n < next + 1) (λ n lt. omega arith) numbers are.below) (omega arith);
-  limit = omega arith;
-}
-
 -- ---- the store
 
 module _ (provider base : Target) (d : Deployment) (a : Application) (files : List ListedFile) (data_files : List DataFile) (now : ℕ) (old : Store) (fit : Fitting provider base d a files data_files now old) (was : Ordered old) where
@@ -99,9 +92,8 @@ module _ (provider base : Target) (d : Deployment) (a : Application) (files : Li
   its_view : (k : Key) → k ≡ key → IsViewOf views k number
   its_view k same = any_last (λ (v : View). (v.number ≡ number) × (key_of v ≡ k)) old.views view (refl, sym same)
 
-  still : (k : Key) (n : Option ℕ) → IfSome n (IsViewOf old.views k) → IfSome n (IsViewOf views k)
-  still k None is = tt
-  still k (Some n) is = any_left (λ (v : View). (v.number ≡ n) × (key_of v ≡ k)) old.views (view ∷ []) is
+  stays : (k : Key) (n : ℕ) → IsViewOf old.views k n → IsViewOf views k n
+  stays k n is = any_left (λ (v : View). (v.number ≡ n) × (key_of v ≡ k)) old.views (view ∷ []) is
 
   -- a kept view has a smaller number
   smaller : (k : Key) → IsViewOf old.views k number → ⊥
@@ -123,22 +115,6 @@ module _ (provider base : Target) (d : Deployment) (a : Application) (files : Li
     few_data = fit.few_data;
   }
 
-  same_app : (app : AppState) → IsApp old.views app → IsApp views app
-  same_app app is = record {
-    key = is.key;
-    provider = is.provider;
-    current = still app.key app.current is.current;
-    previous = still app.key app.previous is.previous;
-    minimum = is.minimum;
-    offer = is.offer;
-    skipped = is.skipped;
-    excluded = is.excluded;
-    last_check = is.last_check;
-    beside = is.beside;
-    other = is.other;
-    provided = is.provided;
-  }
-
   changed_app : (app : AppState) → key_cmp app.key key ≡ Equal → IsApp old.views app → IsApp views (change app)
   changed_app app equal is =
       let same = equal_keys app.key key is.key (short_key fit.deployment.identity.key) equal in
@@ -146,7 +122,7 @@ module _ (provider base : Target) (d : Deployment) (a : Application) (files : Li
         key = is.key;
         provider = fit.has_provider;
         current = its_view app.key same;
-        previous = still app.key app.current is.current;
+        previous = still old.views views stays app.key app.current is.current;
         minimum = version-raised_by d.minimum app.minimum fit.deployment.minimum is.minimum;
         offer = version-above d.identity.version app.offer is.offer;
         skipped = version-above d.identity.version app.skipped is.skipped;
@@ -205,5 +181,5 @@ module _ (provider base : Target) (d : Deployment) (a : Application) (files : Li
     installed = All-push (λ (v : View). IsInstalled apps (key_of v)) old.views view (installed-with_entry key change keeps_key keeps_current old.apps old.views was.installed) is_installed;
     order = order-with_entry key change keeps_key old.apps was.order;
     few_apps = length-with_entry key change keeps_key keeps_current old.apps APPLICATION_LIMIT was.few_apps fit.entry_room;
-    apps = All-with_changed key change keeps_key (IsApp old.views) (IsApp views) made_app changed_app same_app old.apps was.apps;
+    apps = All-with_changed key change keeps_key (IsApp old.views) (IsApp views) made_app changed_app (same_app old.views views stays) old.apps was.apps;
   }

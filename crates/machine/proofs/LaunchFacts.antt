@@ -31,6 +31,7 @@ use Rattle.machine.proofs.LeasesKept.{launched_keeps}
 use Rattle.machine.proofs.Leasing.{launched_valid, started_minimum}
 use Rattle.machine.proofs.Members.{contains_in, in_map}
 use Rattle.machine.proofs.Moments.{SetsNone}
+use Rattle.machine.proofs.OtherReplies.{not_installed_is_other, required_is_other}
 use Rattle.machine.proofs.RowFacts.{Acts, RowFacts, acts_on, kept_unchanged, rises_as}
 use Rattle.machine.proofs.Shortness.{short_key}
 
@@ -40,14 +41,8 @@ lease_is_other : (lease : ℕ) (version : Version) (check_due : Bool)
     → says.Lease lease version check_due ≢ says.Memory
 lease_is_other lease version check_due e = cc
 
-not_installed_is_other : says.NotInstalled ≢ says.Memory
-not_installed_is_other e = cc
-
 check_first_is_other : says.CheckFirst ≢ says.Memory
 check_first_is_other e = cc
-
-required_is_other : (minimum : Version) → says.Required minimum ≢ says.Memory
-required_is_other minimum e = cc
 
 offered_is_other : (version : Version) → says.Offered version ≢ says.Memory
 offered_is_other version e = cc

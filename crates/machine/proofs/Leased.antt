@@ -44,6 +44,12 @@ view_some number views kept =
 
 -- ---- leased views
 
+-- the lease of a number is one of them
+pub lease_in : (number : ℕ) (leases : List Lease) (lease : Lease)
+    → lease_of number leases ≡ Some lease → In lease leases
+lease_in number leases lease is =
+    (find_in (λ (l : Lease). eqb l.number number) leases lease is).0
+
 shape_at : (lease : Option Lease) (views : List View)
     → option_and_then (λ (l : Lease). bare_view_at l.view (map bare_view views)) lease
     ≡ option_map bare_view (option_and_then (λ (l : Lease). view_at l.view views) lease)
@@ -135,13 +141,26 @@ pub current_by : (key : Key) (apps : List AppState) (number : ℕ) → current_o
 current_by key apps number is =
     then_value (λ (app : AppState). app.current) (entry_of key apps) number is
 
+-- a view that is kept has its number
+pub kept_view : (views : List View) (key : Key) (number : ℕ) → IsViewOf views key number
+    → (view : View) × (view_at number views ≡ Some view)
+kept_view views key number own =
+    find_some (λ (v : View). eqb v.number number) views own.1
+    (in_contains views own.1 (own.0, own.2, own.3)) (eq-eqb own.1.number number own.4.0)
+
 -- the view that it names is kept
 pub own_view : (views : List View) (app : AppState) (number : ℕ) → IsApp views app
     → app.current ≡ Some number → (view : View) × (view_at number views ≡ Some view)
 own_view views app number is current =
-    let own = MatchOption-at_some ⊤ (IsViewOf views app.key) number current is.current in
-    find_some (λ (v : View). eqb v.number number) views own.1
-    (in_contains views own.1 (own.0, own.2, own.3)) (eq-eqb own.1.number number own.4.0)
+    kept_view views app.key number
+    (MatchOption-at_some ⊤ (IsViewOf views app.key) number current is.current)
+
+-- and so is the one before it
+pub previous_kept : (views : List View) (app : AppState) (number : ℕ) → IsApp views app
+    → app.previous ≡ Some number → (view : View) × (view_at number views ≡ Some view)
+previous_kept views app number is previous =
+    kept_view views app.key number
+    (MatchOption-at_some ⊤ (IsViewOf views app.key) number previous is.previous)
 
 -- a current view is kept
 pub current_kept : (key : Key) (number : ℕ) (store : Store) → Ordered store

@@ -2,9 +2,8 @@
 use Rattle.std.proofs.Common.{◌≡◌, ◌≢◌, ◌∙◌, ◌+◌, ◌<◌, ◌≤◌, refl, sym, ap, subst, ℕ, false, not, eqb, eq-eqb, ne_eqb, eqb-true, List, [], ◌∷◌, length, map, All, Contains, Some, None, arith}
 use Rattle.std.specs.Prelude.{IsSome, filter}
 use Rattle.std.proofs.lemmas.List.{length_push, map-append}
-use Rattle.std.proofs.lemmas.List.Elements.{All-filter, All-push, All-weaker}
+use Rattle.std.proofs.lemmas.List.Elements.{All-filter, All-push}
 use Rattle.std.proofs.lemmas.List.Filters.{length-filter_both}
-use Rattle.std.proofs.lemmas.List.Kept.{AllPairs-filter}
 use Rattle.small_types.specs.declared.limits.TheConstants.{LEASE_LIMIT, NUMBER_LIMIT}
 use Rattle.identity.specs.declared.key.Key.{Key}
 use Rattle.machine.specs.declared.app.AppState.{AppState}
@@ -22,7 +21,9 @@ use Rattle.machine.proofs.Changing.{same_part}
 use Rattle.machine.proofs.Entering.{All-with_entry, length-with_known, order-with_entry}
 use Rattle.machine.proofs.Finding.{find-kept, find-last, find-lost, find-other, find_in, find_none, value_of}
 use Rattle.machine.proofs.Keeping.{installed-with_entry}
-use Rattle.machine.proofs.Members.{all_in, filter_map_is, in_all, in_map, pairs_push}
+use Rattle.machine.proofs.KnownApps.{checked_is_app, fresh_app}
+use Rattle.machine.proofs.Members.{all_in, filter_map_is, in_all, in_map}
+use Rattle.machine.proofs.RisingNumbers.{numbers_among, push_numbers}
 
 -- their numbers
 abbrev pub numbers : List Lease → List ℕ
@@ -87,14 +88,7 @@ pub numbers_more : (next view : ℕ) (leases : List Lease) → next < NUMBER_LIM
 numbers_more next view leases left was =
     subst (AreNumbers (next + 1))
     (sym (map-append (λ (l : Lease). l.number) leases (record { number = next; view = view } ∷ [])))
-    (record {
-      rising = pairs_push (λ (m n : ℕ). m < n) (numbers leases) next was.below was.rising;
-      below = All-push (λ (n : ℕ). n < next + 1) (numbers leases) next
-          (All-weaker (λ (n : ℕ). n < next) (λ (n : ℕ). n < next + 1)
-          (λ n less. omega (arith, less)) (numbers leases) was.below)
-          (omega arith);
-      limit = omega (arith, left);
-    })
+    (push_numbers next (numbers leases) was left)
 
 -- and where one is taken out
 numbers_left : (number : ℕ) (leases : List Lease) → numbers (without_lease number leases)
@@ -105,13 +99,8 @@ numbers_left number leases =
 pub numbers_fewer : (number next : ℕ) (leases : List Lease) → AreNumbers next (numbers leases)
     → AreNumbers next (numbers (without_lease number leases))
 numbers_fewer number next leases was =
-    subst (AreNumbers next) (sym (numbers_left number leases)) (record {
-      rising = AllPairs-filter (λ (m n : ℕ). m < n) (λ (n : ℕ). not (eqb n number)) (numbers leases)
-          was.rising;
-      below = All-filter (λ (n : ℕ). not (eqb n number)) (λ (n : ℕ). n < next) (numbers leases)
-          was.below;
-      limit = was.limit;
-    })
+    subst (AreNumbers next) (sym (numbers_left number leases))
+    (numbers_among (λ (n : ℕ). not (eqb n number)) next (numbers leases) was)
 
 pub fewer_leases : (number : ℕ) (leases : List Lease)
     → length (without_lease number leases) ≤ length leases
@@ -136,36 +125,10 @@ module _ (key : Key) where
 
   module _ (views : List View) where
     started_is_app : (app : AppState) → IsApp views app → IsApp views (started_app app)
-    started_is_app app is = record {
-      key = is.key;
-      provider = is.provider;
-      current = is.current;
-      previous = is.previous;
-      minimum = is.minimum;
-      offer = is.offer;
-      skipped = is.skipped;
-      excluded = is.excluded;
-      last_check = is.last_check;
-      beside = is.beside;
-      other = is.other;
-      provided = is.provided;
-    }
+    started_is_app = checked_is_app false views
 
     fresh_is_app : IsShortKey key → IsApp views (started_app (fresh key))
-    fresh_is_app is_key = record {
-      key = is_key;
-      provider = tt;
-      current = tt;
-      previous = tt;
-      minimum = tt;
-      offer = tt;
-      skipped = tt;
-      excluded = tt;
-      last_check = tt;
-      beside = λ some. some;
-      other = λ number current previous. absurd cc;
-      provided = λ some. some;
-    }
+    fresh_is_app is_key = checked_is_app false views (fresh key) (fresh_app views key is_key)
 
   module _ (number : ℕ) (old : Store) (is_key : IsShortKey key)
       (known : IsSome (entry_of key old.apps))

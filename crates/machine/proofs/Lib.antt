@@ -6,6 +6,9 @@ pub mod Changing
 pub mod CheckFacts
 pub mod Checking
 pub mod Choosing
+pub mod CleanFacts
+pub mod CleanedStores
+pub mod Cleaning
 pub mod Contents
 pub mod Counting
 pub mod DataSteps
@@ -17,6 +20,7 @@ pub mod FileAddresses
 pub mod Finding
 pub mod FinishFacts
 pub mod FoundTexts
+pub mod GoingBack
 pub mod GroupAnswers
 pub mod GroupFacts
 pub mod GroupKept
@@ -36,6 +40,9 @@ pub mod LeaseSteps
 pub mod Leased
 pub mod LeasesKept
 pub mod Leasing
+pub mod Leaving
+pub mod ListFacts
+pub mod Listing
 pub mod LocalFacts
 pub mod Mapping
 pub mod Members
@@ -46,6 +53,10 @@ pub mod Moving
 pub mod NamedItems
 pub mod Names
 pub mod Needing
+pub mod Numbered
+pub mod OneView
+pub mod OtherReplies
+pub mod OtherViews
 pub mod Places
 pub mod PutFacts
 pub mod Raising
@@ -57,12 +68,15 @@ pub mod Refusals
 pub mod RemoveFacts
 pub mod RequireFacts
 pub mod Rising
+pub mod RisingNumbers
+pub mod RollbackFacts
 pub mod RowFacts
 pub mod Runs
 pub mod Sessions
 pub mod Setting
 pub mod Shared
 pub mod Shortness
+pub mod ShowFacts
 pub mod SkipFacts
 pub mod Sorting
 pub mod Stepping
@@ -73,5 +87,7 @@ pub mod Unheard
 pub mod Update
 pub mod UrlHosts
 pub mod UrlTexts
+pub mod Using
+pub mod ViewSteps
 pub mod Wanting
 pub mod Weaving

@@ -1,5 +1,5 @@
 -- The row of `data`.
-use Rattle.std.proofs.Common.{◌≡◌, ◌≢◌, ◌∙◌, inl, inr, refl, sym, ap, subst, ℕ, List, length, map, Option, Some, None, bytes_eq}
+use Rattle.std.proofs.Common.{◌≡◌, ◌∙◌, inl, inr, refl, sym, ap, subst, ℕ, List, length, map, Option, Some, None, bytes_eq}
 use Rattle.std.specs.Prelude.{option_map}
 use Rattle.std.proofs.lemmas.Option.{none-some, same_Some}
 use Rattle.machine.specs.declared.command.Command.TheVariants.{Local}
@@ -22,16 +22,8 @@ use Rattle.machine.proofs.Choosing.{AllGive, exactly-exact}
 use Rattle.machine.proofs.Finding.{find-map, some_there}
 use Rattle.machine.proofs.Leased.{leased_bare_kept}
 use Rattle.machine.proofs.Moments.{SetsNone}
+use Rattle.machine.proofs.OtherReplies.{no_file_is_other, no_lease_is_other, read_is_other}
 use Rattle.machine.proofs.RowFacts.{RowFacts, acts_not, kept_unchanged}
-
-read_is_other : (length : ℕ) (bytes : List ℕ) → says.Read length bytes ≢ says.Memory
-read_is_other length bytes e = cc
-
-pub no_lease_is_other : says.NoLease ≢ says.Memory
-no_lease_is_other e = cc
-
-pub no_file_is_other : says.NoFile ≢ says.Memory
-no_file_is_other e = cc
 
 -- ---- its refusals
 

@@ -5,7 +5,7 @@ use Rattle.std.specs.List.Sorted.{IsBinarySearchResult, IsSearchInRange, IsNonDe
 use Rattle.std.specs.Ordering.{ordering_index}
 use Rattle.std.specs.declared.cmp.Ordering.{Ordering}
 use Rattle.std.specs.declared.cmp.Ordering.TheVariants.{Less, Equal, Greater}
-use Rattle.std.proofs.lemmas.Cmp.{alike_right}
+use Rattle.std.proofs.lemmas.Cmp.{alike_right, tied_itself}
 use Rattle.std.proofs.lemmas.Bool.{cases_lt}
 use Rattle.std.proofs.lemmas.List.{get_or-map, length-map}
 use Rattle.std.proofs.lemmas.List.Sorted.{IsNonDecreasingBy-from_default}
@@ -15,6 +15,7 @@ use Rattle.identity.specs.Printed.{text_cmp}
 use Rattle.machine.specs.declared.app.AppState.{AppState}
 use Rattle.machine.specs.Entries.{AreInOrder, IsBelowAll, entry_of, fresh, key_cmp, with_entry}
 use Rattle.machine.proofs.Entering.{order}
+use Rattle.machine.proofs.Members.{In}
 
 less_than_equal : (a b c : List ℕ) → text_cmp a b ≡ Less → text_cmp b c ≡ Equal → text_cmp a c ≡ Less
 less_than_equal a b c less equal = sym (alike_right order b c a equal) ∙ less
@@ -24,11 +25,29 @@ below key [] place d all within = absurd (omega arith)
 below key (app ∷ apps) zero d all within = all.0
 below key (app ∷ apps) (suc place) d all within = below key apps place d all.1 (omega arith)
 
-rising : (apps : List AppState) (i j : ℕ) (d : AppState) → AreInOrder apps → i < j → j < length apps → key_cmp (get_or apps i d).key (get_or apps j d).key ≡ Less
+below_in : (key : Key) (apps : List AppState) (app : AppState) → IsBelowAll key apps → In app apps
+    → key_cmp key app.key ≡ Less
+below_in key [] app all there = absurd there
+below_in key (a ∷ apps) app all (inl is) =
+    subst (λ (x : AppState). key_cmp key x.key ≡ Less) is all.0
+below_in key (a ∷ apps) app all (inr there) = below_in key apps app all.1 there
+
+pub rising : (apps : List AppState) (i j : ℕ) (d : AppState) → AreInOrder apps → i < j → j < length apps → key_cmp (get_or apps i d).key (get_or apps j d).key ≡ Less
 rising [] i j d ordered less within = absurd (omega arith)
 rising (app ∷ apps) i zero d ordered less within = absurd (omega arith)
 rising (app ∷ apps) zero (suc j) d ordered less within = below app.key apps j d ordered.0 (omega arith)
 rising (app ∷ apps) (suc i) (suc j) d ordered less within = rising apps i j d ordered.1 (omega arith) (omega arith)
+
+-- each is the entry of its own key
+pub own_entry : (apps : List AppState) → AreInOrder apps → (app : AppState) → In app apps
+    → entry_of app.key apps ≡ Some app
+own_entry [] ordered app there = absurd there
+own_entry (a ∷ apps) ordered app (inl is) =
+    subst (λ (x : AppState). entry_of x.key (a ∷ apps) ≡ Some x) is
+    (let same = tied_itself order (key_text a.key) in rw same refl)
+own_entry (a ∷ apps) ordered app (inr there) =
+    let less = below_in a.key apps app ordered.0 there in
+    rw less (own_entry apps ordered.1 app there)
 
 -- ---- an entry at a place
 

@@ -28,11 +28,12 @@ use Rattle.machine.proofs.DataViews.{changed_keeps, changed_ordered, changed_sou
 use Rattle.machine.proofs.Finding.{some_there}
 use Rattle.machine.proofs.GroupStands.{leased_number}
 use Rattle.machine.proofs.Leased.{leased_bare_kept, leased_shape, leased_valid}
-use Rattle.machine.proofs.LocalFacts.{bare_found, no_lease_is_other}
+use Rattle.machine.proofs.LocalFacts.{bare_found}
 use Rattle.machine.proofs.Members.{sum_map}
 use Rattle.machine.proofs.Moments.{SetsNone}
 use Rattle.machine.proofs.Names.{below_from, test_outside}
 use Rattle.machine.proofs.NamedItems.{all_with_named, order-with_named, sum-with_known, sum-with_named}
+use Rattle.machine.proofs.OtherReplies.{full_is_other, no_lease_is_other}
 use Rattle.machine.proofs.RowFacts.{Acts, RowFacts, acts_on, kept_unchanged, rises_as}
 
 -- ---- replies
@@ -45,9 +46,6 @@ bad_name_is_other e = cc
 
 too_many_is_other : says.TooMany Locals LOCAL_COUNT_LIMIT ≢ says.Memory
 too_many_is_other e = cc
-
-full_is_other : (need free : ℕ) → says.Full need free ≢ says.Memory
-full_is_other need free e = cc
 
 -- ---- its refusals
 

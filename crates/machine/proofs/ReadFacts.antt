@@ -1,5 +1,5 @@
 -- The row of `read`.
-use Rattle.std.proofs.Common.{◌≡◌, ◌≢◌, ◌∙◌, inl, inr, refl, sym, ap, subst, ℕ, List, length, Option, Some, None}
+use Rattle.std.proofs.Common.{◌≡◌, ◌∙◌, inl, inr, refl, sym, ap, subst, ℕ, List, length, Option, Some, None}
 use Rattle.std.specs.Prelude.{option_map}
 use Rattle.std.proofs.lemmas.Option.{none-some, same_Some}
 use Rattle.manifests.specs.declared.facts.FileEntry.{FileEntry}
@@ -20,16 +20,8 @@ use Rattle.machine.specs.Views.{ListedFile, View, standing_entries}
 use Rattle.machine.proofs.Choosing.{exactly-exact}
 use Rattle.machine.proofs.Finding.{some_there}
 use Rattle.machine.proofs.Leased.{leased_bare_kept, leased_valid, named_entry}
+use Rattle.machine.proofs.OtherReplies.{no_file_is_other, no_lease_is_other, read_is_other}
 use Rattle.machine.proofs.RowFacts.{RowFacts, acts_not, kept_unchanged}
-
-read_is_other : (length : ℕ) (bytes : List ℕ) → says.Read length bytes ≢ says.Memory
-read_is_other length bytes e = cc
-
-no_lease_is_other : says.NoLease ≢ says.Memory
-no_lease_is_other e = cc
-
-no_file_is_other : says.NoFile ≢ says.Memory
-no_file_is_other e = cc
 
 -- its refusals are exact
 pub read_exact : (lease : ℕ) (name : List ℕ) (shape : Shape)

@@ -2,6 +2,7 @@
 use Rattle.std.proofs.Common.{◌≡◌, ◌≢◌, ◌∙◌, ◌≤◌, inl, inr, refl, sym, ap, subst, ℕ, List, Option, Some, None, cond, not, arith}
 use Rattle.std.specs.Prelude.{sum_by}
 use Rattle.std.proofs.lemmas.Option.{none-some}
+use Rattle.manifests.specs.declared.facts.FileEntry.{FileEntry}
 use Rattle.manifests.specs.Applications.{is_below_pre}
 use Rattle.machine.specs.declared.command.Command.TheVariants.{Remove}
 use Rattle.machine.specs.declared.lease.Lease.{Lease}
@@ -16,13 +17,15 @@ use Rattle.machine.specs.Shape.{bare_view, shape_of}
 use Rattle.machine.specs.Sound.{Sound}
 use Rattle.machine.specs.Store.{Session, Store}
 use Rattle.machine.specs.Valid.{IsDataFile, IsView, Ordered, Valid}
-use Rattle.machine.specs.Views.{DataFile, View}
+use Rattle.machine.specs.Views.{DataFile, ListedFile, View}
 use Rattle.machine.proofs.DataViews.{changed_keeps, changed_ordered, changed_sound, no_more, room_within, same_programs, same_standing, weight}
 use Rattle.machine.proofs.Finding.{some_there}
 use Rattle.machine.proofs.GroupStands.{leased_number}
 use Rattle.machine.proofs.Leased.{leased_bare_kept, leased_valid}
-use Rattle.machine.proofs.LocalFacts.{has, lacks, local_none, local_unchanged, no_file_is_other, no_lease_is_other}
+use Rattle.machine.proofs.LocalFacts.{has, lacks, local_none, local_unchanged}
+use Rattle.machine.proofs.Members.{In}
 use Rattle.machine.proofs.NamedItems.{all_without_named, order-without_named, sum-without_named}
+use Rattle.machine.proofs.OtherReplies.{no_file_is_other, no_lease_is_other}
 use Rattle.machine.proofs.RowFacts.{Acts, RowFacts, Shrinks, acts_on, kept_unchanged, rises_as}
 
 removed_is_other : says.Removed ≢ says.Memory
@@ -78,8 +81,10 @@ module _ (lease : ℕ) (name : List ℕ) (old : Store) (view : View)
 removed_shrinks : (number : ℕ) (name : List ℕ) (old : Store)
     → Shrinks old (removed_in number name old)
 removed_shrinks number name old = record {
-  programs = same_programs number (rest name) old;
-  standing = same_standing number (rest name) old;
+  programs = λ file there. subst (λ (fs : List ListedFile). In file fs)
+      (same_programs number (rest name) old) there;
+  standing = λ entry there. subst (λ (es : List FileEntry). In entry es)
+      (same_standing number (rest name) old) there;
   data_blocks = no_more number (rest name) old (no_heavier name);
 }
 

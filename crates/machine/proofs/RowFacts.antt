@@ -4,6 +4,7 @@ use Rattle.std.specs.Prelude.{flat_map, sum_by}
 use Rattle.small_types.specs.declared.limits.TheConstants.{NUMBER_LIMIT}
 use Rattle.identity.specs.declared.key.Key.{Key}
 use Rattle.identity.specs.declared.version.Version.{Version}
+use Rattle.manifests.specs.declared.facts.FileEntry.{FileEntry}
 use Rattle.machine.specs.declared.app.AppState.{AppState}
 use Rattle.machine.specs.declared.command.Command.{Command}
 use Rattle.machine.specs.declared.command.Command.TheVariants.{At}
@@ -20,9 +21,11 @@ use Rattle.machine.specs.Shape.{BareData, BareView, Shape, bare_view, shape_of}
 use Rattle.machine.specs.Sound.{Sound, program_files_of}
 use Rattle.machine.specs.Store.{Session, Store}
 use Rattle.machine.specs.Valid.{Valid}
+use Rattle.machine.specs.Views.{ListedFile}
 use Rattle.machine.specs.Words.{IsCommand}
 use Rattle.machine.proofs.Choosing.{AllGive, unchanged}
 use Rattle.machine.proofs.LeasesKept.{KeepsLeases, keeps_itself}
+use Rattle.machine.proofs.Members.{In}
 use Rattle.machine.proofs.Moments.{SetsNone}
 use Rattle.machine.proofs.Raising.{Holds, holds_itself}
 
@@ -92,6 +95,7 @@ pub record Kept (command : Command) (old : Session) (reply : Reply) (new : Sessi
   pub minimums : Rises old.store.apps new.store.apps
   pub leases : KeepsLeases old.store new.store
   pub views : new.store.views ≡ old.store.views
+  pub next_view : new.store.next_view ≡ old.store.next_view
   pub valid : IsCommand command → Valid old.store → Valid new.store
 
 kept_itself : (command : Command) (old : Session) (reply : Reply) → Kept command old reply old
@@ -104,6 +108,7 @@ kept_itself command old reply = record {
   minimums = rises_as old.store.apps old.store.apps (λ key. refl);
   leases = keeps_itself old.store;
   views = refl;
+  next_view = refl;
   valid = λ is valid. valid;
 }
 
@@ -122,10 +127,11 @@ kept_unchanged command refusals old reply new same refused =
 
 -- ---- a row
 
--- the program files of all views are the same, and data files take no more blocks
+-- the program files of all views are among those that were, and data files take no more blocks
 pub record Shrinks (old new : Store) : Type 0 where
-  pub programs : program_files_of new ≡ program_files_of old
-  pub standing : standing_files (map bare_view new.views) ≡ standing_files (map bare_view old.views)
+  pub programs : (file : ListedFile) → In file (program_files_of new) → In file (program_files_of old)
+  pub standing : (entry : FileEntry) → In entry (standing_files (map bare_view new.views))
+      → In entry (standing_files (map bare_view old.views))
   pub data_blocks : sum_by (λ (file : BareData). blocks_of file.length)
       (flat_map (λ (view : BareView). view.data_files) (map bare_view new.views))
       ≤ sum_by (λ (file : BareData). blocks_of file.length)

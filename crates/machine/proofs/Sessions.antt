@@ -22,8 +22,11 @@ use Rattle.machine.specs.Valid.{AreNumbers}
 use Rattle.machine.specs.Views.{ListedFile, View, is_required}
 use Rattle.machine.specs.Words.{IsEvent}
 use Rattle.machine.proofs.EachRow.{facts}
+use Rattle.machine.proofs.Grouping.{blocks_among}
+use Rattle.machine.proofs.Members.{In, in_either, in_left, in_right}
 use Rattle.machine.proofs.Refusals.{kept_or_effect}
 use Rattle.machine.proofs.RowFacts.{Kept, Shrinks}
+use Rattle.machine.proofs.Shared.{alike_each, each_alike}
 use Rattle.machine.proofs.Stepping.{step_blocks, step_leaves, step_sound}
 
 -- a session of the same views, jobs and numbers, over a sound store
@@ -44,25 +47,57 @@ same_sound old new views blocks jobs next store sound = record {
       (subst (λ n. session_blocks old ≤ n) (sym blocks) sound.room));
 }
 
--- a session whose views have the same program files, and data files that take no more blocks
-shrunk_sound : (old new : Session) → Shrinks old.store new.store
-    → new.store.blocks ≡ old.store.blocks → new.jobs ≡ old.jobs → new.next_job ≡ old.next_job
-    → Sound new.store → SoundSession old → SoundSession new
-shrunk_sound old new shrinks blocks jobs next store sound = record {
-  store = store;
-  job_numbers = subst (λ (js : List Job). AreNumbers new.next_job (map (λ job. job.number) js)) (sym jobs)
-      (subst (λ n. AreNumbers n (map (λ (job : Job). job.number) old.jobs)) (sym next) sound.job_numbers);
-  few_jobs = subst (λ (js : List Job). length js ≤ JOB_LIMIT) (sym jobs) sound.few_jobs;
-  jobs = subst (All IsSoundJob) (sym jobs) sound.jobs;
-  shared = subst (λ (js : List Job). ShareBytes (program_files_of new.store ++ program_files_in js)) (sym jobs)
-      (subst (λ (files : List ListedFile). ShareBytes (files ++ program_files_in old.jobs))
-      (sym shrinks.programs) sound.shared);
-  room = subst (λ (js : List Job). blocks_with (map bare_view new.store.views) js ≤ new.store.blocks) (sym jobs)
-      (let room = sound.room in
-      let files = ap (λ (es : List FileEntry). sum_by (λ entry. blocks_of entry.size) (distinct (es
-      ++ flat_map (λ (job : Job). filter is_required job.application.files) old.jobs))) shrinks.standing in
-      omega (arith, room, files, shrinks.data_blocks, blocks));
-}
+-- a session whose views have no other program files, and data files that take no more blocks
+module _ (old new : Session) (shrinks : Shrinks old.store new.store)
+    (blocks : new.store.blocks ≡ old.store.blocks) (jobs : new.jobs ≡ old.jobs) where
+  abbrev of_jobs : List FileEntry
+  of_jobs = flat_map (λ (job : Job). filter is_required job.application.files) old.jobs
+
+  among_files : (file : ListedFile)
+      → In file (program_files_of new.store ++ program_files_in old.jobs)
+      → In file (program_files_of old.store ++ program_files_in old.jobs)
+  among_files file there =
+      by (in_either (program_files_of new.store) (program_files_in old.jobs) file there)
+    where
+      by : In file (program_files_of new.store) ⊎ In file (program_files_in old.jobs)
+          → In file (program_files_of old.store ++ program_files_in old.jobs)
+      by (inl stands) =
+          in_left (program_files_of old.store) (program_files_in old.jobs) file
+          (shrinks.programs file stands)
+      by (inr has) = in_right (program_files_of old.store) (program_files_in old.jobs) file has
+
+  among_entries : (entry : FileEntry)
+      → In entry (standing_files (map bare_view new.store.views) ++ of_jobs)
+      → In entry (standing_files (map bare_view old.store.views) ++ of_jobs)
+  among_entries entry there =
+      by (in_either (standing_files (map bare_view new.store.views)) of_jobs entry there)
+    where
+      by : In entry (standing_files (map bare_view new.store.views)) ⊎ In entry of_jobs
+          → In entry (standing_files (map bare_view old.store.views) ++ of_jobs)
+      by (inl stands) =
+          in_left (standing_files (map bare_view old.store.views)) of_jobs entry
+          (shrinks.standing entry stands)
+      by (inr asked) =
+          in_right (standing_files (map bare_view old.store.views)) of_jobs entry asked
+
+  shrunk_sound : new.next_job ≡ old.next_job → Sound new.store → SoundSession old
+      → SoundSession new
+  shrunk_sound next store sound = record {
+    store = store;
+    job_numbers = subst (λ (js : List Job). AreNumbers new.next_job (map (λ job. job.number) js)) (sym jobs)
+        (subst (λ n. AreNumbers n (map (λ (job : Job). job.number) old.jobs)) (sym next) sound.job_numbers);
+    few_jobs = subst (λ (js : List Job). length js ≤ JOB_LIMIT) (sym jobs) sound.few_jobs;
+    jobs = subst (All IsSoundJob) (sym jobs) sound.jobs;
+    shared = subst (λ (js : List Job). ShareBytes (program_files_of new.store ++ program_files_in js)) (sym jobs)
+        (alike_each (program_files_of new.store ++ program_files_in old.jobs)
+        (λ f g a b. each_alike (program_files_of old.store ++ program_files_in old.jobs) sound.shared
+        f g (among_files f a) (among_files g b)));
+    room = subst (λ (js : List Job). blocks_with (map bare_view new.store.views) js ≤ new.store.blocks) (sym jobs)
+        (let room = sound.room in
+        let files = blocks_among (standing_files (map bare_view new.store.views) ++ of_jobs)
+        (standing_files (map bare_view old.store.views) ++ of_jobs) among_entries in
+        omega (arith, room, files, shrinks.data_blocks, blocks));
+  }
 
 pub step_jobs : (now : ℕ) (old : Session) (event : Event) (reply : Option Reply) (new : Session)
     → Step now old event reply new → new.jobs ≡ old.jobs

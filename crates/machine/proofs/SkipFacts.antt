@@ -30,6 +30,7 @@ use Rattle.machine.proofs.KnownApps.{known_valid}
 use Rattle.machine.proofs.Leased.{due_installed}
 use Rattle.machine.proofs.LeasesKept.{keeps_more}
 use Rattle.machine.proofs.Moments.{SetsNone}
+use Rattle.machine.proofs.OtherReplies.{not_installed_is_other, required_is_other}
 use Rattle.machine.proofs.RowFacts.{Acts, RowFacts, acts_on, kept_unchanged, rises_as}
 use Rattle.machine.proofs.Shortness.{short_key}
 
@@ -37,12 +38,6 @@ use Rattle.machine.proofs.Shortness.{short_key}
 
 skipped_is_other : (version : Version) → says.Skipped version ≢ says.Memory
 skipped_is_other version e = cc
-
-not_installed_is_other : says.NotInstalled ≢ says.Memory
-not_installed_is_other e = cc
-
-required_is_other : (minimum : Version) → says.Required minimum ≢ says.Memory
-required_is_other minimum e = cc
 
 nothing_is_other : says.NothingOffered ≢ says.Memory
 nothing_is_other e = cc

@@ -1,5 +1,5 @@
 -- Data files by their names, in views and in views without the bytes of their files.
-use Rattle.std.specs.Prelude.{ℕ, Bool, not, List, [], ◌∷◌, bytes_eq, filter, find, Option}
+use Rattle.std.specs.Prelude.{ℕ, not, List, [], ◌∷◌, bytes_eq, filter, find, Option}
 use Rattle.std.specs.declared.cmp.Ordering.{Ordering}
 use Rattle.std.specs.declared.cmp.Ordering.TheVariants.{Less, Equal, Greater}
 use Rattle.identity.specs.Printed.{text_cmp}

@@ -1,12 +1,13 @@
 -- What is true of data files.
 use Rattle.std.specs.Prelude.{◌≡◌, ◌≢◌, ℕ, List, [], ◌∷◌, length, Option, Some, None, IsSome, option_and_then, option_map}
-use Rattle.machine.specs.declared.command.Command.TheVariants.{Local, Put, Remove}
+use Rattle.machine.specs.declared.command.Command.TheVariants.{Clean, Local, Put, Remove}
 use Rattle.machine.specs.declared.event.Event.{Event}
 use Rattle.machine.specs.declared.event.Event.TheVariants.{Line}
 use Rattle.machine.specs.declared.reply.Reply.{Reply}
 use Rattle.machine.specs.declared.reply.Reply.TheVariants as says
 use Rattle.machine.specs.Current.{view_at}
 use Rattle.machine.specs.DataFiles.{data_named}
+use Rattle.machine.specs.InUse.{IsInUse}
 use Rattle.machine.specs.Leases.{lease_of, leased_view}
 use Rattle.machine.specs.Machine.{Answers, Run, moment_after}
 use Rattle.machine.specs.ReadRow.{part}
@@ -16,8 +17,8 @@ use Rattle.machine.specs.Views.{DataFile, View}
 
 -- ---- one line
 
--- The leased view has under the name what is said, and under each other name what it had. Its program
--- files stay, and so does every other view.
+-- The leased view has under the name what is said, and under each other name what it had. Its
+-- program files stay, and so does every other view.
 pub record HasData (lease : ℕ) (name : List ℕ) (file : Option DataFile) (old new : Store)
     : Type 0 where
   pub view : View
@@ -57,28 +58,54 @@ abbrev pub IsOn : ℕ → ℕ → Store → Type 0
 IsOn number lease store =
     option_map (λ l. l.view) (lease_of lease store.leases) ≡ Some number
 
--- a put or a removal of that name on a lease of that view
-abbrev pub ChangesData : ℕ → List ℕ → Store → Event → Type 0
-ChangesData number name store (Line (Put lease other bytes) now heard) =
+-- a put or a removal of that name on a lease of that view, which was not refused
+abbrev pub ChangesData : ℕ → List ℕ → Store → Event → Option Reply → Type 0
+ChangesData number name store (Line (Put lease other bytes) now heard) (Some says.Put) =
     (other ≡ name) × IsOn number lease store
-ChangesData number name store (Line (Remove lease other) now heard) =
+ChangesData number name store (Line (Remove lease other) now heard) (Some says.Removed) =
     (other ≡ name) × IsOn number lease store
-ChangesData number name store _ = ⊥
+ChangesData number name store _ _ = ⊥
 
--- no event of the run does
+-- a clean while the view of that number is neither current nor previous of any application nor
+-- leased
+abbrev pub TakesView : ℕ → Store → Event → Option Reply → Type 0
+TakesView number store (Line Clean now heard) _ = ¬ IsInUse number store.apps store.leases
+TakesView number store _ _ = ⊥
+
+-- no event of the run is so, with its reply
+abbrev pub NoneIs : (Store → Event → Option Reply → Type 0) → (now : ℕ) (old : Session)
+    (events : List Event) (replies : List (Option Reply)) (new : Session)
+    → Run now old events replies new → Type 0
+NoneIs is now old [] replies new run = Unit {0}
+NoneIs is now old (event ∷ events) [] new run = Unit {0}
+NoneIs is now old (event ∷ events) (reply ∷ replies) new run =
+    (is old.store event reply → ⊥) × NoneIs is (moment_after now reply) run.0 events replies new run.2
+
 abbrev pub NoneChangesData : ℕ → List ℕ → (now : ℕ) (old : Session) (events : List Event)
     (replies : List (Option Reply)) (new : Session) → Run now old events replies new → Type 0
-NoneChangesData number name now old [] replies new run = Unit {0}
-NoneChangesData number name now old (event ∷ events) [] new run = Unit {0}
-NoneChangesData number name now old (event ∷ events) (reply ∷ replies) new run =
-    (ChangesData number name old.store event → ⊥)
-    × NoneChangesData number name (moment_after now reply) run.0 events replies new run.2
+NoneChangesData number name now old events replies new run =
+    NoneIs (ChangesData number name) now old events replies new run
 
--- where none does, a kept view has under the name what it had
+abbrev pub NoneTakesView : ℕ → (now : ℕ) (old : Session) (events : List Event)
+    (replies : List (Option Reply)) (new : Session) → Run now old events replies new → Type 0
+NoneTakesView number now old events replies new run =
+    NoneIs (TakesView number) now old events replies new run
+
+-- where none changes it, and none takes the view, a kept view has under the name what it had
 abbrev pub DataFilesStay : Type 0
 DataFilesStay = (number : ℕ) (name : List ℕ) (now : ℕ) (old : Session) (events : List Event)
     (replies : List (Option Reply)) (new : Session) (run : Run now old events replies new)
     → IsSome (view_at number old.store.views)
+    → NoneChangesData number name now old events replies new run
+    → NoneTakesView number now old events replies new run
+    → data_at number name new.store ≡ data_at number name old.store
+
+-- so it has where it is kept after the run
+abbrev pub KeptDataFilesStay : Type 0
+KeptDataFilesStay = (number : ℕ) (name : List ℕ) (now : ℕ) (old : Session) (events : List Event)
+    (replies : List (Option Reply)) (new : Session) (run : Run now old events replies new)
+    → Valid old.store → IsSome (view_at number old.store.views)
+    → IsSome (view_at number new.store.views)
     → NoneChangesData number name now old events replies new run
     → data_at number name new.store ≡ data_at number name old.store
 

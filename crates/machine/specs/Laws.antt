@@ -18,7 +18,8 @@ use Rattle.manifests.specs.Applications.{application_of}
 use Rattle.manifests.specs.Deployments.{deployment_of}
 use Rattle.machine.specs.declared.app.AppState.{AppState}
 use Rattle.machine.specs.declared.command.Command.{Command}
-use Rattle.machine.specs.declared.command.Command.TheVariants.{At, Require, Install, Check, Skip, Launch, Read, Local, Put, Remove, Group, Finish}
+use Rattle.machine.specs.declared.command.Command.TheVariants.{At, Require, Install, Check, Skip, Rollback, Launch, Read, Local, Put, Remove, Group, Finish, Clean, Show}
+use Rattle.machine.specs.declared.command.Command.TheVariants as asks
 use Rattle.machine.specs.declared.event.Event.{Event}
 use Rattle.machine.specs.declared.event.Event.TheVariants.{Boot, Line, Unread}
 use Rattle.machine.specs.declared.reply.Reply.{Reply}
@@ -169,6 +170,8 @@ pub record RowsAreExact : Type 0 where
       → AreExact (refusals now (text ∷ texts) shape (Check key))
   pub skip : (now : ℕ) (heard : List (List ℕ)) (shape : Shape) (key : Key)
       → AreExact (refusals now heard shape (Skip key))
+  pub rollback : (now : ℕ) (heard : List (List ℕ)) (shape : Shape) (key : Key)
+      → AreExact (refusals now heard shape (Rollback key))
   pub launch : (now : ℕ) (heard : List (List ℕ)) (shape : Shape) (key : Key)
       → AreExact (refusals now heard shape (Launch key))
   pub read : (now : ℕ) (heard : List (List ℕ)) (shape : Shape) (lease : ℕ) (name : List ℕ)
@@ -185,6 +188,12 @@ pub record RowsAreExact : Type 0 where
       → AreExact (room_refusals lease group shape)
   pub finish : (now : ℕ) (heard : List (List ℕ)) (shape : Shape) (lease : ℕ)
       → AreExact (refusals now heard shape (Finish lease))
+  pub clean : (now : ℕ) (heard : List (List ℕ)) (shape : Shape)
+      → AreExact (refusals now heard shape Clean)
+  pub list : (now : ℕ) (heard : List (List ℕ)) (shape : Shape)
+      → AreExact (refusals now heard shape asks.List)
+  pub show : (now : ℕ) (heard : List (List ℕ)) (shape : Shape) (key : Key)
+      → AreExact (refusals now heard shape (Show key))
 
 -- where none is a free choice, two refusals of a command that are given have one reply
 abbrev pub OneRefusalIsGiven : Type 0
@@ -219,6 +228,8 @@ pub record RowsChangeNothing : Type 0 where
       → ChangeNothing (refusals now heard shape (Install url))
   pub skip : (now : ℕ) (heard : List (List ℕ)) (shape : Shape) (key : Key)
       → ChangeNothing (refusals now heard shape (Skip key))
+  pub rollback : (now : ℕ) (heard : List (List ℕ)) (shape : Shape) (key : Key)
+      → ChangeNothing (refusals now heard shape (Rollback key))
   pub launch : (now : ℕ) (heard : List (List ℕ)) (shape : Shape) (key : Key)
       → ChangeNothing (refusals now heard shape (Launch key))
   pub read : (now : ℕ) (heard : List (List ℕ)) (shape : Shape) (lease : ℕ) (name : List ℕ)
@@ -235,6 +246,12 @@ pub record RowsChangeNothing : Type 0 where
       → ChangeNothing (refusals now heard shape (Group lease group))
   pub finish : (now : ℕ) (heard : List (List ℕ)) (shape : Shape) (lease : ℕ)
       → ChangeNothing (refusals now heard shape (Finish lease))
+  pub clean : (now : ℕ) (heard : List (List ℕ)) (shape : Shape)
+      → ChangeNothing (refusals now heard shape Clean)
+  pub list : (now : ℕ) (heard : List (List ℕ)) (shape : Shape)
+      → ChangeNothing (refusals now heard shape asks.List)
+  pub show : (now : ℕ) (heard : List (List ℕ)) (shape : Shape) (key : Key)
+      → ChangeNothing (refusals now heard shape (Show key))
 
 abbrev pub IsAllLinks : Reply → Type 0
 IsAllLinks reply =
@@ -265,6 +282,7 @@ IsAnswerable (Require key version) heard store = Unit {0}
 IsAnswerable (Install url) heard store = heard ≡ []
 IsAnswerable (Check key) heard store = heard ≡ []
 IsAnswerable (Skip key) heard store = Unit {0}
+IsAnswerable (Rollback key) heard store = Unit {0}
 IsAnswerable (Launch key) heard store = Unit {0}
 IsAnswerable (Read lease name from count) heard store = Unit {0}
 IsAnswerable (Local lease name from count) heard store = Unit {0}
@@ -272,6 +290,9 @@ IsAnswerable (Put lease name bytes) heard store = Unit {0}
 IsAnswerable (Remove lease name) heard store = Unit {0}
 IsAnswerable (Group lease group) heard store = Sound store
 IsAnswerable (Finish lease) heard store = Unit {0}
+IsAnswerable Clean heard store = Unit {0}
+IsAnswerable asks.List heard store = Unit {0}
+IsAnswerable (Show key) heard store = Unit {0}
 
 -- Each command has one, in each valid store, at each moment and whatever it may hear; an install
 -- and a check at least where they hear nothing, and a group in each sound store.
@@ -362,8 +383,8 @@ RunsKeepSound = (now : ℕ) (old : Session) (events : List Event) (replies : Lis
     (new : Session)
     → All IsEvent events → Run now old events replies new → Sound old.store → Sound new.store
 
--- An install, a group or a put finds no open job. One that does may bring other bytes than a job has
--- for a content, or take blocks that a job counts.
+-- An install, a group or a put finds no open job. One that does may bring other bytes than a job
+-- has for a content, or take blocks that a job counts.
 abbrev pub FetchesWithoutJobs : Event → Session → Type 0
 FetchesWithoutJobs (Line (Install url) now heard) old = old.jobs ≡ []
 FetchesWithoutJobs (Line (Put lease name bytes) now heard) old = old.jobs ≡ []

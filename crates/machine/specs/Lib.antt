@@ -3,6 +3,7 @@ pub mod AtRow
 pub mod Blocks
 pub mod CheckLaws
 pub mod CheckRow
+pub mod CleanRow
 pub mod Current
 pub mod DataFiles
 pub mod DataLaws
@@ -14,6 +15,7 @@ pub mod GroupLaws
 pub mod GroupRow
 pub mod Grouped
 pub mod Groups
+pub mod InUse
 pub mod InstallLaws
 pub mod InstallReplies
 pub mod InstallRow
@@ -22,16 +24,21 @@ pub mod LaunchRow
 pub mod Laws
 pub mod LeaseLaws
 pub mod Leases
+pub mod LifeLaws
+pub mod ListRow
 pub mod LocalRow
 pub mod Machine
 pub mod Migrated
 pub mod Minimums
+pub mod Previous
 pub mod PutRow
 pub mod ReadRow
 pub mod RemoveRow
 pub mod RequireRow
+pub mod RollbackRow
 pub mod Rows
 pub mod Shape
+pub mod ShowRow
 pub mod SkipRow
 pub mod Sound
 pub mod SoundSession

@@ -1,7 +1,8 @@
 -- The machine: what an event may answer, and what it leaves.
 use Rattle.std.specs.Prelude.{◌≡◌, ℕ, List, [], ◌∷◌, Option, Some, None, unwrap_or}
 use Rattle.machine.specs.declared.command.Command.{Command}
-use Rattle.machine.specs.declared.command.Command.TheVariants.{At, Require, Install, Check, Skip, Launch, Read, Local, Put, Remove, Group, Finish}
+use Rattle.machine.specs.declared.command.Command.TheVariants.{At, Require, Install, Check, Skip, Rollback, Launch, Read, Local, Put, Remove, Group, Finish, Clean, Show}
+use Rattle.machine.specs.declared.command.Command.TheVariants as asks
 use Rattle.machine.specs.declared.event.Event.{Event}
 use Rattle.machine.specs.declared.event.Event.TheVariants.{Boot, Line, Unread}
 use Rattle.machine.specs.declared.event.Heard.{Heard}
@@ -12,6 +13,7 @@ use Rattle.machine.specs.RequireRow.{require_refusals, require_effect}
 use Rattle.machine.specs.InstallRow.{HearsRelease, InstallEffect, install_refusals}
 use Rattle.machine.specs.CheckRow.{CheckEffect, HearsOffer, check_refusals}
 use Rattle.machine.specs.SkipRow.{SkipEffect, skip_refusals}
+use Rattle.machine.specs.RollbackRow.{RollbackEffect, rollback_refusals}
 use Rattle.machine.specs.LaunchRow.{LaunchEffect, launch_refusals}
 use Rattle.machine.specs.ReadRow.{ReadEffect, read_refusals}
 use Rattle.machine.specs.LocalRow.{LocalEffect, local_refusals}
@@ -19,6 +21,9 @@ use Rattle.machine.specs.PutRow.{PutEffect, put_refusals}
 use Rattle.machine.specs.RemoveRow.{RemoveEffect, remove_refusals}
 use Rattle.machine.specs.GroupRow.{GroupEffect, group_refusals}
 use Rattle.machine.specs.FinishRow.{finish_effect, finish_refusals}
+use Rattle.machine.specs.CleanRow.{clean_effect, clean_refusals}
+use Rattle.machine.specs.ListRow.{list_effect, list_refusals}
+use Rattle.machine.specs.ShowRow.{ShowEffect, show_refusals}
 use Rattle.machine.specs.InstallReplies.{install_replies}
 use Rattle.small_types.specs.declared.limits.TheConstants.{LOCAL_COUNT_LIMIT}
 use Rattle.machine.specs.Rows.{Refusal, maybe, FirstOf}
@@ -34,6 +39,7 @@ Hears shape (Require key version) heard = heard ≡ []
 Hears shape (Install url) heard = HearsRelease install_replies url shape heard
 Hears shape (Check key) heard = HearsOffer key shape heard
 Hears shape (Skip key) heard = heard ≡ []
+Hears shape (Rollback key) heard = heard ≡ []
 Hears shape (Launch key) heard = heard ≡ []
 Hears shape (Read lease name from count) heard = heard ≡ []
 Hears shape (Local lease name from count) heard = heard ≡ []
@@ -41,6 +47,9 @@ Hears shape (Put lease name bytes) heard = heard ≡ []
 Hears shape (Remove lease name) heard = heard ≡ []
 Hears shape (Group lease group) heard = heard ≡ []
 Hears shape (Finish lease) heard = heard ≡ []
+Hears shape Clean heard = heard ≡ []
+Hears shape asks.List heard = heard ≡ []
+Hears shape (Show key) heard = heard ≡ []
 
 -- the refusals of a command at a moment, in their order, by what it heard and by the shape of the
 -- store
@@ -51,6 +60,7 @@ refusals now heard shape (Install url) =
     install_refusals install_replies LOCAL_COUNT_LIMIT url heard shape
 refusals now heard shape (Check key) = check_refusals key heard shape
 refusals now heard shape (Skip key) = skip_refusals key now shape
+refusals now heard shape (Rollback key) = rollback_refusals key shape
 refusals now heard shape (Launch key) = launch_refusals key now shape
 refusals now heard shape (Read lease name from count) = read_refusals lease name shape
 refusals now heard shape (Local lease name from count) = local_refusals lease name shape
@@ -58,6 +68,9 @@ refusals now heard shape (Put lease name bytes) = put_refusals lease name bytes 
 refusals now heard shape (Remove lease name) = remove_refusals lease name shape
 refusals now heard shape (Group lease group) = group_refusals lease group shape
 refusals now heard shape (Finish lease) = finish_refusals lease shape
+refusals now heard shape Clean = clean_refusals
+refusals now heard shape asks.List = list_refusals
+refusals now heard shape (Show key) = show_refusals key shape
 
 -- its effect where none of them holds
 abbrev pub effect : ℕ → List (List ℕ) → Command → Session → Reply → Session → Type 0
@@ -66,6 +79,7 @@ effect now heard (Require key version) = require_effect key version
 effect now heard (Install url) = InstallEffect install_replies url heard now
 effect now heard (Check key) = CheckEffect key heard now
 effect now heard (Skip key) = SkipEffect key
+effect now heard (Rollback key) = RollbackEffect key
 effect now heard (Launch key) = LaunchEffect key now
 effect now heard (Read lease name from count) = ReadEffect lease name from count
 effect now heard (Local lease name from count) = LocalEffect lease name from count
@@ -73,6 +87,9 @@ effect now heard (Put lease name bytes) = PutEffect lease name bytes
 effect now heard (Remove lease name) = RemoveEffect lease name
 effect now heard (Group lease group) = GroupEffect lease group
 effect now heard (Finish lease) = finish_effect lease
+effect now heard Clean = clean_effect
+effect now heard asks.List = list_effect
+effect now heard (Show key) = ShowEffect key
 
 -- Any command may find no memory, which changes nothing. Else the first refusal that holds is the
 -- reply, and where none holds the effect is that of the row.

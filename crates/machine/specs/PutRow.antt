@@ -33,8 +33,8 @@ IsOneTooMany lease name shape =
 
 -- ---- refusals
 
--- No lease has the number; the name is a bad one; it is a new one too many; or there are not as many
--- blocks. The new bytes have their blocks beside those of the old ones.
+-- No lease has the number; the name is a bad one; it is a new one too many; or there are not as
+-- many blocks. The new bytes have their blocks beside those of the old ones.
 abbrev pub put_refusals : ℕ → List ℕ → List ℕ → Shape → List (Refusal Reply Session)
 put_refusals lease name bytes shape =
     exactly (lease_of lease shape.leases ≡ None) says.NoLease

@@ -5,7 +5,8 @@ use Rattle.small_types.specs.Name.{IsName}
 use Rattle.identity.specs.Key.{IsKey}
 use Rattle.identity.specs.Version.{IsVersion}
 use Rattle.machine.specs.declared.command.Command.{Command}
-use Rattle.machine.specs.declared.command.Command.TheVariants.{At, Require, Install, Check, Skip, Launch, Read, Local, Put, Remove, Group, Finish}
+use Rattle.machine.specs.declared.command.Command.TheVariants.{At, Require, Install, Check, Skip, Rollback, Launch, Read, Local, Put, Remove, Group, Finish, Clean, Show}
+use Rattle.machine.specs.declared.command.Command.TheVariants as asks
 use Rattle.machine.specs.declared.event.Event.{Event}
 use Rattle.machine.specs.declared.event.Event.TheVariants.{Boot, Line, Unread}
 use Rattle.machine.specs.Fields.{IsShort}
@@ -28,6 +29,7 @@ IsCommand (Require key version) = IsKey key × IsVersion version
 IsCommand (Install url) = IsUrl url
 IsCommand (Check key) = IsKey key
 IsCommand (Skip key) = IsKey key
+IsCommand (Rollback key) = IsKey key
 IsCommand (Launch key) = IsKey key
 IsCommand (Read lease name from count) =
     (lease ≤ NUMBER_LIMIT) × IsName name × (from ≤ NUMBER_LIMIT) × (count ≤ PIECE_LIMIT)
@@ -38,6 +40,9 @@ IsCommand (Put lease name bytes) =
 IsCommand (Remove lease name) = (lease ≤ NUMBER_LIMIT) × IsName name
 IsCommand (Group lease group) = (lease ≤ NUMBER_LIMIT) × IsGroup group
 IsCommand (Finish lease) = lease ≤ NUMBER_LIMIT
+IsCommand Clean = Unit {0}
+IsCommand asks.List = Unit {0}
+IsCommand (Show key) = IsKey key
 
 -- numbers are at most 2 ^ 62, and the words of a command have their forms
 abbrev pub IsEvent : Event → Type 0

@@ -27,6 +27,10 @@ pub enum Command {
     Skip {
         key: Key,
     },
+    /// `rollback KEY`: the application goes back to its previous view.
+    Rollback {
+        key: Key,
+    },
     /// `launch KEY`: a new lease on the application's current view.
     Launch {
         key: Key,
@@ -64,6 +68,14 @@ pub enum Command {
     /// `finish L`: the lease is gone.
     Finish {
         lease: u64,
+    },
+    /// `clean`: the views that are neither current nor previous of any application nor leased are gone, with their data.
+    Clean,
+    /// `list`: each application and its current version.
+    List,
+    /// `show KEY`: what is known of the application.
+    Show {
+        key: Key,
     },
 }
 

@@ -110,7 +110,7 @@ pub fn steps_keep_sound()
 {}
 
 /// A session begins sound over a sound store, and a step from a sound session leads to one; an
-/// install or a group where there is no open job.
+/// install, a put or a group where there is no open job.
 pub fn sessions_stay_sound()
     ensures begun { SessionsBeginSound }
     ensures steps { StepsKeepSoundSessions }

@@ -13,8 +13,10 @@ mod install_laws;
 mod laws;
 mod lease;
 mod lease_laws;
+mod life_laws;
 mod reply;
 mod report;
+mod rows;
 
 pub use app::AppState;
 pub use check_laws::{checks_count, skipped_offers_are_not_due};
@@ -40,5 +42,10 @@ pub use lease_laws::{
     free_launches_are_granted, launches_are_sound, launches_reach_minimums, leased_views_are_sound,
     leased_views_stay, reads_are_of_files,
 };
+pub use life_laws::{
+    lists_show_current, rollbacks_go_back, shows_are_of_entries, used_views_stay, views_are_new,
+    views_may_go,
+};
 pub use reply::Reply;
 pub use report::{Report, ReportLine};
+pub use rows::{ListRow, ShowRow};

@@ -1,5 +1,5 @@
 // What a line answers.
-use crate::LineFault;
+use crate::{LineFault, ListRow, ShowRow};
 use causes::Cause;
 use identity::{Key, Version};
 use manifest_parts::ManifestFault;
@@ -33,6 +33,10 @@ pub enum Reply {
     Skipped {
         version: Version,
     },
+    /// The version that is current from then on.
+    Current {
+        version: Version,
+    },
     /// A new lease on a view of this version, and whether the time for the next check has come.
     Lease {
         lease: u64,
@@ -56,12 +60,26 @@ pub enum Reply {
     Finished {
         lease: u64,
     },
-    /// The application has no current view.
+    /// The number of views that are gone.
+    Cleaned {
+        views: u64,
+    },
+    /// A row for each application, in order of their printed keys.
+    Listed {
+        rows: List<ListRow>,
+    },
+    /// What is known of the application.
+    Shown {
+        row: ShowRow,
+    },
+    /// The application has no current view; or, where it is to be shown, it is not known.
     NotInstalled,
     /// No lease has the number.
     NoLease,
     /// No program file of the leased view's release has the group.
     NoGroup,
+    /// The application has no previous view.
+    NoPrevious,
     /// No version is offered.
     NothingOffered,
     /// No program file of that name stands in the leased view, or it has no such data file.

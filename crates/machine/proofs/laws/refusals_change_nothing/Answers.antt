@@ -9,6 +9,7 @@ use Rattle.machine.proofs.InstallFacts.{install_unchanged}
 use Rattle.machine.proofs.LaunchFacts.{launch_unchanged}
 use Rattle.machine.proofs.LocalFacts.{local_unchanged}
 use Rattle.machine.proofs.PutFacts.{put_unchanged}
+use Rattle.machine.proofs.RollbackFacts.{rollback_unchanged}
 use Rattle.machine.proofs.SkipFacts.{skip_unchanged}
 use Rattle.machine.proofs.laws.refusals_change_nothing.Goals as goal
 
@@ -21,6 +22,7 @@ returns-clause-rows c = record {
   require = λ now heard shape key version. ((λ s. refl), tt);
   install = λ now heard shape url. install_unchanged install_replies LOCAL_COUNT_LIMIT url heard shape;
   skip = λ now heard shape key. skip_unchanged key now shape;
+  rollback = λ now heard shape key. rollback_unchanged key shape;
   launch = λ now heard shape key. launch_unchanged key now shape;
   read = λ now heard shape lease name from count. ((λ s. refl), ((λ s. refl), tt));
   local = λ now heard shape lease name from count. local_unchanged lease name shape;
@@ -28,6 +30,9 @@ returns-clause-rows c = record {
   remove = λ now heard shape lease name. local_unchanged lease name shape;
   group = λ now heard shape lease group. group_unchanged lease group shape;
   finish = λ now heard shape lease. ((λ s. refl), tt);
+  clean = λ now heard shape. tt;
+  list = λ now heard shape. tt;
+  show = λ now heard shape key. ((λ s. refl), tt);
 }
 
 pub returns-clause-checks : goal.returns-clause-checks

@@ -1,0 +1,5 @@
+use Rattle.machine.proofs.Leaving.{may_go}
+use Rattle.machine.proofs.life_laws.views_may_go.Goals as goal
+
+pub returns : goal.returns
+returns c = may_go
