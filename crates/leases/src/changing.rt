@@ -5,6 +5,7 @@ ghost use Rattle.store_state.specs.Change.{Fits, TakesMemory, effect};
 ghost use Rattle.store_state.specs.Rows.{current_at};
 
 use crate::granting::{end, grant};
+use cleaner::{CleanFault, clean};
 use std::alloc::Global;
 use store_state::{Change, StateFault, StoreState};
 
@@ -44,8 +45,8 @@ pub fn finish(state: &mut StoreState, lease: u64)
     };
 }
 
-/// Makes any change that fits the tables. It takes memory only for a new entry, an install, a group
-/// and a data file that is put, fails only for want of it, and then changes nothing.
+/// Makes any change that fits the tables. It takes memory only for a new entry, an install, a group,
+/// a data file that is put and a clean, fails only for want of it, and then changes nothing.
 pub fn make(alloc: Global, state: &mut StoreState, change: Change) -> Result<(), StateFault>
     requires { Fits state.old change }
     ensures ok { OnOk result (state.new ≡ effect change state.old) }
@@ -61,6 +62,10 @@ pub fn make(alloc: Global, state: &mut StoreState, change: Change) -> Result<(),
             finish(state, lease);
             Ok(())
         }
+        Change::Clean => match clean(alloc, state) {
+            Ok(_) => Ok(()),
+            Err(CleanFault::Memory) => Err(StateFault::Memory),
+        },
         other => state.apply(alloc, other),
     }
 }

@@ -20,7 +20,7 @@ use Rattle.manifests.specs.declared.facts.Rule.{Rule}
 use Rattle.manifests.specs.declared.facts.Rule.TheVariants.{Never, Before, Age}
 use Rattle.machine.specs.Fields.{IsShort, IsShortKey, IsTarget}
 use Rattle.store_state.specs.declared.change.Change.{Change}
-use Rattle.store_state.specs.declared.change.Change.TheVariants.{Boot, Require, Install, Heard, Unheard, Skip, Launch, Finish, Group, Put, Remove}
+use Rattle.store_state.specs.declared.change.Change.TheVariants.{Boot, Require, Install, Heard, Unheard, Skip, Rollback, Launch, Finish, Group, Put, Remove, Clean}
 use Rattle.store_state.specs.declared.view.Content.{Content}
 use Rattle.store_state.specs.declared.view.LocalFile.{LocalFile}
 use Rattle.store_state.specs.declared.view.View.{View}
@@ -30,7 +30,7 @@ use Rattle.record_codec.specs.Spelling.{application_field, content_field, deploy
 use Rattle.record_codec.specs.Values.{AreDigests, IsApplication, IsContent, IsDeployment, IsEntry, IsGroup, IsHeard, IsIdentity, IsInstall, IsLocal, IsView}
 use Rattle.record_codec.proofs.Long.{length-text_field, length-list_field, length-key_field, length-version_field, length-truth_field}
 use Rattle.record_codec.proofs.Sizes.{digest_le, name_le}
-use Rattle.record_codec.proofs.Written.{length-change_text_boot, length-change_text_require, length-change_text_unheard, length-change_text_skip, length-change_text_launch, length-change_text_finish, length-change_text_put, length-change_text_remove}
+use Rattle.record_codec.proofs.Written.{length-change_text_boot, length-change_text_require, length-change_text_unheard, length-change_text_skip, length-change_text_rollback, length-change_text_launch, length-change_text_finish, length-change_text_put, length-change_text_remove, length-change_text_clean}
 
 -- ---- lists and options
 
@@ -320,12 +320,14 @@ change_le (Install view contents provider now) is = install_le view contents pro
 change_le (Heard key version minimum now) is = heard_le key version minimum now is
 change_le (Unheard key) is = omega (arith, length-change_text_unheard key, key_le key is)
 change_le (Skip app) is = omega (arith, length-change_text_skip app)
+change_le (Rollback app) is = omega (arith, length-change_text_rollback app)
 change_le (Launch app) is = omega (arith, length-change_text_launch app)
 change_le (Finish lease) is = omega (arith, length-change_text_finish lease)
 change_le (Group view group contents) is = group_le view group contents is
 change_le (Put view file) is = omega (arith, length-change_text_put view file, local_le file is.1)
 change_le (Remove view name) is =
     omega (arith, length-change_text_remove view name, named_le name is.1)
+change_le Clean is = omega (arith, length-change_text_clean)
 
 pub installed_le : {change : Change} {view : View} {contents : List Content} {provider : Target}
     {now : ℕ} → change ≡ Install view contents provider now → IsChange change

@@ -12,7 +12,7 @@ use Rattle.identity.specs.declared.key.Key.{Key}
 use Rattle.identity.specs.declared.version.Version.{Version}
 use Rattle.machine.specs.Fields.{IsShortKey}
 use Rattle.store_state.specs.declared.change.Change.{Change}
-use Rattle.store_state.specs.declared.change.Change.TheVariants.{Boot, Require, Install, Heard, Unheard, Skip, Launch, Finish, Group, Put, Remove}
+use Rattle.store_state.specs.declared.change.Change.TheVariants.{Boot, Require, Install, Heard, Unheard, Skip, Rollback, Launch, Finish, Group, Put, Remove, Clean}
 use Rattle.store_state.specs.declared.view.Content.{Content}
 use Rattle.store_state.specs.declared.view.LocalFile.{LocalFile}
 use Rattle.store_state.specs.declared.view.View.{View}
@@ -24,7 +24,7 @@ use Rattle.record_codec.specs.Places.{Stands}
 use Rattle.record_codec.specs.Reading.{Gives, number_at, text_at, key_at, version_at}
 use Rattle.record_codec.specs.Parts.{Reader, list_at, name_at, option_at, target_at}
 use Rattle.record_codec.specs.Records.{content_at, local_at, view_at}
-use Rattle.record_codec.specs.Changes.{boot_at, require_at, install_at, heard_at, unheard_at, skip_at, launch_at, finish_at, group_at, put_at, remove_at, change_at, change_of}
+use Rattle.record_codec.specs.Changes.{boot_at, require_at, install_at, heard_at, unheard_at, skip_at, rollback_at, launch_at, finish_at, group_at, put_at, remove_at, clean_at, change_at, change_of}
 use Rattle.record_codec.specs.Spelling.{content_field, list_field, local_field, option_field, target_field, view_field}
 use Rattle.record_codec.specs.Values.{IsGroup, IsHeard, IsInstall, IsLocal}
 use Rattle.record_codec.proofs.Fields.{bind_ok, ok_is, passed_test, IsBytes, Stands-then, Stands-first, Stands-second, wide32, wide64, number_takes, number_again, text_takes, text_again}
@@ -145,6 +145,17 @@ skip_takes rest x fits e =
     let stands = Stands-then (5 ∷ rest) (5 ∷ []) field 0 1 app.0.1 (kind_stands 5 rest) t.0 in
     subst (λ (y : Change × ℕ). Takes (5 ∷ rest) y) (ok_is made x app.2) (stands, t.1)
 
+rollback_takes : (rest : List ℕ) (x : Change × ℕ) → IsBytes (6 ∷ rest) → rollback_at (6 ∷ rest) 1 ≡ Ok x
+    → Takes (6 ∷ rest) x
+unfolding rollback_at change_text
+rollback_takes rest x fits e =
+    let app = bind_ok (number_at w32 (6 ∷ rest) 1) (λ app. Ok (Rollback app.0, app.1)) x e in
+    let t = number_takes w32 (2 ^ 32) wide32 (6 ∷ rest) 1 app.0 fits (omega arith) app.1 in
+    let made : Change × ℕ = (Rollback app.0.0, app.0.1) in
+    let field = to_be_bytes w32 app.0.0 in
+    let stands = Stands-then (6 ∷ rest) (6 ∷ []) field 0 1 app.0.1 (kind_stands 6 rest) t.0 in
+    subst (λ (y : Change × ℕ). Takes (6 ∷ rest) y) (ok_is made x app.2) (stands, t.1)
+
 launch_takes : (rest : List ℕ) (x : Change × ℕ) → IsBytes (7 ∷ rest) → launch_at (7 ∷ rest) 1 ≡ Ok x
     → Takes (7 ∷ rest) x
 unfolding launch_at change_text
@@ -263,6 +274,13 @@ remove_again rest view name next is stands =
     let second = Stands-second bytes v t 1 next stands in
     rw (number64_reads.again bytes 1 view _ is.0 first, name_reads.again bytes _ name next is.1 second) refl
 
+clean_takes : (rest : List ℕ) (x : Change × ℕ) → IsBytes (12 ∷ rest) → clean_at (12 ∷ rest) 1 ≡ Ok x
+    → Takes (12 ∷ rest) x
+unfolding change_text
+clean_takes rest x fits e =
+    let made : Change × ℕ = (Clean, 1) in
+    subst (λ (y : Change × ℕ). Takes (12 ∷ rest) y) (ok_is made x e) (kind_stands 12 rest, tt)
+
 -- what is read of a kind, and what of any other
 by_kind : (n kind : ℕ) (rest : List ℕ) (f : Reader Change) (others : Result (Change × ℕ) CodecFault)
     (x : Change × ℕ) → (IsBytes (n ∷ rest) → f (n ∷ rest) 1 ≡ Ok x → Takes (n ∷ rest) x)
@@ -288,26 +306,30 @@ change_takes (kind ∷ rest) x fits e =
     (by_kind 3 kind rest heard_at _ x (heard_takes rest x)
     (by_kind 4 kind rest unheard_at _ x (unheard_takes rest x)
     (by_kind 5 kind rest skip_at _ x (skip_takes rest x)
+    (by_kind 6 kind rest rollback_at _ x (rollback_takes rest x)
     (by_kind 7 kind rest launch_at _ x (launch_takes rest x)
     (by_kind 8 kind rest finish_at _ x (finish_takes rest x)
     (by_kind 9 kind rest group_at _ x (group_takes rest x)
     (by_kind 10 kind rest put_at _ x (put_takes rest x)
-    (by_kind 11 kind rest remove_at _ x (remove_takes rest x) (λ bytes none. absurd cc)))))))))))
+    (by_kind 11 kind rest remove_at _ x (remove_takes rest x)
+    (by_kind 12 kind rest clean_at _ x (clean_takes rest x) (λ bytes none. absurd cc)))))))))))))
     fits e
 
 change_again : (bytes : List ℕ) (c : Change) (next : ℕ) → IsChange c → Stands bytes 0 (change_text c) next → change_at bytes ≡ Ok (c, next)
-unfolding change_at boot_at require_at unheard_at skip_at launch_at finish_at change_text install_text heard_text group_text put_text remove_text
+unfolding change_at boot_at require_at unheard_at skip_at rollback_at launch_at finish_at change_text install_text heard_text group_text put_text remove_text
 change_again [] (Boot boot) next fits stands = absurd (let e = stands.parts in cc)
 change_again [] (Require key version) next fits stands = absurd (let e = stands.parts in cc)
 change_again [] (Install view contents provider now) next fits stands = absurd (let e = stands.parts in cc)
 change_again [] (Heard key version minimum now) next fits stands = absurd (let e = stands.parts in cc)
 change_again [] (Unheard key) next fits stands = absurd (let e = stands.parts in cc)
 change_again [] (Skip app) next fits stands = absurd (let e = stands.parts in cc)
+change_again [] (Rollback app) next fits stands = absurd (let e = stands.parts in cc)
 change_again [] (Launch app) next fits stands = absurd (let e = stands.parts in cc)
 change_again [] (Finish lease) next fits stands = absurd (let e = stands.parts in cc)
 change_again [] (Group view group contents) next fits stands = absurd (let e = stands.parts in cc)
 change_again [] (Put view file) next fits stands = absurd (let e = stands.parts in cc)
 change_again [] (Remove view name) next fits stands = absurd (let e = stands.parts in cc)
+change_again [] Clean next fits stands = absurd (let e = stands.parts in cc)
 change_again (kind ∷ rest) (Boot boot) next fits stands =
     let is : kind ≡ 0 = (let e = stands.parts in cc) in
     let field = subst (λ (k : ℕ). Stands (k ∷ rest) 1 (to_be_bytes w64 boot) next) is (Stands-second (kind ∷ rest) (0 ∷ []) (to_be_bytes w64 boot) 0 next stands) in
@@ -338,6 +360,11 @@ change_again (kind ∷ rest) (Skip app) next fits stands =
     let second = Stands-second (kind ∷ rest) (5 ∷ []) (to_be_bytes w32 app) 0 next stands in
     let field = subst (λ (k : ℕ). Stands (k ∷ rest) 1 (to_be_bytes w32 app) next) is second in
     rw (is, number_again w32 (2 ^ 32) wide32 (5 ∷ rest) 1 app next fits field) refl
+change_again (kind ∷ rest) (Rollback app) next fits stands =
+    let is : kind ≡ 6 = (let e = stands.parts in cc) in
+    let second = Stands-second (kind ∷ rest) (6 ∷ []) (to_be_bytes w32 app) 0 next stands in
+    let field = subst (λ (k : ℕ). Stands (k ∷ rest) 1 (to_be_bytes w32 app) next) is second in
+    rw (is, number_again w32 (2 ^ 32) wide32 (6 ∷ rest) 1 app next fits field) refl
 change_again (kind ∷ rest) (Launch app) next fits stands =
     let is : kind ≡ 7 = (let e = stands.parts in cc) in
     let second = Stands-second (kind ∷ rest) (7 ∷ []) (to_be_bytes w32 app) 0 next stands in
@@ -363,6 +390,10 @@ change_again (kind ∷ rest) (Remove view name) next fits stands =
     let is : kind ≡ 11 = (let e = stands.parts in cc) in
     let behind = subst (λ (k : ℕ). Stands (k ∷ rest) 1 fields next) is (Stands-second (kind ∷ rest) (11 ∷ []) fields 0 next stands) in
     rw is (remove_again rest view name next fits behind)
+change_again (kind ∷ rest) Clean next fits stands =
+    let is : kind ≡ 12 = (let e = stands.parts in cc) in
+    let end = stands.behind in
+    rw (is, end) refl
 
 -- ---- all of the bytes
 

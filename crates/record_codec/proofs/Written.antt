@@ -6,7 +6,7 @@ use Rattle.small_types.specs.declared.target.Target.{Target}
 use Rattle.identity.specs.declared.version.Version.{Version}
 use Rattle.identity.specs.declared.key.Key.{Key}
 use Rattle.store_state.specs.declared.change.Change.{Change}
-use Rattle.store_state.specs.declared.change.Change.TheVariants.{Boot, Require, Install, Heard, Unheard, Skip, Launch, Finish, Group, Put, Remove}
+use Rattle.store_state.specs.declared.change.Change.TheVariants.{Boot, Require, Install, Heard, Unheard, Skip, Rollback, Launch, Finish, Group, Put, Remove, Clean}
 use Rattle.store_state.specs.declared.view.Content.{Content}
 use Rattle.store_state.specs.declared.view.LocalFile.{LocalFile}
 use Rattle.store_state.specs.declared.view.View.{View}
@@ -111,6 +111,10 @@ pub change_text_skip : (app : ℕ) → change_text (Skip app) ≡ (5 ∷ []) ++ 
 unfolding change_text
 change_text_skip app = refl
 
+pub change_text_rollback : (app : ℕ) → change_text (Rollback app) ≡ (6 ∷ []) ++ to_be_bytes w32 app
+unfolding change_text
+change_text_rollback app = refl
+
 pub change_text_launch : (app : ℕ) → change_text (Launch app) ≡ (7 ∷ []) ++ to_be_bytes w32 app
 unfolding change_text
 change_text_launch app = refl
@@ -133,6 +137,10 @@ pub change_text_remove : (view : ℕ) (name : List ℕ)
 unfolding change_text
 change_text_remove view name = refl
 
+pub change_text_clean : change_text Clean ≡ 12 ∷ []
+unfolding change_text
+change_text_clean = refl
+
 -- ---- how long changes are
 
 pub length-change_text_boot : (boot : ℕ) → length (change_text (Boot boot)) ≡ 9
@@ -150,6 +158,10 @@ length-change_text_unheard key = omega arith
 pub length-change_text_skip : (app : ℕ) → length (change_text (Skip app)) ≡ 5
 unfolding change_text
 length-change_text_skip app = refl
+
+pub length-change_text_rollback : (app : ℕ) → length (change_text (Rollback app)) ≡ 5
+unfolding change_text
+length-change_text_rollback app = refl
 
 pub length-change_text_launch : (app : ℕ) → length (change_text (Launch app)) ≡ 5
 unfolding change_text
@@ -170,6 +182,10 @@ pub length-change_text_remove : (view : ℕ) (name : List ℕ)
 unfolding change_text remove_text
 length-change_text_remove view name =
     omega (arith, length-append (to_be_bytes w64 view) (text_field name))
+
+pub length-change_text_clean : length (change_text Clean) ≡ 1
+unfolding change_text
+length-change_text_clean = refl
 
 -- the moment takes eight bytes, whatever it is
 length-install_text : (view : View) (contents : List Content) (provider : Target) (now other : ℕ)
@@ -280,6 +296,11 @@ skip_room c app room is enough =
     let same = ap (λ (x : Change). length (change_text x)) is in
     omega (arith, length-change_text_skip app)
 
+pub rollback_room : (c : Change) (app room : ℕ) → c ≡ Rollback app → length (change_text c) ≤ room → 5 ≤ room
+rollback_room c app room is enough =
+    let same = ap (λ (x : Change). length (change_text x)) is in
+    omega (arith, length-change_text_rollback app)
+
 pub launch_room : (c : Change) (app room : ℕ) → c ≡ Launch app → length (change_text c) ≤ room → 5 ≤ room
 launch_room c app room is enough =
     let same = ap (λ (x : Change). length (change_text x)) is in
@@ -289,3 +310,8 @@ pub finish_room : (c : Change) (lease room : ℕ) → c ≡ Finish lease → len
 finish_room c lease room is enough =
     let same = ap (λ (x : Change). length (change_text x)) is in
     omega (arith, length-change_text_finish lease)
+
+pub clean_room : (c : Change) (room : ℕ) → c ≡ Clean → length (change_text c) ≤ room → 1 ≤ room
+clean_room c room is enough =
+    let same = ap (λ (x : Change). length (change_text x)) is in
+    omega (arith, length-change_text_clean)

@@ -4,7 +4,7 @@ use Rattle.std.specs.Int.{w32, w64}
 use Rattle.small_types.specs.declared.limits.TheConstants.{FILE_COUNT_LIMIT, NAME_LIMIT}
 use Rattle.small_types.specs.Reading.{◌>>=◌}
 use Rattle.store_state.specs.declared.change.Change.{Change}
-use Rattle.store_state.specs.declared.change.Change.TheVariants.{Boot, Require, Install, Heard, Unheard, Skip, Launch, Finish, Group, Put, Remove}
+use Rattle.store_state.specs.declared.change.Change.TheVariants.{Boot, Require, Install, Heard, Unheard, Skip, Rollback, Launch, Finish, Group, Put, Remove, Clean}
 use Rattle.record_codec.specs.declared.fault.CodecFault.{CodecFault}
 use Rattle.record_codec.specs.declared.fault.CodecFault.TheVariants.{Bad}
 use Rattle.record_codec.specs.Reading.{number_at, text_at, key_at, version_at}
@@ -50,6 +50,12 @@ skip_at bytes place = do
   Ok (Skip app.0, app.1)
 
 -- the place of an application
+unfoldable pub rollback_at : Reader Change
+rollback_at bytes place = do
+  app ← number_at w32 bytes place
+  Ok (Rollback app.0, app.1)
+
+-- the place of an application
 unfoldable pub launch_at : Reader Change
 launch_at bytes place = do
   app ← number_at w32 bytes place
@@ -83,6 +89,10 @@ remove_at bytes place = do
   name ← name_at bytes view.1
   Ok (Remove view.0 name.0, name.1)
 
+-- no field
+abbrev pub clean_at : Reader Change
+clean_at bytes place = Ok (Clean, place)
+
 -- what stands behind the number of a kind; no other number is one
 abbrev pub kind_at : ℕ → List ℕ → Result (Change × ℕ) CodecFault
 kind_at kind bytes =
@@ -92,11 +102,13 @@ kind_at kind bytes =
     else if kind == 3 then heard_at bytes 1
     else if kind == 4 then unheard_at bytes 1
     else if kind == 5 then skip_at bytes 1
+    else if kind == 6 then rollback_at bytes 1
     else if kind == 7 then launch_at bytes 1
     else if kind == 8 then finish_at bytes 1
     else if kind == 9 then group_at bytes 1
     else if kind == 10 then put_at bytes 1
     else if kind == 11 then remove_at bytes 1
+    else if kind == 12 then clean_at bytes 1
     else Err (Bad 0)
 
 -- the number of the kind, and the fields

@@ -1,5 +1,5 @@
 -- How changes are spelled as bytes.
-use Rattle.std.specs.Prelude.{◌<◌, ◌^◌, List, ℕ, Option, ◌∷◌, ◌++◌}
+use Rattle.std.specs.Prelude.{◌<◌, ◌^◌, List, ℕ, Option, [], ◌∷◌, ◌++◌}
 use Rattle.std.specs.Int.{to_be_bytes, w32, w64}
 use Rattle.small_types.specs.declared.target.Target.{Target}
 use Rattle.small_types.specs.Name.{IsName}
@@ -8,7 +8,7 @@ use Rattle.identity.specs.declared.version.Version.{Version}
 use Rattle.identity.specs.Version.{IsVersion}
 use Rattle.machine.specs.Fields.{IsShortKey}
 use Rattle.store_state.specs.declared.change.Change.{Change}
-use Rattle.store_state.specs.declared.change.Change.TheVariants.{Boot, Require, Install, Heard, Unheard, Skip, Launch, Finish, Group, Put, Remove}
+use Rattle.store_state.specs.declared.change.Change.TheVariants.{Boot, Require, Install, Heard, Unheard, Skip, Rollback, Launch, Finish, Group, Put, Remove, Clean}
 use Rattle.store_state.specs.declared.view.Content.{Content}
 use Rattle.store_state.specs.declared.view.LocalFile.{LocalFile}
 use Rattle.store_state.specs.declared.view.View.{View}
@@ -45,11 +45,13 @@ change_text (Install view contents provider now) = install_text view contents pr
 change_text (Heard key version minimum now) = heard_text key version minimum now
 change_text (Unheard key) = 4 ∷ key_field key
 change_text (Skip app) = 5 ∷ to_be_bytes w32 app
+change_text (Rollback app) = 6 ∷ to_be_bytes w32 app
 change_text (Launch app) = 7 ∷ to_be_bytes w32 app
 change_text (Finish lease) = 8 ∷ to_be_bytes w64 lease
 change_text (Group view group contents) = group_text view group contents
 change_text (Put view file) = put_text view file
 change_text (Remove view name) = remove_text view name
+change_text Clean = 12 ∷ []
 
 -- The fields are within their limits: just such a change has an encoding. A part of a key may be
 -- empty, as any text. A data file may be below `.pre`, and of any length that four bytes can say.
@@ -60,11 +62,13 @@ IsChange (Install view contents provider now) = IsInstall view contents provider
 IsChange (Heard key version minimum now) = IsHeard key version minimum now
 IsChange (Unheard key) = IsShortKey key
 IsChange (Skip app) = app < 2 ^ 32
+IsChange (Rollback app) = app < 2 ^ 32
 IsChange (Launch app) = app < 2 ^ 32
 IsChange (Finish lease) = lease < 2 ^ 64
 IsChange (Group view group contents) = IsGroup view group contents
 IsChange (Put view file) = (view < 2 ^ 64) × IsLocal file
 IsChange (Remove view name) = (view < 2 ^ 64) × IsName name
+IsChange Clean = Unit {0}
 
 -- the most bytes of an encoding
 abbrev pub length_limit : Change → ℕ
@@ -74,8 +78,10 @@ length_limit (Install view contents provider now) = 2 ^ 48
 length_limit (Heard key version minimum now) = 474
 length_limit (Unheard key) = 449
 length_limit (Skip app) = 5
+length_limit (Rollback app) = 5
 length_limit (Launch app) = 5
 length_limit (Finish lease) = 9
 length_limit (Group view group contents) = 2 ^ 48
 length_limit (Put view file) = 2 ^ 33
 length_limit (Remove view name) = 253
+length_limit Clean = 1

@@ -5,7 +5,7 @@ ghost use Rattle.std.specs.Str.{is_utf8};
 ghost use Rattle.store_state.specs.declared.change.Change.{Change};
 ghost use Rattle.record_codec.specs.Codec.{change_text, IsChange};
 ghost use Rattle.record_codec.specs.Reading.{Gives, IsWithin, number_at, sized_at, text_at, key_at, version_at};
-ghost use Rattle.record_codec.specs.Changes.{boot_at, require_at, install_at, heard_at, unheard_at, skip_at, launch_at, finish_at, group_at, put_at, remove_at, change_at, change_of};
+ghost use Rattle.record_codec.specs.Changes.{boot_at, require_at, install_at, heard_at, unheard_at, skip_at, rollback_at, launch_at, finish_at, group_at, put_at, remove_at, change_at, change_of};
 
 use crate::CodecFault;
 use crate::byte_reading::name_here;
@@ -278,6 +278,18 @@ fn read_skip(bytes: &[u8], place: usize) -> Result<(Change, usize), CodecFault>
 }
 
 // The place of an application, at the place.
+#[tactic(auto, unfolding(crate::specs::Changes::rollback_at))]
+fn read_rollback(bytes: &[u8], place: usize) -> Result<(Change, usize), CodecFault>
+    requires { place ≤ length bytes.now }
+    ensures exact { Gives result (rollback_at bytes.now place) }
+    ensures next { IfOk result (λ x. x.1 ≤ length bytes.now) }
+    ensures fault { IfErr result (IsWithin (length bytes.now)) }
+{
+    let (app, next) = read_u32(bytes, place)?;
+    Ok((Change::Rollback { app }, next))
+}
+
+// The place of an application, at the place.
 #[tactic(auto, unfolding(crate::specs::Changes::launch_at))]
 fn read_launch(bytes: &[u8], place: usize) -> Result<(Change, usize), CodecFault>
     requires { place ≤ length bytes.now }
@@ -360,11 +372,13 @@ fn read_change(alloc: Global, bytes: &[u8]) -> Result<(Change, usize), CodecFaul
         [3, ..] => read_heard(alloc, bytes, 1),
         [4, ..] => read_unheard(alloc, bytes, 1),
         [5, ..] => read_skip(bytes, 1),
+        [6, ..] => read_rollback(bytes, 1),
         [7, ..] => read_launch(bytes, 1),
         [8, ..] => read_finish(bytes, 1),
         [9, ..] => read_group(alloc, bytes, 1),
         [10, ..] => read_put(alloc, bytes, 1),
         [11, ..] => read_remove(alloc, bytes, 1),
+        [12, ..] => Ok((Change::Clean, 1)),
         _ => Err(bad(0)),
     }
 }

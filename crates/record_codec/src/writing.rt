@@ -98,8 +98,8 @@ pub fn write_version(out: &mut [u8], place: usize, version: Version) -> usize
 
 /// How many bytes the change's encoding has: 9 of a boot number, at most 457 of a requirement, at
 /// most 2^48 of an installation, at most 474 of what a check heard, at most 449 of a check that
-/// heard nothing, 5 of a skip and of a launch, 9 of the end of a lease, at most 2^48 of a group, at
-/// most 2^33 of a data file, and at most 253 of its removal.
+/// heard nothing, 5 of a skip, of a rollback and of a launch, 9 of the end of a lease, at most 2^48
+/// of a group, at most 2^33 of a data file, at most 253 of its removal, and 1 of a clean.
 pub fn encoded_length(change: &Change) -> u64
     requires { IsChange change.now }
     ensures length { result ≡ length (change_text change.now) }
@@ -122,6 +122,7 @@ pub fn encoded_length(change: &Change) -> u64
         } => heard_length(key, *version, minimum),
         Change::Unheard { key } => 1 + key_length(key),
         Change::Skip { .. } => 5,
+        Change::Rollback { .. } => 5,
         Change::Launch { .. } => 5,
         Change::Finish { .. } => 9,
         Change::Group {
@@ -131,6 +132,7 @@ pub fn encoded_length(change: &Change) -> u64
         } => group_length(group, contents.as_slice()),
         Change::Put { file, .. } => 9 + local_length(file),
         Change::Remove { name, .. } => 9 + bytes_length(name.as_bytes()),
+        Change::Clean => 1,
     }
 }
 
@@ -172,6 +174,10 @@ pub fn encode_change(change: &Change, out: &mut [u8]) -> usize
             let next = put(out, 0, &[5]);
             write_u32(out, next, *app)
         }
+        Change::Rollback { app } => {
+            let next = put(out, 0, &[6]);
+            write_u32(out, next, *app)
+        }
         Change::Launch { app } => {
             let next = put(out, 0, &[7]);
             write_u32(out, next, *app)
@@ -187,5 +193,6 @@ pub fn encode_change(change: &Change, out: &mut [u8]) -> usize
         } => write_group(out, *view, group, contents.as_slice()),
         Change::Put { view, file } => write_put(out, *view, file),
         Change::Remove { view, name } => write_remove(out, *view, name),
+        Change::Clean => put(out, 0, &[12]),
     }
 }

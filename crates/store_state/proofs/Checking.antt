@@ -41,6 +41,7 @@ noted_keys note.Started app = refl
 noted_keys (note.Heard current version minimum now) app = refl
 noted_keys note.Unheard app = refl
 noted_keys note.Skipped app = refl
+noted_keys (note.RolledBack current) app = refl
 
 -- the entry of the key is changed at its place
 pub place_is : (key : Key) (f : AppState → AppState) (apps : List AppState) (place : ℕ)
@@ -128,7 +129,7 @@ version_shown blocks tables key =
     ∙ ap (option_map (λ (v : BareView). v.deployment.identity.version))
     (bare_current key tables blocks)
 
-abbrev store_with : ℕ → Tables → List AppState → Store
+abbrev pub store_with : ℕ → Tables → List AppState → Store
 store_with blocks tables apps = record (shown_store blocks tables) { apps = apps }
 
 pub shows_heard : (blocks : ℕ) (tables : Tables) (key : Key) (have version : Version)

@@ -24,7 +24,8 @@ bare_at number (view ∷ views) =
     ∙ ap (λ (rest : Option BareView). cond (eqb view.number number) (Some (bare_row view)) rest)
     (bare_at number views)
 
-bare_then : (number : Option ℕ) (views : List View)
+-- the view of a number, where there is one
+pub bare_then : (number : Option ℕ) (views : List View)
     → option_map bare_row (option_and_then (λ (n : ℕ). row_at n views) number) ≡ option_and_then
     (λ (n : ℕ). bare_view_at n (map bare_row views)) number
 bare_then None views = refl

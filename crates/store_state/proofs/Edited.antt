@@ -78,6 +78,7 @@ module _ (number : ℕ) (h : List LocalFile → List LocalFile) where
         below = subst (λ (ns : List ℕ). All (λ (n : ℕ). n < tables.next_view) ns) (sym numbers)
             are.below;
         limit = are.limit;
+        few_views = omega (arith, are.few_views, length-map tables.views at_number);
         few_files = omega (
           arith,
           are.few_files,

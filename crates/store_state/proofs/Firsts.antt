@@ -18,14 +18,14 @@ module _ {X : Type 0} (p : X → Bool) where
   abbrev pub PassesOnce : List X → Type 0
   PassesOnce xs = AllPairs (λ (a b : X). p a ≡ true → p b ≡ true → ⊥) xs
 
-  others_fail : (x : X) (xs : List X) → PassesOnce (x ∷ xs) → p x ≡ true
+  pub others_fail : (x : X) (xs : List X) → PassesOnce (x ∷ xs) → p x ≡ true
       → All (λ (y : X). p y ≡ false) xs
   others_fail x xs once passes =
       in_all (λ (y : X). p y ≡ false) xs
       (λ y there. false_from_ne_true (p y) (all_in (λ (b : X). p x ≡ true → p b ≡ true → ⊥) xs y
       (pairs_head (λ (a b : X). p a ≡ true → p b ≡ true → ⊥) x xs once) there passes))
 
-  first_fails : (x : X) (xs : List X) (k : ℕ) (y : X) → PassesOnce (x ∷ xs)
+  pub first_fails : (x : X) (xs : List X) (k : ℕ) (y : X) → PassesOnce (x ∷ xs)
       → slice_get xs k ≡ Some y → p y ≡ true → p x ≡ false
   first_fails x xs k y once there passes =
       false_from_ne_true (p x) (λ e. all_in (λ (b : X). p x ≡ true → p b ≡ true → ⊥) xs y

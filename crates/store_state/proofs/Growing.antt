@@ -325,6 +325,11 @@ grown_tables tables number group contents view are kept may =
       below = subst (λ (ns : List ℕ). All (λ (n : ℕ). n < tables.next_view) ns) (sym numbers)
           are.below;
       limit = are.limit;
+      few_views = omega (
+        arith,
+        are.few_views,
+        length-map tables.views (change of_view number (grown group)),
+      );
       few_files = omega (
         arith,
         are.few_files,

@@ -1,7 +1,7 @@
 -- Tables once they are changed.
 use Rattle.std.proofs.Common.{◌≡◌, ◌∙◌, ◌++◌, ◌+◌, ◌<◌, ◌≤◌, refl, sym, ap, subst, ℕ, List, [], ◌∷◌, length, map, get_or, take, None, All, AllPairs, arith}
 use Rattle.std.proofs.lemmas.Grind.{flat_map-append}
-use Rattle.std.proofs.lemmas.List.{append-nil, get_or_push, map-append}
+use Rattle.std.proofs.lemmas.List.{append-nil, get_or_push, length_push, map-append}
 use Rattle.std.proofs.Math.Seq.{take-append_seam}
 use Rattle.std.proofs.lemmas.List.Elements.{All-nil, All-push, All-weaker}
 use Rattle.std.proofs.lemmas.List.Sums.{sum_by_push}
@@ -14,7 +14,6 @@ use Rattle.machine.specs.declared.app.AppState.{AppState}
 use Rattle.machine.specs.declared.lease.Lease.{Lease}
 use Rattle.machine.specs.Blocks.{standing_files}
 use Rattle.machine.specs.Entries.{AreInOrder, entry_of, with_entry}
-use Rattle.machine.specs.Fields.{IsApplication}
 use Rattle.machine.specs.Installed.{installed_app}
 use Rattle.machine.specs.Leases.{without_lease}
 use Rattle.machine.specs.Minimums.{raised_app}
@@ -42,6 +41,7 @@ with_apps tables apps are order few = record {
   rising = are.rising;
   below = are.below;
   limit = are.limit;
+  few_views = are.few_views;
   few_files = are.few_files;
   lease_numbers = are.lease_numbers;
   few_leases = are.few_leases;
@@ -58,6 +58,7 @@ with_leases tables boot next leases are numbers few = record {
   rising = are.rising;
   below = are.below;
   limit = are.limit;
+  few_views = are.few_views;
   few_files = are.few_files;
   lease_numbers = numbers;
   few_leases = few;
@@ -131,6 +132,7 @@ installed_tables tables view contents provider now are fits =
           (λ n lt. omega arith) (map (λ (v : View). v.number) tables.views) are.below)
           (omega arith));
       limit = (let room = fits.next in omega arith);
+      few_views = (let room = fits.views in omega (arith, length_push tables.views view));
       few_files =
           (let room = fits.files
           in omega (

@@ -93,7 +93,7 @@ module _ (contents : List Content) where
       (in_map content_sign contents one.0 one.1)))))
 
   -- a file has one content at most
-  one_content : (entry : FileEntry) → AllPairs (λ (a b : Content). is_same a b ≡ false) contents
+  pub one_content : (entry : FileEntry) → AllPairs (λ (a b : Content). is_same a b ≡ false) contents
       → PassesOnce (is_content_of entry) contents
   one_content entry once =
       pairs_weaker (λ (a b : Content). is_same a b ≡ false)

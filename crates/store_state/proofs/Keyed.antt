@@ -94,7 +94,7 @@ module _ (entries : List FileEntry) (contents : List Content) (are : AreContents
   pub held_by : (entry : FileEntry) → list_any (is_content_of entry) contents ≡ is_held entries entry
   held_by entry = alike (list_any (is_content_of entry) contents) (is_held entries entry) (held_there entry) (there_held entry)
 
-  differ : AllPairs (λ (a b : ContentKey). a ≢ b) (map key contents)
+  pub differ : AllPairs (λ (a b : ContentKey). a ≢ b) (map key contents)
   differ = pairs_map key (λ (a b : Content). is_same a b ≡ false) (λ (a b : ContentKey). a ≢ b) contents (λ a b unlike same. apart (sym (key_same a b same) ∙ unlike)) are.once
 
   differ_distinct : AllPairs (λ (a b : ContentKey). a ≢ b) (map content_key (distinct entries))

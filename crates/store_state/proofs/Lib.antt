@@ -1,6 +1,8 @@
 pub mod ByNumber
 pub mod Checking
+pub mod Cleaning
 pub mod Current
+pub mod Drops
 pub mod Edited
 pub mod Firsts
 pub mod GroupShown
@@ -10,6 +12,7 @@ pub mod Indexed
 pub mod Keyed
 pub mod LocalsOrdered
 pub mod LocalsShown
+pub mod Marking
 pub mod Naming
 pub mod Numbered
 pub mod Orders
@@ -19,6 +22,7 @@ pub mod Places
 pub mod Putting
 pub mod Replay
 pub mod Required
+pub mod RollingBack
 pub mod Searching
 pub mod Showing
 pub mod ShownFiles
@@ -26,3 +30,4 @@ pub mod SignOrder
 pub mod Sums
 pub mod Used
 pub mod Validity
+pub mod WithoutRows

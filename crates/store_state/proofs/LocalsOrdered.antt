@@ -1,5 +1,5 @@
 -- A store in its order, once the data files of one view are others.
-use Rattle.std.proofs.Common.{◌≡◌, ◌∙◌, ◌≤◌, refl, sym, subst, ℕ, Bool, true, false, cond, not, eqb, List, [], length, map, All, Contains, Option, Some, None, bytes_eq, arith}
+use Rattle.std.proofs.Common.{◌≡◌, ◌∙◌, ◌≤◌, refl, sym, subst, ℕ, Bool, true, false, cond, not, eqb, List, length, map, All, Contains, Option, Some, None, bytes_eq, arith}
 use Rattle.std.specs.Prelude.{IfSome, count_by, sum_by}
 use Rattle.std.specs.declared.cmp.Ordering.TheVariants.{Less}
 use Rattle.std.proofs.lemmas.List.{length-map}
@@ -12,12 +12,12 @@ use Rattle.manifests.specs.Applications.{is_below_pre}
 use Rattle.machine.specs.declared.app.AppState.{AppState}
 use Rattle.machine.specs.declared.lease.Lease.{Lease}
 use Rattle.machine.specs.Current.{view_at}
-use Rattle.machine.specs.DataFiles.{data_name, put_in, removed_in, with_data, with_named, without_data, without_named}
+use Rattle.machine.specs.DataFiles.{data_name, put_in, removed_in, with_named, without_named}
 use Rattle.machine.specs.Grouped.{with_view_at}
 use Rattle.machine.specs.Store.{Store}
 use Rattle.machine.specs.Valid.{AreNumbers, IsApp, IsDataFile, IsInstalled, IsView, IsViewOf, Ordered}
 use Rattle.machine.specs.Views.{DataFile, View, key_of}
-use Rattle.machine.proofs.Grouping.{only_one}
+use Rattle.machine.proofs.OneView.{only_one}
 use Rattle.machine.proofs.Mapping.{all_mapped, any_mapped, same_parts}
 use Rattle.machine.proofs.Members.{In, in_all, sum_agree, sum_map}
 use Rattle.store_state.proofs.Putting.{all_left, all_with, fewer_left, order_with}
@@ -130,7 +130,7 @@ pub put_ordered : (number : ℕ) (file : DataFile) (view : View) (old : Store)
 put_ordered number file view old found is few was =
     data_ordered number (with_named data_name file) old was
     (λ other there of same. (
-    let one = only_one number [] [] old was view other found there same in record {
+    let one = only_one number old was view other found there same in record {
       deployment = of.deployment;
       application = of.application;
       base = of.base;

@@ -18,6 +18,7 @@ use Rattle.machine.specs.declared.app.AppState.{AppState}
 use Rattle.machine.specs.declared.lease.Lease.{Lease}
 use Rattle.machine.specs.Blocks.{used_blocks}
 use Rattle.machine.specs.CheckRow.{heard_app, unheard, unheard_app}
+use Rattle.machine.specs.CleanRow.{cleaned}
 use Rattle.machine.specs.Current.{current_of, view_at}
 use Rattle.machine.specs.DataFiles.{data_name, put_in, removed_in, with_named}
 use Rattle.machine.specs.Entries.{AreInOrder, entry_of, with_entry}
@@ -26,6 +27,7 @@ use Rattle.machine.specs.FinishRow.{finished}
 use Rattle.machine.specs.Grouped.{grouped}
 use Rattle.machine.specs.Groups.{group_files, is_group, is_in}
 use Rattle.machine.specs.LaunchRow.{launched}
+use Rattle.machine.specs.RollbackRow.{rolled_back}
 use Rattle.machine.specs.Shape.{Shape, bare_view}
 use Rattle.machine.specs.SkipRow.{skipped, skipped_app}
 use Rattle.machine.specs.Store as stores
@@ -34,6 +36,7 @@ use Rattle.machine.specs.Valid.{IsApp, IsDataFile, IsView, IsViewOf, Ordered}
 use Rattle.machine.specs.Views.{DataFile, ListedFile, standing_entries}
 use Rattle.machine.specs.Views.{View as KeptView}
 use Rattle.machine.proofs.CheckFacts.{heard_is_app, unheard_is_app}
+use Rattle.machine.proofs.CleanedStores.{cleaned_ordered}
 use Rattle.machine.proofs.Finding.{some_there, then_value, value_of}
 use Rattle.machine.proofs.Grouping.{grouped_ordered}
 use Rattle.machine.proofs.Installing.{Fitting, installed_ordered, standing_required}
@@ -43,7 +46,7 @@ use Rattle.machine.proofs.Leasing.{finished_ordered, launched_ordered}
 use Rattle.machine.proofs.Members.{In, all_in, contains_in, filter_in, in_contains, in_map, pairs_map, sum_map}
 use Rattle.machine.proofs.SkipFacts.{skipped_is_app}
 use Rattle.store_state.specs.declared.change.Change.{Change}
-use Rattle.store_state.specs.declared.change.Change.TheVariants.{Boot, Finish, Group, Heard, Install, Launch, Put, Remove, Require, Skip, Unheard}
+use Rattle.store_state.specs.declared.change.Change.TheVariants.{Boot, Clean, Finish, Group, Heard, Install, Launch, Put, Remove, Require, Rollback, Skip, Unheard}
 use Rattle.store_state.specs.declared.view.Content.{Content}
 use Rattle.store_state.specs.declared.view.LocalFile.{LocalFile}
 use Rattle.store_state.specs.declared.view.View.{View}
@@ -54,12 +57,14 @@ use Rattle.store_state.specs.Rows.{current_at, current_row, listed_files, offer_
 use Rattle.store_state.specs.Shows.{Shows, shown_data, shown_file, shown_view}
 use Rattle.store_state.specs.Tables.{Tables, bare_row, empty}
 use Rattle.store_state.proofs.Checking.{current_entry, entry_ordered, own_entry, shows_heard, shows_skipped, shows_unheard, version_shown}
+use Rattle.store_state.proofs.Cleaning.{cleans_shown}
 use Rattle.store_state.proofs.Firsts.{in_place}
 use Rattle.store_state.proofs.GroupShown.{group_shown}
 use Rattle.store_state.proofs.Growing.{of_view, row_grows, some_in, some_with}
 use Rattle.store_state.proofs.Holding.{room_is}
 use Rattle.store_state.proofs.LocalsOrdered.{outside_data, put_ordered, removed_ordered}
 use Rattle.store_state.proofs.LocalsShown.{put_agrees, puts_shown, removals_shown}
+use Rattle.store_state.proofs.RollingBack.{back_key, back_ordered, back_shown, back_version}
 use Rattle.store_state.proofs.Showing.{data_files, files, installed, shape_shown, shows_booted, shows_empty, shows_finished, shows_installed, shows_launched, shows_required}
 use Rattle.store_state.proofs.ShownFiles.{row_shown}
 
@@ -291,6 +296,12 @@ changed_shown blocks image old (Skip place) fits shown =
           (ap (entry_of app.0.key) (sym (apps_shown shown.shows)) ∙ entry))
           (skipped_is_app shown.store.views) shown.ordered;
     }
+changed_shown blocks image old (Rollback place) fits shown = record {
+  store = rolled_back (back_key blocks place old image shown.store shown.shows shown.ordered fits)
+      (back_version blocks place old image shown.store shown.shows shown.ordered fits) shown.store;
+  shows = back_shown blocks place old image shown.store shown.shows shown.ordered fits;
+  ordered = back_ordered blocks place old image shown.store shown.shows shown.ordered fits;
+}
 changed_shown blocks image old (Launch place) fits shown =
     let apps = old.apps in
     let order : AreInOrder apps = subst AreInOrder (sym (apps_shown shown.shows))
@@ -363,6 +374,11 @@ changed_shown blocks image old (Remove number name) fits shown = record {
   store = removed_in number name shown.store;
   shows = removals_shown blocks old number name image image shown.store shown.shows;
   ordered = removed_ordered number name shown.store shown.ordered;
+}
+changed_shown blocks image old Clean fits shown = record {
+  store = cleaned shown.store;
+  shows = cleans_shown blocks old image image shown.store shown.shows;
+  ordered = cleaned_ordered shown.store shown.ordered;
 }
 
 replays_shown : (blocks : ℕ) (image : List ℕ) (old last : Tables) (changes : List Change)

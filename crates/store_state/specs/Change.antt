@@ -1,5 +1,5 @@
 -- Changes of tables: which fit, and what they do.
-use Rattle.std.specs.Prelude.{◌≡◌, ◌≢◌, ◌+◌, ◌<◌, ◌≤◌, ◌==◌, if◌then◌else◌, ℕ, false, List, [], ◌∷◌, ◌++◌, All, AllPairs, IfSome, IsSome, IsSomeAnd, Option, length, None, unwrap_or}
+use Rattle.std.specs.Prelude.{◌≡◌, ◌≢◌, ◌+◌, ◌<◌, ◌≤◌, ◌==◌, if◌then◌else◌, ℕ, false, List, [], ◌∷◌, ◌++◌, All, AllPairs, IfSome, IsSome, IsSomeAnd, Option, length, None, option_map, unwrap_or}
 use Rattle.std.specs.declared.cmp.Ordering.TheVariants.{Less}
 use Rattle.small_types.specs.declared.limits.TheConstants.{APPLICATION_LIMIT, FILE_COUNT_LIMIT, LEASE_LIMIT, LOCAL_COUNT_LIMIT, LOCAL_NAME_LIMIT, NUMBER_LIMIT, VIEW_LIMIT}
 use Rattle.small_types.specs.declared.target.Target.{Target}
@@ -17,16 +17,18 @@ use Rattle.machine.specs.Installed.{installed_app}
 use Rattle.machine.specs.LaunchRow.{started_app}
 use Rattle.machine.specs.Leases.{lease_of, with_lease, without_lease}
 use Rattle.machine.specs.RequireRow.{required}
+use Rattle.machine.specs.RollbackRow.{rolled_back_app}
 use Rattle.machine.specs.SkipRow.{skipped_app}
 use Rattle.machine.specs.Views.{standing_entries}
 use Rattle.store_state.specs.declared.change.Change.{Change}
-use Rattle.store_state.specs.declared.change.Change.TheVariants.{Boot, Require, Install, Heard, Unheard, Skip, Launch, Finish, Group, Put, Remove}
+use Rattle.store_state.specs.declared.change.Change.TheVariants.{Boot, Require, Install, Heard, Unheard, Skip, Rollback, Launch, Finish, Group, Put, Remove, Clean}
 use Rattle.store_state.specs.declared.view.Content.{Content}
 use Rattle.store_state.specs.declared.view.LocalFile.{LocalFile}
 use Rattle.store_state.specs.declared.view.View.{View}
 use Rattle.store_state.specs.Contents.{Brings}
+use Rattle.store_state.specs.Dropped.{dropped, removable_in}
 use Rattle.store_state.specs.Locals.{local_at, outside_locals, with_local, without_local}
-use Rattle.store_state.specs.Rows.{current_at, current_row, current_version, listed_files, offer_at, row_at, with_app, with_row}
+use Rattle.store_state.specs.Rows.{current_at, current_row, current_row_at, current_version, listed_files, offer_at, previous_row_at, row_at, version_at, with_app, with_row}
 use Rattle.store_state.specs.Tables.{Tables}
 
 -- ---- views
@@ -79,6 +81,11 @@ pub record FitsSkip (old : Tables) (app : ℕ) : Type 0 where
   pub installed : IsSome (current_at app old.apps)
   pub offered : IsSome (offer_at app old.apps)
 
+-- A rollback names the place of an application with a current view and a previous one.
+pub record FitsRollback (old : Tables) (app : ℕ) : Type 0 where
+  pub installed : IsSome (current_row_at app old)
+  pub earlier : IsSome (previous_row_at app old)
+
 -- The application of the view lists files of the group, and the group does not stand in the view.
 -- The contents are exactly those that the tables lack of these files.
 pub record MayGrow (old : Tables) (group : List ℕ) (contents : List Content) (view : View)
@@ -111,7 +118,7 @@ pub record FitsLaunch (old : Tables) (app : ℕ) : Type 0 where
 
 -- A change may be made: no limit is exceeded, and a new application finds fewer than may be. That a
 -- part of a key is empty is no hindrance. The lease that a finish names is there, and the data file
--- that is removed.
+-- that is removed. A clean always fits.
 abbrev pub Fits : Tables → Change → Type 0
 Fits old (Boot boot) = boot ≤ NUMBER_LIMIT
 Fits old (Require key version) =
@@ -121,13 +128,16 @@ Fits old (Install view contents provider now) = FitsInstall old view contents pr
 Fits old (Heard key version minimum now) = FitsHeard old key version minimum now
 Fits old (Unheard key) = IsSome (current_row key old)
 Fits old (Skip app) = FitsSkip old app
+Fits old (Rollback app) = FitsRollback old app
 Fits old (Launch app) = FitsLaunch old app
 Fits old (Finish lease) = IsSome (lease_of lease old.leases)
 Fits old (Group view group contents) = FitsGroup old view group contents
 Fits old (Put view file) = FitsPut old view file
 Fits old (Remove view name) = IsSome (local_at view name old)
+Fits old Clean = Unit {0}
 
--- The tables make it by their own call. A launch and a finish are made by calls of their own.
+-- The tables make it by their own call. A launch, a finish and a clean are made by calls of their
+-- own.
 abbrev pub IsPlain : Change → Type 0
 IsPlain (Boot boot) = Unit {0}
 IsPlain (Require key version) = Unit {0}
@@ -135,13 +145,16 @@ IsPlain (Install view contents provider now) = Unit {0}
 IsPlain (Heard key version minimum now) = Unit {0}
 IsPlain (Unheard key) = Unit {0}
 IsPlain (Skip app) = Unit {0}
+IsPlain (Rollback app) = Unit {0}
 IsPlain (Launch app) = ⊥
 IsPlain (Finish lease) = ⊥
 IsPlain (Group view group contents) = Unit {0}
 IsPlain (Put view file) = Unit {0}
 IsPlain (Remove view name) = Unit {0}
+IsPlain Clean = ⊥
 
--- what takes memory: an entry that is made, an install, a group, and a data file
+-- what takes memory: an entry that is made, an install, a group, a data file, and the list of the
+-- views that a clean takes
 abbrev pub TakesMemory : Tables → Change → Type 0
 TakesMemory old (Boot boot) = ⊥
 TakesMemory old (Require key version) = entry_of key old.apps ≡ None
@@ -149,11 +162,13 @@ TakesMemory old (Install view contents provider now) = Unit {0}
 TakesMemory old (Heard key version minimum now) = ⊥
 TakesMemory old (Unheard key) = ⊥
 TakesMemory old (Skip app) = ⊥
+TakesMemory old (Rollback app) = ⊥
 TakesMemory old (Launch app) = ⊥
 TakesMemory old (Finish lease) = ⊥
 TakesMemory old (Group view group contents) = Unit {0}
 TakesMemory old (Put view file) = Unit {0}
 TakesMemory old (Remove view name) = ⊥
+TakesMemory old Clean = Unit {0}
 
 -- what takes memory before it is made, where it is tested whether it fits: an install, and a group
 abbrev pub TestsWithMemory : Change → Type 0
@@ -163,11 +178,13 @@ TestsWithMemory (Install view contents provider now) = Unit {0}
 TestsWithMemory (Heard key version minimum now) = ⊥
 TestsWithMemory (Unheard key) = ⊥
 TestsWithMemory (Skip app) = ⊥
+TestsWithMemory (Rollback app) = ⊥
 TestsWithMemory (Launch app) = ⊥
 TestsWithMemory (Finish lease) = ⊥
 TestsWithMemory (Group view group contents) = Unit {0}
 TestsWithMemory (Put view file) = ⊥
 TestsWithMemory (Remove view name) = ⊥
+TestsWithMemory Clean = ⊥
 
 -- the tables with one more lease, on that view
 abbrev pub leased : ℕ → Tables → Tables
@@ -181,8 +198,9 @@ abbrev pub grown : List ℕ → View → View
 grown group view = record view { groups = view.groups ++ group ∷ [] }
 
 -- What it leaves. Another boot number ends all leases. What was heard is compared with the version
--- that is current for the key, and a launch leases the view that is current for the application at
--- the place: a change that fits has one.
+-- that is current for the key, a rollback excludes the version that is current for the application
+-- at the place, and a launch leases the view that is current for it: a change that fits has one. A
+-- clean takes the views that are not in use.
 abbrev pub effect : Change → Tables → Tables
 effect (Boot boot) old =
     record old { boot = boot; leases = if old.boot == boot then old.leases else [] }
@@ -200,6 +218,10 @@ effect (Heard key version minimum now) old = record old {
 }
 effect (Unheard key) old = record old { apps = with_entry key unheard_app old.apps }
 effect (Skip app) old = record old { apps = with_app app skipped_app old.apps }
+effect (Rollback app) old = record old {
+  apps = unwrap_or (option_map (λ have. with_app app (rolled_back_app have) old.apps)
+      (version_at app old)) old.apps;
+}
 effect (Launch app) old =
     record (leased (unwrap_or (current_at app old.apps) 0) old) {
       apps = with_app app started_app old.apps;
@@ -211,6 +233,7 @@ effect (Group view group contents) old = record old {
 }
 effect (Put view file) old = record old { views = with_row view (with_local file) old.views }
 effect (Remove view name) old = record old { views = with_row view (without_local name) old.views }
+effect Clean old = dropped (removable_in old) old
 
 -- one change after another leads from old to new, and each fits
 abbrev pub Replays : Tables → List Change → Tables → Type 0

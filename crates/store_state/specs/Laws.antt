@@ -1,5 +1,6 @@
 -- What is true of tables and the stores that they show.
-use Rattle.std.specs.Prelude.{◌≡◌, ◌≤◌, ◌++◌, ℕ, List, [], ◌∷◌, Some, is_some, length, map, option_and_then, option_map, slice_get}
+use Rattle.std.specs.Prelude.{◌≡◌, ◌≤◌, ◌++◌, ◌==◌, ℕ, List, [], ◌∷◌, All, Some, filter, is_some, length, map, not, option_and_then, option_map, slice_get}
+use Rattle.std.specs.List.{list_any}
 use Rattle.small_types.specs.declared.limits.TheConstants.{BLOCK_LIMIT}
 use Rattle.small_types.specs.declared.target.Target.{Target}
 use Rattle.identity.specs.declared.key.Key.{Key}
@@ -7,26 +8,30 @@ use Rattle.identity.specs.declared.version.Version.{Version}
 use Rattle.manifests.specs.declared.facts.Deployment.{Deployment}
 use Rattle.machine.specs.Blocks.{used_blocks}
 use Rattle.machine.specs.CheckRow.{checked, unheard}
+use Rattle.machine.specs.CleanRow.{cleaned}
 use Rattle.machine.specs.Current.{bare_view_at, current_of, current_version, view_at}
 use Rattle.machine.specs.DataFiles.{bare_data_named, data_named, put_in, removed_in}
 use Rattle.machine.specs.Entries.{AreInOrder, entry_of}
 use Rattle.machine.specs.FinishRow.{finished}
 use Rattle.machine.specs.Grouped.{StandAmong, grouped}
 use Rattle.machine.specs.Groups.{group_files}
+use Rattle.machine.specs.InUse.{IsInUse}
 use Rattle.machine.specs.Installed.{with_view}
 use Rattle.machine.specs.LaunchRow.{launched}
 use Rattle.machine.specs.ReadRow.{entry_named, file_named}
+use Rattle.machine.specs.RollbackRow.{rolled_back}
 use Rattle.machine.specs.Shape.{shape_of}
 use Rattle.machine.specs.SkipRow.{offer_of, skipped}
 use Rattle.machine.specs.Store.{Store}
 use Rattle.machine.specs.Valid.{Ordered, Valid}
 use Rattle.machine.specs.Views.{ListedFile, standing_entries}
 use Rattle.store_state.specs.declared.change.Change.{Change}
-use Rattle.store_state.specs.declared.change.Change.TheVariants.{Install, Heard, Unheard, Skip, Launch, Finish, Group, Put, Remove}
+use Rattle.store_state.specs.declared.change.Change.TheVariants.{Install, Heard, Unheard, Skip, Rollback, Launch, Finish, Group, Put, Remove, Clean}
 use Rattle.store_state.specs.declared.view.Content.{Content}
 use Rattle.store_state.specs.declared.view.LocalFile.{LocalFile}
 use Rattle.store_state.specs.declared.view.View.{View}
 use Rattle.store_state.specs.Change.{Fits, Replays, effect}
+use Rattle.store_state.specs.Dropped.{dropped}
 use Rattle.store_state.specs.Kept.{AreTables}
 use Rattle.store_state.specs.Locals.{local_at}
 use Rattle.store_state.specs.Named.{file_at}
@@ -105,6 +110,41 @@ SkipsShowTheEntry = (blocks : ℕ) (tables : Tables) (key : Key) (place : ℕ) (
     → AreInOrder tables.apps → slice_get tables.apps place ≡ entry_of key tables.apps
     → offer_of key tables.apps ≡ Some offer
     → Shows blocks (effect (Skip place) tables) later (skipped key store)
+
+-- A rollback of the application of a key with a current view leads to tables that show the store in
+-- which its previous view is current and the version that was current is excluded.
+abbrev pub RollbacksShowTheEntry : Type 0
+RollbacksShowTheEntry = (blocks : ℕ) (tables : Tables) (key : Key) (place : ℕ) (have : Version)
+    (image later : List ℕ) (store : Store) → Shows blocks tables image store
+    → AreInOrder tables.apps → slice_get tables.apps place ≡ entry_of key tables.apps
+    → current_version key (table_shape blocks tables) ≡ Some have
+    → Shows blocks (effect (Rollback place) tables) later (rolled_back key have store)
+
+-- a clean leads to tables that show the store without the views that are not in use
+abbrev pub CleansShowTheRest : Type 0
+CleansShowTheRest = (blocks : ℕ) (tables : Tables) (image later : List ℕ) (store : Store)
+    → Shows blocks tables image store → Shows blocks (effect Clean tables) later (cleaned store)
+
+-- the store without the views of these numbers
+abbrev pub without_views : List ℕ → Store → Store
+without_views numbers old = record old {
+  views = filter (λ view. not (list_any (λ number. number == view.number) numbers)) old.views;
+}
+
+-- The tables show the store without these views. It stays within its order and its limits, and
+-- valid.
+pub record ShowsDropped (blocks : ℕ) (numbers : List ℕ) (tables : Tables) (later : List ℕ)
+    (store : Store) : Type 0 where
+  pub shows : Shows blocks (dropped numbers tables) later (without_views numbers store)
+  pub ordered : Ordered store → Ordered (without_views numbers store)
+  pub valid : Valid store → Valid (without_views numbers store)
+
+-- views that are not in use may be dropped
+abbrev pub DropsShowTheRest : Type 0
+DropsShowTheRest = (blocks : ℕ) (tables : Tables) (numbers image later : List ℕ) (store : Store)
+    → Shows blocks tables image store
+    → All (λ number. ¬ IsInUse number tables.apps tables.leases) numbers
+    → ShowsDropped blocks numbers tables later store
 
 -- the files that a group brings to a view, and all that stand in it then
 abbrev pub came_files : Tables → List Content → List ℕ → View → List ListedFile

@@ -1,8 +1,10 @@
 pub mod Change
 pub mod Contents
+pub mod Dropped
 pub mod Kept
 pub mod Laws
 pub mod Locals
+pub mod Marks
 pub mod Named
 pub mod Notes
 pub mod Places

@@ -5,6 +5,7 @@ use Rattle.identity.specs.declared.version.Version.{Version}
 use Rattle.machine.specs.declared.app.AppState.{AppState}
 use Rattle.machine.specs.Current.{current_of}
 use Rattle.machine.specs.Leases.{lease_of}
+use Rattle.machine.specs.Previous.{previous_of}
 use Rattle.store_state.specs.declared.view.View.{View}
 use Rattle.store_state.specs.Tables.{Tables}
 
@@ -21,6 +22,11 @@ current_row key tables =
 abbrev pub current_version : Key → Tables → Option Version
 current_version key tables =
     option_map (λ view. view.deployment.identity.version) (current_row key tables)
+
+-- the view that is previous for the key
+abbrev pub previous_row : Key → Tables → Option View
+previous_row key tables =
+    option_and_then (λ number. row_at number tables.views) (previous_of key tables.apps)
 
 -- the view that the lease of the number names
 abbrev pub leased_row : ℕ → Tables → Option View
@@ -40,6 +46,23 @@ listed_files views = sum_by (λ view. length view.application.files) views
 -- the number of the view that is current for the application at the place
 abbrev pub current_at : ℕ → List AppState → Option ℕ
 current_at place apps = option_and_then (λ app. app.current) (slice_get apps place)
+
+-- the number of the view that is previous for it
+abbrev pub previous_at : ℕ → List AppState → Option ℕ
+previous_at place apps = option_and_then (λ app. app.previous) (slice_get apps place)
+
+-- these views, and the version that is current for the application at the place
+abbrev pub current_row_at : ℕ → Tables → Option View
+current_row_at place tables =
+    option_and_then (λ number. row_at number tables.views) (current_at place tables.apps)
+
+abbrev pub previous_row_at : ℕ → Tables → Option View
+previous_row_at place tables =
+    option_and_then (λ number. row_at number tables.views) (previous_at place tables.apps)
+
+abbrev pub version_at : ℕ → Tables → Option Version
+version_at place tables =
+    option_map (λ view. view.deployment.identity.version) (current_row_at place tables)
 
 -- the version that is offered to the application at the place
 abbrev pub offer_at : ℕ → List AppState → Option Version

@@ -39,6 +39,11 @@ pub enum Change {
     Skip {
         app: u32,
     },
+    /// The application at the place, counted from 0, goes back to its previous view. The version
+    /// that was current is excluded.
+    Rollback {
+        app: u32,
+    },
     /// A new lease on the current view of the application at the place, counted from 0, which is
     /// then not checked.
     Launch {
@@ -64,4 +69,7 @@ pub enum Change {
         view: u64,
         name: Name,
     },
+    /// The views that are neither current nor previous of any application nor leased are gone, with
+    /// their files.
+    Clean,
 }

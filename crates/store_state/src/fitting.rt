@@ -5,7 +5,7 @@ ghost use Rattle.identity.specs.Version.{IsVersion};
 ghost use Rattle.machine.specs.Entries.{entry_of};
 ghost use Rattle.machine.specs.Fields.{IsShortKey, IsTarget};
 ghost use Rattle.manifests.specs.declared.facts.FileEntry.{FileEntry};
-ghost use Rattle.store_state.specs.Change.{Fits, FitsGroup, FitsHeard, FitsInstall, FitsLaunch, FitsPut, FitsSkip, MayGrow, MayPut, TestsWithMemory};
+ghost use Rattle.store_state.specs.Change.{Fits, FitsGroup, FitsHeard, FitsInstall, FitsLaunch, FitsPut, FitsRollback, FitsSkip, MayGrow, MayPut, TestsWithMemory};
 ghost use Rattle.store_state.specs.Contents.{Brings};
 ghost use Rattle.store_state.specs.Locals.{local_at};
 ghost use Rattle.store_state.specs.Rows.{current_at, listed_files, offer_at};
@@ -31,11 +31,12 @@ impl StoreState {
     /// too many. A launch names the place of an application with a current view, and finds fewer
     /// than 1,024 leases and a next number below 2 ^ 62; a finish names a lease. What a check heard
     /// or did not hear is of a key with a current view, at a moment of at most 2 ^ 62, and a skip
-    /// names the place of an application with a current view and an offer. A group comes to a view
-    /// that lists it and in which it does not stand, and its contents are exactly those that the
-    /// tables lack. A data file has a name within its limit and comes to a view that has few enough
-    /// of them then, and a view has the one that is removed. It takes memory for an install and a
-    /// group alone.
+    /// names the place of an application with a current view and an offer, a rollback that of one
+    /// with a current view and a previous one. A group comes to a view that lists it and in which
+    /// it does not stand, and its contents are exactly those that the tables lack. A data file has
+    /// a name within its limit and comes to a view that has few enough of them then, and a view has
+    /// the one that is removed. A clean always fits. It takes memory for an install and a group
+    /// alone.
     pub fn fits(&self, alloc: Global, change: &Change) -> Result<bool, StateFault>
         ensures answer { IfOk result (λ answer. IsTrue answer ↔ Fits self.now change.now) }
         ensures memory { OnErr result (TestsWithMemory change.now) }
@@ -57,6 +58,7 @@ impl StoreState {
             } => Ok(self.fits_heard(key, *version, *minimum, *now)),
             Change::Unheard { key } => Ok(self.current(key).is_some()),
             Change::Skip { app } => Ok(self.fits_skip(*app as usize)),
+            Change::Rollback { app } => Ok(self.fits_rollback(*app as usize)),
             Change::Launch { app } => Ok(self.fits_launch(*app as usize)),
             Change::Finish { lease } => Ok(self.lease(*lease).is_some()),
             Change::Group {
@@ -66,6 +68,7 @@ impl StoreState {
             } => self.fits_group(alloc, *view, group, contents),
             Change::Put { view, file } => Ok(self.fits_put(*view, file)),
             Change::Remove { view, name } => Ok(self.has_local(*view, name)),
+            Change::Clean => Ok(true),
         }
     }
 
@@ -103,6 +106,13 @@ impl StoreState {
         ensures { IsTrue result ↔ FitsSkip self.now place }
     {
         self.is_installed(place) && self.has_offer(place)
+    }
+
+    // Whether the application at the place may go back.
+    fn fits_rollback(&self, place: usize) -> bool
+        ensures { IsTrue result ↔ FitsRollback self.now place }
+    {
+        self.current_at(place).is_some() && self.previous_at(place).is_some()
     }
 
     // Whether a check of the key may have heard that.

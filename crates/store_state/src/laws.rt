@@ -45,6 +45,23 @@ pub fn skips_show_the_entry()
     ensures { laws.SkipsShowTheEntry }
 {}
 
+/// A rollback leads to tables that show the store in which the previous view is current, and the
+/// version that was current is excluded.
+pub fn rollbacks_show_the_entry()
+    ensures { laws.RollbacksShowTheEntry }
+{}
+
+/// Where views that are not in use are dropped, the tables show the store without them, which stays
+/// in its order and valid.
+pub fn drops_show_the_rest()
+    ensures { laws.DropsShowTheRest }
+{}
+
+/// A clean leads to tables that show the store without the views that are not in use.
+pub fn cleans_show_the_rest()
+    ensures { laws.CleansShowTheRest }
+{}
+
 /// A group that fits leads to tables that show the store in which its files stand.
 pub fn groups_show_the_files()
     ensures { laws.GroupsShowTheFiles }

@@ -5,6 +5,7 @@
 mod bringing;
 mod change;
 mod contents;
+mod dropping;
 mod entries;
 mod fields;
 mod finding;
@@ -15,6 +16,7 @@ mod laws;
 mod lease_list;
 mod leasing;
 mod local_files;
+mod marks;
 mod names;
 mod noting;
 mod numbers;
@@ -26,10 +28,10 @@ mod views;
 
 pub use change::Change;
 pub use laws::{
-    changes_show_ordered_stores, checks_show_the_entry, finishes_show_the_rest,
-    groups_show_the_files, installs_show_the_view, launches_show_the_lease, locals_show_files,
-    one_store_is_shown, puts_show_the_file, reads_show_files, removals_show_the_rest,
-    shapes_are_shown, skips_show_the_entry,
+    changes_show_ordered_stores, checks_show_the_entry, cleans_show_the_rest, drops_show_the_rest,
+    finishes_show_the_rest, groups_show_the_files, installs_show_the_view, launches_show_the_lease,
+    locals_show_files, one_store_is_shown, puts_show_the_file, reads_show_files,
+    removals_show_the_rest, rollbacks_show_the_entry, shapes_are_shown, skips_show_the_entry,
 };
 pub use lease_list::LeaseList;
 pub use state::{StateFault, StoreState};

@@ -1,10 +1,11 @@
-// What starts, checks and skips change in the entry of an application. None of it takes memory.
+// What starts, checks, skips and rollbacks change in the entry of an application. None of it takes
+// memory.
 ghost use Rattle.std.specs.Prelude.{◌≡◌, ◌<◌, length, slice_set, IsSome};
 ghost use Rattle.std.specs.List.{HoldsAt};
 ghost use Rattle.machine.specs.Entries.{entry_of, with_entry};
 ghost use Rattle.machine.specs.LaunchRow.{started_app};
 ghost use Rattle.store_state.specs.declared.change.Change.TheVariants as change;
-ghost use Rattle.store_state.specs.Change.{FitsSkip, effect};
+ghost use Rattle.store_state.specs.Change.{FitsRollback, FitsSkip, effect};
 ghost use Rattle.store_state.specs.Notes.{noted};
 ghost use Rattle.store_state.specs.Rows.{current_row, with_app};
 
@@ -32,6 +33,10 @@ pub(crate) enum Note {
     Unheard,
     // The user does not want what is offered.
     Skipped,
+    // It went back to its previous view, where this version was current.
+    RolledBack {
+        current: Version,
+    },
 }
 
 impl StoreState {
@@ -49,6 +54,18 @@ impl StoreState {
         ensures { self.new ≡ effect (change.Skip place) self.old }
     {
         self.note(place, Note::Skipped);
+    }
+
+    // The application at the place goes back to its previous view.
+    pub(crate) fn roll_back(&mut self, place: usize)
+        requires { FitsRollback self.old place }
+        ensures { self.new ≡ effect (change.Rollback place) self.old }
+    {
+        let Some(view) = self.current_at(place) else {
+            unreachable!();
+        };
+        let current = view.deployment.identity.version;
+        self.note(place, Note::RolledBack { current });
     }
 
     // The provider of the key was heard at the moment. A view is current for the key.
@@ -131,5 +148,10 @@ fn note_in(app: &mut AppState, note: Note)
         }
         Note::Unheard => app.checked = true,
         Note::Skipped => app.skipped = app.offer,
+        Note::RolledBack { current } => {
+            app.current = app.previous;
+            app.previous = None;
+            app.excluded = Some(current);
+        }
     }
 }

@@ -1,13 +1,14 @@
 // What is read in the tables. None of it takes memory.
-ghost use Rattle.std.specs.Prelude.{◌≡◌, ◌↔◌, ◌<◌, ◌≤◌, ◌-◌, ◌^◌, ℕ, length, map, min, option_map, slice_get, IfNone, IfSome, IsTrue, None};
+ghost use Rattle.std.specs.Prelude.{◌≡◌, ◌↔◌, ◌<◌, ◌≤◌, ◌-◌, ◌^◌, ℕ, length, map, min, option_and_then, option_map, slice_get, IfNone, IfSome, IsTrue, None};
 ghost use Rattle.std.specs.Option.{option_copied};
 ghost use Rattle.small_types.specs.declared.limits.TheConstants as limits;
 ghost use Rattle.machine.specs.Blocks.{free_blocks, used_blocks};
 ghost use Rattle.machine.specs.Current.{current_bare};
 ghost use Rattle.machine.specs.Entries.{entry_of};
 ghost use Rattle.machine.specs.Leases.{lease_of, leased_bare};
+ghost use Rattle.machine.specs.Previous.{numbered_bare, previous_of};
 ghost use Rattle.store_state.specs.Kept.{AreTables};
-ghost use Rattle.store_state.specs.Rows.{current_row, leased_row, listed_files, row_at};
+ghost use Rattle.store_state.specs.Rows.{current_row, current_row_at, leased_row, listed_files, previous_row, previous_row_at, row_at};
 ghost use Rattle.store_state.specs.Tables.{bare_row, table_shape};
 
 use crate::contents::sum_blocks;
@@ -92,6 +93,25 @@ impl StoreState {
         self.current_row(key)
     }
 
+    /// The view that is previous for the key, where one is.
+    pub fn previous(&self, key: &Key) -> Option<&View>
+        ensures row { option_copied result ≡ previous_row key.now self.now }
+        ensures bare { (blocks : ℕ) → option_map bare_row (option_copied result)
+            ≡ numbered_bare (previous_of key.now self.now.apps) (table_shape blocks self.now) }
+    {
+        self.previous_row(key)
+    }
+
+    /// The view of that number, where there is a number and it is that of a view.
+    pub fn numbered(&self, number: Option<u64>) -> Option<&View>
+        ensures row { option_copied result
+            ≡ option_and_then (λ n. row_at n self.now.views) number }
+        ensures bare { (blocks : ℕ) → option_map bare_row (option_copied result)
+            ≡ numbered_bare number (table_shape blocks self.now) }
+    {
+        self.numbered_row(number)
+    }
+
     /// The view that the lease of that number names, where there is one.
     pub fn leased(&self, number: u64) -> Option<&View>
         ensures row { option_copied result ≡ leased_row number self.now }
@@ -109,6 +129,46 @@ impl StoreState {
             return None;
         };
         self.view(lease.view)
+    }
+
+    // The view of that number, where there is one.
+    fn numbered_row(&self, number: Option<u64>) -> Option<&View>
+        ensures { option_copied result ≡ option_and_then (λ n. row_at n self.now.views) number }
+    {
+        let Some(number) = number else {
+            return None;
+        };
+        self.view(number)
+    }
+
+    // The view that is previous for the key.
+    fn previous_row(&self, key: &Key) -> Option<&View>
+        ensures { option_copied result ≡ previous_row key.now self.now }
+    {
+        let Some(app) = self.entry(key) else {
+            return None;
+        };
+        self.numbered_row(app.previous)
+    }
+
+    // The view that is current for the application at the place.
+    pub(crate) fn current_at(&self, place: usize) -> Option<&View>
+        ensures { option_copied result ≡ current_row_at place self.now }
+    {
+        let Some(app) = self.apps.as_slice().get(place) else {
+            return None;
+        };
+        self.numbered_row(app.current)
+    }
+
+    // The view that is previous for it.
+    pub(crate) fn previous_at(&self, place: usize) -> Option<&View>
+        ensures { option_copied result ≡ previous_row_at place self.now }
+    {
+        let Some(app) = self.apps.as_slice().get(place) else {
+            return None;
+        };
+        self.numbered_row(app.previous)
     }
 
     // The view that is current for the key.

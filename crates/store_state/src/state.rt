@@ -10,6 +10,7 @@ ghost use Rattle.store_state.specs.Tables.{empty};
 
 use crate::entries::{insert_both, new_entry, place_of, raise_at};
 use crate::installing::{add_rows, cut, install_app};
+use crate::marks::MarkList;
 use crate::names::index_names;
 use crate::sign::add_places;
 use crate::{Change, Content, LeaseList, View};
@@ -72,6 +73,8 @@ pub struct StoreState {
     pub(crate) index: Vec<usize>,
     // Of each view the places of its files in the order of their names.
     pub(crate) names: List<List<usize>>,
+    // The room in which views and contents are marked that are kept.
+    pub(crate) marks: MarkList,
 }
 
 impl Model for StoreState {
@@ -109,11 +112,13 @@ impl Model for StoreState {
 
 impl StoreState {
     /// The tables of the empty store: boot number 0, the next numbers 1, and nothing else. The room
-    /// for all leases is made with them; it fails only for want of memory.
+    /// for all leases, and that in which a clean marks what it keeps, are made with them; it fails
+    /// only for want of memory.
     pub fn empty(alloc: Global) -> Result<StoreState, StateFault>
         ensures { IfOk result (λ state. state ≡ empty) }
     {
         let leases = LeaseList::empty(alloc)?;
+        let marks = MarkList::empty(alloc)?;
         Ok(StoreState {
             boot: 0,
             next_view: 1,
@@ -125,12 +130,13 @@ impl StoreState {
             keys: List::from_vec(Vec::new(alloc)),
             index: Vec::new(alloc),
             names: List::from_vec(Vec::new(alloc)),
+            marks,
         })
     }
 
-    /// Makes a change that fits the tables and is neither a launch nor a finish. It takes memory
-    /// only for a new entry, an install, a group and a data file, fails only for want of it, and
-    /// then changes nothing.
+    /// Makes a change that fits the tables and is none of a launch, a finish and a clean. It takes
+    /// memory only for a new entry, an install, a group and a data file, fails only for want of it,
+    /// and then changes nothing.
     pub fn apply(&mut self, alloc: Global, change: Change) -> Result<(), StateFault>
         requires fits { Fits self.old change }
         requires plain { IsPlain change }
@@ -167,6 +173,10 @@ impl StoreState {
                 self.skip(app as usize);
                 Ok(())
             }
+            Change::Rollback { app } => {
+                self.roll_back(app as usize);
+                Ok(())
+            }
             Change::Group {
                 view,
                 group,
@@ -177,7 +187,7 @@ impl StoreState {
                 self.cut_local(alloc, view, &name);
                 Ok(())
             }
-            Change::Launch { .. } | Change::Finish { .. } => unreachable!(),
+            Change::Launch { .. } | Change::Finish { .. } | Change::Clean => unreachable!(),
         }
     }
 

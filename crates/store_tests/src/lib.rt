@@ -1,6 +1,9 @@
-//! Tests of the tables, of their changes as bytes, and of lines and replies.
+//! Tests of the tables, of their changes as bytes, of what a clean takes, and of lines and
+//! replies.
 #![tactic(auto)]
 
+#[cfg(test)]
+mod cleaner_tests;
 #[cfg(test)]
 mod command_text_tests;
 #[cfg(test)]

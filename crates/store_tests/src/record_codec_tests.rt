@@ -31,6 +31,10 @@ const UNHEARD: &[u8] = &[
 
 const SKIP: &[u8] = &[5, 0, 0, 1, 2];
 
+const ROLLBACK: &[u8] = &[6, 0, 0, 1, 2];
+
+const CLEAN: &[u8] = &[12];
+
 // With no content, and with one that has one SHA-1.
 const GROUP: &[u8] = &[
     9, 1, 2, 3, 4, 5, 6, 7, 8, 0, 0, 0, 4, b'h', b'e', b'l', b'p', 0, 0, 0, 0,
@@ -80,6 +84,7 @@ enum Said {
     Heard([usize; 4], [u16; 4], Option<[u16; 4]>, u64),
     Unheard([usize; 4]),
     Skip(u32),
+    Rollback(u32),
     Launch(u32),
     Finish(u64),
     // The view, how many bytes the group has, how many contents, and how many bytes the first has.
@@ -88,6 +93,7 @@ enum Said {
     Put(u64, usize, u64, usize),
     // The view, and how many bytes the name has.
     Remove(u64, usize),
+    Clean,
     Bad(u64),
     Other,
 }
@@ -125,6 +131,7 @@ fn short_form(change: &Change) -> Said {
         } => Said::Heard(parts(key), numbers(version), least_numbers(minimum), *now),
         Change::Unheard { key } => Said::Unheard(parts(key)),
         Change::Skip { app } => Said::Skip(*app),
+        Change::Rollback { app } => Said::Rollback(*app),
         Change::Launch { app } => Said::Launch(*app),
         Change::Finish { lease } => Said::Finish(*lease),
         Change::Group {
@@ -139,6 +146,7 @@ fn short_form(change: &Change) -> Said {
             file.bytes.as_slice().len(),
         ),
         Change::Remove { view, name } => Said::Remove(*view, name.as_bytes().len()),
+        Change::Clean => Said::Clean,
     }
 }
 
@@ -223,11 +231,13 @@ const WRITTEN: &[&[u8]] = &[
     HEARD_MINIMUM,
     UNHEARD,
     SKIP,
+    ROLLBACK,
     GROUP,
     GROUP_CONTENT,
     PUT_EMPTY,
     PUT,
     REMOVE,
+    CLEAN,
 ];
 
 #[test]
@@ -256,6 +266,7 @@ const READ: &[(&[u8], Said)] = &[
     ),
     (UNHEARD, Said::Unheard([1, 1, 1, 1])),
     (SKIP, Said::Skip(258)),
+    (ROLLBACK, Said::Rollback(258)),
     (&[7, 0, 0, 1, 2], Said::Launch(258)),
     (
         &[8, 1, 2, 3, 4, 5, 6, 7, 8],
@@ -266,6 +277,7 @@ const READ: &[(&[u8], Said)] = &[
     (PUT_EMPTY, Said::Put(1, 1, 0, 0)),
     (PUT, Said::Put(0x0102_0304_0506_0708, 7, 3, 3)),
     (REMOVE, Said::Remove(0x0102_0304_0506_0708, 6)),
+    (CLEAN, Said::Clean),
     (REQUIRE, Said::Require(1, 4, [1, 1, 1, 1])),
     // Parts may be empty.
     (
@@ -285,15 +297,16 @@ const READ: &[(&[u8], Said)] = &[
     ),
     // These are the numbers of no kind.
     (&[], Said::Bad(0)),
-    (&[6], Said::Bad(0)),
-    (&[6, 0, 0, 1, 2], Said::Bad(0)),
-    (&[12], Said::Bad(0)),
+    (&[13], Said::Bad(0)),
+    (&[13, 0, 0, 1, 2], Said::Bad(0)),
+    (&[255], Said::Bad(0)),
     // It ends too soon.
     (&[0], Said::Bad(1)),
     (&[2], Said::Bad(1)),
     (&[3], Said::Bad(1)),
     (&[4], Said::Bad(1)),
     (&[5, 0, 0, 1], Said::Bad(1)),
+    (&[6, 0, 0, 1], Said::Bad(1)),
     (&[7, 0, 0, 1], Said::Bad(1)),
     (&[9], Said::Bad(1)),
     (&[10], Said::Bad(1)),
@@ -301,6 +314,8 @@ const READ: &[(&[u8], Said)] = &[
     // A byte is left over.
     (&[0, 0, 0, 0, 0, 0, 0, 0, 1, 0], Said::Bad(9)),
     (&[5, 0, 0, 1, 2, 0], Said::Bad(5)),
+    (&[6, 0, 0, 1, 2, 0], Said::Bad(5)),
+    (&[12, 0], Said::Bad(1)),
     // The name, or the group, is no UTF-8.
     (&[1, 0, 0, 0, 1, 0xff, 0, 0, 0, 1, b't'], Said::Bad(1)),
     (
@@ -375,7 +390,7 @@ fn a_change_that_is_cut_is_none(rt: HostRuntime) {
 
 // Encodings in which one byte is another, and where that is found.
 const CHANGED: &[(&[u8], usize, u8, u64)] = &[
-    (HEARD, 0, 6, 0),
+    (HEARD, 0, 13, 0),
     // No third kind of option, and no fifth algorithm.
     (HEARD, 29, 2, 29),
     (GROUP_CONTENT, 30, 4, 30),

@@ -13,7 +13,7 @@ fn version(a: u16, b: u16) -> Version {
 }
 
 // Makes the change, where it fits.
-fn make(alloc: Global, state: &mut StoreState, change: Change) -> Result<bool, Fail>
+pub(crate) fn make(alloc: Global, state: &mut StoreState, change: Change) -> Result<bool, Fail>
     requires { IsPlain change }
 {
     match state.fits(alloc, &change) {

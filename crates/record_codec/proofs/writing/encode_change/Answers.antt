@@ -1,7 +1,7 @@
 use Rattle.std.proofs.Common.{length, ap, subst, arith}
 use Rattle.store_state.specs.declared.change.Change.{Change}
 use Rattle.record_codec.specs.Codec.{change_text, IsChange}
-use Rattle.record_codec.proofs.Written.{length-change_text_boot, length-change_text_require, length-installed, length-heard, length-grouped, length-put, length-removed, then, at_front, boot_room, require_room, unheard_room, skip_room, launch_room, finish_room, length-change_text_unheard, length-change_text_skip, length-change_text_launch, length-change_text_finish, change_text_boot, change_text_require, change_text_install, change_text_heard, change_text_unheard, change_text_skip, change_text_launch, change_text_finish, change_text_group, change_text_put, change_text_remove}
+use Rattle.record_codec.proofs.Written.{length-change_text_boot, length-change_text_require, length-installed, length-heard, length-grouped, length-put, length-removed, then, at_front, boot_room, require_room, unheard_room, skip_room, rollback_room, launch_room, finish_room, clean_room, length-change_text_unheard, length-change_text_skip, length-change_text_rollback, length-change_text_launch, length-change_text_finish, length-change_text_clean, change_text_boot, change_text_require, change_text_install, change_text_heard, change_text_unheard, change_text_skip, change_text_rollback, change_text_launch, change_text_finish, change_text_group, change_text_put, change_text_remove, change_text_clean}
 use Rattle.record_codec.proofs.Long.{length-version_field}
 use Rattle.record_codec.proofs.writing.encode_change.Goals as goal
 
@@ -131,6 +131,26 @@ returns-in-Skip-clause-text c =
     rw (c.in-Skip.is, change_text_skip c.in-Skip.app)
     (at_front (then c.put-next-in-Skip.ensures c.write_u32.ensures))
 
+-- ---- a rollback
+
+pub put-next-requires-in-Rollback : goal.put-next-requires-in-Rollback
+put-next-requires-in-Rollback c =
+    omega (arith, rollback_room c.args.change.now c.in-Rollback.app (length c.args.out.now) c.in-Rollback.is c.requires.room)
+
+pub write_u32-requires-in-Rollback : goal.write_u32-requires-in-Rollback
+write_u32-requires-in-Rollback c =
+    omega (arith, rollback_room c.args.change.now c.in-Rollback.app (length c.args.out.now) c.in-Rollback.is c.requires.room)
+
+pub returns-in-Rollback-clause-length : goal.returns-in-Rollback-clause-length
+returns-in-Rollback-clause-length c =
+    let is = ap (λ (x : Change). length (change_text x)) c.in-Rollback.is in
+    omega (arith, length-change_text_rollback c.in-Rollback.app)
+
+pub returns-in-Rollback-clause-text : goal.returns-in-Rollback-clause-text
+returns-in-Rollback-clause-text c =
+    rw (c.in-Rollback.is, change_text_rollback c.in-Rollback.app)
+    (at_front (then c.put-next-in-Rollback.ensures c.write_u32-in-Rollback.ensures))
+
 -- ---- a launch
 
 pub put-next-requires-in-Launch : goal.put-next-requires-in-Launch
@@ -234,3 +254,17 @@ returns-in-Remove-clause-length c =
 pub returns-in-Remove-clause-text : goal.returns-in-Remove-clause-text
 returns-in-Remove-clause-text c =
     rw (c.in-Remove.is, change_text_remove) (at_front c.write_remove.ensures)
+
+-- ---- a clean
+
+pub put-requires : goal.put-requires
+put-requires c =
+    omega (arith, clean_room c.args.change.now (length c.args.out.now) c.in-Clean.is c.requires.room)
+
+pub returns-in-Clean-clause-length : goal.returns-in-Clean-clause-length
+returns-in-Clean-clause-length c =
+    let is = ap (λ (x : Change). length (change_text x)) c.in-Clean.is in
+    omega (arith, length-change_text_clean, c.put.ensures.behind)
+
+pub returns-in-Clean-clause-text : goal.returns-in-Clean-clause-text
+returns-in-Clean-clause-text c = rw (c.in-Clean.is, change_text_clean) (at_front c.put.ensures)

@@ -1,7 +1,7 @@
 use Rattle.std.proofs.Common.{List, ℕ, length, ap, subst, ◌∙◌, arith}
 use Rattle.record_codec.specs.Codec.{IsChange}
 use Rattle.record_codec.specs.Fields.{text_field}
-use Rattle.record_codec.proofs.Written.{length-change_text_boot, length-change_text_require, length-change_text_unheard, length-change_text_skip, length-change_text_launch, length-change_text_finish, length-change_text_put, length-change_text_remove, length-installed, length-heard, length-grouped}
+use Rattle.record_codec.proofs.Written.{length-change_text_boot, length-change_text_require, length-change_text_unheard, length-change_text_skip, length-change_text_rollback, length-change_text_launch, length-change_text_finish, length-change_text_put, length-change_text_remove, length-change_text_clean, length-installed, length-heard, length-grouped}
 use Rattle.record_codec.proofs.Bounds.{change_le, key_le, local_le, named_le, installed_le, heard_within, grouped_within}
 use Rattle.record_codec.proofs.writing.encoded_length.Goals as goal
 
@@ -80,6 +80,10 @@ pub returns-in-Skip-clause-length : goal.returns-in-Skip-clause-length
 returns-in-Skip-clause-length c =
     rw c.in-Skip.is (omega (arith, length-change_text_skip c.in-Skip.app))
 
+pub returns-in-Rollback-clause-length : goal.returns-in-Rollback-clause-length
+returns-in-Rollback-clause-length c =
+    rw c.in-Rollback.is (omega (arith, length-change_text_rollback c.in-Rollback.app))
+
 pub returns-in-Launch-clause-length : goal.returns-in-Launch-clause-length
 returns-in-Launch-clause-length c =
     rw c.in-Launch.is (omega (arith, length-change_text_launch c.in-Launch.app))
@@ -144,3 +148,6 @@ returns-in-Remove-clause-bound c =
     let fits = subst IsChange c.in-Remove.is c.requires in
     let same = ap (λ (t : List ℕ). length (text_field t)) c.as_bytes.ensures.value in
     rw c.in-Remove.is (omega (arith, named_le c.in-Remove.name fits.1))
+
+pub returns-in-Clean-clause-length : goal.returns-in-Clean-clause-length
+returns-in-Clean-clause-length c = rw c.in-Clean.is (omega (arith, length-change_text_clean))

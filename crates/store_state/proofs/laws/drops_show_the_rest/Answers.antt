@@ -1,0 +1,17 @@
+use Rattle.std.proofs.Common.{ℕ, All, subst, sym}
+use Rattle.machine.specs.InUse.{IsInUse}
+use Rattle.machine.specs.Store.{Store}
+use Rattle.store_state.proofs.Cleaning.{drops_shown}
+use Rattle.store_state.proofs.Drops.{left_ordered, left_valid}
+use Rattle.store_state.proofs.laws.drops_show_the_rest.Goals as goal
+
+pub returns : goal.returns
+returns c = λ blocks tables numbers image later store shows unused. (
+    let unused_there = subst (λ (s : Store).
+    All (λ (number : ℕ). ¬ IsInUse number s.apps s.leases) numbers) (sym shows.is) unused in
+    record {
+      shows = drops_shown blocks tables numbers image later store shows;
+      ordered = left_ordered numbers store unused_there;
+      valid = left_valid numbers store unused_there;
+    }
+    )
