@@ -159,11 +159,19 @@ module _ (old : List LocalFile) (old_files new_files : List FileEntry) where
       (in_all (HasSource old new_files) (planned old old_files new_files)
       (λ p there. by p (plan_is p there)))
     where
+      to : (same : Bool) (name : List ℕ)
+          → (carried_to same name ≡ name) ⊎ (carried_to same name ≡ aside name)
+      to true name = inl refl
+      to false name = inr refl
+
       by : (p : LocalPlan) → IsOld p ⊎ IsNew p → HasSource old new_files p
       by p (inl one) =
           subst (HasSource old new_files) one.is
-          (contains_in (local_names old) one.file.name
-          (in_map (λ (f : LocalFile). f.name) old one.file one.there))
+          ((
+            contains_in (local_names old) one.file.name
+                (in_map (λ (f : LocalFile). f.name) old one.file one.there),
+            to (stay one.file.name) one.file.name,
+          ))
       by p (inr one) =
           subst (HasSource old new_files) one.is
           (contains_in (map (λ (e : FileEntry). e.name) (deployed_files new_files)) one.entry.name

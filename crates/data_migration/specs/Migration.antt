@@ -1,9 +1,9 @@
 -- Which data files plans make, and when they are those of a new version.
-use Rattle.std.specs.Prelude.{◌≡◌, ◌≢◌, ◌≤◌, ℕ, List, [], All, AllPairs, Contains, bytes_eq, filter, find, length, map, Option, Some, None}
+use Rattle.std.specs.Prelude.{◌≡◌, ◌≢◌, ◌≤◌, ◌⊎◌, ℕ, List, [], All, AllPairs, Contains, bytes_eq, filter, find, length, map, Option, Some, None}
 use Rattle.small_types.specs.declared.limits.TheConstants.{LOCAL_NAME_LIMIT}
 use Rattle.small_types.specs.Name.{IsBelowPre}
 use Rattle.manifests.specs.declared.facts.FileEntry.{FileEntry}
-use Rattle.machine.specs.Migrated.{Migrated}
+use Rattle.machine.specs.Migrated.{Migrated, aside}
 use Rattle.machine.specs.Views.{DataFile, ListedFile}
 use Rattle.store_state.specs.declared.view.LocalFile.{LocalFile}
 use Rattle.store_state.specs.Shows.{shown_data}
@@ -31,9 +31,11 @@ pub record AreApart (old : List LocalFile) (new_files : List FileEntry) : Type 0
 
 -- ---- plans
 
--- there is an old data file of the name, or the new release deploys one
+-- there is an old data file of the name, which keeps it or is kept aside; or the new release deploys
+-- one
 abbrev pub HasSource : List LocalFile → List FileEntry → LocalPlan → Type 0
-HasSource old new_files (Copy from to) = Contains (local_names old) from
+HasSource old new_files (Copy from to) =
+    Contains (local_names old) from × ((to ≡ from) ⊎ (to ≡ aside from))
 HasSource old new_files (Fresh name) =
     Contains (map (λ entry. entry.name) (deployed_files new_files)) name
 
