@@ -1,5 +1,5 @@
 -- A word of hexadecimal digits.
-use Rattle.std.proofs.Common.{◌≡◌, ◌≤◌, ◌*◌, ◌%◌, ◌&&◌, ◌∙◌, ℕ, Bool, true, false, List, length, Option, Some, None, is_some, if◌then◌else◌, Result, Ok, Err, nat_le, refl, sym, ap, subst, arith}
+use Rattle.std.proofs.Common.{◌≡◌, ◌≤◌, ◌&&◌, ◌∙◌, ℕ, Bool, true, false, List, length, Option, Some, None, is_some, if◌then◌else◌, Result, Ok, Err, nat_le, refl, sym, ap, subst, arith}
 use Rattle.std.specs.List.{list_all}
 use Rattle.std.proofs.lemmas.Bool.{and_from, and_parts, cond-true, false_from_ne_true, le-leb, leb-true}
 use Rattle.std.proofs.lemmas.List.Sums.{AllPass-from_list_all, list_all-from_AllPass}

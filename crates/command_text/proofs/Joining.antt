@@ -1,5 +1,6 @@
--- Causes with commas between them, hexadecimal digits, and keys and addresses before other text.
-use Rattle.std.proofs.Common.{◌≡◌, ◌∙◌, ◌<◌, ◌+◌, ℕ, List, [], ◌∷◌, ◌++◌, drop, get_or, length, map, decimal, codes, refl, sym, ap, append_assoc, arith}
+-- Causes with commas between them, hexadecimal digits, keys and addresses before other text, and what is shown of
+-- applications.
+use Rattle.std.proofs.Common.{◌≡◌, ◌∙◌, ◌<◌, ◌+◌, ℕ, List, [], ◌∷◌, ◌++◌, drop, get_or, length, map, decimal, codes, refl, suc, sym, ap, append_assoc, arith}
 use Rattle.std.specs.List.{join_with_byte}
 use Rattle.std.proofs.Math.Numerals.{add-one}
 use Rattle.std.proofs.Math.Seq.{drop-cons}
@@ -10,7 +11,10 @@ use Rattle.causes.specs.declared.cause.Cause.{Cause}
 use Rattle.hex.specs.Hex.{encode_lower, encode_with}
 use Rattle.identity.specs.declared.key.Key.{Key}
 use Rattle.identity.specs.Key.{comma, key_text, part_text}
+use Rattle.machine.specs.declared.rows.ListRow.{ListRow}
+use Rattle.machine.specs.declared.rows.ShowRow.{ShowRow}
 use Rattle.manifest_text.specs.Lines.{two}
+use Rattle.command_text.specs.Applications.{list_text, optional_target, row_text, rows_text, show_text, state_text, versions_text}
 use Rattle.command_text.specs.Lines.{reason_text, reasons_text, shown_text}
 
 -- ---- causes
@@ -82,3 +86,18 @@ address_then target more host path p q = let whole = target_then target more in 
 -- two words and the end of a line
 pub two_then : (front a b : List ℕ) → front ++ (a ++ (32 ∷ (b ++ 10 ∷ []))) ≡ front ++ (two a b ++ 10 ∷ [])
 two_then front a b = ap (λ (text : List ℕ). front ++ text) (sym (append_assoc a (32 ∷ b) (10 ∷ [])))
+
+-- ---- applications
+
+-- the next row, as a loop has it
+pub one_row : (rows : List ListRow) (i : ℕ) (row : ListRow) → i < length rows → row ≡ get_or rows i row → rows_text (drop i rows) ≡ row_text row ++ rows_text (drop (i + 1) rows)
+one_row rows i row within is =
+    rw (add-one, drop-cons rows i row within) (ap (λ (r : ListRow). row_text r ++ rows_text (drop (suc i) rows)) (sym is))
+
+-- how many rows there are, before them
+pub list_parts : (rows : List ListRow) → list_text rows ≡ (codes "ok list " ++ (decimal (length rows) ++ 10 ∷ [])) ++ rows_text rows
+list_parts rows = simp append_assoc
+
+-- what is shown, in the parts that are written one after the other
+pub show_parts : (row : ShowRow) → show_text row ≡ (codes "ok show " ++ (key_text row.key ++ 32 ∷ [])) ++ (versions_text row ++ (state_text row ++ (optional_target row.provider ++ 10 ∷ [])))
+show_parts row = simp append_assoc

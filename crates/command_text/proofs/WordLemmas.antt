@@ -1,7 +1,10 @@
 -- Cutting a line at its spaces.
-use Rattle.std.proofs.Common.{◌≡◌, ◌≢◌, ℕ, List, ◌∷◌, length, Option, Some, ap, ◌∙◌, arith}
+use Rattle.std.proofs.Common.{◌≡◌, ◌≢◌, ◌<◌, ℕ, List, [], ◌∷◌, length, Option, Some, Result, Err, refl, ap, ◌∙◌, sym, arith}
 use Rattle.small_types.proofs.CutLemmas.{some_part}
-use Rattle.command_text.specs.Lines.{words_behind, words_of}
+use Rattle.machine.specs.declared.command.Command.{Command}
+use Rattle.machine.specs.declared.command.LineFault.{LineFault}
+use Rattle.machine.specs.declared.command.LineFault.TheVariants.{WordCount}
+use Rattle.command_text.specs.Lines.{no_words, words_behind, words_of}
 
 -- what stands behind a word that a space follows
 pub behind : (line word rest : List ℕ) (more : Option (List ℕ))
@@ -40,3 +43,13 @@ five_words line second third fourth more cut cut_second cut_third cut_fourth fou
     let some = some_part 32 more in
     let count : List (List ℕ) → ℕ = length {A = List ℕ} in
     omega (arith, ap count cut, ap count cut_second, ap count cut_third, ap count cut_fourth)
+
+too_many : (command : Command) (words : List (List ℕ)) → 0 < length words → no_words command words ≡ Err WordCount
+too_many command [] some = absurd (omega arith)
+too_many command (word ∷ words) some = refl
+
+-- where a space follows, a word does, if only an empty one
+pub word_follows : (command : Command) (line : List ℕ) (more : Option (List ℕ)) → more ≡ Some line
+    → ◌≡◌ {A = Result Command LineFault} (Err WordCount) (no_words command (words_behind more))
+word_follows command line more is =
+    sym (ap (λ (next : Option (List ℕ)). no_words command (words_behind next)) is ∙ too_many command (words_of line) (some_part 32 line))

@@ -1,3 +1,4 @@
+pub mod Applications
 pub mod Input
 pub mod Lines
 pub mod Numbers

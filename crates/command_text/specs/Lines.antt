@@ -22,7 +22,8 @@ use Rattle.manifests.specs.declared.releases.ReleaseFault.{ReleaseFault}
 use Rattle.manifests.specs.declared.releases.ReleaseFault.TheVariants as unlike
 use Rattle.manifest_text.specs.Lines.{refusal_text, two}
 use Rattle.machine.specs.declared.command.Command.{Command}
-use Rattle.machine.specs.declared.command.Command.TheVariants.{At, Require, Install, Check, Skip, Launch, Read, Local, Put, Remove, Group, Finish}
+use Rattle.machine.specs.declared.command.Command.TheVariants.{At, Require, Install, Check, Skip, Rollback, Launch, Read, Local, Put, Remove, Group, Finish, Clean, Show}
+use Rattle.machine.specs.declared.command.Command.TheVariants as asks
 use Rattle.machine.specs.declared.command.LineFault.{LineFault}
 use Rattle.machine.specs.declared.command.LineFault.TheVariants.{LineTooLong, NoSuchCommand, WordCount, BadWord}
 use Rattle.machine.specs.declared.command.LineFault.TheVariants as fault
@@ -36,9 +37,10 @@ use Rattle.small_types.specs.declared.target.Target.{Target}
 use Rattle.small_types.specs.Name as names
 use Rattle.small_types.specs.Reading.{◌>>=◌}
 use Rattle.command_text.specs.declared.file_lines.Span.{Span}
+use Rattle.command_text.specs.Applications.{list_text, optional_text, show_text}
 use Rattle.command_text.specs.Numbers.{count_of, number_of}
 use Rattle.machine.specs.declared.reply.Reply.{Reply}
-use Rattle.machine.specs.declared.reply.Reply.TheVariants.{AllLinks, BadName, BadUrl, BelowMinimum, CheckFirst, Checked, Finished, Full, Installed, Lease, LeasesFull, Manifest, Minimum, NoFile, NoGroup, NoLease, NotHttp, NotInstalled, NotNewer, NothingOffered, Offered, Release, Removed, Required, Skipped, Spent, TooMany}
+use Rattle.machine.specs.declared.reply.Reply.TheVariants.{AllLinks, BadName, BadUrl, BelowMinimum, CheckFirst, Checked, Cleaned, Current, Finished, Full, Installed, Lease, LeasesFull, Listed, Manifest, Minimum, NoFile, NoGroup, NoLease, NoPrevious, NotHttp, NotInstalled, NotNewer, NothingOffered, Offered, Release, Removed, Required, Shown, Skipped, Spent, TooMany}
 use Rattle.machine.specs.declared.reply.Reply.TheVariants as reply
 
 -- words are separated by one space each
@@ -93,7 +95,7 @@ abbrev pub key_word : Result Key KeyFault → Result Key LineFault
 key_word (Err fault) = Err (BadWord 1)
 key_word (Ok key) = Ok key
 
--- the one word after `check`, `skip` or `launch`
+-- the one word after `check`, `skip`, `rollback`, `launch` or `show`
 abbrev pub key_words : List (List ℕ) → Result Key LineFault
 key_words [] = Err WordCount
 key_words (key ∷ []) = key_word (key_of key)
@@ -111,11 +113,36 @@ skip_words args = do
   key ← key_words args
   Ok (Skip key)
 
+-- the words after `rollback`
+abbrev pub rollback_words : List (List ℕ) → Result Command LineFault
+rollback_words args = do
+  key ← key_words args
+  Ok (Rollback key)
+
 -- the words after `launch`
 abbrev pub launch_words : List (List ℕ) → Result Command LineFault
 launch_words args = do
   key ← key_words args
   Ok (Launch key)
+
+-- the words after `show`
+abbrev pub show_words : List (List ℕ) → Result Command LineFault
+show_words args = do
+  key ← key_words args
+  Ok (Show key)
+
+-- no word comes after `clean` or `list`
+abbrev pub no_words : Command → List (List ℕ) → Result Command LineFault
+no_words command [] = Ok command
+no_words command (more ∷ rest) = Err WordCount
+
+-- the words after `clean`
+abbrev pub clean_words : List (List ℕ) → Result Command LineFault
+clean_words args = no_words Clean args
+
+-- the words after `list`
+abbrev pub list_words : List (List ℕ) → Result Command LineFault
+list_words args = no_words asks.List args
 
 -- the file name of a word, with each escape read
 abbrev pub file_of : List ℕ → Result (List ℕ) NameFault
@@ -229,6 +256,27 @@ finish_words [] = Err WordCount
 finish_words (lease ∷ []) = finish_of (number_of lease)
 finish_words (lease ∷ more ∷ rest) = Err WordCount
 
+-- the words of a command that names a lease
+abbrev pub lease_words : List ℕ → List (List ℕ) → Result Command LineFault
+lease_words name args =
+    if bytes_eq name (codes "read") then read_words args
+    else if bytes_eq name (codes "data") then data_words args
+    else if bytes_eq name (codes "put") then put_words args
+    else if bytes_eq name (codes "remove") then remove_words args
+    else if bytes_eq name (codes "group") then group_words args
+    else if bytes_eq name (codes "finish") then finish_words args
+    else Err NoSuchCommand
+
+-- the words of a command that names an application by its key alone, or a lease
+abbrev pub named_words : List ℕ → List (List ℕ) → Result Command LineFault
+named_words name args =
+    if bytes_eq name (codes "check") then check_words args
+    else if bytes_eq name (codes "skip") then skip_words args
+    else if bytes_eq name (codes "rollback") then rollback_words args
+    else if bytes_eq name (codes "launch") then launch_words args
+    else if bytes_eq name (codes "show") then show_words args
+    else lease_words name args
+
 -- the first word names the command
 abbrev pub command_words : List (List ℕ) → Result Command LineFault
 command_words [] = Err NoSuchCommand
@@ -236,16 +284,9 @@ command_words (name ∷ args) =
     if bytes_eq name (codes "at") then at_words args
     else if bytes_eq name (codes "require") then require_words args
     else if bytes_eq name (codes "install") then install_words args
-    else if bytes_eq name (codes "check") then check_words args
-    else if bytes_eq name (codes "skip") then skip_words args
-    else if bytes_eq name (codes "launch") then launch_words args
-    else if bytes_eq name (codes "read") then read_words args
-    else if bytes_eq name (codes "data") then data_words args
-    else if bytes_eq name (codes "put") then put_words args
-    else if bytes_eq name (codes "remove") then remove_words args
-    else if bytes_eq name (codes "group") then group_words args
-    else if bytes_eq name (codes "finish") then finish_words args
-    else Err NoSuchCommand
+    else if bytes_eq name (codes "clean") then clean_words args
+    else if bytes_eq name (codes "list") then list_words args
+    else named_words name args
 
 -- what a line asks for, or why it is no command
 unfoldable pub command_of : List ℕ → Result Command LineFault
@@ -290,11 +331,6 @@ abbrev pub installed_text : Key → Version → ℕ → List ℕ
 installed_text key version view =
     codes "ok installed " ++ (key_text key ++ (codes " " ++ (version_text version
     ++ (codes " " ++ (decimal view ++ codes "\n")))))
-
--- a version, where there is one
-abbrev pub optional_text : Option Version → List ℕ
-optional_text None = codes "-"
-optional_text (Some version) = version_text version
 
 -- what is offered, and the minimum
 abbrev pub checked_text : Option Version → Option Version → List ℕ
@@ -373,15 +409,20 @@ reply_text (TooMany what limit) =
 reply_text (Installed key version view) = installed_text key version view
 reply_text (Checked offer minimum) = checked_text offer minimum
 reply_text (Skipped version) = codes "ok skipped " ++ (version_text version ++ codes "\n")
+reply_text (Current version) = codes "ok current " ++ (version_text version ++ codes "\n")
 reply_text (Lease lease version check_due) = lease_text lease version check_due
 reply_text (reply.Read size bytes) = read_text size bytes
 reply_text reply.Put = codes "ok put\n"
 reply_text Removed = codes "ok removed\n"
 reply_text (reply.Group files) = codes "ok group " ++ (decimal files ++ codes "\n")
 reply_text (Finished lease) = codes "ok finished " ++ (decimal lease ++ codes "\n")
+reply_text (Cleaned views) = codes "ok cleaned " ++ (decimal views ++ codes "\n")
+reply_text (Listed rows) = list_text rows
+reply_text (Shown row) = show_text row
 reply_text NotInstalled = codes "no not-installed\n"
 reply_text NoLease = codes "no no-lease\n"
 reply_text NoGroup = codes "no no-group\n"
+reply_text NoPrevious = codes "no no-previous\n"
 reply_text NothingOffered = codes "no nothing-offered\n"
 reply_text NoFile = codes "no no-file\n"
 reply_text BadName = codes "no bad-name\n"

@@ -3,7 +3,7 @@ ghost use Rattle.std.specs.Prelude.{◌≡◌, Err, IfOk, IsOk};
 ghost use Rattle.std.specs.Option.{option_copied};
 ghost use Rattle.identity.specs.Key.{IsKey};
 ghost use Rattle.machine.specs.Words.{IsCommand};
-ghost use Rattle.command_text.specs.Lines.{Gives, check_words, key_words, launch_words, skip_words, words_behind};
+ghost use Rattle.command_text.specs.Lines.{Gives, check_words, key_words, launch_words, rollback_words, show_words, skip_words, words_behind};
 
 use crate::words::one_word;
 use identity::{Key, KeyFault};
@@ -56,6 +56,19 @@ pub(crate) fn skip_line(alloc: Global, args: Option<&[u8]>) -> Result<Command, L
     }
 }
 
+/// The command of the word behind `rollback`, where there is one.
+pub(crate) fn rollback_line(alloc: Global, args: Option<&[u8]>) -> Result<Command, LineFault>
+    ensures exact { Gives result (rollback_words (words_behind (option_copied args.entry))) }
+    ensures fits { IfOk result IsCommand }
+    ensures memory { result ≡ Err LineFault.Memory
+        → IsOk (rollback_words (words_behind (option_copied args.entry))) }
+{
+    match key_line(alloc, args) {
+        Ok(key) => Ok(Command::Rollback { key }),
+        Err(fault) => Err(fault),
+    }
+}
+
 /// The command of the word behind `launch`, where there is one.
 pub(crate) fn launch_line(alloc: Global, args: Option<&[u8]>) -> Result<Command, LineFault>
     ensures exact { Gives result (launch_words (words_behind (option_copied args.entry))) }
@@ -65,6 +78,19 @@ pub(crate) fn launch_line(alloc: Global, args: Option<&[u8]>) -> Result<Command,
 {
     match key_line(alloc, args) {
         Ok(key) => Ok(Command::Launch { key }),
+        Err(fault) => Err(fault),
+    }
+}
+
+/// The command of the word behind `show`, where there is one.
+pub(crate) fn show_line(alloc: Global, args: Option<&[u8]>) -> Result<Command, LineFault>
+    ensures exact { Gives result (show_words (words_behind (option_copied args.entry))) }
+    ensures fits { IfOk result IsCommand }
+    ensures memory { result ≡ Err LineFault.Memory
+        → IsOk (show_words (words_behind (option_copied args.entry))) }
+{
+    match key_line(alloc, args) {
+        Ok(key) => Ok(Command::Show { key }),
         Err(fault) => Err(fault),
     }
 }

@@ -1,6 +1,7 @@
 //! Lines in, replies out: what a session's line asks for, and the bytes of its reply.
 #![tactic(auto)]
 
+mod app_replies;
 mod check_replies;
 mod escapes;
 mod file_lines;
@@ -11,6 +12,7 @@ mod lease_replies;
 mod lines;
 mod names;
 mod numbers;
+mod pending;
 mod pieces;
 mod raw;
 mod reasons;
@@ -21,4 +23,5 @@ mod words;
 
 pub use lines::{read_line, strip_carriage_return};
 pub use numbers::read_number;
+pub use pending::{KEPT_LIMIT, keep, kept_bytes_tell};
 pub use replies::print_reply;

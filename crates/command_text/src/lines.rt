@@ -5,10 +5,10 @@ ghost use Rattle.identity.specs.Key.{key_of};
 ghost use Rattle.identity.specs.Version.{version_of};
 ghost use Rattle.std.specs.Option.{option_copied};
 ghost use Rattle.machine.specs.Words.{IsCommand};
-ghost use Rattle.command_text.specs.Lines.{Gives, at_words, command_of, install_words, require_of, require_words, words_behind};
+ghost use Rattle.command_text.specs.Lines.{Gives, at_words, clean_words, command_of, install_words, lease_words, list_words, named_words, require_of, require_words, words_behind};
 
 use crate::file_lines::{data_line, file_line, put_line, remove_line};
-use crate::key_lines::{check_line, launch_line, skip_line};
+use crate::key_lines::{check_line, launch_line, rollback_line, show_line, skip_line};
 use crate::lease_lines::{finish_line, group_line};
 use crate::numbers::read_number;
 use crate::urls::is_url;
@@ -96,6 +96,85 @@ fn install_line(alloc: Global, args: Option<&[u8]>) -> Result<Command, LineFault
     }
 }
 
+// The command `clean`, which no word follows.
+fn clean_line(args: Option<&[u8]>) -> Result<Command, LineFault>
+    ensures exact { result ≡ clean_words (words_behind (option_copied args.entry)) }
+    ensures fits { IfOk result IsCommand }
+    ensures memory { result ≢ Err LineFault.Memory }
+{
+    match args {
+        Some(_) => Err(LineFault::WordCount),
+        None => Ok(Command::Clean),
+    }
+}
+
+// The command `list`, which no word follows.
+fn list_line(args: Option<&[u8]>) -> Result<Command, LineFault>
+    ensures exact { result ≡ list_words (words_behind (option_copied args.entry)) }
+    ensures fits { IfOk result IsCommand }
+    ensures memory { result ≢ Err LineFault.Memory }
+{
+    match args {
+        Some(_) => Err(LineFault::WordCount),
+        None => Ok(Command::List),
+    }
+}
+
+// The command that names a lease, by its name and the words behind it.
+fn lease_line(alloc: Global, name: &[u8], args: Option<&[u8]>) -> Result<Command, LineFault>
+    ensures exact { Gives result
+        (lease_words name.now (words_behind (option_copied args.entry))) }
+    ensures fits { IfOk result IsCommand }
+    ensures memory { result ≡ Err LineFault.Memory
+        → IsOk (lease_words name.now (words_behind (option_copied args.entry))) }
+{
+    if name == b"read".as_slice() {
+        return file_line(alloc, args);
+    }
+    if name == b"data".as_slice() {
+        return data_line(alloc, args);
+    }
+    if name == b"put".as_slice() {
+        return put_line(alloc, args);
+    }
+    if name == b"remove".as_slice() {
+        return remove_line(alloc, args);
+    }
+    if name == b"group".as_slice() {
+        return group_line(alloc, args);
+    }
+    if name == b"finish".as_slice() {
+        return finish_line(args);
+    }
+    Err(LineFault::NoSuchCommand)
+}
+
+// The command that names an application by its key alone, or a lease.
+fn named_line(alloc: Global, name: &[u8], args: Option<&[u8]>) -> Result<Command, LineFault>
+    ensures exact { Gives result
+        (named_words name.now (words_behind (option_copied args.entry))) }
+    ensures fits { IfOk result IsCommand }
+    ensures memory { result ≡ Err LineFault.Memory
+        → IsOk (named_words name.now (words_behind (option_copied args.entry))) }
+{
+    if name == b"check".as_slice() {
+        return check_line(alloc, args);
+    }
+    if name == b"skip".as_slice() {
+        return skip_line(alloc, args);
+    }
+    if name == b"rollback".as_slice() {
+        return rollback_line(alloc, args);
+    }
+    if name == b"launch".as_slice() {
+        return launch_line(alloc, args);
+    }
+    if name == b"show".as_slice() {
+        return show_line(alloc, args);
+    }
+    lease_line(alloc, name, args)
+}
+
 /// The command that the line asks for. The line comes without its line feed, and its words are separated by one
 /// space each. `LineTooLong` comes exactly above 65,536 bytes; else `NoSuchCommand` where the first word is no
 /// command's name, as the empty one of an empty line; else `WordCount` where there are too few words or too many;
@@ -120,34 +199,13 @@ pub fn read_line(alloc: Global, line: &[u8]) -> Result<Command, LineFault>
     if name == b"install".as_slice() {
         return install_line(alloc, args);
     }
-    if name == b"check".as_slice() {
-        return check_line(alloc, args);
+    if name == b"clean".as_slice() {
+        return clean_line(args);
     }
-    if name == b"skip".as_slice() {
-        return skip_line(alloc, args);
+    if name == b"list".as_slice() {
+        return list_line(args);
     }
-    if name == b"launch".as_slice() {
-        return launch_line(alloc, args);
-    }
-    if name == b"read".as_slice() {
-        return file_line(alloc, args);
-    }
-    if name == b"data".as_slice() {
-        return data_line(alloc, args);
-    }
-    if name == b"put".as_slice() {
-        return put_line(alloc, args);
-    }
-    if name == b"remove".as_slice() {
-        return remove_line(alloc, args);
-    }
-    if name == b"group".as_slice() {
-        return group_line(alloc, args);
-    }
-    if name == b"finish".as_slice() {
-        return finish_line(args);
-    }
-    Err(LineFault::NoSuchCommand)
+    named_line(alloc, name, args)
 }
 
 /// The line without the one carriage return at its end, where one stands there.

@@ -5,6 +5,7 @@ ghost use Rattle.outside.specs.Streams.{Appends, AppendsPart, Causes};
 ghost use Rattle.command_text.specs.Lines.{fault_text, installed_text, lacking_text, links_text, reply_text};
 ghost use Rattle.command_text.specs.Pieces.{Writes};
 
+use crate::app_replies::{print_list, print_show};
 use crate::check_replies::print_checked;
 use crate::lease_replies::{print_lease, print_read};
 use crate::pieces::{Piece, print_pieces};
@@ -123,7 +124,7 @@ fn print_version_line<K: Sink>(front: &[u8], shown: Version, sink: &mut K) -> Re
     )
 }
 
-// Writes the reply, a line for each.
+// Writes the reply, by its kind.
 #[tactic(auto, unfolding(crate::specs::Lines::reply_text))]
 fn print_line<K: Sink>(reply: &Reply, sink: &mut K) -> Result<(), Failed>
     ensures { Writes K.Sink sink.old sink.new (reply_text reply.now) result }
@@ -144,6 +145,7 @@ fn print_line<K: Sink>(reply: &Reply, sink: &mut K) -> Result<(), Failed>
         Reply::Installed { key, version, view } => print_installed(key, *version, *view, sink),
         Reply::Checked { offer, minimum } => print_checked(*offer, *minimum, sink),
         Reply::Skipped { version } => print_version_line(b"ok skipped ", *version, sink),
+        Reply::Current { version } => print_version_line(b"ok current ", *version, sink),
         Reply::Lease {
             lease,
             version,
@@ -154,9 +156,13 @@ fn print_line<K: Sink>(reply: &Reply, sink: &mut K) -> Result<(), Failed>
         Reply::Removed => print_bytes(b"ok removed\n", sink),
         Reply::Group { files } => print_number_line(b"ok group ", *files, sink),
         Reply::Finished { lease } => print_number_line(b"ok finished ", *lease, sink),
+        Reply::Cleaned { views } => print_number_line(b"ok cleaned ", *views, sink),
+        Reply::Listed { rows } => print_list(rows.as_slice(), sink),
+        Reply::Shown { row } => print_show(row, sink),
         Reply::NotInstalled => print_bytes(b"no not-installed\n", sink),
         Reply::NoLease => print_bytes(b"no no-lease\n", sink),
         Reply::NoGroup => print_bytes(b"no no-group\n", sink),
+        Reply::NoPrevious => print_bytes(b"no no-previous\n", sink),
         Reply::NothingOffered => print_bytes(b"no nothing-offered\n", sink),
         Reply::NoFile => print_bytes(b"no no-file\n", sink),
         Reply::BadName => print_bytes(b"no bad-name\n", sink),
@@ -188,8 +194,8 @@ fn print_line<K: Sink>(reply: &Reply, sink: &mut K) -> Result<(), Failed>
     }
 }
 
-/// Writes the reply's line to the sink, with its line feed, piece by piece: no memory is taken, and nothing bounds how
-/// long a reply may be. Where it fails the sink has taken a first part of the line, and not all.
+/// Writes the reply to the sink, each of its lines with its line feed, piece by piece: no memory is taken, and nothing
+/// bounds how long a reply may be. Where it fails the sink has taken a first part of the reply, and not all.
 pub fn print_reply<K: Sink>(reply: &Reply, sink: &mut K) -> Result<(), Failed>
     ensures bytes { K.tells
         → OnOk result (Appends (K.taken sink.old) (K.taken sink.new) (reply_text reply.now)) }

@@ -1,12 +1,12 @@
-//! Replies as they are printed, and what lines are read as: addresses, and the lines of the input.
+//! Replies as they are printed, and what lines are read as: addresses, long lines, and the lines of the input.
 //! What it prints is compared with what it must print.
 #![tactic(auto)]
 
 use causes::Cause;
-use command_text::{print_reply, read_line};
+use command_text::{keep, print_reply, read_line, strip_carriage_return};
 use digest_list::{Algorithm, Difference};
 use identity::{Key, Version};
-use machine::{Command, LineFault, Reply};
+use machine::{Command, LineFault, ListRow, Reply, ShowRow};
 use manifest_parts::ManifestFault;
 use manifest_tree::{TreeFault, TreeKind};
 use manifests::ReleaseFault;
@@ -16,17 +16,24 @@ use std::alloc::{AllocError, Global};
 use std::io::{self, ErrorKind};
 
 // Prints a reply.
-fn say(rt: &HostRuntime, reply: Reply) -> io::Result<()> {
+fn print(rt: &HostRuntime, reply: &Reply) -> io::Result<()> {
     let alloc = rt.alloc();
     let none = List::from_vec(Vec::new(alloc));
     let mut sink = MemSink::new(alloc, Bytes::from_vec(Vec::new(alloc)), none);
-    if print_reply(&reply, &mut sink).is_err() {
+    if print_reply(reply, &mut sink).is_err() {
         return Err(ErrorKind::InvalidData.into());
     }
     match std::str::from_utf8(sink.taken()) {
         Ok(line) => rt.print(line),
         Err(_) => Err(ErrorKind::InvalidData.into()),
     }
+}
+
+// Prints what a reply says.
+fn say(rt: &HostRuntime, reply: Reply) -> io::Result<()> {
+    let printed = print(rt, &reply);
+    drop(reply);
+    printed
 }
 
 fn version(a: u16, b: u16, c: u16, d: u16) -> Version {
@@ -97,6 +104,15 @@ fn locals(rt: &HostRuntime) -> io::Result<()> {
     say(rt, Reply::Put)?;
     say(rt, Reply::Removed)?;
     say(rt, Reply::BadName)
+}
+
+// Views that are current again, and views that are gone.
+fn views(rt: &HostRuntime) -> io::Result<()> {
+    let version = version(1, 0, 0, 0);
+    say(rt, Reply::Current { version })?;
+    say(rt, Reply::NoPrevious)?;
+    say(rt, Reply::Cleaned { views: 0 })?;
+    say(rt, Reply::Cleaned { views: 1_024 })
 }
 
 // So many bytes, of all values.
@@ -214,10 +230,89 @@ fn target(alloc: Global, path: &str) -> Result<Target, AllocError> {
     })
 }
 
+// All applications: none, and two.
+fn lists(rt: &HostRuntime) -> io::Result<()> {
+    let alloc = rt.alloc();
+    let rows = List::from_vec(Vec::new(alloc));
+    say(rt, Reply::Listed { rows })?;
+    let mut rows = Vec::new(alloc);
+    rows.push(ListRow {
+        key: plain_key(alloc)?,
+        current: Some(version(1, 0, 0, 0)),
+    })?;
+    rows.push(ListRow {
+        key: odd_key(alloc)?,
+        current: None,
+    })?;
+    let rows = List::from_vec(rows);
+    say(rt, Reply::Listed { rows })
+}
+
+// An application of which nothing is known but a minimum.
+fn required(alloc: Global) -> Result<ShowRow, AllocError> {
+    Ok(ShowRow {
+        key: plain_key(alloc)?,
+        current: None,
+        previous: None,
+        minimum: Some(version(1, 0, 0, 0)),
+        offer: None,
+        skipped: None,
+        excluded: None,
+        last_check: None,
+        checked: false,
+        entry: None,
+        provider: None,
+    })
+}
+
+// One that was installed.
+fn installed(alloc: Global) -> Result<ShowRow, AllocError> {
+    Ok(ShowRow {
+        key: plain_key(alloc)?,
+        current: Some(version(1, 0, 0, 0)),
+        previous: None,
+        minimum: None,
+        offer: None,
+        skipped: None,
+        excluded: None,
+        last_check: Some(0),
+        checked: true,
+        entry: Some(text(alloc, "app.exe")?),
+        provider: Some(target(alloc, "/one/demo.application")?),
+    })
+}
+
+// One of which everything is known.
+fn known(alloc: Global) -> Result<ShowRow, AllocError> {
+    Ok(ShowRow {
+        key: odd_key(alloc)?,
+        current: Some(version(1, 0, 0, 1)),
+        previous: Some(version(1, 0, 0, 2)),
+        minimum: Some(version(1, 0, 0, 3)),
+        offer: Some(version(1, 0, 0, 4)),
+        skipped: Some(version(1, 0, 0, 5)),
+        excluded: Some(version(1, 0, 0, 6)),
+        last_check: Some(4_611_686_018_427_387_904),
+        checked: true,
+        entry: Some(text(alloc, "lib/a b\u{e9}.exe")?),
+        provider: Some(target(alloc, "/one/Application%20Files/a?b,c")?),
+    })
+}
+
+// What is known of applications.
+fn shows(rt: &HostRuntime) -> io::Result<()> {
+    let row = required(rt.alloc())?;
+    say(rt, Reply::Shown { row })?;
+    let row = installed(rt.alloc())?;
+    say(rt, Reply::Shown { row })?;
+    let row = known(rt.alloc())?;
+    say(rt, Reply::Shown { row })
+}
+
 // A file with another digest.
-fn different(alloc: Global) -> Result<Cause, AllocError> {
+fn different(alloc: Global, algorithm: Algorithm) -> Result<Cause, AllocError> {
     Ok(Cause::Differs(Difference::Digest {
-        algorithm: Algorithm::Sha256,
+        algorithm,
         listed: Bytes::from_slice(alloc, &[0x00, 0x9a, 0xbc])?,
         found: Bytes::from_slice(alloc, &[0xde, 0xf5, 0x10])?,
     }))
@@ -237,7 +332,10 @@ fn all_causes(alloc: Global) -> Result<List<Cause>, AllocError> {
     causes.push(Cause::Missing)?;
     causes.push(long)?;
     causes.push(Cause::Differs(size))?;
-    causes.push(different(alloc)?)?;
+    causes.push(different(alloc, Algorithm::Sha1)?)?;
+    causes.push(different(alloc, Algorithm::Sha256)?)?;
+    causes.push(different(alloc, Algorithm::Sha384)?)?;
+    causes.push(different(alloc, Algorithm::Sha512)?)?;
     causes.push(Cause::Down)?;
     Ok(List::from_vec(causes))
 }
@@ -330,6 +428,12 @@ fn tell_put(rt: &HostRuntime, lease: u64, name: &Name, bytes: &[u8]) -> io::Resu
 // What a command asks for.
 fn tell_command(rt: &HostRuntime, command: Command) -> io::Result<()> {
     match command {
+        Command::At { now } => println!(rt; "the moment {now}"),
+        Command::Require { key, version } => {
+            let (name, language) = (key.name.as_str(), key.language.as_str());
+            let Version { a, b, c, d } = version;
+            println!(rt; "at least {a}.{b}.{c}.{d} of {name} in {language}")
+        }
         Command::Install { url } => {
             let length = url.as_slice().len();
             println!(rt; "an address of {length}")
@@ -341,6 +445,10 @@ fn tell_command(rt: &HostRuntime, command: Command) -> io::Result<()> {
         Command::Skip { key } => {
             let (name, language) = (key.name.as_str(), key.language.as_str());
             println!(rt; "a skip of {name} in {language}")
+        }
+        Command::Rollback { key } => {
+            let (name, language) = (key.name.as_str(), key.language.as_str());
+            println!(rt; "a rollback of {name} in {language}")
         }
         Command::Launch { key } => {
             let (name, language) = (key.name.as_str(), key.language.as_str());
@@ -374,7 +482,12 @@ fn tell_command(rt: &HostRuntime, command: Command) -> io::Result<()> {
             println!(rt; "a group <{group}> on {lease}")
         }
         Command::Finish { lease } => println!(rt; "the end of {lease}"),
-        Command::At { .. } | Command::Require { .. } => println!(rt; "another command"),
+        Command::Clean => println!(rt; "a clean"),
+        Command::List => println!(rt; "a list"),
+        Command::Show { key } => {
+            let (name, language) = (key.name.as_str(), key.language.as_str());
+            println!(rt; "a show of {name} in {language}")
+        }
     }
 }
 
@@ -427,6 +540,37 @@ fn long_puts(rt: &HostRuntime) -> io::Result<()> {
     Ok(())
 }
 
+// So many bytes that begin as an `at`.
+fn at_line(alloc: Global, length: usize) -> Result<Bytes, AllocError> {
+    let mut line = Bytes::from_slice(alloc, b"at ")?;
+    let digits = vec![in alloc; b'0'; length.saturating_sub(3)]?;
+    line.extend(&digits)?;
+    Ok(line)
+}
+
+// A line that comes in pieces and ends in a carriage return: with a line feed behind that, and without one.
+fn tell_pieces(rt: &HostRuntime, line: &[u8]) -> io::Result<()> {
+    let (first, second) = line.split_at(line.len() / 2);
+    let mut pending = Vec::new(rt.alloc());
+    keep(&mut pending, first)?;
+    keep(&mut pending, second)?;
+    keep(&mut pending, b"\r")?;
+    let kept = pending.len();
+    println!(rt; "{kept} bytes are kept")?;
+    tell(rt, strip_carriage_return(&pending))?;
+    tell(rt, &pending)
+}
+
+// The longest line, and longer ones.
+fn long_lines(rt: &HostRuntime) -> io::Result<()> {
+    for length in [65_536, 65_537, 65_538, 200_000] {
+        let line = at_line(rt.alloc(), length)?;
+        tell(rt, line.as_slice())?;
+        tell_pieces(rt, line.as_slice())?;
+    }
+    Ok(())
+}
+
 // What the lines of the input are read as.
 fn lines(rt: &HostRuntime) -> io::Result<()> {
     for line in rt.lines(rt.alloc()) {
@@ -441,6 +585,9 @@ fn main(rt: HostRuntime) -> io::Result<()> {
     leases(&rt)?;
     checks(&rt)?;
     locals(&rt)?;
+    views(&rt)?;
+    lists(&rt)?;
+    shows(&rt)?;
     reads(&rt)?;
     counts(&rt)?;
     faults(&rt)?;
@@ -452,5 +599,6 @@ fn main(rt: HostRuntime) -> io::Result<()> {
     manifests(&rt)?;
     addresses(&rt)?;
     long_puts(&rt)?;
+    long_lines(&rt)?;
     lines(&rt)
 }
