@@ -27,14 +27,14 @@ module _ (target : Target) (a b : LinksState) where
   pub text_got : (limit : ℕ) (text : List ℕ) → IsText limit target a b text → IsGot (FitsText limit) target a b text
   text_got limit text is = record {
     asked = is.asked;
-    from = record { fits = is.within; site = is.site; given = is.given };
+    from = record { fits = is.within; enough = is.enough; site = is.site; given = is.given };
   }
 
   pub file_got : (list : List Digest) (size : ℕ) (held : List ℕ) → IsFile list size target a b (Unit {0}) held → IsGot (Matches list size) target a b held
   file_got list size held is =
       let same : held ≡ is.bytes = is.taken tt in
       subst (IsGot (Matches list size) target a b) (sym same)
-      (record { asked = is.asked; from = record { fits = is.matches; site = is.site; given = is.given } })
+      (record { asked = is.asked; from = record { fits = is.matches; enough = is.enough; site = is.site; given = is.given } })
 
   module _ {A : Type 0} (facts : Tree → Read A) (old new : List (List ℕ)) (same : new ≡ old) where
     pub text_stops : (limit : ℕ) (reason : FetchFault) → IsTextFault limit target a b reason → StopsOne facts (IsTextCause limit target) (FitsText limit) target a b old new (fetch_reply reason)

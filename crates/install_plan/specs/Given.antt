@@ -5,14 +5,16 @@ use Rattle.causes.specs.declared.cause.Cause.{Cause}
 use Rattle.links.specs.Link.{LinkState}
 use Rattle.links.specs.Links.{LinksState}
 use Rattle.fetcher.specs.Causes.{AreCauses}
-use Rattle.fetcher.specs.Fetched.{AllTell, AreQuiet}
+use Rattle.fetcher.specs.Fetched.{AllTell, AreGiven, AreQuiet}
 use Rattle.fetcher.specs.Given.{Given, IsOfSite}
 
 -- Bytes that fit were got at the target. Over links that tell they are those of one link's site,
--- and where no link failed those of the first link whose bytes fit.
+-- and where no link failed those of the first link whose bytes fit. For the latter it is enough that
+-- the links up to that one tell and did not fail.
 pub record IsFrom (Fits : List ℕ → Type 0) (target : Target) (before after : LinksState)
     (bytes : List ℕ) : Type 0 where
   pub fits : Fits bytes
+  pub enough : AreGiven Fits target before after bytes
   pub site : AllTell before → IsOfSite before target bytes
   pub given : AreQuiet before after → Given Fits before target (Some bytes)
 
