@@ -26,7 +26,7 @@ use Rattle.machine.specs.Views.{DataFile}
 use Rattle.machine.specs.Views.{View as KeptView}
 use Rattle.machine.proofs.Entering.{order}
 use Rattle.machine.proofs.Finding.{find_in}
-use Rattle.machine.proofs.Grouping.{only_one}
+use Rattle.machine.proofs.OneView.{only_one}
 use Rattle.machine.proofs.Keys.{equal_texts}
 use Rattle.machine.proofs.Leased.{leased_by, leased_in, leased_valid, view_in}
 use Rattle.machine.proofs.Members.{In, all_in, pairs_head, pairs_tail}
@@ -199,7 +199,7 @@ module _ (now lease blocks : ℕ) (name bytes : List ℕ) (tables : Tables) (ima
       let known = view_in by.0.view old.store.views shown by.2 in
       view_stays of.row.number (with_data file) old.store.views (λ view there is.
       let one : view ≡ shown =
-      only_one of.row.number [] [] old.store valid.ordered shown view
+      only_one of.row.number old.store valid.ordered shown view
       (ap (λ (n : ℕ). view_at n old.store.views) known.1 ∙ by.2) there is in
       ap (with_data file) one ∙ same_file stands ∙ sym one)
 

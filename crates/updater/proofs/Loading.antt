@@ -9,7 +9,7 @@ use Rattle.record_codec.proofs.Changes.{change_text_injective}
 use Rattle.std.specs.Prelude.{IfOk, OnOk}
 use Rattle.store_state.specs.declared.state.StateFault.{StateFault}
 use Rattle.store_state.specs.declared.change.Change.{Change}
-use Rattle.store_state.specs.declared.change.Change.TheVariants.{Boot, Require, Install, Heard, Unheard, Skip, Launch, Finish, Group, Put, Remove}
+use Rattle.store_state.specs.declared.change.Change.TheVariants.{Boot, Require, Install, Heard, Unheard, Skip, Rollback, Launch, Finish, Group, Put, Remove, Clean}
 use Rattle.store_state.specs.Change.{Fits, Replays, effect}
 use Rattle.store_state.specs.Tables.{Tables, empty}
 use Rattle.updater.specs.Stands.{Encodes, Loads}
@@ -24,11 +24,13 @@ some_text (Install view contents provider now) = omega arith
 some_text (Heard key version minimum now) = omega arith
 some_text (Unheard key) = omega arith
 some_text (Skip app) = omega arith
+some_text (Rollback app) = omega arith
 some_text (Launch app) = omega arith
 some_text (Finish lease) = omega arith
 some_text (Group view group contents) = omega arith
 some_text (Put view file) = omega arith
 some_text (Remove view name) = omega arith
+some_text Clean = omega arith
 
 -- a text encodes one change
 pub one_encoded : (a b : Change) (text : List ℕ) → Encodes a text → Encodes b text → a ≡ b

@@ -13,7 +13,8 @@ use Rattle.install_plan.specs.GroupAsked.{AreBrought, GroupServed}
 use Rattle.install_plan.specs.Hearing.{Served}
 use Rattle.install_plan.specs.Offers.{OfferServed}
 use Rattle.machine.specs.declared.command.Command.{Command}
-use Rattle.machine.specs.declared.command.Command.TheVariants.{At, Require, Install, Check, Skip, Launch, Read, Local, Put, Remove, Group, Finish}
+use Rattle.machine.specs.declared.command.Command.TheVariants.{At, Require, Install, Check, Skip, Rollback, Launch, Read, Local, Put, Remove, Group, Finish, Clean, Show}
+use Rattle.machine.specs.declared.command.Command.TheVariants as asks
 use Rattle.machine.specs.declared.reply.Reply.{Reply}
 use Rattle.machine.specs.Machine.{Answers, Hears, moment_after}
 use Rattle.machine.specs.Shape.{shape_of}
@@ -35,6 +36,7 @@ SoundFor (Require key version) store = Unit {0}
 SoundFor (Install url) store = Sound store
 SoundFor (Check key) store = Unit {0}
 SoundFor (Skip key) store = Unit {0}
+SoundFor (Rollback key) store = Unit {0}
 SoundFor (Launch key) store = Unit {0}
 SoundFor (Read lease name from count) store = Unit {0}
 SoundFor (Local lease name from count) store = Unit {0}
@@ -42,6 +44,9 @@ SoundFor (Put lease name bytes) store = Unit {0}
 SoundFor (Remove lease name) store = Unit {0}
 SoundFor (Group lease group) store = Sound store
 SoundFor (Finish lease) store = Unit {0}
+SoundFor Clean store = Unit {0}
+SoundFor asks.List store = Unit {0}
+SoundFor (Show key) store = Unit {0}
 
 -- a command that asks for nothing leaves the links alone
 abbrev pub LeavesLinks : {L : Type 0} → Command → L → L → Type 0
@@ -50,6 +55,7 @@ LeavesLinks (Require key version) old new = new ≡ old
 LeavesLinks (Install url) old new = Unit {0}
 LeavesLinks (Check key) old new = Unit {0}
 LeavesLinks (Skip key) old new = new ≡ old
+LeavesLinks (Rollback key) old new = new ≡ old
 LeavesLinks (Launch key) old new = new ≡ old
 LeavesLinks (Read lease name from count) old new = new ≡ old
 LeavesLinks (Local lease name from count) old new = new ≡ old
@@ -57,6 +63,9 @@ LeavesLinks (Put lease name bytes) old new = new ≡ old
 LeavesLinks (Remove lease name) old new = new ≡ old
 LeavesLinks (Group lease group) old new = Unit {0}
 LeavesLinks (Finish lease) old new = new ≡ old
+LeavesLinks Clean old new = new ≡ old
+LeavesLinks asks.List old new = new ≡ old
+LeavesLinks (Show key) old new = new ≡ old
 
 -- What the links did for a step from one store to another. An install asked them for what it heard,
 -- for each program file of the new view whose content no kept view has, and for each data file that
@@ -73,6 +82,7 @@ Serves (Install url) heard before after old reply new =
 Serves (Check key) heard before after old reply new =
     OfferServed key (shape_of old) heard before after reply
 Serves (Skip key) heard before after old reply new = Unit {0}
+Serves (Rollback key) heard before after old reply new = Unit {0}
 Serves (Launch key) heard before after old reply new = Unit {0}
 Serves (Read lease name from count) heard before after old reply new = Unit {0}
 Serves (Local lease name from count) heard before after old reply new = Unit {0}
@@ -82,6 +92,9 @@ Serves (Group lease group) heard before after old reply new =
     GroupServed lease group (shape_of old) before after reply
     × AreBrought lease group (shape_of old) before after new
 Serves (Finish lease) heard before after old reply new = Unit {0}
+Serves Clean heard before after old reply new = Unit {0}
+Serves asks.List heard before after old reply new = Unit {0}
+Serves (Show key) heard before after old reply new = Unit {0}
 
 -- ---- what it did
 

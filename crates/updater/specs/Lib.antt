@@ -1,6 +1,7 @@
 pub mod Answer
 pub mod Commanded
 pub mod DataFiles
+pub mod GoingBack
 pub mod Keeps
 pub mod Leased
 pub mod Loaded

@@ -3,8 +3,10 @@
 
 mod data_files;
 mod fault;
+mod going_back;
 mod laws;
 mod leased;
+mod listing;
 mod piece;
 mod putting;
 mod refusal;

@@ -23,7 +23,9 @@ ghost use Rattle.updater.specs.Requirement.{Raises};
 use crate::RecoverFault;
 use crate::data_files::{local_of, removal_of};
 use crate::fault::StepFault;
+use crate::going_back::going_back_of;
 use crate::leased::{leased_file, part_of};
+use crate::listing::{list_rows, show_row};
 use crate::piece::piece_of;
 use crate::putting::{local_file, putting_of};
 use crate::refusal::{finish_refusal, require_refusal};
@@ -31,6 +33,7 @@ use crate::replay::settle;
 use crate::requirement::minimum_that_stays;
 use crate::skipping::skipping_of;
 use crate::start::start_of;
+use cleaner::removable;
 use disks::Disk;
 use identity::{Key, Version};
 use install_plan::{prepare, prepare_check, prepare_group};
@@ -119,6 +122,7 @@ impl Updater {
             Command::Install { url } => self.install(alloc, disk, links, now, url, heard),
             Command::Check { key } => self.check(alloc, disk, links, now, key, heard),
             Command::Skip { key } => self.skip(alloc, disk, links, now, key),
+            Command::Rollback { key } => self.rollback(alloc, disk, links, now, key),
             Command::Launch { key } => self.launch(alloc, disk, links, now, key),
             Command::Read {
                 lease,
@@ -138,6 +142,9 @@ impl Updater {
             Command::Remove { lease, name } => self.remove(alloc, disk, links, now, *lease, name),
             Command::Group { lease, group } => self.group(alloc, disk, links, now, *lease, group),
             Command::Finish { lease } => self.finish(alloc, disk, links, now, *lease),
+            Command::Clean => self.clean(alloc, disk, links, now),
+            Command::List => self.list(alloc, disk, links, now),
+            Command::Show { key } => self.show(alloc, disk, links, now, key),
         }
     }
 
@@ -326,6 +333,32 @@ impl Updater {
         answer(
             self.keep(alloc, disk, Change::Skip { app: skipping.app }),
             Reply::Skipped { version },
+        )
+    }
+
+    // Goes back to the previous view of the application. The links are not asked.
+    fn rollback<D: Disk, L: Links>(
+        &mut self,
+        alloc: Global,
+        disk: &mut D,
+        _links: &L,
+        now: u64,
+        key: &Key,
+    ) -> Result<Reply, Failed>
+        requires words { IsKey key.now }
+        requires moment { now ≤ NUMBER_LIMIT }
+        ensures { Commanded D.Disk L.Links now [] (command.Rollback key.now)
+            self.old disk.old _links.now result self.new disk.new _links.now }
+    {
+        let going = match going_back_of(&self.state, key) {
+            Ok(going) => going,
+            Err(reply) => return Ok(reply),
+        };
+        answer(
+            self.keep(alloc, disk, Change::Rollback { app: going.app }),
+            Reply::Current {
+                version: going.version,
+            },
         )
     }
 
@@ -531,5 +564,71 @@ impl Updater {
             self.keep(alloc, disk, Change::Finish { lease }),
             Reply::Finished { lease },
         )
+    }
+
+    // Gives up the views that are not in use. Where there are none, nothing is written. The links are
+    // not asked.
+    fn clean<D: Disk, L: Links>(
+        &mut self,
+        alloc: Global,
+        disk: &mut D,
+        _links: &L,
+        now: u64,
+    ) -> Result<Reply, Failed>
+        requires { now ≤ NUMBER_LIMIT }
+        ensures { Commanded D.Disk L.Links now [] command.Clean
+            self.old disk.old _links.now result self.new disk.new _links.now }
+    {
+        let Ok(numbers) = removable(alloc, &self.state) else {
+            return Ok(Reply::Memory);
+        };
+        let views = numbers.as_slice().len() as u64;
+        if views == 0 {
+            return Ok(Reply::Cleaned { views });
+        }
+        answer(
+            self.keep(alloc, disk, Change::Clean),
+            Reply::Cleaned { views },
+        )
+    }
+
+    // Shows each application and its current version. Neither the disk nor the links are asked.
+    fn list<D: Disk, L: Links>(
+        &self,
+        alloc: Global,
+        _disk: &D,
+        _links: &L,
+        now: u64,
+    ) -> Result<Reply, Failed>
+        requires { now ≤ NUMBER_LIMIT }
+        ensures { Commanded D.Disk L.Links now [] command.List
+            self.now _disk.now _links.now result self.now _disk.now _links.now }
+    {
+        match list_rows(alloc, &self.state) {
+            Ok(rows) => Ok(Reply::Listed { rows }),
+            Err(_) => Ok(Reply::Memory),
+        }
+    }
+
+    // Shows what is known of the application. Neither the disk nor the links are asked.
+    fn show<D: Disk, L: Links>(
+        &self,
+        alloc: Global,
+        _disk: &D,
+        _links: &L,
+        now: u64,
+        key: &Key,
+    ) -> Result<Reply, Failed>
+        requires { now ≤ NUMBER_LIMIT }
+        ensures { Commanded D.Disk L.Links now [] (command.Show key.now)
+            self.now _disk.now _links.now result self.now _disk.now _links.now }
+    {
+        let Some(app) = self.state.entry(key) else {
+            return Ok(Reply::NotInstalled);
+        };
+        match show_row(alloc, &self.state, app) {
+            Ok(row) => Ok(Reply::Shown { row }),
+            Err(_) => Ok(Reply::Memory),
+        }
     }
 }

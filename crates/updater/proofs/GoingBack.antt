@@ -1,0 +1,94 @@
+-- A rollback: the step that it is, and the change that it makes.
+use Rattle.std.proofs.Common.{◌≡◌, ◌≢◌, ◌≤◌, ◌∙◌, ℕ, List, [], Option, Some, None, refl, sym, ap, subst}
+use Rattle.std.proofs.lemmas.Option.{none-some}
+use Rattle.small_types.specs.declared.limits.TheConstants.{NUMBER_LIMIT}
+use Rattle.identity.specs.declared.key.Key.{Key}
+use Rattle.identity.specs.Key.{IsKey}
+use Rattle.machine.specs.declared.app.AppState.{AppState}
+use Rattle.machine.specs.declared.command.Command.TheVariants as command
+use Rattle.machine.specs.declared.event.Event.TheVariants.{Line}
+use Rattle.machine.specs.declared.reply.Reply.{Reply}
+use Rattle.machine.specs.declared.reply.Reply.TheVariants as says
+use Rattle.machine.specs.Current.{current_version}
+use Rattle.machine.specs.Entries.{AreInOrder}
+use Rattle.machine.specs.Machine.{Answers}
+use Rattle.machine.specs.Previous.{previous_version}
+use Rattle.machine.specs.RollbackRow.{rolled_back, rolled_back_app}
+use Rattle.machine.specs.Shape.{Shape, shape_of}
+use Rattle.machine.specs.Store.{Session, Store}
+use Rattle.machine.specs.Valid.{Valid}
+use Rattle.machine.proofs.RollbackFacts.{back_keys, previous_by}
+use Rattle.machine.proofs.Stepping.{step_valid}
+use Rattle.store_state.specs.declared.change.Change.TheVariants as change
+use Rattle.store_state.specs.Change.{effect}
+use Rattle.store_state.specs.Shows.{Shows}
+use Rattle.store_state.specs.Tables.{Tables}
+use Rattle.store_state.proofs.RollingBack.{shows_rolled_back}
+use Rattle.store_state.proofs.Showing.{shape_shown}
+use Rattle.links.specs.Links.{LinksState}
+use Rattle.install_plan.proofs.Entry.{entry_same}
+use Rattle.updater.specs.declared.going_back.GoingBack.{GoingBack}
+use Rattle.updater.specs.GoingBack.{IsGoingBack}
+use Rattle.updater.specs.Keeps.{Leads}
+use Rattle.updater.proofs.Commanding.{Does, effect_answers}
+
+module _ (now : ℕ) (key : Key) (blocks : ℕ) (tables : Tables) (image : List ℕ)
+    (before after : LinksState) (old : Session) (shows : Shows blocks tables image old.store)
+    (valid : Valid old.store) (is_key : IsKey key) (moment : now ≤ NUMBER_LIMIT)
+    (going : GoingBack) (is : IsGoingBack key tables going) where
+  abbrev reply : Reply
+  reply = says.Current going.version
+
+  abbrev new : Session
+  new = record old { store = rolled_back key is.have old.store }
+
+  same_apps : old.store.apps ≡ tables.apps
+  same_apps = ap (λ (s : Store). s.apps) shows.is
+
+  in_order : AreInOrder tables.apps
+  in_order = subst AreInOrder same_apps valid.ordered.order
+
+  earlier : previous_version key (shape_of old.store) ≡ Some going.version
+  earlier = ap (previous_version key) (shape_shown shows) ∙ is.previous blocks
+
+  step : Answers now [] old (command.Rollback key) reply new
+  step = effect_answers now [] blocks tables old (shape_shown shows) (command.Rollback key) reply new
+      (is.passes now blocks) (record {
+        have = is.have;
+        current = ap (current_version key) (shape_shown shows) ∙ is.current blocks;
+        version = going.version;
+        previous = earlier;
+        replied = refl;
+        is = refl;
+      })
+
+  leads : Leads (change.Rollback going.app) tables old.store new.store
+  leads = record {
+    shows = λ later. subst
+        (λ (n : ℕ). Shows n (effect (change.Rollback going.app) tables) later new.store)
+        (sym (ap (λ (s : Store). s.blocks) shows.is))
+        (shows_rolled_back blocks tables key going.app is.have image later old.store
+        shows in_order is.app (is.current blocks));
+    valid = step_valid now old (Line (command.Rollback key) now (record { texts = [] }))
+        (Some reply) new (is_key, moment)
+        (record { moment = refl; hears = refl; answer = reply; replied = refl; answers = step })
+        valid;
+  }
+
+  -- the application had a previous view, and has none then
+  other : new.store ≢ old.store
+  other same =
+      let by = previous_by key old.store going.version earlier in
+      none-some by.0 (ap (λ (app : AppState). app.previous)
+      (entry_same key (rolled_back_app is.have) by.1 (back_keys is.have) old.store.apps by.2
+      (ap (λ (s : Store). s.apps) same)) ∙ by.3)
+
+  pub rolled_back_does : Does now [] (command.Rollback key) before after
+      (change.Rollback going.app) tables old reply
+  rolled_back_does = record {
+    new = new;
+    step = step;
+    leads = leads;
+    other = other;
+    served = tt;
+  }

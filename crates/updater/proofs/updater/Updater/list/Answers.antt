@@ -1,0 +1,16 @@
+use Rattle.std.proofs.Common.{[]}
+use Rattle.machine.specs.declared.command.Command.TheVariants as command
+use Rattle.machine.specs.declared.reply.Reply.TheVariants as says
+use Rattle.updater.proofs.Commanding.{rested, unlinked}
+use Rattle.updater.proofs.Lists.{listed_rests}
+use Rattle.updater.proofs.updater.Updater.list.Goals as goal
+
+pub returns-in-Ok : goal.returns-in-Ok
+returns-in-Ok g c =
+    rested g.D.Disk g.L.Links c.args.now [] command.List
+    c.args.self.now c.args._disk.now c.args._links.now c.args._links.now
+    (g.met.D.Disk.seen_left c.args._disk.now) c.requires
+    (unlinked g.L.Links command.List c.args.self.now c.args._links.now)
+    (says.Listed c.in-Ok.rows) c.requires
+    (λ old s. listed_rests c.args.now c.args.self.now.blocks c.args.self.now.state
+    _ _ _ old s.shows c.in-Ok.rows c.in-Ok.ensures)
