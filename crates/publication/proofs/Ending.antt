@@ -1,13 +1,13 @@
 -- What the folder's count of faults did, by how a publish ends.
-use Rattle.std.proofs.Common.{◌≡◌, ◌≢◌, ℕ, Bool, true, false, List, Result, Ok, Err, refl, sym, subst, ◌∙◌}
-use Rattle.outside.specs.Streams.{Appends, Rose}
+use Rattle.std.proofs.Common.{◌≡◌, ◌≢◌, ℕ, true, false, List, Result, Ok, Err, refl, sym, subst, ◌∙◌}
+use Rattle.outside.specs.Streams.{Rose}
 use Rattle.publisher.specs.declared.fault.PublishFault.{PublishFault}
 use Rattle.publisher.specs.declared.fault.PublishFault.TheVariants as fault
 use Rattle.publisher.specs.declared.publishing.Published.{Published}
 use Rattle.publisher.specs.Faults.{FaultsCounted}
 use Rattle.publication.specs.declared.publication.End.{End}
 use Rattle.publication.specs.declared.publication.End.TheVariants as ends
-use Rattle.publication.specs.Lines.{end_of, end_of_fault, has_line, line_of}
+use Rattle.publication.specs.Lines.{end_of, end_of_fault, has_line}
 use Rattle.publication.specs.Publication.{EndsWith}
 
 pub read_rose : {K : Type 0} → (tells : Type 0) (taken : K → List ℕ) (old new : K) (result : Result Published PublishFault) (end : End) (a b : ℕ)

@@ -1,3 +1,6 @@
+pub mod Ages
+pub mod CommandFacts
 pub mod Ending
-pub mod FormLemmas
+pub mod Example
 pub mod Joining
+pub mod Rows

@@ -1,14 +1,13 @@
 //! The words that publish a release, and the line that says how it ended.
 #![tactic(auto)]
 
-mod forms;
+mod command;
 mod lines;
 mod marks;
 mod publication;
 mod values;
 mod words;
 
-pub use forms::are_readable;
 pub use publication::{End, publish_options};
 pub use values::WordFault;
 pub use words::read_options;

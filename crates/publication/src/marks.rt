@@ -1,5 +1,5 @@
 // Marks of files.
-ghost use Rattle.std.specs.Prelude.{◌≡◌, ◌+◌, ◌<◌, ℕ, All, List, None, Some, length, drop, IfOk, IfErr, IfSome};
+ghost use Rattle.std.specs.Prelude.{◌≡◌, ◌+◌, ◌<◌, ℕ, All, List, None, Some, length, drop, map, IfOk, IfErr, IfSome};
 ghost use Rattle.publish_plan.specs.declared.options.Mark.{Mark};
 ghost use Rattle.publisher.specs.Options.{IsKind};
 ghost use Rattle.publication.specs.Words.{last_colon, last_colon_from, data_mark, cut_mark, group_mark, mark_of, marks_of};
@@ -7,7 +7,7 @@ ghost use Rattle.publication.specs.declared.values.WordFault.TheVariants.{Unread
 
 use crate::values::{WordFault, read_file, read_group};
 use publish_plan::{Mark, MarkKind};
-use small_types::{List, Word};
+use small_types::List;
 use std::alloc::Global;
 
 // Where the last `:` stands.
@@ -84,14 +84,14 @@ fn read_mark(alloc: Global, word: &[u8]) -> Result<Mark, WordFault>
 
 // All of them.
 #[tactic(auto, using(crate::proofs::Joining::one_more), unfolding(crate::specs::Words::marks_of))]
-pub(crate) fn read_marks(alloc: Global, words: &[Word]) -> Result<List<Mark>, WordFault>
-    ensures value { IfOk result (λ marks. marks_of words.now ≡ Some marks) }
+pub(crate) fn read_marks(alloc: Global, words: &[&str]) -> Result<List<Mark>, WordFault>
+    ensures value { IfOk result (λ marks. marks_of (map (λ s. s.now) words.now) ≡ Some marks) }
     ensures fit { IfOk result (λ marks. All (λ (m : Mark). IsKind m.kind) marks) }
-    ensures none { IfErr result (λ e. e ≡ Unreadable → marks_of words.now ≡ None) }
+    ensures none { IfErr result (λ e. e ≡ Unreadable → marks_of (map (λ s. s.now) words.now) ≡ None) }
 {
     let mut marks = Vec::new(alloc);
     for word in words {
-        marks.push(read_mark(alloc, word.as_slice())?)?;
+        marks.push(read_mark(alloc, word.as_bytes())?)?;
     }
     Ok(List::from_vec(marks))
 }

@@ -1,16 +1,17 @@
 // The values of the words behind `publish`.
-ghost use Rattle.std.specs.Prelude.{◌≡◌, ◌≢◌, ℕ, List, None, Some, true, length, take, drop, IfOk, IfErr, IfSome, IfNone};
+ghost use Rattle.std.specs.Prelude.{◌≡◌, ◌≤◌, ℕ, List, None, Some, true, length, take, drop, IfOk, IfErr, IfSome, IfNone};
 ghost use Rattle.std.specs.List.{list_all};
 ghost use Rattle.std.specs.Str.{is_utf8};
 ghost use Rattle.manifest_tree.specs.Lexis.{allowed};
-ghost use Rattle.manifests.specs.Facts.{IsValue};
+ghost use Rattle.manifests.specs.Facts.{IsProvider, IsRule, IsValue};
 ghost use Rattle.manifest_tree.specs.Writing.{is_content};
-ghost use Rattle.publication.specs.Words.{title_of, group_of, file_of, release_of};
+ghost use Rattle.publication.specs.Words.{age_of, check_of, file_of, group_of, number_of, provider_of, publisher_of, release_of, unit_of};
 ghost use Rattle.publication.specs.declared.values.WordFault.TheVariants.{Unreadable, Memory};
 
 use identity::Version;
+use manifests::{AgeUnit, Rule, UrlFault, target_of};
 use small_types::limits::NAME_LIMIT;
-use small_types::{CopyFault, Name, NameFault, Text};
+use small_types::{CopyFault, Name, NameFault, Text, read_decimal};
 use std::alloc::{AllocError, AllocFailed, Global};
 use std::error::Error;
 use std::fmt;
@@ -94,12 +95,12 @@ fn text_of(alloc: Global, bytes: &[u8]) -> Result<Text, WordFault>
     }
 }
 
-// The name, which is the publisher too.
-#[tactic(auto, unfolding(crate::specs::Words::title_of))]
-pub(crate) fn read_title(alloc: Global, word: &[u8]) -> Result<Text, WordFault>
-    ensures value { IfOk result (λ t. title_of word.now ≡ Some t) }
+// The publisher.
+#[tactic(auto, unfolding(crate::specs::Words::publisher_of))]
+pub(crate) fn read_publisher(alloc: Global, word: &[u8]) -> Result<Text, WordFault>
+    ensures value { IfOk result (λ t. publisher_of word.now ≡ Some t) }
     ensures fit { IfOk result (IsValue 0 NAME_LIMIT) }
-    ensures none { IfErr result (λ e. e ≡ Unreadable → title_of word.now ≡ None) }
+    ensures none { IfErr result (λ e. e ≡ Unreadable → publisher_of word.now ≡ None) }
 {
     if word.len() > NAME_LIMIT || !is_allowed_text(word) || !is_text(word) {
         return Err(WordFault::Unreadable);
@@ -136,9 +137,85 @@ pub(crate) fn read_file(alloc: Global, word: &[u8]) -> Result<Name, WordFault>
 pub(crate) fn read_release(word: &[u8]) -> Result<Version, WordFault>
     ensures value { IfOk result (λ v. release_of word.now ≡ Some v) }
     ensures none { IfErr result (λ e. release_of word.now ≡ None) }
+    ensures fault { IfErr result (λ e. e ≡ Unreadable) }
 {
     match Version::read(word) {
         Ok(version) => Ok(version),
+        Err(_) => Err(WordFault::Unreadable),
+    }
+}
+
+// The unit of an age.
+#[tactic(auto, unfolding(crate::specs::Words::unit_of))]
+fn read_unit(letter: &[u8]) -> Option<AgeUnit>
+    ensures { result ≡ unit_of letter.now }
+{
+    if letter == b"h".as_slice() {
+        return Some(AgeUnit::Hours);
+    }
+    if letter == b"d".as_slice() {
+        return Some(AgeUnit::Days);
+    }
+    if letter == b"w".as_slice() {
+        return Some(AgeUnit::Weeks);
+    }
+    None
+}
+
+// How many units an age has.
+#[tactic(auto, unfolding(crate::specs::Words::number_of))]
+fn read_number(digits: &[u8]) -> Option<u64>
+    ensures value { result ≡ number_of digits.now }
+    ensures few { IfSome result (λ n. n ≤ 999999999) }
+{
+    if digits.len() > 9 {
+        return None;
+    }
+    read_decimal(digits)
+}
+
+// An age.
+#[tactic(auto, unfolding(crate::specs::Words::age_of))]
+fn read_age(word: &[u8]) -> Option<Rule>
+    ensures value { result ≡ age_of word.now }
+    ensures fit { IfSome result IsRule }
+{
+    let (digits, letter) = word.split_at(word.len().saturating_sub(1));
+    let number = read_number(digits)?;
+    let unit = read_unit(letter)?;
+    Some(Rule::Age {
+        seconds: number * unit.seconds(),
+    })
+}
+
+// When a client looks for a new version.
+#[tactic(auto, unfolding(crate::specs::Words::check_of))]
+pub(crate) fn read_check(word: &[u8]) -> Option<Rule>
+    ensures value { result ≡ check_of word.now }
+    ensures fit { IfSome result IsRule }
+{
+    if word == b"none".as_slice() {
+        return Some(Rule::Never);
+    }
+    if word == b"before".as_slice() {
+        return Some(Rule::Before);
+    }
+    read_age(word)
+}
+
+// The address that updates come from.
+#[tactic(auto, unfolding(crate::specs::Words::provider_of))]
+pub(crate) fn read_provider(alloc: Global, word: &str) -> Result<Text, WordFault>
+    ensures value { IfOk result (λ t. provider_of word.now ≡ Some t) }
+    ensures fit { IfOk result IsProvider }
+    ensures none { IfErr result (λ e. e ≡ Unreadable → provider_of word.now ≡ None) }
+{
+    if !is_allowed_text(word.as_bytes()) {
+        return Err(WordFault::Unreadable);
+    }
+    match target_of(alloc, word.as_bytes()) {
+        Ok(_) => Ok(Text::from_string(String::from_str(alloc, word)?)),
+        Err(UrlFault::Memory) => Err(WordFault::Memory),
         Err(_) => Err(WordFault::Unreadable),
     }
 }

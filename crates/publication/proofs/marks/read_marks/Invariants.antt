@@ -1,4 +1,4 @@
-use Rattle.std.proofs.Common.{◌≡◌, ◌++◌, All, drop}
+use Rattle.std.proofs.Common.{◌≡◌, ◌++◌, All, drop, map}
 use Rattle.std.specs.Prelude.{option_map}
 use Rattle.publish_plan.specs.declared.options.Mark.{Mark}
 use Rattle.publisher.specs.Options.{IsKind}
@@ -7,6 +7,6 @@ use Rattle.publication.proofs.marks.read_marks.Given as goal
 
 abbrev pub invariant-loop-word : goal.invariant-loop-word
 invariant-loop-word l = record {
-  rest : option_map (λ ms. l.marks.items ++ ms) (marks_of (drop l.word-index l.words)) ≡ marks_of l.words;
+  rest : option_map (λ ms. l.marks.items ++ ms) (marks_of (map (λ s. s.now) (drop l.word-index l.words))) ≡ marks_of (map (λ s. s.now) l.words);
   fit : All (λ (m : Mark). IsKind m.kind) l.marks.items;
 }
