@@ -31,16 +31,27 @@ asked of the URL's host over HTTP.
   format --blocks N            makes an empty store of N blocks, 1 to 65536
   session --boot N --now N     answers the lines of the input: `at N`,
                                `require KEY V`, `install URL`, `check KEY`,
-                               `skip KEY`, `launch KEY`,
+                               `skip KEY`, `rollback KEY`, `launch KEY`,
                                `read L NAME FROM COUNT`,
                                `data L NAME FROM COUNT`, `put L NAME HEX`,
-                               `remove L NAME`, `group L GROUP` and `finish L`
+                               `remove L NAME`, `group L GROUP`, `finish L`,
+                               `clean`, `list` and `show KEY`
   inspect deployment           says what the deployment manifest in the input says
   inspect application          the same for an application manifest
-  publish --name N --release V --entry E --from F --to T MARK..
-                               publishes the files below F in the folder as
-                               version V of N, below T; E is what is started.
-                               A MARK is data:FILE or group:GROUP:FILE
+  publish OPTION.. MARK..      publishes files of the folder, in any order:
+    --name N --release V       as version V of N
+    --entry E                  E is the file that is started
+    --from F --to T            the files below F, written below T
+    --publisher P              by P; N where it is left out
+    --minimum M                and no version below M may run any more
+    --check C                  a client checks for updates: none, before (each
+                               start), or once so many hours, days or weeks
+                               have passed, as 12h, 7d or 2w; none where it is
+                               left out
+    --provider U               updates come from the address U
+    --plain                    files are written without .deploy
+    data:FILE                  FILE is a data file
+    group:GROUP:FILE           FILE is only fetched once GROUP is asked for
 
 Status: 0 done, 1 other words, 2 input failed, 3 output failed, 4 disk failed,
 5 no store, 6 no memory, 7 refused manifest or publish, 8 more input than a

@@ -1,5 +1,5 @@
 -- What launches and reads promise, and what a stop leaves of the views that leases keep.
-use Rattle.std.proofs.Common.{◌≡◌, ◌∙◌, ◌⊎◌, inl, inr, ◌<◌, ℕ, Bool, List, [], ◌∷◌, ◌++◌, Option, Some, None, refl, sym, subst, append_assoc}
+use Rattle.std.proofs.Common.{◌≡◌, ◌∙◌, ◌⊎◌, inl, inr, ℕ, Bool, List, ◌∷◌, ◌++◌, Option, Some, None, refl, sym, subst, append_assoc}
 use Rattle.std.specs.Prelude.{IsSome, IsSomeAnd, option_and_then}
 use Rattle.identity.specs.declared.key.Key.{Key}
 use Rattle.identity.specs.declared.version.Version.{Version}
@@ -19,7 +19,6 @@ use Rattle.machine.specs.Due.{due}
 use Rattle.machine.specs.LeaseLaws.{IsLeaseOrMemory, IsReadOf, KeepsLeased}
 use Rattle.machine.specs.Leases.{lease_of, leased_view}
 use Rattle.machine.specs.Machine.{Run, Step, moment_after}
-use Rattle.machine.specs.Minimums.{minimum_of}
 use Rattle.machine.specs.ReadRow.{file_named}
 use Rattle.machine.specs.Shape.{shape_of}
 use Rattle.machine.specs.Sound.{IsSoundView, Sound}

@@ -2,13 +2,14 @@ pub mod Answering
 pub mod Asked
 pub mod Asking
 pub mod Begin
-pub mod Bytes
 pub mod Ends
 pub mod Inputs
 pub mod Leased
 pub mod Opened
+pub mod Pieces
 pub mod Prefix
 pub mod Premises
+pub mod PublishWords
 pub mod PublishedDigests
 pub mod PublishedFiles
 pub mod PublishedLaw

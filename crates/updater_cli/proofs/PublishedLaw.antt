@@ -32,13 +32,14 @@ use Rattle.machine.specs.declared.reply.Reply.{Reply}
 use Rattle.machine.specs.declared.reply.Reply.TheVariants as says
 use Rattle.machine.specs.Current.{current_view, data_of, listed_by, view_at}
 use Rattle.machine.specs.DataFiles.{data_named}
-use Rattle.machine.specs.DataLaws.{DataFilesStay, DataIsOfFiles, data_at}
+use Rattle.machine.specs.DataLaws.{DataIsOfFiles, KeptDataFilesStay, data_at}
 use Rattle.machine.specs.Installed.{new_view}
 use Rattle.machine.specs.InstallReplies.{install_replies}
 use Rattle.machine.specs.InstallRow.{InstallEffect, install_refusals}
 use Rattle.machine.specs.Laws.{RunsKeepSound}
 use Rattle.machine.specs.LeaseLaws.{ReadsAreOfFiles}
 use Rattle.machine.specs.Leases.{lease_of, leased_view}
+use Rattle.machine.specs.LifeLaws.{IsSameRelease, ViewsAreNew}
 use Rattle.machine.specs.Machine.{Answers, Step}
 use Rattle.machine.specs.Migrated.{IsAside, IsFresh, IsKept}
 use Rattle.machine.specs.ReadRow.{part}
@@ -54,12 +55,13 @@ use Rattle.machine.proofs.Leased.{file_in as listed_in, leased_by, leased_in, le
 use Rattle.machine.proofs.Leasing.{lease_below}
 use Rattle.machine.proofs.Members.{In, all_in, contains_in, filter_in, in_all, in_contains, in_map}
 use Rattle.machine.proofs.Names.{aside_below}
+use Rattle.machine.proofs.ViewSteps.{view_below}
 use Rattle.updater_cli.specs.Offered.{Holds, IsFirstSite, Publication, Sites, Writes, input_file, links_of, listed}
 use Rattle.updater_cli.specs.Published.{Course, IsFreshData, IsGiven, IsUntouched, Keeps, KeepsNoOthers, Leads, PublishedIsRead, ReadsInput, ShowsInput}
 use Rattle.updater_cli.proofs.PublishedDigests.{digests_match}
 use Rattle.updater_cli.proofs.PublishedOut.{IsOut}
 use Rattle.updater_cli.proofs.PublishedRelease.{is_out}
-use Rattle.updater_cli.proofs.PublishedRuns.{run_uses, step_uses, uses_chain}
+use Rattle.updater_cli.proofs.PublishedRuns.{run_next, run_uses}
 use Rattle.updater_cli.proofs.PublishedUses.{KeepsUses}
 
 -- ---- what links give whose first site has it
@@ -190,7 +192,9 @@ any_in P xs x there holds = let at = contains_in xs x there in (at.0, x, at.1, a
 
 -- ---- the law
 
-module _ (runs_sound : RunsKeepSound) (data_stay : DataFilesStay) (data_is : DataIsOfFiles) (reads_are : ReadsAreOfFiles) (p : Publication) (files folder : List Held) (sites : Sites) (c : Course p sites)
+module _ (runs_sound : RunsKeepSound) (data_stay : KeptDataFilesStay) (data_is : DataIsOfFiles)
+    (reads_are : ReadsAreOfFiles) (views_new : ViewsAreNew) (p : Publication)
+    (files folder : List Held) (sites : Sites) (c : Course p sites)
     (w : Writes p files) (holds : Holds folder files) (first : IsFirstSite folder sites) where
   out : IsOut p folder
   out = is_out p files folder w holds
@@ -288,11 +292,50 @@ module _ (runs_sound : RunsKeepSound) (data_stay : DataFilesStay) (data_is : Dat
       ap (λ (n : ℕ). view_at n c.installed.store.views) number ∙ ap (view_at next) views_are
       ∙ find-last (λ (v : View). eqb v.number next) c.before.store.views the_view none_before (eq-eqb next next refl)
 
-  to_launched : KeepsUses c.installed.store c.launched.store
-  to_launched = uses_chain c.installed.store c.launching.store c.launched.store (leads_uses c.installed c.launching c.then_lines) (step_uses c.launch.at c.launching (Line (Launch c.key) c.launch.at c.launch.heard) (Some (says.Lease c.lease c.launch.version c.launch.check_due)) c.launched c.launch.step)
+  -- ---- where a view of that number is kept later, it was kept all along, as the same release
 
-  to_last : KeepsUses c.installed.store c.last.store
-  to_last = uses_chain c.installed.store c.launched.store c.last.store to_launched (leads_uses c.launched c.last c.more_lines)
+  abbrev launch_events : List Event
+  launch_events = Line (Launch c.key) c.launch.at c.launch.heard ∷ []
+
+  abbrev launch_replies : List (Option Reply)
+  launch_replies = Some (says.Lease c.lease c.launch.version c.launch.check_due) ∷ []
+
+  below_installed : c.number < c.installed.store.next_view
+  below_installed =
+      view_below c.number c.installed.store installed_sound.valid.ordered
+      (some_there (view_at c.number c.installed.store.views) the_view the_there)
+
+  below_launching : c.number < c.launching.store.next_view
+  below_launching =
+      let next = run_next c.then_lines.now c.installed c.then_lines.events c.then_lines.replies
+      c.launching c.then_lines.run in omega (arith, below_installed, next)
+
+  below_launched : c.number < c.launched.store.next_view
+  below_launched =
+      let next = run_next c.launch.at c.launching launch_events launch_replies c.launched
+      (c.launched, c.launch.step, refl) in omega (arith, below_launching, next)
+
+  abbrev WasKept : View → Session → Type 0
+  WasKept view session =
+      (was : View) × (view_at c.number session.store.views ≡ Some was) × IsSameRelease was view
+
+  was_launched : (view : View) → view_at c.number c.last.store.views ≡ Some view
+      → WasKept view c.launched
+  was_launched view is =
+      views_new c.more_lines.now c.launched c.more_lines.events c.more_lines.replies c.last c.number
+      view c.more_lines.run below_launched is
+
+  was_launching : (view : View) → view_at c.number c.launched.store.views ≡ Some view
+      → WasKept view c.launching
+  was_launching view is =
+      views_new c.launch.at c.launching launch_events launch_replies c.launched c.number view
+      (c.launched, c.launch.step, refl) below_launching is
+
+  was_installed : (view : View) → view_at c.number c.launching.store.views ≡ Some view
+      → WasKept view c.installed
+  was_installed view is =
+      views_new c.then_lines.now c.installed c.then_lines.events c.then_lines.replies c.launching
+      c.number view c.then_lines.run below_installed is
 
   -- ---- what is given
 
@@ -329,10 +372,15 @@ module _ (runs_sound : RunsKeepSound) (data_stay : DataFilesStay) (data_is : Dat
       subst (λ (n : ℕ). view_at n c.last.store.views ≡ Some view) (ap (λ (x : Lease). x.view) same ∙ l.2) by.2
 
   -- its release is the one that was published
-  leased_release : (view : View) → view_at c.number c.last.store.views ≡ Some view → view.application ≡ writes.application_of p.options (listed p)
+  leased_release : (view : View) → view_at c.number c.last.store.views ≡ Some view
+      → view.application ≡ writes.application_of p.options (listed p)
   leased_release view there =
-      let later = to_last.views c.number the_view the_there in
-      ap (λ (v : View). v.application) (same_Some view later.0 (sym there ∙ later.1)) ∙ later.2 ∙ application_is
+      let at_launched = was_launched view there in
+      let at_launching = was_launching at_launched.0 at_launched.1 in
+      let at_first = was_installed at_launching.0 at_launching.1 in
+      at_launched.2.application ∙ at_launching.2.application ∙ at_first.2.application
+      ∙ ap (λ (v : View). v.application) (same_Some at_first.0 the_view (sym at_first.1 ∙ the_there))
+      ∙ application_is
 
   -- ---- bytes that match are those of the input file
 
@@ -409,14 +457,17 @@ module _ (runs_sound : RunsKeepSound) (data_stay : DataFilesStay) (data_is : Dat
   data_shown at heard name from count shown bytes new only fresh untouched answers =
       let r = data_is at heard c.last c.lease name from count shown bytes new answers in
       let last : data_at c.number name c.last.store ≡ Some r.file = ap (option_and_then (λ (v : View). data_named name v.data_files)) (leased_number r.view r.leased) ∙ r.found in
-      let at_launching = (leads_uses c.installed c.launching c.then_lines).views c.number the_view the_there in
-      let at_launched = to_launched.views c.number the_view the_there in
-      let third = data_stay c.number name c.more_lines.now c.launched c.more_lines.events c.more_lines.replies c.last c.more_lines.run
-      (some_there (view_at c.number c.launched.store.views) at_launched.0 at_launched.1) untouched.behind in
-      let second = data_stay c.number name c.launch.at c.launching (Line (Launch c.key) c.launch.at c.launch.heard ∷ []) (Some (says.Lease c.lease c.launch.version c.launch.check_due) ∷ []) c.launched (c.launched, c.launch.step, refl)
-      (some_there (view_at c.number c.launching.store.views) at_launching.0 at_launching.1) ((λ no. no), tt) in
-      let front = data_stay c.number name c.then_lines.now c.installed c.then_lines.events c.then_lines.replies c.launching c.then_lines.run
-      (some_there (view_at c.number c.installed.store.views) the_view the_there) untouched.before in
+      let there = leased_number r.view r.leased in
+      let at_launched = was_launched r.view there in
+      let at_launching = was_launching at_launched.0 at_launched.1 in
+      let kept_launched = some_there (view_at c.number c.launched.store.views) at_launched.0 at_launched.1 in
+      let kept_launching = some_there (view_at c.number c.launching.store.views) at_launching.0 at_launching.1 in
+      let third = data_stay c.number name c.more_lines.now c.launched c.more_lines.events c.more_lines.replies c.last c.more_lines.run launched_sound.valid kept_launched
+      (some_there (view_at c.number c.last.store.views) r.view there) untouched.behind in
+      let second = data_stay c.number name c.launch.at c.launching launch_events launch_replies c.launched (c.launched, c.launch.step, refl) launching_sound.valid kept_launching
+      kept_launched ((λ no. no), tt) in
+      let front = data_stay c.number name c.then_lines.now c.installed c.then_lines.events c.then_lines.replies c.launching c.then_lines.run installed_sound.valid
+      (some_there (view_at c.number c.installed.store.views) the_view the_there) kept_launching untouched.before in
       let installed : data_named name done.installed.data_files ≡ Some r.file =
       sym (ap (option_and_then (λ (v : View). data_named name v.data_files)) the_there) ∙ sym front ∙ sym second ∙ sym third ∙ last in
       let found = find_in (λ (f : DataFile). bytes_eq f.name name) done.installed.data_files r.file installed in
@@ -426,5 +477,7 @@ module _ (runs_sound : RunsKeepSound) (data_stay : DataFilesStay) (data_is : Dat
   reads_input : ReadsInput p folder sites c
   reads_input = record { given = all_given; program = program_shown; data_file = data_shown }
 
-pub published : RunsKeepSound → DataFilesStay → DataIsOfFiles → ReadsAreOfFiles → PublishedIsRead
-published runs_sound data_stay data_is reads_are p files folder sites c w holds first = reads_input runs_sound data_stay data_is reads_are p files folder sites c w holds first
+pub published : RunsKeepSound → KeptDataFilesStay → DataIsOfFiles → ReadsAreOfFiles → ViewsAreNew
+    → PublishedIsRead
+published runs_sound data_stay data_is reads_are views_new p files folder sites c w holds first =
+    reads_input runs_sound data_stay data_is reads_are views_new p files folder sites c w holds first

@@ -1,128 +1,76 @@
--- What a run keeps of leases and views.
-use Rattle.std.proofs.Common.{◌≡◌, ◌≢◌, ◌∙◌, ◌⊎◌, ◌++◌, ◌<◌, ◌≤◌, inl, inr, refl, sym, ap, subst, ℕ, Bool, true, false, cond, eqb, List, [], ◌∷◌, map, Option, Some, arith}
-use Rattle.std.specs.Prelude.{option_map}
+-- What a run keeps of leases, and of the numbers of views.
+use Rattle.std.proofs.Common.{◌≡◌, ◌≢◌, ◌∙◌, ◌⊎◌, ◌≤◌, inl, inr, refl, sym, ap, subst, ℕ, Bool, true, false, cond, eqb, List, [], ◌∷◌, Option, Some, arith}
 use Rattle.std.proofs.lemmas.Bool.{cases_eq}
 use Rattle.std.proofs.lemmas.Option.{none-some}
+use Rattle.identity.specs.declared.key.Key.{Key}
 use Rattle.machine.specs.declared.command.Command.{Command}
-use Rattle.machine.specs.declared.command.Command.TheVariants.{At, Require, Install, Check, Skip, Launch, Read, Local, Put, Remove, Group, Finish}
+use Rattle.machine.specs.declared.command.Command.TheVariants.{At, Require, Install, Check, Skip, Rollback, Launch, Read, Local, Put, Remove, Group, Finish, Clean, Show}
+use Rattle.machine.specs.declared.command.Command.TheVariants as asks
 use Rattle.machine.specs.declared.event.Event.{Event}
 use Rattle.machine.specs.declared.event.Event.TheVariants.{Boot, Line, Unread}
 use Rattle.machine.specs.declared.lease.Lease.{Lease}
 use Rattle.machine.specs.declared.reply.Reply.{Reply}
-use Rattle.machine.specs.Current.{view_at}
-use Rattle.machine.specs.DataFiles.{with_data, without_data}
 use Rattle.machine.specs.FinishRow.{finished}
 use Rattle.machine.specs.GroupRow.{Comes}
-use Rattle.machine.specs.Grouped.{with_group, with_view_at}
 use Rattle.machine.specs.LaunchRow.{launched}
 use Rattle.machine.specs.Leases.{lease_of, without_lease}
-use Rattle.machine.specs.Machine.{Answers, Step, effect, moment_after, refusals}
+use Rattle.machine.specs.Machine.{Answers, Run, Step, effect, moment_after, refusals}
 use Rattle.machine.specs.Rows.{Refusal, Refuses}
 use Rattle.machine.specs.Shape.{Shape, shape_of}
 use Rattle.machine.specs.Store.{Session, Store, booted}
-use Rattle.machine.specs.Views.{View}
-use Rattle.machine.proofs.Finding.{find-front}
 use Rattle.machine.proofs.Leasing.{lease_gone, lease_other, lease_stays}
+use Rattle.machine.proofs.ViewSteps.{step_numbers}
 use Rattle.updater_cli.proofs.PublishedUses.{KeepsUses, RunsKeepUses}
 
 -- ---- one after another
 
 uses_itself : (store : Store) → KeepsUses store store
-uses_itself store = record {
-  next = omega arith;
-  leases = λ number lease less is. is;
-  views = λ number view is. (view, is, refl);
-}
+uses_itself store = record { next = omega arith; leases = λ number lease less is. is }
 
-pub uses_chain : (a b c : Store) → KeepsUses a b → KeepsUses b c → KeepsUses a c
+uses_chain : (a b c : Store) → KeepsUses a b → KeepsUses b c → KeepsUses a c
 uses_chain a b c first second = record {
   next = omega (arith, first.next, second.next);
   leases = λ number lease less is.
-      first.leases number lease less (second.leases number lease (omega (arith, less, first.next)) is);
-  views = λ number view is.
-      let mid = first.views number view is in
-      let last = second.views number mid.0 mid.1 in
-      (last.0, last.1, last.2 ∙ mid.2);
+      first.leases number lease less
+      (second.leases number lease (omega (arith, less, first.next)) is);
 }
 
--- the same leases, and the views that f makes of those that were, with more behind them
-uses_by : (old new : Store) (more : List View) → old.next_lease ≤ new.next_lease
-    → ((number : ℕ) (lease : Lease) → number < old.next_lease → lease_of number new.leases ≡ Some lease → lease_of number old.leases ≡ Some lease)
-    → new.views ≡ old.views ++ more → KeepsUses old new
-uses_by old new more next leases views = record {
-  next = next;
-  leases = leases;
-  views = λ number view is. (view, ap (view_at number) views ∙ find-front (λ (v : View). eqb v.number number) old.views more view is, refl);
-}
-
-uses_views : (old new : Store) → new.next_lease ≡ old.next_lease → new.leases ≡ old.leases → new.views ≡ old.views → KeepsUses old new
-uses_views old new next leases views = record {
+-- the same leases
+same_uses : (old new : Store) → new.next_lease ≡ old.next_lease → new.leases ≡ old.leases
+    → KeepsUses old new
+same_uses old new next leases = record {
   next = omega (arith, next);
   leases = λ number lease less is. sym (ap (lease_of number) leases) ∙ is;
-  views = λ number view is. (view, ap (view_at number) views ∙ is, refl);
 }
-
--- ---- one view becomes another
-
-module _ (at : ℕ) (f : View → View) (same : (view : View) → (f view).number ≡ view.number) (release : (view : View) → (f view).application ≡ view.application) where
-  abbrev change : View → View
-  change view = cond (eqb view.number at) (f view) view
-
-  number_by : (b : Bool) (view : View) → (cond b (f view) view).number ≡ view.number
-  number_by true view = same view
-  number_by false view = refl
-
-  release_by : (b : Bool) (view : View) → (cond b (f view) view).application ≡ view.application
-  release_by true view = release view
-  release_by false view = refl
-
-  find_changed : (number : ℕ) (views : List View) (view : View) → view_at number views ≡ Some view → view_at number (map change views) ≡ Some (change view)
-  find_changed number [] view is = absurd (none-some view is)
-  find_changed number (v ∷ vs) view is = by (eqb v.number number) refl (find_changed number vs view)
-    where
-      by : (b : Bool) → eqb v.number number ≡ b → (view_at number vs ≡ Some view → view_at number (map change vs) ≡ Some (change view)) → view_at number (map change (v ∷ vs)) ≡ Some (change view)
-      by true at_it behind =
-          let first : Some v ≡ Some view = sym (ap (λ (b : Bool). cond b (Some v) (view_at number vs)) at_it) ∙ is in
-          ap (λ (b : Bool). cond b (Some (change v)) (view_at number (map change vs))) (ap (λ (n : ℕ). eqb n number) (number_by (eqb v.number at) v) ∙ at_it)
-          ∙ ap (option_map change) first
-      by false past behind =
-          let rest : view_at number vs ≡ Some view = sym (ap (λ (b : Bool). cond b (Some v) (view_at number vs)) past) ∙ is in
-          ap (λ (b : Bool). cond b (Some (change v)) (view_at number (map change vs))) (ap (λ (n : ℕ). eqb n number) (number_by (eqb v.number at) v) ∙ past)
-          ∙ behind rest
-
-  uses_changed : (old new : Store) → new.next_lease ≡ old.next_lease → new.leases ≡ old.leases → new.views ≡ with_view_at at f old.views → KeepsUses old new
-  uses_changed old new next leases views = record {
-    next = omega (arith, next);
-    leases = λ number lease less is. sym (ap (lease_of number) leases) ∙ is;
-    views = λ number view is. (change view, ap (view_at number) views ∙ find_changed number old.views view is, release_by (eqb view.number at) view);
-  }
 
 -- ---- boots, launches and ends
 
-boot_uses : (kept : Bool) (boot : ℕ) (old : Store) → KeepsUses old (record old { boot = boot; leases = cond kept old.leases [] })
-boot_uses true boot old = uses_views old (record old { boot = boot }) refl refl refl
+boot_uses : (kept : Bool) (boot : ℕ) (old : Store)
+    → KeepsUses old (record old { boot = boot; leases = cond kept old.leases [] })
+boot_uses true boot old = same_uses old (record old { boot = boot }) refl refl
 boot_uses false boot old = record {
   next = omega arith;
   leases = λ number lease less is. absurd (none-some lease is);
-  views = λ number view is. (view, is, refl);
 }
 
-launched_uses : (key : _) (view : ℕ) (old : Store) → KeepsUses old (launched key view old)
+launched_uses : (key : Key) (view : ℕ) (old : Store) → KeepsUses old (launched key view old)
 launched_uses key view old = record {
   next = omega arith;
-  leases = λ number lease less is. sym (lease_other number old.next_lease view old.leases (λ e. omega (arith, less, e))) ∙ is;
-  views = λ number v is. (v, is, refl);
+  leases = λ number lease less is.
+      sym (lease_other number old.next_lease view old.leases (λ e. omega (arith, less, e))) ∙ is;
 }
 
 finished_uses : (gone : ℕ) (old : Store) → KeepsUses old (finished gone old)
 finished_uses gone old = record {
   next = omega arith;
   leases = λ number lease less is. by number lease is (cases_eq number gone);
-  views = λ number v is. (v, is, refl);
 }
   where
-    by : (number : ℕ) (lease : Lease) → lease_of number (without_lease gone old.leases) ≡ Some lease → (number ≡ gone) ⊎ (number ≢ gone) → lease_of number old.leases ≡ Some lease
-    by number lease is (inl same) = absurd (none-some lease (sym (ap (λ (n : ℕ). lease_of n (without_lease gone old.leases)) same ∙ lease_gone gone old.leases) ∙ is))
+    by : (number : ℕ) (lease : Lease) → lease_of number (without_lease gone old.leases) ≡ Some lease
+        → (number ≡ gone) ⊎ (number ≢ gone) → lease_of number old.leases ≡ Some lease
+    by number lease is (inl same) =
+        absurd (none-some lease (sym (ap (λ (n : ℕ). lease_of n (without_lease gone old.leases)) same
+        ∙ lease_gone gone old.leases) ∙ is))
     by number lease is (inr other) = sym (lease_stays number gone old.leases other) ∙ is
 
 -- ---- refusals
@@ -145,8 +93,9 @@ refusals_leave now heard shape (Require key version) = (Same, tt)
 refusals_leave now heard shape (Install url) =
     (Same, (Same, (Same, (Same, (Same, (Same, (Same, (Same, (Same, (Same, (Same, (Same, (Same, (Same, (Same, (Same, (Same, (Same, (Same, tt)))))))))))))))))))
 refusals_leave now heard shape (Check key) =
-    (Same, ((λ s. uses_views s.store _ refl refl refl), (Same, (Same, tt))))
+    (Same, ((λ s. same_uses s.store _ refl refl), (Same, (Same, tt))))
 refusals_leave now heard shape (Skip key) = (Same, (Same, (Same, tt)))
+refusals_leave now heard shape (Rollback key) = (Same, (Same, (Same, tt)))
 refusals_leave now heard shape (Launch key) = (Same, (Same, (Same, (Same, (Same, (Same, tt))))))
 refusals_leave now heard shape (Read lease name from count) = (Same, (Same, tt))
 refusals_leave now heard shape (Local lease name from count) = (Same, (Same, tt))
@@ -154,6 +103,9 @@ refusals_leave now heard shape (Put lease name bytes) = (Same, (Same, (Same, (Sa
 refusals_leave now heard shape (Remove lease name) = (Same, (Same, tt))
 refusals_leave now heard shape (Group lease group) = (Same, (Same, (Same, (Same, (Same, tt)))))
 refusals_leave now heard shape (Finish lease) = (Same, tt)
+refusals_leave now heard shape Clean = tt
+refusals_leave now heard shape asks.List = tt
+refusals_leave now heard shape (Show key) = (Same, tt)
 
 -- ---- effects
 
@@ -163,30 +115,45 @@ on_store old new store is keeps = subst (λ (s : Session). KeepsUses old.store s
 unmoved : (old new : Session) → new ≡ old → KeepsUses old.store new.store
 unmoved old new is = subst (λ (s : Session). KeepsUses old.store s.store) (sym is) (uses_itself old.store)
 
-effect_uses : (now : ℕ) (heard : List (List ℕ)) (command : Command) (old : Session) (reply : Reply) (new : Session) → effect now heard command old reply new → KeepsUses old.store new.store
+effect_uses : (now : ℕ) (heard : List (List ℕ)) (command : Command) (old : Session)
+    (reply : Reply) (new : Session) → effect now heard command old reply new
+    → KeepsUses old.store new.store
 effect_uses now heard (At next) old reply new done = unmoved old new done.1
-effect_uses now heard (Require key version) old reply new done = on_store old new _ done.1 (uses_views old.store _ refl refl refl)
+effect_uses now heard (Require key version) old reply new done =
+    on_store old new _ done.1 (same_uses old.store _ refl refl)
 effect_uses now heard (Install url) old reply new done =
     on_store old new done.store done.is
-    (subst (λ (s : Store). KeepsUses old.store s) (sym done.installed.is) (uses_by old.store _ _ (omega arith) (λ number lease less is. is) refl))
-effect_uses now heard (Check key) old reply new done = on_store old new _ done.is (uses_views old.store _ refl refl refl)
-effect_uses now heard (Skip key) old reply new done = on_store old new _ done.is (uses_views old.store _ refl refl refl)
-effect_uses now heard (Launch key) old reply new done = on_store old new _ done.is (launched_uses key done.view.number old.store)
+    (subst (λ (s : Store). KeepsUses old.store s) (sym done.installed.is)
+    (same_uses old.store _ refl refl))
+effect_uses now heard (Check key) old reply new done =
+    on_store old new _ done.is (same_uses old.store _ refl refl)
+effect_uses now heard (Skip key) old reply new done =
+    on_store old new _ done.is (same_uses old.store _ refl refl)
+effect_uses now heard (Rollback key) old reply new done =
+    on_store old new _ done.is (same_uses old.store _ refl refl)
+effect_uses now heard (Launch key) old reply new done =
+    on_store old new _ done.is (launched_uses key done.view.number old.store)
 effect_uses now heard (Read lease name from count) old reply new done = unmoved old new done.is
 effect_uses now heard (Local lease name from count) old reply new done = unmoved old new done.is
 effect_uses now heard (Put lease name bytes) old reply new done =
-    on_store old new _ done.is
-    (uses_changed done.view.number (with_data (record { name = name; bytes = bytes })) (λ v. refl) (λ v. refl) old.store _ refl refl refl)
+    on_store old new _ done.is (same_uses old.store _ refl refl)
 effect_uses now heard (Remove lease name) old reply new done =
-    on_store old new _ done.is (uses_changed done.view.number (without_data name) (λ v. refl) (λ v. refl) old.store _ refl refl refl)
-effect_uses now heard (Group lease group) old reply new done = on_store old new done.store done.is (by done.comes)
+    on_store old new _ done.is (same_uses old.store _ refl refl)
+effect_uses now heard (Group lease group) old reply new done =
+    on_store old new done.store done.is (by done.comes)
   where
     by : Comes group done.view old.store done.store → KeepsUses old.store done.store
-    by (inl stands) = subst (λ (s : Store). KeepsUses old.store s) (sym stands.1) (uses_itself old.store)
+    by (inl stands) =
+        subst (λ (s : Store). KeepsUses old.store s) (sym stands.1) (uses_itself old.store)
     by (inr comes) =
         subst (λ (s : Store). KeepsUses old.store s) (sym comes.1.is)
-        (uses_changed done.view.number (with_group group comes.1.program_files) (λ v. refl) (λ v. refl) old.store _ refl refl refl)
-effect_uses now heard (Finish lease) old reply new done = on_store old new _ done.1 (finished_uses lease old.store)
+        (same_uses old.store _ refl refl)
+effect_uses now heard (Finish lease) old reply new done =
+    on_store old new _ done.1 (finished_uses lease old.store)
+effect_uses now heard Clean old reply new done =
+    on_store old new _ done.1 (same_uses old.store _ refl refl)
+effect_uses now heard asks.List old reply new done = unmoved old new done.1
+effect_uses now heard (Show key) old reply new done = unmoved old new done.is
 
 -- ---- steps and runs
 
@@ -196,7 +163,7 @@ answer_uses now heard old command reply new (inl (inr refused)) =
     left_uses (refusals now heard (shape_of old.store) command) old reply new (refusals_leave now heard (shape_of old.store) command) refused.1
 answer_uses now heard old command reply new (inr done) = effect_uses now heard command old reply new done.1
 
-pub step_uses : (now : ℕ) (old : Session) (event : Event) (reply : Option Reply) (new : Session) → Step now old event reply new → KeepsUses old.store new.store
+step_uses : (now : ℕ) (old : Session) (event : Event) (reply : Option Reply) (new : Session) → Step now old event reply new → KeepsUses old.store new.store
 step_uses now old (Boot boot) reply new step = on_store old new (booted boot old.store) step.1 (boot_uses (eqb old.store.boot boot) boot old.store)
 step_uses now old (Line command at heard) reply new step = answer_uses now heard.texts old command step.answer new step.answers
 step_uses now old (Unread fault) reply new step = unmoved old new step.1
@@ -208,3 +175,15 @@ run_uses now old (event ∷ events) [] new run = absurd run
 run_uses now old (event ∷ events) (reply ∷ replies) new run =
     uses_chain old.store run.0.store new.store (step_uses now old event reply run.0 run.1)
     (run_uses (moment_after now reply) run.0 events replies new run.2)
+
+-- no number of a view is given back
+pub run_next : (now : ℕ) (old : Session) (events : List Event) (replies : List (Option Reply))
+    (new : Session) → Run now old events replies new → old.store.next_view ≤ new.store.next_view
+run_next now old [] [] new run =
+    omega (arith, ap (λ (s : Session). s.store.next_view) run)
+run_next now old [] (reply ∷ replies) new run = absurd run
+run_next now old (event ∷ events) [] new run = absurd run
+run_next now old (event ∷ events) (reply ∷ replies) new run =
+    let first = step_numbers now old event reply run.0 run.1 in
+    let rest = run_next (moment_after now reply) run.0 events replies new run.2 in
+    omega (arith, first.next, rest)

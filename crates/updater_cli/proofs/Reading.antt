@@ -1,23 +1,23 @@
 -- What was read of a source, and how reading ends.
 use Rattle.std.proofs.Common.{◌≡◌, ◌≢◌, ◌⊎◌, inl, inr, ℕ, ◌+◌, ◌-◌, ◌<◌, ◌≤◌, List, [], ◌∷◌, ◌++◌, length, take, map, Bool, true, false, Option, None, Ok, Err, refl, sym, ◌∙◌, ap, subst, arith, append_assoc, length-append}
 use Rattle.std.proofs.lemmas.List.{append-nil, take_at, take_all, length-map, nil_from_length}
-use Rattle.std.proofs.lemmas.List.Elements.{All-nil}
 use Rattle.std.specs.Prelude.{◌==◌, count_by, if◌then◌else◌, IfErr}
 use Rattle.std.specs.Str.Lines.{lines, strip_carriage_return}
 use Rattle.machine.specs.declared.event.Event.{Event}
 use Rattle.command_text.specs.Input.{Cut}
 use Rattle.command_text.proofs.InputLemmas.{lines_cut, lines_before, feeds_cut}
+use Rattle.updater_cli.specs.declared.limits.TheConstants.{INPUT_LIMIT}
 use Rattle.updater_cli.specs.declared.status.Status.{Status}
 use Rattle.updater_cli.specs.declared.status.Status.TheVariants.{Done, Words, SourceFault, SinkFault, DiskFault, NotAStore, Memory, TooMuchInput}
 use Rattle.updater_cli.specs.Lines.{Stage, Trace, AreInputs, Progress, Stopped, status_of, taken_of}
 use Rattle.updater_cli.specs.Status.{Outcome, code_of, IsLineEnd}
-use Rattle.updater_cli.proofs.Traces.{trace_as, traces_on, progress_none, progress_on, stopped_on}
+use Rattle.updater_cli.proofs.Traces.{pending_none, trace_as, trace_last, traces_on, progress_none, progress_on, stopped_on}
 
--- So many bytes of the input may still be taken. Those that were are answered, up to the pending line.
+-- So many bytes of the input may still be taken. Those that were are answered, up to the line that is pending.
 pub record Read (tells : Type 0) (left_old left : List ℕ) (room : ℕ) (pending : List ℕ) (told : Type 0) (old new : Stage) : Type 0 where
   pub taken : List ℕ
   pub given : tells → left_old ≡ taken ++ left
-  pub size : length taken + room ≡ 65536
+  pub size : length taken + room ≡ INPUT_LIMIT
   pub progress : Progress told taken pending old new
 
 -- how a session's reading ended
@@ -28,8 +28,8 @@ pub record Answered (status : ℕ) (tells : Type 0) (left_old left : List ℕ) (
 
 -- the inputs are the whole lines of a first part of what the source had
 inputs_of : (status : ℕ) (input left taken raw_rest extra : List ℕ) (raw : List (List ℕ)) → input ≡ taken ++ (extra ++ left) → Cut taken raw raw_rest → status ≢ 0
-    → ((status ≡ 2) ⊎ (status ≡ 8) → (length taken ≤ 65536) × ((extra ≡ []) ⊎ (length taken ≡ 65536))) → (status ≡ 8 → 65536 + length left < length input)
-    → (65536 + length left < length input → status ≡ 8) → AreInputs status input left (map strip_carriage_return raw)
+    → ((status ≡ 2) ⊎ (status ≡ 8) → (length taken ≤ INPUT_LIMIT) × ((extra ≡ []) ⊎ (length taken ≡ INPUT_LIMIT))) → (status ≡ 8 → INPUT_LIMIT + length left < length input)
+    → (INPUT_LIMIT + length left < length input → status ≡ 8) → AreInputs status input left (map strip_carriage_return raw)
 inputs_of status input left taken raw_rest extra raw is cut not_done within limit beyond = record {
   more = (lines_before cut (extra ++ left)).0;
   first = ap lines is ∙ (lines_before cut (extra ++ left)).1;
@@ -39,18 +39,18 @@ inputs_of status input left taken raw_rest extra raw is cut not_done within limi
       let grouped : input ≡ (taken ++ extra) ++ left = is ∙ sym (append_assoc taken extra left) in
       let front : take (length input - length left) input ≡ taken ++ extra =
       ap (take (length input - length left)) grouped ∙ take_at (taken ++ extra) left (length input - length left) (omega (arith, size, length-append taken extra)) in
-      let first : take 65536 (take (length input - length left) input) ≡ taken = ap (take 65536) front ∙ cut_off (within which) in
+      let first : take INPUT_LIMIT (take (length input - length left) input) ≡ taken = ap (take INPUT_LIMIT) front ∙ cut_off (within which) in
       length-map raw strip_carriage_return ∙ sym (feeds_cut cut) ∙ ap (count_by (λ b. b == 10)) (sym first);
   limit = limit;
   beyond = beyond;
 }
   where
-    cut_off : (length taken ≤ 65536) × ((extra ≡ []) ⊎ (length taken ≡ 65536)) → take 65536 (taken ++ extra) ≡ taken
-    cut_off (le, inl none) = ap (λ (l : List ℕ). take 65536 (taken ++ l)) none ∙ ap (take 65536) (append-nil taken) ∙ take_all 65536 taken le
-    cut_off (le, inr full) = take_at taken extra 65536 full
+    cut_off : (length taken ≤ INPUT_LIMIT) × ((extra ≡ []) ⊎ (length taken ≡ INPUT_LIMIT)) → take INPUT_LIMIT (taken ++ extra) ≡ taken
+    cut_off (le, inl none) = ap (λ (l : List ℕ). take INPUT_LIMIT (taken ++ l)) none ∙ ap (take INPUT_LIMIT) (append-nil taken) ∙ take_all INPUT_LIMIT taken le
+    cut_off (le, inr full) = take_at taken extra INPUT_LIMIT full
 
 -- the inputs are all lines
-inputs_all : (status : ℕ) (input taken rest : List ℕ) (raw : List (List ℕ)) → input ≡ taken → Cut taken raw rest → length taken ≤ 65536 → status ≢ 2 → status ≢ 8
+inputs_all : (status : ℕ) (input taken rest : List ℕ) (raw : List (List ℕ)) → input ≡ taken → Cut taken raw rest → length taken ≤ INPUT_LIMIT → status ≢ 2 → status ≢ 8
     → AreInputs status input [] (map strip_carriage_return raw ++ (if length rest == 0 then [] else rest ∷ []))
 inputs_all status input taken rest raw is cut within not_two not_eight = record {
   more = [];
@@ -98,7 +98,7 @@ module _ (tells : Type 0) (left_old left_mid : List ℕ) (room : ℕ) (pending :
   raw : List (List ℕ)
   raw = read.progress.raw
 
-  within : length read.taken ≤ 65536
+  within : length read.taken ≤ INPUT_LIMIT
   within = omega (arith, read.size)
 
   -- a piece more was read and answered
@@ -118,7 +118,7 @@ module _ (tells : Type 0) (left_old left_mid : List ℕ) (room : ℕ) (pending :
     trace = trace_as told 2 (map strip_carriage_return read.progress.raw) old mid two_three read.progress.trace;
     given = λ is.
         let whole : left_old ≡ read.taken ++ left = read.given is ∙ ap (λ (l : List ℕ). read.taken ++ l) (sym (kept is)) in
-        inputs_of 2 left_old left read.taken pending [] read.progress.raw whole read.progress.cut two_zero (λ _. (within, inl refl)) (λ same. absurd (two_eight same))
+        inputs_of 2 left_old left read.taken read.progress.read.rest [] read.progress.raw whole read.progress.read.cut two_zero (λ _. (within, inl refl)) (λ same. absurd (two_eight same))
         (λ more. absurd (omega (arith, within, ap length whole, length-append read.taken left)));
   }
     where
@@ -138,7 +138,7 @@ module _ (tells : Type 0) (left_old left_mid : List ℕ) (room : ℕ) (pending :
     trace = trace_as told 8 (map strip_carriage_return read.progress.raw) old mid eight_three read.progress.trace;
     given = λ is.
         let whole : left_old ≡ read.taken ++ (piece ++ left) = read.given is ∙ ap (λ (l : List ℕ). read.taken ++ l) (given is) in
-        inputs_of 8 left_old left read.taken pending piece read.progress.raw whole read.progress.cut eight_zero (λ _. (within, inr (omega (arith, read.size, none))))
+        inputs_of 8 left_old left read.taken read.progress.read.rest piece read.progress.raw whole read.progress.read.cut eight_zero (λ _. (within, inr (omega (arith, read.size, none))))
         (λ _. omega (arith, read.size, none, some, ap length whole, length-append read.taken (piece ++ left), length-append piece left)) (λ more. refl);
   }
     where
@@ -165,14 +165,14 @@ module _ (tells : Type 0) (left_old left_mid : List ℕ) (room : ℕ) (pending :
       }
 
   -- the input ended, and the last line was answered or ended the session
-  rest_by : (status : ℕ) (inputs : List (List ℕ)) (begun : Option Event) (new : Stage) (left : List ℕ) → (tells → left_mid ≡ []) → (tells → left ≡ []) → RestOf pending inputs status
+  rest_by : (status : ℕ) (inputs : List (List ℕ)) (begun : Option Event) (new : Stage) (left : List ℕ) → (tells → left_mid ≡ []) → (tells → left ≡ []) → RestOf read.progress.read.rest inputs status
       → Trace told status inputs mid new begun → Answered status tells left_old left told old new begun
   rest_by status inputs begun new left none none_new (inl (is, not_two, not_eight)) trace = record {
     inputs = map strip_carriage_return read.progress.raw ++ inputs;
     trace = traces_on told status (map strip_carriage_return read.progress.raw) inputs old mid new begun read.progress.trace trace;
     given = λ told.
         let all : left_old ≡ read.taken = read.given told ∙ ap (λ (l : List ℕ). read.taken ++ l) (none told) ∙ append-nil read.taken in
-        rw (none_new told, is) (inputs_all status left_old read.taken pending read.progress.raw all read.progress.cut within not_two not_eight);
+        rw (none_new told, is) (inputs_all status left_old read.taken read.progress.read.rest read.progress.raw all read.progress.read.cut within not_two not_eight);
   }
   rest_by status inputs begun new left none none_new (inr (is, six)) trace = record {
     inputs = map strip_carriage_return read.progress.raw ++ inputs;
@@ -180,7 +180,7 @@ module _ (tells : Type 0) (left_old left_mid : List ℕ) (room : ℕ) (pending :
     given = λ told.
         let all : left_old ≡ read.taken ++ ([] ++ left) = read.given told ∙ ap (λ (l : List ℕ). read.taken ++ l) (none told ∙ sym (none_new told)) in
         rw (is, append-nil (map strip_carriage_return read.progress.raw))
-        (inputs_of status left_old left read.taken pending [] read.progress.raw all read.progress.cut (λ same. omega (arith, six, same)) (λ _. (within, inl refl)) (λ same. omega (arith, six, same))
+        (inputs_of status left_old left read.taken read.progress.read.rest [] read.progress.raw all read.progress.read.cut (λ same. omega (arith, six, same)) (λ _. (within, inl refl)) (λ same. omega (arith, six, same))
         (λ more. absurd (omega (arith, within, ap length all, length-append read.taken ([] ++ left)))));
   }
 
@@ -213,11 +213,12 @@ pub rest_read : (tells : Type 0) (left_old left_mid : List ℕ) (room : ℕ) (pe
     → IfErr outcome (λ status. IsLineEnd status begun) → Trace told (status_of outcome) (if length pending == 0 then [] else taken_of outcome pending) mid new begun
     → Answered (status_of outcome) tells left_old left told old new begun
 rest_read tells left_old left_mid room pending told old mid new read outcome begun left piece none given end trace =
-    rest_by tells left_old left_mid room pending told old mid read (status_of outcome) (if length pending == 0 then [] else taken_of outcome pending) begun new left none
-    (λ is. nothing piece left (sym (none is) ∙ given is)) (rest_ends pending outcome begun end) trace
+    let rest = read.progress.read.rest in
+    rest_by tells left_old left_mid room pending told old mid read (status_of outcome) (if length rest == 0 then [] else taken_of outcome rest) begun new left none
+    (λ is. nothing piece left (sym (none is) ∙ given is)) (rest_ends rest outcome begun end) (trace_last told outcome rest pending mid new begun read.progress.read.is trace)
 
 -- before the first byte
-pub read_none : (tells : Type 0) (left : List ℕ) (pending : List ℕ) (told : Type 0) (stage : Stage) → pending ≡ [] → Read tells left left 65536 pending told stage stage
+pub read_none : (tells : Type 0) (left : List ℕ) (pending : List ℕ) (told : Type 0) (stage : Stage) → pending ≡ [] → Read tells left left INPUT_LIMIT pending told stage stage
 read_none tells left pending told stage none =
-    subst (λ (p : List ℕ). Read tells left left 65536 p told stage stage) (sym none)
-    (record { taken = []; given = λ is. refl; size = omega arith; progress = progress_none told [] stage (All-nil (λ (b : ℕ). b ≢ 10)) })
+    subst (λ (p : List ℕ). Read tells left left INPUT_LIMIT p told stage stage) (sym none)
+    (record { taken = []; given = λ is. refl; size = omega arith; progress = progress_none told [] stage pending_none })

@@ -1,19 +1,23 @@
 -- How the trace of a session goes on.
-use Rattle.std.proofs.Common.{◌≡◌, ◌≢◌, ℕ, ◌+◌, ◌<◌, ◌≤◌, List, [], ◌∷◌, ◌++◌, length, take, drop, get_or, map, Option, Some, None, refl, sym, ◌∙◌, ap, subst, arith, append_assoc, take-append-drop}
-use Rattle.std.proofs.lemmas.List.{append-nil, map-append, take_more}
-use Rattle.std.proofs.lemmas.List.Concat.{flat_map-append}
+use Rattle.std.proofs.Common.{◌≡◌, ◌≢◌, ◌==◌, ℕ, ◌+◌, ◌≤◌, Bool, true, false, List, [], ◌∷◌, ◌++◌, length, map, Option, Some, None, Ok, Err, refl, sym, ◌∙◌, ap, subst, arith, append_assoc, if◌then◌else◌}
+use Rattle.std.proofs.lemmas.List.{append-nil, map-append, take_all}
 use Rattle.std.proofs.lemmas.List.Elements.{All-append, All-nil}
-use Rattle.std.specs.Prelude.{option_to_list, All}
+use Rattle.std.specs.Prelude.{option_to_list}
 use Rattle.std.specs.Str.Lines.{strip_carriage_return}
+use Rattle.small_types.specs.declared.limits.TheConstants.{LINE_LIMIT}
 use Rattle.outside.specs.Streams.{AppendsPart}
 use Rattle.machine.specs.declared.event.Event.{Event}
 use Rattle.machine.specs.declared.report.ReportLine.{ReportLine}
 use Rattle.machine.specs.Machine.{moment_after}
-use Rattle.command_text.specs.Lines.{AreEvents, IsEvent, texts_of}
-use Rattle.command_text.specs.Input.{Cut, HasNoFeed, fed}
-use Rattle.command_text.proofs.InputLemmas.{events_append, texts_of-append, cut_byte, cut_feed}
-use Rattle.updater_cli.specs.Lines.{Stage, Trace, Progress, Stopped}
+use Rattle.command_text.specs.Lines.{AreEvents, IsEvent, command_of, texts_of}
+use Rattle.command_text.specs.Input.{Cut, HasNoFeed, kept_of}
+use Rattle.command_text.proofs.InputLemmas.{events_append, texts_of-append, cut_feed}
+use Rattle.command_text.proofs.LongLines.{event_as, read_part, same_ended, same_last, some_kept}
+use Rattle.command_text.proofs.ReadingOn.{AreKeptAlike, events_alike, reads_on, stops_on}
+use Rattle.updater_cli.specs.declared.status.Status.TheVariants.{Done, Words, SourceFault, SinkFault, DiskFault, NotAStore, Memory, TooMuchInput}
+use Rattle.updater_cli.specs.Lines.{Stage, Trace, IsPending, Progress, Stopped, status_of, taken_of}
 use Rattle.updater_cli.specs.Report.{events_of, replies_of, moment_behind, IsRunAt, AreRunFrom, Writes, CutsLast}
+use Rattle.updater_cli.specs.Status.{Outcome}
 use Rattle.updater_cli.proofs.Runs.{rise_on, failures_on, moment-append, run_from_append}
 
 -- ---- what was written
@@ -137,89 +141,131 @@ trace_begun told input old new e same_lines same_taken same_now le fails event a
     four_three : ◌≢◌ {A = ℕ} 4 3
     four_three same = omega arith
 
+-- the same for lines that have the same events
+pub trace_read : (told : Type 0) (status : ℕ) (inputs others : List (List ℕ)) (old new : Stage) (begun : Option Event) → ((events : List Event) → AreEvents inputs events → AreEvents others events)
+    → Trace told status inputs old new begun → Trace told status others old new begun
+trace_read told status inputs others old new begun same trace = record {
+  more = trace.more;
+  grown = trace.grown;
+  events = same (events_of trace.more ++ option_to_list begun) trace.events;
+  at = trace.at;
+  begun_at = trace.begun_at;
+  moment = trace.moment;
+  marks = trace.marks;
+  failures = trace.failures;
+  output = trace.output;
+}
+
+-- one line, which is read as another one is
+pub events_as : (a b : List ℕ) → command_of a ≡ command_of b → (events : List Event) → AreEvents (a ∷ []) events → AreEvents (b ∷ []) events
+events_as a b same [] are = absurd are
+events_as a b same (event ∷ events) are = (event_as a b event same are.0, are.1)
+
 -- ---- what was read
 
-cut_more : (before rest : List ℕ) (first second : List (List ℕ)) → All HasNoFeed first → Cut before second rest → Cut (fed first ++ before) (first ++ second) rest
-cut_more before rest first second whole cut = record {
-  joined = ap (λ (l : List ℕ). fed first ++ l) cut.joined ∙ sym (append_assoc (fed first) (fed second) rest) ∙ ap (λ (l : List ℕ). l ++ rest) (sym (flat_map-append (λ (line : List ℕ). line ++ 10 ∷ []) first second));
-  whole = All-append HasNoFeed first second whole cut.whole;
-  begun = cut.begun;
-}
+module _ (told : Type 0) (bytes kept piece : List ℕ) (old mid new : Stage) (one : Progress told bytes kept old mid) where
+  trace_both : (status : ℕ) (begun : Option Event) (second raw : List (List ℕ)) → AreKeptAlike (one.raw ++ second) raw → Trace told status (map strip_carriage_return second) mid new begun
+      → Trace told status (map strip_carriage_return raw) old new begun
+  trace_both status begun second raw alike trace =
+      trace_read told status (map strip_carriage_return (one.raw ++ second)) (map strip_carriage_return raw) old new begun (λ events are. events_alike (one.raw ++ second) raw events alike are)
+      (subst (λ (l : List (List ℕ)). Trace told status l old new begun) (sym (map-append strip_carriage_return one.raw second))
+      (traces_on told status (map strip_carriage_return one.raw) (map strip_carriage_return second) old mid new begun one.trace trace))
 
-cuts_on : (bytes pending piece rest : List ℕ) (first second : List (List ℕ)) → Cut bytes first pending → Cut (pending ++ piece) second rest → Cut (bytes ++ piece) (first ++ second) rest
-cuts_on bytes pending piece rest first second one two =
-    subst (λ (l : List ℕ). Cut l (first ++ second) rest) (sym (ap (λ (l : List ℕ). l ++ piece) one.joined ∙ append_assoc (fed first) pending piece)) (cut_more (pending ++ piece) rest first second one.whole two)
+  -- a piece more was, which goes on from what was kept
+  pub progress_on : (next : List ℕ) → Progress told (kept ++ piece) next mid new → Progress told (bytes ++ piece) next old new
+  progress_on next two =
+      let on = reads_on bytes kept piece next one.raw two.raw one.read two.read in
+      record { raw = on.raw; read = on.read; trace = trace_both 0 None two.raw on.raw on.alike two.trace }
 
-module _ (told : Type 0) (bytes pending piece : List ℕ) (old mid new : Stage) (one : Progress told bytes pending old mid) where
-  pub progress_on : (rest : List ℕ) → Progress told (pending ++ piece) rest mid new → Progress told (bytes ++ piece) rest old new
-  progress_on rest two = record {
-    raw = one.raw ++ two.raw;
-    cut = cuts_on bytes pending piece rest one.raw two.raw one.cut two.cut;
-    trace = subst (λ (l : List (List ℕ)). Trace told 0 l old new None) (sym (map-append strip_carriage_return one.raw two.raw))
-        (traces_on told 0 (map strip_carriage_return one.raw) (map strip_carriage_return two.raw) old mid new None one.trace two.trace);
-  }
+  -- it stopped within the piece
+  pub stopped_on : (status : ℕ) (begun : Option Event) (rest : List ℕ) → Stopped told status (kept ++ piece) mid new begun → Stopped told status (bytes ++ (piece ++ rest)) old new begun
+  stopped_on status begun rest two =
+      let on = stops_on bytes kept piece two.before two.after two.rest one.raw two.raw one.read two.split two.cut in
+      record {
+        before = on.before;
+        after = on.after ++ rest;
+        split = sym (append_assoc bytes piece rest) ∙ ap (λ (l : List ℕ). l ++ rest) on.split ∙ append_assoc on.before on.after rest;
+        raw = on.raw;
+        rest = on.rest;
+        cut = on.cut;
+        trace = trace_both status begun two.raw on.raw on.alike two.trace;
+      }
 
-  pub stopped_on : (status : ℕ) (begun : Option Event) (rest : List ℕ) → Stopped told status (pending ++ piece) mid new begun → Stopped told status (bytes ++ (piece ++ rest)) old new begun
-  stopped_on status begun rest two = record {
-    before = fed one.raw ++ two.before;
-    after = two.after ++ rest;
-    split =
-        ap (λ (l : List ℕ). l ++ (piece ++ rest)) one.cut.joined ∙ append_assoc (fed one.raw) pending (piece ++ rest)
-        ∙ ap (λ (l : List ℕ). fed one.raw ++ l) (sym (append_assoc pending piece rest) ∙ ap (λ (l : List ℕ). l ++ rest) two.split ∙ append_assoc two.before two.after rest)
-        ∙ sym (append_assoc (fed one.raw) two.before (two.after ++ rest));
-    raw = one.raw ++ two.raw;
-    rest = two.rest;
-    cut = cut_more two.before two.rest one.raw two.raw one.cut.whole two.cut;
-    trace = subst (λ (l : List (List ℕ)). Trace told status l old new begun) (sym (map-append strip_carriage_return one.raw two.raw))
-        (traces_on told status (map strip_carriage_return one.raw) (map strip_carriage_return two.raw) old mid new begun one.trace two.trace);
-  }
+-- nothing is pending
+pub pending_none : IsPending []
+pending_none = record { begun = All-nil (λ (b : ℕ). b ≢ 10); within = omega arith }
 
 -- nothing was read yet
-pub progress_none : (told : Type 0) (pending : List ℕ) (stage : Stage) → HasNoFeed pending → Progress told pending pending stage stage
-progress_none told pending stage begun = record {
-  raw = [];
-  cut = record { joined = refl; whole = All-nil HasNoFeed; begun = begun };
-  trace = trace_none told 0 stage zero_three;
-}
-
--- ---- a byte more
-
 cut_pending : (pending : List ℕ) → HasNoFeed pending → Cut pending [] pending
 cut_pending pending begun = record { joined = refl; whole = All-nil HasNoFeed; begun = begun }
 
-module _ (told : Type 0) (pending : List ℕ) (begun_line : HasNoFeed pending) where
-  -- a byte that is no line feed
-  pub progress_byte : (byte : ℕ) (stage : Stage) → byte ≢ 10 → Progress told (pending ++ byte ∷ []) (pending ++ byte ∷ []) stage stage
-  progress_byte byte stage other = record {
-    raw = [];
-    cut = cut_byte (cut_pending pending begun_line) other;
-    trace = trace_none told 0 stage zero_three;
-  }
+pub progress_none : (told : Type 0) (pending : List ℕ) (stage : Stage) → IsPending pending → Progress told pending pending stage stage
+progress_none told pending stage is = record {
+  raw = [];
+  read = record { rest = pending; cut = cut_pending pending is.begun; is = sym (take_all (LINE_LIMIT + 2) pending is.within) };
+  trace = trace_none told 0 stage zero_three;
+}
 
-  pub no_feed_byte : (byte : ℕ) → byte ≢ 10 → HasNoFeed (pending ++ byte ∷ [])
-  no_feed_byte byte other = (cut_byte (cut_pending pending begun_line) other).begun
+-- bytes without a line feed
+pub progress_part : (told : Type 0) (bytes kept part : List ℕ) (old new : Stage) → Progress told bytes kept old new → HasNoFeed part → Progress told (bytes ++ part) (kept_of (kept ++ part)) old new
+progress_part told bytes kept part old new progress free = record {
+  raw = progress.raw;
+  read = read_part bytes progress.raw kept part progress.read free;
+  trace = progress.trace;
+}
+
+-- there was no memory to keep more
+pub stopped_here : (told : Type 0) (status : ℕ) (bytes kept rest : List ℕ) (old new : Stage) → status ≢ 3 → Progress told bytes kept old new → Stopped told status (bytes ++ rest) old new None
+stopped_here told status bytes kept rest old new other progress = record {
+  before = bytes;
+  after = rest;
+  split = refl;
+  raw = progress.raw;
+  rest = progress.read.rest;
+  cut = progress.read.cut;
+  trace = trace_as told status (map strip_carriage_return progress.raw) old new other progress.trace;
+}
+
+-- ---- a line that ends
+
+module _ (told : Type 0) (pending part : List ℕ) (begun_line : HasNoFeed pending) (free : HasNoFeed part) where
+  cut_ended : Cut (pending ++ (part ++ 10 ∷ [])) ((pending ++ part) ∷ []) []
+  cut_ended =
+      subst (λ (l : List ℕ). Cut l ((pending ++ part) ∷ []) []) (append_assoc pending part (10 ∷ []))
+      (cut_feed (cut_pending (pending ++ part) (All-append (λ b. b ≢ 10) pending part begun_line free)))
+
+  trace_ended : (status : ℕ) (old new : Stage) (begun : Option Event) → Trace told status (strip_carriage_return (kept_of (pending ++ part)) ∷ []) old new begun
+      → Trace told status (strip_carriage_return (pending ++ part) ∷ []) old new begun
+  trace_ended status old new begun trace =
+      trace_read told status (strip_carriage_return (kept_of (pending ++ part)) ∷ []) (strip_carriage_return (pending ++ part) ∷ []) old new begun
+      (λ events are. events_as (strip_carriage_return (kept_of (pending ++ part))) (strip_carriage_return (pending ++ part)) (same_ended (pending ++ part)) events are) trace
 
   -- the line was answered
-  pub progress_line : (old new : Stage) → Trace told 0 (strip_carriage_return pending ∷ []) old new None → Progress told (pending ++ 10 ∷ []) [] old new
-  progress_line old new trace = record { raw = pending ∷ []; cut = cut_feed (cut_pending pending begun_line); trace = trace }
+  pub progress_line : (old new : Stage) → Trace told 0 (strip_carriage_return (kept_of (pending ++ part)) ∷ []) old new None → Progress told (pending ++ (part ++ 10 ∷ [])) [] old new
+  progress_line old new trace = record {
+    raw = (pending ++ part) ∷ [];
+    read = record { rest = []; cut = cut_ended; is = refl };
+    trace = trace_ended 0 old new None trace;
+  }
 
   -- it was begun, or its reply cut off
-  pub stopped_line : (status : ℕ) (old new : Stage) (begun : Option Event) → Trace told status (strip_carriage_return pending ∷ []) old new begun → Stopped told status (pending ++ 10 ∷ []) old new begun
+  pub stopped_line : (status : ℕ) (old new : Stage) (begun : Option Event) → Trace told status (strip_carriage_return (kept_of (pending ++ part)) ∷ []) old new begun
+      → Stopped told status (pending ++ (part ++ 10 ∷ [])) old new begun
   stopped_line status old new begun trace = record {
-    before = pending ++ 10 ∷ [];
+    before = pending ++ (part ++ 10 ∷ []);
     after = [];
-    split = sym (append-nil (pending ++ 10 ∷ []));
-    raw = pending ∷ [];
+    split = sym (append-nil (pending ++ (part ++ 10 ∷ [])));
+    raw = (pending ++ part) ∷ [];
     rest = [];
-    cut = cut_feed (cut_pending pending begun_line);
-    trace = trace;
+    cut = cut_ended;
+    trace = trace_ended status old new begun trace;
   }
 
   -- no memory was found before
-  pub stopped_none : (status byte : ℕ) (old new : Stage) (begun : Option Event) → Trace told status [] old new begun → Stopped told status (pending ++ byte ∷ []) old new begun
-  stopped_none status byte old new begun trace = record {
+  pub stopped_none : (status : ℕ) (old new : Stage) (begun : Option Event) → Trace told status [] old new begun → Stopped told status (pending ++ (part ++ 10 ∷ [])) old new begun
+  stopped_none status old new begun trace = record {
     before = pending;
-    after = byte ∷ [];
+    after = part ++ 10 ∷ [];
     split = refl;
     raw = [];
     rest = pending;
@@ -227,11 +273,31 @@ module _ (told : Type 0) (pending : List ℕ) (begun_line : HasNoFeed pending) w
     trace = trace;
   }
 
--- a piece up to a byte, and with it
-pub piece_more : (xs piece : List ℕ) (i : ℕ) → i < length piece → (xs ++ take i piece) ++ get_or piece i 0 ∷ [] ≡ xs ++ take (i + 1) piece
-piece_more xs piece i within = append_assoc xs (take i piece) (get_or piece i 0 ∷ []) ∙ ap (λ (l : List ℕ). xs ++ l) (sym (take_more piece i 0 within))
+-- ---- a last line
 
-pub piece_split : (xs piece : List ℕ) (i : ℕ) → i < length piece → (xs ++ take i piece) ++ (get_or piece i 0 ∷ [] ++ drop (i + 1) piece) ≡ xs ++ piece
-piece_split xs piece i within =
-    sym (append_assoc (xs ++ take i piece) (get_or piece i 0 ∷ []) (drop (i + 1) piece)) ∙ ap (λ (l : List ℕ). l ++ drop (i + 1) piece) (piece_more xs piece i within)
-    ∙ append_assoc xs (take (i + 1) piece) (drop (i + 1) piece) ∙ ap (λ (l : List ℕ). xs ++ l) (take-append-drop (i + 1) piece)
+-- a line that was taken is read as another one is
+taken_as : (outcome : Outcome) (a b : List ℕ) → command_of a ≡ command_of b → (events : List Event) → AreEvents (taken_of outcome a) events → AreEvents (taken_of outcome b) events
+taken_as (Ok done) a b same events are = events_as a b same events are
+taken_as (Err Memory) a b same events are = are
+taken_as (Err Done) a b same events are = events_as a b same events are
+taken_as (Err Words) a b same events are = events_as a b same events are
+taken_as (Err SourceFault) a b same events are = events_as a b same events are
+taken_as (Err SinkFault) a b same events are = events_as a b same events are
+taken_as (Err DiskFault) a b same events are = events_as a b same events are
+taken_as (Err NotAStore) a b same events are = events_as a b same events are
+taken_as (Err TooMuchInput) a b same events are = events_as a b same events are
+
+last_as : (none : Bool) (outcome : Outcome) (a b : List ℕ) → command_of a ≡ command_of b → (events : List Event) → AreEvents (if none then [] else taken_of outcome a) events
+    → AreEvents (if none then [] else taken_of outcome b) events
+last_as true outcome a b same events are = are
+last_as false outcome a b same events are = taken_as outcome a b same events are
+
+-- what was kept of it tells what it is
+pub trace_last : (told : Type 0) (outcome : Outcome) (rest kept : List ℕ) (old new : Stage) (begun : Option Event) → kept ≡ kept_of rest
+    → Trace told (status_of outcome) (if length kept == 0 then [] else taken_of outcome kept) old new begun → Trace told (status_of outcome) (if length rest == 0 then [] else taken_of outcome rest) old new begun
+trace_last told outcome rest kept old new begun is trace =
+    let kept_trace : Trace told (status_of outcome) (if length (kept_of rest) == 0 then [] else taken_of outcome (kept_of rest)) old new begun =
+    subst (λ (l : List ℕ). Trace told (status_of outcome) (if length l == 0 then [] else taken_of outcome l) old new begun) is trace in
+    trace_read told (status_of outcome) (if length rest == 0 then [] else taken_of outcome (kept_of rest)) (if length rest == 0 then [] else taken_of outcome rest) old new begun
+    (λ events are. last_as (length rest == 0) outcome (kept_of rest) rest (same_last rest) events are)
+    (subst (λ (b : Bool). Trace told (status_of outcome) (if b then [] else taken_of outcome (kept_of rest)) old new begun) (some_kept rest) kept_trace)

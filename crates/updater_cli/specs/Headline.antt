@@ -15,6 +15,7 @@ use Rattle.machine.specs.Store.{Session, Store}
 use Rattle.command_text.specs.Lines.{AreEvents}
 use Rattle.updater.specs.Stands.{Stands}
 use Rattle.updater.specs.Updater.{IsSpent}
+use Rattle.updater_cli.specs.declared.limits.TheConstants.{INPUT_LIMIT}
 use Rattle.updater_cli.specs.Devices.{Devices}
 use Rattle.updater_cli.specs.Opening.{BootsFirst, IsLineOrNone, IsUnopened, Survives}
 use Rattle.updater_cli.specs.Report.{answered, marked_by, origin_over, events_of, moment_behind, AreServed, Counts, FailuresRise, IsBegunServed, KeepsMoments, MarksRise, RunsTo, StandsSound, Writes}
@@ -47,12 +48,13 @@ pub record ReadsLines (boot status : ℕ) (input left : List ℕ) (report : Repo
   pub each : AreEvents (take (length events) (lines input)) events
   pub next : (event : Event) → report.begun ≡ Some event
       → IsNext boot input left report.lines events event
-  pub done : status ≡ 0 → AreEvents (lines input) events × (left ≡ []) × (length input ≤ 65536)
+  pub done : status ≡ 0
+      → AreEvents (lines input) events × (left ≡ []) × (length input ≤ INPUT_LIMIT)
   pub ended : (status ≡ 2) ⊎ (status ≡ 8)
       → length events ≡ count_by (λ b. b == 10)
-      (take 65536 (take (length input - length left) input))
-  pub limit : status ≡ 8 → 65536 + length left < length input
-  pub beyond : 65536 + length left < length input → status ≡ 8
+      (take INPUT_LIMIT (take (length input - length left) input))
+  pub limit : status ≡ 8 → INPUT_LIMIT + length left < length input
+  pub beyond : INPUT_LIMIT + length left < length input → status ≡ 8
 
 -- an event that touches the disk was begun exactly where the disk failed, which is status 4
 pub record BeginsOnFault (status : ℕ) (begun : Option Event) : Type 0 where

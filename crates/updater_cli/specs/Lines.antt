@@ -1,7 +1,7 @@
 -- What each part of a session promises: a line, a piece of the input, and the whole input.
 use Rattle.std.specs.Prelude.{◌≡◌, ◌⊎◌, ◌==◌, ℕ, ◌+◌, ◌-◌, ◌<◌, ◌≤◌, if◌then◌else◌, List, [], ◌∷◌, ◌++◌, length, take, map, count_by, Option, Some, None, option_to_list, IfSome, Result, Ok, Err, IfOk, IfErr, IsErr, OnOk, OnErr, MatchResult}
 use Rattle.std.specs.Str.Lines.{lines, strip_carriage_return}
-use Rattle.small_types.specs.declared.limits.TheConstants.{NUMBER_LIMIT}
+use Rattle.small_types.specs.declared.limits.TheConstants.{LINE_LIMIT, NUMBER_LIMIT}
 use Rattle.outside.specs.declared.source.Source.{Ghosts as SourceGhosts}
 use Rattle.outside.specs.declared.sink.Sink.{Ghosts as SinkGhosts}
 use Rattle.disks.specs.declared.disk.Disk.{Ghosts}
@@ -14,12 +14,13 @@ use Rattle.machine.specs.declared.reply.Reply.{Reply}
 use Rattle.machine.specs.declared.report.ReportLine.{ReportLine}
 use Rattle.machine.specs.Machine.{Step, moment_after}
 use Rattle.machine.specs.Store.{Session}
-use Rattle.command_text.specs.Input.{Cut, HasNoFeed}
+use Rattle.command_text.specs.Input.{Cut, HasNoFeed, IsRead}
 use Rattle.command_text.specs.Lines.{AreEvents, IsEvent}
 use Rattle.updater.specs.declared.updater.Updater.{Updater}
 use Rattle.updater.specs.Stands.{StandsForEither}
 use Rattle.updater.specs.Updater.{Holds, TakesNumber}
 use Rattle.updater_cli.specs.declared.course.Course.{Course}
+use Rattle.updater_cli.specs.declared.limits.TheConstants.{INPUT_LIMIT}
 use Rattle.updater_cli.specs.declared.status.Status.TheVariants.{SourceFault, SinkFault, DiskFault, Memory}
 use Rattle.updater_cli.specs.Devices.{RisesWith, Asks}
 use Rattle.updater_cli.specs.Report.{events_of, report_of, moment_behind, IsRunAt, AreRunFrom, IsCounted, IsServed, IsSettled, MarksRise, FailuresRise, Writes}
@@ -90,11 +91,16 @@ pub record Trace (told : Type 0) (status : ℕ) (inputs : List (List ℕ)) (old 
   pub failures : FailuresRise old.failures more new.failures
   pub output : told → Writes status old.taken new.taken more
 
--- The bytes were read and answered: they are whole lines, one for each line of the trace, and the
--- pending rest.
-pub record Progress (told : Type 0) (bytes pending : List ℕ) (old new : Stage) : Type 0 where
+-- What is pending of a line that no line feed has ended: as much of it as is kept.
+pub record IsPending (kept : List ℕ) : Type 0 where
+  pub begun : HasNoFeed kept
+  pub within : length kept ≤ LINE_LIMIT + 2
+
+-- The bytes were read and answered: they end raw lines, one for each line of the trace, and this is
+-- kept of the rest.
+pub record Progress (told : Type 0) (bytes kept : List ℕ) (old new : Stage) : Type 0 where
   pub raw : List (List ℕ)
-  pub cut : Cut bytes raw pending
+  pub read : IsRead bytes raw kept
   pub trace : Trace told 0 (map strip_carriage_return raw) old new None
 
 -- a first part of the bytes was, and the session stopped with a status
@@ -112,12 +118,12 @@ pub record Stopped (told : Type 0) (status : ℕ) (bytes : List ℕ) (old new : 
 pub record AreInputs (status : ℕ) (input left : List ℕ) (inputs : List (List ℕ)) : Type 0 where
   pub more : List (List ℕ)
   pub first : lines input ≡ inputs ++ more
-  pub all : status ≡ 0 → (inputs ≡ lines input) × (left ≡ []) × (length input ≤ 65536)
+  pub all : status ≡ 0 → (inputs ≡ lines input) × (left ≡ []) × (length input ≤ INPUT_LIMIT)
   pub ended : (status ≡ 2) ⊎ (status ≡ 8)
       → length inputs ≡ count_by (λ b. b == 10)
-      (take 65536 (take (length input - length left) input))
-  pub limit : status ≡ 8 → 65536 + length left < length input
-  pub beyond : 65536 + length left < length input → status ≡ 8
+      (take INPUT_LIMIT (take (length input - length left) input))
+  pub limit : status ≡ 8 → INPUT_LIMIT + length left < length input
+  pub beyond : INPUT_LIMIT + length left < length input → status ≡ 8
 
 -- ---- the parts of a session
 
@@ -190,15 +196,16 @@ pub record RestAnswered {K D L : Type 0} (to : SinkGhosts K) (on : Ghosts D) (ne
       (if length line == 0 then [] else taken_of result line)
       (stage_of to on net old) (stage_of to on net new) new.course.begun
 
--- each line that ends in these bytes was, or one of them ended the session
+-- Each line that ends in these bytes was, or one of them ended the session. The bytes begin with
+-- what was kept of a line.
 pub record PieceAnswered {K D L : Type 0} (to : SinkGhosts K) (on : Ghosts D) (net : LinksGhosts L)
-    (bytes : List ℕ) (old : Place K D L) (result : Outcome) (pending : List ℕ)
+    (bytes : List ℕ) (old : Place K D L) (result : Outcome) (kept : List ℕ)
     (new : Place K D L) : Type 0 where
   pub keeps : Keeps to on net old result new
   pub ends : IfErr result (λ status. IsLineEnd status new.course.begun)
-  pub whole : OnOk result (HasNoFeed pending)
+  pub pending : OnOk result (IsPending kept)
   pub done : OnOk result
-      (Progress to.tells bytes pending (stage_of to on net old) (stage_of to on net new))
+      (Progress to.tells bytes kept (stage_of to on net old) (stage_of to on net new))
   pub stopped : IfErr result (λ status. Stopped to.tells (code_of status) bytes
       (stage_of to on net old) (stage_of to on net new) new.course.begun)
 

@@ -11,7 +11,7 @@ use Rattle.folders.specs.Files.{IsNames}
 use Rattle.addresses.specs.Address.{target_of_text}
 use Rattle.identity.specs.Version.{IsVersion}
 use Rattle.links.specs.Links.{LinksState}
-use Rattle.fetcher.specs.Fetched.{AreQuiet}
+use Rattle.fetcher.specs.Fetched.{AreQuietTo}
 use Rattle.publish_plan.specs.Places.{deployment_name}
 use Rattle.publisher.specs.declared.publishing.Published.{Published}
 use Rattle.publisher.specs.Options.{IsPublishable}
@@ -41,11 +41,15 @@ PublishesWrite = (p : Publication) (new : List Held) (published : Published)
 abbrev pub sites_of : LinksState → Sites
 sites_of links = record { sources = links.sources; site = λ k. (links.link k).site }
 
--- Of what a command says of an install: where both texts were heard, each link tells and the count
--- of none rose, they are what the links give.
+-- Of what a command says of an install: where both texts were heard, the first link tells that its
+-- site is a folder that holds what was published, and its count did not rise, they are what the links
+-- give from an address of the deployment manifest. Of the links behind it nothing is asked.
 abbrev pub ServedIsGiven : LinksState → LinksState → Type 0
-ServedIsGiven before after = (shape : Shape) (url : List ℕ) (texts : List (List ℕ)) (reply : Reply)
-    → Served shape url texts before after reply → AreQuiet before after
+ServedIsGiven before after = (p : Publication) (files folder : List Held) (shape : Shape)
+    (url : List ℕ) (texts : List (List ℕ)) (reply : Reply) → Writes p files → Holds folder files
+    → IsFirstSite folder (sites_of before)
+    → ((given : Target) → target_of_text url ≡ Ok given → Reaches given (deployment_name p.options))
+    → Served shape url texts before after reply → AreQuietTo 0 before after
     → IsSome (slice_get texts 0) → IsSome (slice_get texts 1)
     → HeardGiven (sites_of before) url texts
 

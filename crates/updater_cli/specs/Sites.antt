@@ -8,7 +8,8 @@ use Rattle.digest_list.specs.Matches.{Matches}
 use Rattle.manifests.specs.declared.facts.FileEntry.{FileEntry}
 use Rattle.links.specs.Links.{LinksState}
 use Rattle.fetcher.specs.Given.{IsOfSite}
-use Rattle.machine.specs.declared.command.Command.TheVariants.{At, Require, Install, Check, Skip, Launch, Read, Local, Put, Remove, Group, Finish}
+use Rattle.machine.specs.declared.command.Command.TheVariants.{At, Require, Install, Check, Skip, Rollback, Launch, Read, Local, Put, Remove, Group, Finish, Clean, Show}
+use Rattle.machine.specs.declared.command.Command.TheVariants as asks
 use Rattle.machine.specs.declared.event.Event.{Event}
 use Rattle.machine.specs.declared.event.Event.TheVariants.{Boot, Line, Unread}
 use Rattle.machine.specs.declared.report.ReportLine.{ReportLine}
@@ -97,6 +98,7 @@ IsLineOfSites links (Line (Require key version) now heard) old new = Unit {0}
 IsLineOfSites links (Line (Install url) now heard) old new = IsOfSites links url heard.texts old new
 IsLineOfSites links (Line (Check key) now heard) old new = OfferOfSites links key heard.texts old
 IsLineOfSites links (Line (Skip key) now heard) old new = Unit {0}
+IsLineOfSites links (Line (Rollback key) now heard) old new = Unit {0}
 IsLineOfSites links (Line (Launch key) now heard) old new = Unit {0}
 IsLineOfSites links (Line (Read lease name from count) now heard) old new = Unit {0}
 IsLineOfSites links (Line (Local lease name from count) now heard) old new = Unit {0}
@@ -105,6 +107,9 @@ IsLineOfSites links (Line (Remove lease name) now heard) old new = Unit {0}
 IsLineOfSites links (Line (Group lease group) now heard) old new =
     GroupOfSites links lease group old new
 IsLineOfSites links (Line (Finish lease) now heard) old new = Unit {0}
+IsLineOfSites links (Line Clean now heard) old new = Unit {0}
+IsLineOfSites links (Line asks.List now heard) old new = Unit {0}
+IsLineOfSites links (Line (Show key) now heard) old new = Unit {0}
 IsLineOfSites links (Unread fault) old new = Unit {0}
 
 -- The lines lead to this session, and what each heard and brought is of the sites of these links.

@@ -1,11 +1,12 @@
 -- What the words of the command line ask for.
-use Rattle.std.specs.Prelude.{ℕ, ◌≤◌, List, [], ◌∷◌, drop, Bool, false, ◌&&◌, nat_le, if◌then◌else◌, codes, Option, Some, None}
+use Rattle.std.specs.Prelude.{◌≡◌, ℕ, ◌≤◌, List, [], ◌∷◌, drop, Bool, true, false, ◌&&◌, nat_le, if◌then◌else◌, codes, Option, Some, None}
 use Rattle.std.specs.Str.{bytes_eq}
 use Rattle.small_types.specs.declared.limits.TheConstants.{BLOCK_LIMIT, NUMBER_LIMIT}
 use Rattle.command_text.specs.Numbers.{number_of}
 use Rattle.inspection.specs.declared.manifest.Kind.TheVariants.{Deployment, Application}
 use Rattle.publish_plan.specs.declared.options.Options.{Options}
 use Rattle.publisher.specs.Options.{IsPublishable}
+use Rattle.publication.specs.Command.{Takes}
 use Rattle.publication.specs.Words.{options_of}
 use Rattle.updater_cli.specs.declared.words.Request.{Request}
 use Rattle.updater_cli.specs.declared.words.Request.TheVariants.{Format, Session, Inspect, Publish}
@@ -57,6 +58,11 @@ publish_of (Some options) = Some (Publish options)
 abbrev pub request_of : List (List ℕ) → Option Request
 request_of words =
     if is_publish words then publish_of (options_of (drop 1 words)) else other_of words
+
+-- The first word is `publish`, and its options do not take the words behind it, as where one is
+-- unknown, has no value or stands twice.
+abbrev pub IsUntaken : List (List ℕ) → Type 0
+IsUntaken words = (is_publish words ≡ true) × ¬ Takes (drop 1 words)
 
 -- a publish is asked for
 abbrev pub AsksToPublish : Option Request → Type 0

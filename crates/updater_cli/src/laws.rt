@@ -18,8 +18,9 @@ pub fn publishes_write()
     ensures { PublishesWrite }
 {}
 
-/// The texts that a command heard of an install are what its links give, where each link tells and
-/// the count of none rose. The links are those before the command and behind it.
+/// The texts that a command heard of an install are what its links give, where the first link tells
+/// that its site is a folder that holds what was published, and its count did not rise. The links are
+/// those before the command and behind it.
 pub fn served_is_given<L: Links>(before: &L, after: &L)
     ensures { ServedIsGiven (L.links before.now) (L.links after.now) }
 {}

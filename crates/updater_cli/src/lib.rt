@@ -3,6 +3,7 @@
 
 mod course;
 mod laws;
+mod limits;
 mod line;
 mod opening;
 mod session;
@@ -11,6 +12,7 @@ mod top;
 mod words;
 
 pub use laws::published_is_read;
+pub use limits::INPUT_LIMIT;
 pub use machine::{Report, ReportLine};
 pub use top::run;
 pub use words::Request;

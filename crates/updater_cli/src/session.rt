@@ -1,44 +1,44 @@
-// The lines of a session: pieces of the input are cut into lines, which are answered one after the other.
+// The lines of a session: pieces of the input are cut into lines, which are answered one after the
+// other. Of a line that has not ended no more is kept than tells what it is.
 ghost use Rattle.std.specs.Prelude.{◌≡◌, ◌<◌, ◌≤◌, [], ◌∷◌, ◌++◌, length, take, IfOk, OnErr};
 ghost use Rattle.outside.specs.Streams.{Causes};
 ghost use Rattle.command_text.specs.Input.{HasNoFeed};
-ghost use Rattle.updater_cli.specs.Lines.{InputAnswered, IsReady, PieceAnswered, RestAnswered, place_of};
+ghost use Rattle.updater_cli.specs.Lines.{InputAnswered, IsPending, IsReady, PieceAnswered, RestAnswered, place_of};
 
 use crate::course::Course;
+use crate::limits::INPUT_LIMIT;
 use crate::line::answer_line;
 use crate::status::Status;
-use command_text::strip_carriage_return;
+use command_text::{keep, strip_carriage_return};
 use disks::Disk;
 use links::Links;
 use outside::{Failed, Sink, Source};
-use small_types::limits::INPUT_LIMIT;
+use small_types::cut_once;
 use std::alloc::Global;
 
 /// How many bytes are asked of the source at a time.
-const PIECE: usize = 4_096;
+const PIECE: usize = 65_536;
 
-// Adds a byte of the input to the pending line, which a line feed ends: then it is answered.
-fn answer_byte<K: Sink, D: Disk, L: Links>(
+// Answers the pending line, which ends with these bytes and a line feed behind them.
+fn answer_ended<K: Sink, D: Disk, L: Links>(
     alloc: Global,
     sink: &mut K,
     disk: &mut D,
     links: &mut L,
     course: &mut Course,
     pending: &mut Vec<u8>,
-    byte: u8,
+    part: &[u8],
 ) -> Result<(), Status>
     requires ready { IsReady course.old }
-    requires pending { HasNoFeed pending.old.items }
-    ensures { PieceAnswered K.Sink D.Disk L.Links (pending.old.items ++ byte ∷ [])
+    requires pending { IsPending pending.old.items }
+    requires part { HasNoFeed part.now }
+    ensures { PieceAnswered K.Sink D.Disk L.Links (pending.old.items ++ (part.now ++ 10 ∷ []))
         (place_of sink.old disk.old links.old course.old) result pending.new.items
         (place_of sink.new disk.new links.new course.new) }
 {
-    if byte != b'\n' {
-        let Ok(()) = pending.push(byte) else {
-            return Err(Status::Memory);
-        };
-        return Ok(());
-    }
+    let Ok(()) = keep(pending, part) else {
+        return Err(Status::Memory);
+    };
     let line = strip_carriage_return(pending.as_slice());
     if let Err(status) = answer_line(alloc, sink, disk, links, course, line) {
         return Err(status);
@@ -47,7 +47,7 @@ fn answer_byte<K: Sink, D: Disk, L: Links>(
     Ok(())
 }
 
-// Answers each line that the piece ends.
+// Answers each line that the piece ends, and keeps what it has of the next one.
 fn answer_piece<K: Sink, D: Disk, L: Links>(
     alloc: Global,
     sink: &mut K,
@@ -58,16 +58,21 @@ fn answer_piece<K: Sink, D: Disk, L: Links>(
     piece: &[u8],
 ) -> Result<(), Status>
     requires ready { IsReady course.old }
-    requires pending { HasNoFeed pending.old.items }
+    requires pending { IsPending pending.old.items }
     ensures { PieceAnswered K.Sink D.Disk L.Links (pending.old.items ++ piece.now)
         (place_of sink.old disk.old links.old course.old) result pending.new.items
         (place_of sink.new disk.new links.new course.new) }
 {
-    for byte in piece {
-        if let Err(status) = answer_byte(alloc, sink, disk, links, course, pending, *byte) {
+    let mut rest = piece;
+    while let Some((part, more)) = cut_once(rest, b'\n') {
+        if let Err(status) = answer_ended(alloc, sink, disk, links, course, pending, part) {
             return Err(status);
         }
+        rest = more;
     }
+    let Ok(()) = keep(pending, rest) else {
+        return Err(Status::Memory);
+    };
     Ok(())
 }
 

@@ -1,5 +1,5 @@
 // The top call.
-ghost use Rattle.std.specs.Prelude.{◌≡◌, ◌≢◌, ◌⊎◌, ◌↔◌, ◌≤◌, ℕ, None, Some};
+ghost use Rattle.std.specs.Prelude.{◌≡◌, ◌≢◌, ◌⊎◌, ◌↔◌, ◌≤◌, ℕ, true, false, None, Some};
 ghost use Rattle.small_types.specs.declared.limits.TheConstants.{BLOCK_LIMIT};
 ghost use Rattle.outside.specs.Streams.{Rose};
 ghost use Rattle.inspection.specs.declared.manifest.Kind.{Kind};
@@ -12,7 +12,7 @@ ghost use Rattle.updater_cli.specs.Format.{MakesStore};
 ghost use Rattle.updater_cli.specs.Headline.{Headline, IsNothing};
 ghost use Rattle.updater_cli.specs.Requests.{InspectsInput, PublishesBy};
 ghost use Rattle.updater_cli.specs.Status.{code_of};
-ghost use Rattle.updater_cli.specs.Words.{AsksForSession, AsksToPublish, request_of};
+ghost use Rattle.updater_cli.specs.Words.{AsksForSession, AsksToPublish, IsUntaken, is_publish, request_of};
 
 use crate::opening::session;
 use crate::status::Status;
@@ -47,25 +47,32 @@ fn format<D: Disk>(alloc: Global, disk: &mut D, blocks: u64) -> Status
 ///
 /// `session --boot N --now N` answers the lines of the source on the sink over the store on the
 /// disk; the numbers are at most 2^62, and `now` is in seconds. The lines are `at N`,
-/// `require KEY V`, `install URL`, `check KEY`, `skip KEY`, `launch KEY`, `read L NAME FROM COUNT`,
-/// `data L NAME FROM COUNT`, `put L NAME HEX`, `remove L NAME`, `group L GROUP` and `finish L`. What
-/// an `install` or a `group` wants is fetched over the links, and a `check` asks them what the
-/// application's provider offers. A `launch` gives a lease on the application's current view, whose
-/// program files `read` reads as they are until `finish` or another boot number; `data` reads its data
-/// files, which `put` and `remove` change. The report then has what the session did.
+/// `require KEY V`, `install URL`, `check KEY`, `skip KEY`, `rollback KEY`, `launch KEY`,
+/// `read L NAME FROM COUNT`, `data L NAME FROM COUNT`, `put L NAME HEX`, `remove L NAME`,
+/// `group L GROUP`, `finish L`, `clean`, `list` and `show KEY`. What an `install` or a `group` wants is
+/// fetched over the links, and a `check` asks them what the application's provider offers. A `launch`
+/// gives a lease on the application's current view, whose program files `read` reads as they are until
+/// `finish` or another boot number; `data` reads its data files, which `put` and `remove` change. A
+/// `rollback` makes the previous view current again. A `clean` gives up the views that are neither
+/// current nor previous nor leased. A line of more than 65,536 bytes is answered as too long and
+/// passed over, and no more of it is kept. The report then has what the session did.
 ///
 /// `inspect deployment` and `inspect application` read a manifest from the source, at most 4,194,305
 /// bytes, and write what it says, or why it is refused, to the sink.
 ///
-/// `publish --name N --release V --entry E --from F --to T`, and then marks `data:FILE` and
-/// `group:GROUP:FILE`, publishes the files below F in the folder, and writes to the sink what was
-/// published, or why it is refused.
+/// `publish` with `--name N`, `--release V`, `--entry E`, `--from F` and `--to T` publishes the files
+/// below F in the folder, and writes to the sink what was published, or why it is refused. It may
+/// also have `--publisher P`, `--minimum V`, `--check C`, `--provider U`, `--plain`, and any number of
+/// marks, `data:FILE` and `group:GROUP:FILE`. These stand in any order, and `read_options` of
+/// `publication` says what each may be.
 ///
 /// The status is 0 where all was done, 1 where the words are none of these, 2 where the source
 /// failed, 3 the sink, 4 the disk, 5 where the disk holds no store, 6 where there was no memory, 7
-/// where a manifest or a publish is refused, and 8 where a session's input has more than 65,536
-/// bytes. For `publish` it is 2 where the folder failed at a reading, and 3 also where it failed at
-/// a writing.
+/// where a manifest or a publish is refused, and 8 where a session's input has more than
+/// 4,294,967,296 bytes. For `publish` it is 2 where the folder failed at a reading, and 3 also where
+/// it failed at a writing; 1 comes wherever the words give no options, unless memory ran out, and
+/// else only where the options do not take the words, as where one is unknown, has no value or stands
+/// twice. Wherever the words ask for nothing, and wherever the status is 1, nothing is done.
 pub fn run<S: Source, K: Sink, D: Disk, F: Folder, L: Links>(
     alloc: Global,
     words: &[Word],
@@ -98,6 +105,7 @@ pub fn run<S: Source, K: Sink, D: Disk, F: Folder, L: Links>(
 
     // A release was published, or the publish was refused, and a line says which.
     ensures publish { (options : Options) → request_of words.now ≡ Some (asked.Publish options)
+        → result ≢ 1
         → PublishesBy F.Folder K.Sink options result folder.old folder.new sink.old sink.new }
     ensures publish_others { (options : Options)
         → request_of words.now ≡ Some (asked.Publish options) → (source.new ≡ source.old)
@@ -111,10 +119,17 @@ pub fn run<S: Source, K: Sink, D: Disk, F: Folder, L: Links>(
     ensures statuses { result ≤ 8 }
     ensures session_statuses { (boot now : ℕ)
         → request_of words.now ≡ Some (asked.Session boot now) → result ≢ 7 }
-    ensures words { (result ≡ 1) ↔ (request_of words.now ≡ None) }
+    ensures words { result ≡ 1 → (request_of words.now ≡ None) ⊎ IsUntaken words.now }
+    ensures no_request { request_of words.now ≡ None
+        → (result ≡ 1) ⊎ ((is_publish words.now ≡ true) × (result ≡ 6)) }
+    ensures other_words { is_publish words.now ≡ false
+        → (result ≡ 1) ↔ (request_of words.now ≡ None) }
     ensures nothing { result ≡ 1 → (source.new ≡ source.old) × (sink.new ≡ sink.old)
         × (disk.new ≡ disk.old) × (folder.new ≡ folder.old) × (links.new ≡ links.old)
         × (report.new ≡ report.old) }
+    ensures nothing_asked { request_of words.now ≡ None → (source.new ≡ source.old)
+        × (sink.new ≡ sink.old) × (disk.new ≡ disk.old) × (folder.new ≡ folder.old)
+        × (links.new ≡ links.old) × (report.new ≡ report.old) }
     ensures source_fault { ¬ AsksToPublish (request_of words.now) → result ≡ 2
         → Rose (S.count source.old) (S.count source.new) }
     ensures sink_fault { ¬ AsksToPublish (request_of words.now) → result ≡ 3

@@ -1,10 +1,11 @@
 // The words of the command line.
-ghost use Rattle.std.specs.Prelude.{◌≡◌, drop, length, None, Some, IfOk, IfSome};
+ghost use Rattle.std.specs.Prelude.{◌≡◌, ◌⊎◌, drop, length, true, None, Some, Err, IfOk, IfSome};
 ghost use Rattle.std.specs.Str.{bytes_eq};
 ghost use Rattle.command_text.specs.Numbers.{number_of};
+ghost use Rattle.publication.specs.Command.{Takes};
 ghost use Rattle.publication.specs.Words.{options_of};
 ghost use Rattle.publication.specs.declared.values.WordFault.TheVariants as fault;
-ghost use Rattle.updater_cli.specs.Words.{AsksToPublish, IsRequest, format_of, is_publish as asks_to_publish, kind_of, other_of, publish_of, request_of, session_of};
+ghost use Rattle.updater_cli.specs.Words.{IsRequest, IsUntaken, format_of, is_publish as asks_to_publish, kind_of, other_of, publish_of, request_of, session_of};
 
 use command_text::read_number;
 use inspection::Kind;
@@ -123,8 +124,8 @@ fn read_five(words: &[Word]) -> Option<Request>
 fn read_publish(alloc: Global, words: &[Word]) -> Result<Request, WordFault>
     ensures request { IfOk result (λ request. publish_of (options_of words.now) ≡ Some request) }
     ensures small { IfOk result IsRequest }
-    ensures none { result ≡ Err fault.Unreadable → publish_of (options_of words.now) ≡ None }
-    ensures memory { result ≡ Err fault.Memory → AsksToPublish (publish_of (options_of words.now)) }
+    ensures none { result ≡ Err fault.Unreadable
+        → (publish_of (options_of words.now) ≡ None) ⊎ (¬ Takes words.now) }
 {
     let options = read_options(alloc, words)?;
     Ok(Request::Publish { options })
@@ -158,13 +159,15 @@ fn is_publish(words: &[Word]) -> bool
 }
 
 /// What the words ask for: `format --blocks N` with N from 1 to 65,536, `session --boot N --now N`,
-/// `inspect deployment` or `inspect application`, or `publish` and its words. `Unreadable` comes exactly where they ask
-/// for nothing, and `Memory` only where they ask to publish.
+/// `inspect deployment` or `inspect application`, or `publish` and its words. `Unreadable` comes
+/// where they ask for nothing, unless memory ran out. Else it comes only where they are those of a
+/// `publish` whose options do not take them. `Memory` comes only behind the word `publish`.
 pub(crate) fn read_words(alloc: Global, words: &[Word]) -> Result<Request, WordFault>
     ensures request { IfOk result (λ request. request_of words.now ≡ Some request) }
     ensures small { IfOk result IsRequest }
-    ensures none { result ≡ Err fault.Unreadable → request_of words.now ≡ None }
-    ensures memory { result ≡ Err fault.Memory → AsksToPublish (request_of words.now) }
+    ensures none { result ≡ Err fault.Unreadable
+        → (request_of words.now ≡ None) ⊎ IsUntaken words.now }
+    ensures memory { result ≡ Err fault.Memory → asks_to_publish words.now ≡ true }
 {
     if is_publish(words) {
         return read_publish(alloc, &words[1..]);

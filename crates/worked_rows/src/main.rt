@@ -154,15 +154,30 @@ fn too_many(rt: &HostRuntime) -> io::Result<()> {
     )
 }
 
-// As much input as a session takes, and a byte more.
-fn limit(rt: &HostRuntime) -> io::Result<()> {
-    let mut disk = new_store(rt)?;
+// A session whose input is so many bytes of no command, and then these.
+fn long_row(rt: &HostRuntime, disk: &mut MemDisk, count: usize, then: &[u8]) -> io::Result<()> {
     let mut input = Vec::new(rt.alloc());
-    input.resize(65_535, b'x')?;
-    input.push(b'\n')?;
-    row(rt, &mut disk, SESSION, &input)?;
-    input.push(b'\n')?;
-    row(rt, &mut disk, SESSION, &input)
+    input.resize(count, b'x')?;
+    input.extend_from_slice(then)?;
+    row(rt, disk, SESSION, &input)
+}
+
+// Lines as long as may be, longer ones, and what follows them.
+fn long_lines(rt: &HostRuntime) -> io::Result<()> {
+    let mut disk = new_store(rt)?;
+    long_row(rt, &mut disk, 65_536, b"\nat 5\n")?;
+    long_row(rt, &mut disk, 65_536, b"\r\nat 5\n")?;
+    long_row(rt, &mut disk, 65_537, b"\nat 5\n")?;
+    long_row(rt, &mut disk, 65_537, b"\r\nat 5\n")?;
+    // A last line without a line feed keeps its carriage return.
+    long_row(rt, &mut disk, 65_536, b"")?;
+    long_row(rt, &mut disk, 65_536, b"\r")?;
+    // What stands behind the bytes that are kept of a long line, or at the front of a piece of the
+    // input, belongs to the line.
+    long_row(rt, &mut disk, 65_538, b"at 7\nat 8\n")?;
+    long_row(rt, &mut disk, 131_072, b"at 7\nat 8")?;
+    // A short line lies in two pieces of the input.
+    long_row(rt, &mut disk, 65_533, b"\nat 5\n\nat 6")
 }
 
 // The minimum that a disk which a stop leaves stands for: the reply to a `require` of version 0.
@@ -231,7 +246,7 @@ fn main(rt: HostRuntime) -> io::Result<()> {
     statuses(&rt)?;
     failures(&rt)?;
     too_many(&rt)?;
-    limit(&rt)?;
+    long_lines(&rt)?;
     stops(&rt)?;
     stops_in_openings(&rt)
 }

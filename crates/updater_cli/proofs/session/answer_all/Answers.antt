@@ -1,14 +1,15 @@
-use Rattle.std.proofs.Common.{arith, ◌<◌, ◌≤◌, ◌∙◌, ◌-◌, length, take, Ok, refl, ap, length-take}
-use Rattle.updater_cli.specs.Lines.{place_of}
+use Rattle.std.proofs.Common.{arith, ◌<◌, ◌≤◌, ◌∙◌, ◌-◌, length, take, Ok, refl, sym, ap, subst, length-take}
+use Rattle.updater_cli.specs.Lines.{IsPending, place_of}
 use Rattle.updater_cli.proofs.Asking.{keeps_none, keeps_then}
 use Rattle.updater_cli.proofs.Inputs.{source_failed, too_much_given, rest_answered, piece_stopped, piece_read}
 use Rattle.updater_cli.proofs.Reading.{read_none}
+use Rattle.updater_cli.proofs.Traces.{pending_none}
 use Rattle.updater_cli.proofs.session.answer_all.Goals as goal
 
 pub loop-room-init : goal.loop-room-init
 loop-room-init g c = record {
   keeps = keeps_none g.K.Sink g.D.Disk g.L.Links (place_of c.args.sink.now c.args.disk.now c.args.links.now c.args.course.now) c.requires;
-  pending = λ k d within. absurd (omega (arith, ap length c.new-pending.ensures.items));
+  pending = subst IsPending (sym c.new-pending.ensures.items) pending_none;
   read = read_none g.S.Source.tells (g.S.Source.left c.args.source.now) c.new-pending.result.items g.K.Sink.tells _ c.new-pending.ensures.items;
   reads = refl;
 }
@@ -33,7 +34,7 @@ returns-in-Err-answer_piece g c =
 pub loop-room-preserved : goal.loop-room-preserved
 loop-room-preserved g c = record {
   keeps = keeps_then g.K.Sink g.D.Disk g.L.Links _ _ _ _ c.loop-room.invariant.keeps c.in_default.ensures.keeps;
-  pending = c.in_default.ensures.whole;
+  pending = c.in_default.ensures.pending;
   read = piece_read g.S.Source g.K.Sink g.D.Disk g.L.Links c.args.source.now c.loop-room.source c.read_piece.new.source _ _ c.loop-room.invariant.keeps c.loop-room.room c.loop-room.pending.items c.loop-room.invariant.read c.loop-room.invariant.reads
       (take c.in-Ok.n c.read_piece.new.buf) c.answer_piece.new.pending.items (c.loop-room.room - c.in-Ok.n) (omega (arith, length-take c.in-Ok.n c.read_piece.new.buf, c.in-Ok.ensures.within, c.read_piece.auto.buf))
       (λ told. c.in-Ok.ensures.bytes told) (place_of c.answer_piece.new.sink c.answer_piece.new.disk c.answer_piece.new.links c.answer_piece.new.course) c.in_default.ensures;

@@ -1,7 +1,7 @@
 use Rattle.std.proofs.Common.{arith, ◌≡◌, []}
 use Rattle.std.proofs.lemmas.List.{nil_from_length}
 use Rattle.updater_cli.specs.Lines.{place_of}
-use Rattle.updater_cli.proofs.Bytes.{rest_none}
+use Rattle.updater_cli.proofs.Pieces.{rest_none}
 use Rattle.updater_cli.proofs.session.answer_rest.Goals as goal
 
 pub returns-then-is_empty : goal.returns-then-is_empty

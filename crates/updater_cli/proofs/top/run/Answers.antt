@@ -1,4 +1,4 @@
-use Rattle.std.proofs.Common.{rules, arith, ◌≡◌, Some, refl, sym, ◌∙◌, ap}
+use Rattle.std.proofs.Common.{rules, arith, ◌≡◌, ◌≢◌, Some, Err, inr, refl, sym, ◌∙◌, ap}
 use Rattle.updater_cli.specs.declared.status.Status.{Status}
 use Rattle.updater_cli.specs.declared.status.Status.TheVariants.{Done, Words, SourceFault, SinkFault, DiskFault, NotAStore, Memory, TooMuchInput}
 use Rattle.updater_cli.specs.Devices.{devices_of}
@@ -8,6 +8,7 @@ use Rattle.updater_cli.specs.Requests.{InspectsInput, PublishesBy}
 use Rattle.updater_cli.specs.Status.{code_of}
 use Rattle.updater_cli.specs.Words.{request_of}
 use Rattle.updater_cli.proofs.Asked.{for_session, for_format, for_inspect, for_publish}
+use Rattle.updater_cli.proofs.PublishWords.{no_session, no_format, no_inspect, no_others, refused_session, refused_format, refused_inspect, refused_others}
 use Rattle.updater_cli.proofs.Publishing.{publishes, publishes_nothing}
 use Rattle.updater_cli.proofs.top.run.Goals as goal
 
@@ -44,11 +45,47 @@ returns-in-Ok-Inspect-clause-inspect g c =
 
 pub returns-in-Ok-Publish-clause-publish : goal.returns-in-Ok-Publish-clause-publish
 returns-in-Ok-Publish-clause-publish g c =
-    for_publish (request_of c.args.words.now) (λ options. PublishesBy g.F.Folder g.K.Sink options c.code-in-Ok-Publish.result c.args.folder.now c.publish_options.new.folder c.args.sink.now c.publish_options.new.sink)
+    for_publish (request_of c.args.words.now) (λ options. c.code-in-Ok-Publish.result ≢ 1 → PublishesBy g.F.Folder g.K.Sink options c.code-in-Ok-Publish.result c.args.folder.now c.publish_options.new.folder c.args.sink.now c.publish_options.new.sink)
     c.in-Ok-Publish.options (c.in-Ok-Publish.ensures.request ∙ ap Some c.in-Ok-Publish.field-0-is)
-    (publishes g.F.Folder g.K.Sink c.in-Ok-Publish.options c.args.folder.now c.publish_options.new.folder c.args.sink.now c.publish_options.new.sink c.publish_options.result c.publish_options.ensures.done
+    (λ other. publishes g.F.Folder g.K.Sink c.in-Ok-Publish.options c.args.folder.now c.publish_options.new.folder c.args.sink.now c.publish_options.new.sink c.publish_options.result c.publish_options.ensures.done
     c.publish_options.ensures.read_cause c.publish_options.ensures.write_cause c.publish_options.ensures.sink_cause c.code-in-Ok-Publish.result c.code-in-Ok-Publish.ensures)
 
 pub returns-in-Err-Memory-clause-publish : goal.returns-in-Err-Memory-clause-publish
-returns-in-Err-Memory-clause-publish g c = λ options asked.
+returns-in-Err-Memory-clause-publish g c = λ options asked other.
     publishes_nothing g.F.Folder g.K.Sink options c.args.folder.now c.args.sink.now c.code-in-Err-Memory.result c.code-in-Err-Memory.ensures
+
+pub returns-in-Err-Unreadable-clause-headline : goal.returns-in-Err-Unreadable-clause-headline
+returns-in-Err-Unreadable-clause-headline g c = λ boot now asked. absurd (refused_session c.args.words.now (c.in-Err-Unreadable.ensures.none (ap Err c.in-Err-Unreadable.field-0-is)) boot now asked)
+
+pub returns-in-Err-Unreadable-clause-format : goal.returns-in-Err-Unreadable-clause-format
+returns-in-Err-Unreadable-clause-format g c = λ blocks asked. absurd (refused_format c.args.words.now (c.in-Err-Unreadable.ensures.none (ap Err c.in-Err-Unreadable.field-0-is)) blocks asked)
+
+pub returns-in-Err-Unreadable-clause-inspect : goal.returns-in-Err-Unreadable-clause-inspect
+returns-in-Err-Unreadable-clause-inspect g c = λ kind asked. absurd (refused_inspect c.args.words.now (c.in-Err-Unreadable.ensures.none (ap Err c.in-Err-Unreadable.field-0-is)) kind asked)
+
+pub returns-in-Err-Unreadable-clause-publish : goal.returns-in-Err-Unreadable-clause-publish
+returns-in-Err-Unreadable-clause-publish g c = λ options asked other. absurd (other c.code.ensures)
+
+pub returns-in-Err-Unreadable-clause-no_store : goal.returns-in-Err-Unreadable-clause-no_store
+returns-in-Err-Unreadable-clause-no_store g c = λ boot now asked told stands. absurd (refused_session c.args.words.now (c.in-Err-Unreadable.ensures.none (ap Err c.in-Err-Unreadable.field-0-is)) boot now asked)
+
+pub returns-in-Err-Unreadable-clause-words : goal.returns-in-Err-Unreadable-clause-words
+returns-in-Err-Unreadable-clause-words g c = λ one. c.in-Err-Unreadable.ensures.none (ap Err c.in-Err-Unreadable.field-0-is)
+
+pub returns-in-Err-Unreadable-clause-other_words : goal.returns-in-Err-Unreadable-clause-other_words
+returns-in-Err-Unreadable-clause-other_words g c = λ other. ((λ one. refused_others c.args.words.now (c.in-Err-Unreadable.ensures.none (ap Err c.in-Err-Unreadable.field-0-is)) other), (λ none. c.code.ensures))
+
+pub returns-in-Err-Memory-clause-headline : goal.returns-in-Err-Memory-clause-headline
+returns-in-Err-Memory-clause-headline g c = λ boot now asked. absurd (no_session c.args.words.now (c.in-Err-Memory.ensures.memory (ap Err c.in-Err-Memory.field-0-is)) boot now asked)
+
+pub returns-in-Err-Memory-clause-format : goal.returns-in-Err-Memory-clause-format
+returns-in-Err-Memory-clause-format g c = λ blocks asked. absurd (no_format c.args.words.now (c.in-Err-Memory.ensures.memory (ap Err c.in-Err-Memory.field-0-is)) blocks asked)
+
+pub returns-in-Err-Memory-clause-inspect : goal.returns-in-Err-Memory-clause-inspect
+returns-in-Err-Memory-clause-inspect g c = λ kind asked. absurd (no_inspect c.args.words.now (c.in-Err-Memory.ensures.memory (ap Err c.in-Err-Memory.field-0-is)) kind asked)
+
+pub returns-in-Err-Memory-clause-no_request : goal.returns-in-Err-Memory-clause-no_request
+returns-in-Err-Memory-clause-no_request g c = λ none. inr (c.in-Err-Memory.ensures.memory (ap Err c.in-Err-Memory.field-0-is), c.code-in-Err-Memory.ensures)
+
+pub returns-in-Err-Memory-clause-other_words : goal.returns-in-Err-Memory-clause-other_words
+returns-in-Err-Memory-clause-other_words g c = λ other. absurd (no_others c.args.words.now (c.in-Err-Memory.ensures.memory (ap Err c.in-Err-Memory.field-0-is)) other)
