@@ -184,9 +184,21 @@ impl Client {
         Ok(())
     }
 
-    /// Adds its last line, without a line feed.
+    /// Adds its last line, without a line feed, or the beginning of a line.
     pub fn add_last(&mut self, line: &str) -> io::Result<()> {
         self.lines.push_str(line)?;
+        Ok(())
+    }
+
+    /// Adds a text to the line that has begun, so many times: their number, a space, and the text.
+    pub fn add_repeated(&mut self, words: &str) -> io::Result<()> {
+        let (count, text) = words.split_once(' ').unwrap_or((words, ""));
+        let Ok(count) = count.parse::<u32>() else {
+            return Err(ErrorKind::InvalidInput.into());
+        };
+        for _ in 0..count {
+            self.lines.push_str(text)?;
+        }
         Ok(())
     }
 

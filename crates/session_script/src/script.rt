@@ -4,7 +4,7 @@ use crate::site;
 use std::io::{self, ErrorKind};
 
 // Adds a line to the next session, so many times.
-fn repeat(client: &mut Client, words: &str) -> io::Result<()> {
+fn add_times(client: &mut Client, words: &str) -> io::Result<()> {
     let Some((count, line)) = words.split_once(' ') else {
         return Err(ErrorKind::InvalidInput.into());
     };
@@ -49,28 +49,40 @@ fn change_site(rt: &HostRuntime, client: &mut Client, word: &str, rest: &str) ->
     Err(ErrorKind::InvalidInput.into())
 }
 
-// Does what the line says. Its first word says what, and is a word of the program or one of these:
-// `#` prints the line, `>` and `times` add lines to the next session, `zeros` adds one that ends in
-// zero bytes and `last` one without a line feed, `quiet` runs a session and prints nothing, `asked`
-// prints what the last session asked for, `stops` stops the last session at each of its moments and
-// runs the next one over what is left, and `left` goes on with what a stop after that call of the
-// last session leaves.
-fn act(rt: &HostRuntime, client: &mut Client, line: &str) -> io::Result<()> {
-    let (word, rest) = line.split_once(' ').unwrap_or((line, ""));
-    if word == "#" {
-        return rt.println(line);
-    }
+// Adds what the line says to the next session. Its first word says what: `>` and `times` add lines,
+// `zeros` one that ends in zero bytes, and `last`, `repeat` and `return` a text, a text so many
+// times and a carriage return, without a line feed.
+fn add_text(rt: &HostRuntime, client: &mut Client, word: &str, rest: &str) -> io::Result<()> {
     if word == ">" {
         return client.add(rest);
     }
     if word == "times" {
-        return repeat(client, rest);
+        return add_times(client, rest);
     }
     if word == "zeros" {
         return client.add_zeros(rest);
     }
     if word == "last" {
         return client.add_last(rest);
+    }
+    if word == "repeat" {
+        return client.add_repeated(rest);
+    }
+    if word == "return" {
+        return client.add_last("\r");
+    }
+    change_site(rt, client, word, rest)
+}
+
+// Does what the line says. Its first word says what, and is a word of the program or one of these:
+// `#` prints the line, `quiet` runs a session and prints nothing, `asked` prints what the last
+// session asked for, `stops` stops the last session at each of its moments and runs the next one
+// over what is left, and `left` goes on with what a stop after that call of the last session
+// leaves.
+fn act(rt: &HostRuntime, client: &mut Client, line: &str) -> io::Result<()> {
+    let (word, rest) = line.split_once(' ').unwrap_or((line, ""));
+    if word == "#" {
+        return rt.println(line);
     }
     if word == "format" {
         return client.format(rt, line);
@@ -93,7 +105,7 @@ fn act(rt: &HostRuntime, client: &mut Client, line: &str) -> io::Result<()> {
     if word == "left" {
         return client.go_on(rt, rest);
     }
-    change_site(rt, client, word, rest)
+    add_text(rt, client, word, rest)
 }
 
 // Does what the line says for each number from one to another, which is not among them: both, and
