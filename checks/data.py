@@ -6,37 +6,13 @@ A release is published, served and installed. Pieces are put into its data files
 at random moments; afterwards the store has what was answered, and at most one line more. Two updates follow. Each data file is
 compared with a model of the rule, `migrated` below, and each program file with the published folder.
 """
-import atexit, hashlib, os, random, shutil, signal, socket, subprocess, sys, tempfile, time, urllib.parse
+import hashlib, os, shutil, subprocess, sys, time
 
-TOP = os.path.dirname(os.path.dirname(os.path.abspath(__file__)))
-CLIENT = f"{TOP}/crates/clickstore/out/clickstore"
-HOST = f"{TOP}/crates/clickhost/out/clickhost"
-KEY = "demo.application,0000000000000000,neutral,msil"
-# The most bytes of an input, and of one line's piece.
-INPUT, PIECE = 65536, 30000
-ENTRY = "app.exe"
-seed = os.environ.get("SEED") or str(random.randrange(10**9))
-chance = random.Random(seed)
-work = tempfile.mkdtemp()
-servers = []
-passed = failed = 0
+from programs import (CLIENT, ENTRY, KEY, PIECE, SESSION, chance, check, command, copied, escaped, finish, holds, killed_session,
+                      read_into, reading, same_bytes, serve, session, stop, wanted, work)
 
-
-def holds(name, is_so):
-    global passed, failed
-    if is_so:
-        passed += 1
-    else:
-        failed += 1
-        print(f"failed: {name} (SEED={seed})", flush=True)
-
-
-@atexit.register
-def end():
-    for server in servers:
-        server.kill()
-        server.wait()
-    shutil.rmtree(work, ignore_errors=True)
+# How many bytes of lines a session is given while it is killed.
+BATCH = 65536
 
 
 # ---- the rule
@@ -74,81 +50,6 @@ def answer(files, line):
         files[name] = text
         return "ok put", files
     return ("ok removed" if files.pop(name, None) is not None else "no no-file"), files
-
-
-# ---- the programs
-
-def escaped(name):
-    return urllib.parse.quote(name, safe="/")
-
-
-def command(store, words, lines="", quiet=False):
-    given = f"{work}/given"
-    with open(given, "w") as file:
-        file.write(lines)
-    with open(given) as file:
-        done = subprocess.run([CLIENT, store, f"{work}/empty"] + words, stdin=file, stdout=subprocess.PIPE, stderr=subprocess.PIPE,
-                              timeout=300)
-    if not quiet and (done.returncode or done.stderr):
-        holds(f"{words[0]}: status {done.returncode}, {done.stderr.decode()!r}", False)
-    return done.stdout.decode()
-
-
-SESSION = ["session", "--boot", "1", "--now", "0"]
-
-
-def session(store, lines):
-    """The answers to the lines, in as many sessions as they take."""
-    answers, some, size = [], [], 0
-    for line in lines + [None]:
-        if line is None or size + len(line) + 1 > INPUT:
-            if some:
-                answers += command(store, SESSION, "\n".join(some) + "\n").splitlines()
-            some, size = [], 0
-        if line is not None:
-            some.append(line)
-            size += len(line) + 1
-    return answers
-
-
-def listens(port):
-    with socket.socket() as tried:
-        return tried.connect_ex(("127.0.0.1", port)) == 0
-
-
-def serve(server, site):
-    """Starts the server over the site, and answers its address and the process."""
-    for _ in range(20):
-        port = chance.randrange(20000, 32000)
-        if listens(port):
-            continue
-        words = [HOST, site, str(port), "1000000"]
-        if server == "nginx":
-            user = "user root;" if os.getuid() == 0 else ""
-            paths = "".join(f"{kind}_temp_path {work}/nginx.{kind}; " for kind in ("client_body", "proxy", "fastcgi", "uwsgi", "scgi"))
-            with open(f"{work}/nginx.conf", "w") as conf:
-                conf.write(f"{user} daemon off; pid {work}/nginx.pid; events {{ }} http {{ access_log off; {paths}"
-                           f"server {{ listen 127.0.0.1:{port}; root {site}; }} }}")
-            words = ["nginx", "-c", f"{work}/nginx.conf", "-e", "stderr"]
-        started = subprocess.Popen(words, stdout=subprocess.DEVNULL, stderr=subprocess.DEVNULL)
-        servers.append(started)
-        for _ in range(400):
-            if listens(port):
-                return f"http://127.0.0.1:{port}", started
-            if started.poll() is not None:
-                break
-            time.sleep(0.05)
-        stop(started)
-    holds(f"{server} serves", False)
-    raise SystemExit(finish())
-
-
-def stop(server):
-    """Ends the server; nginx ends its workers where it is told to end."""
-    if server.poll() is None:
-        server.terminate()
-    server.wait()
-    servers.remove(server)
 
 
 # ---- releases
@@ -196,21 +97,11 @@ def releases():
     return first, second, third
 
 
-def reading(kind, lease, name, size):
-    """The lines that read a whole file of that size, and what they answer."""
-    places = range(0, max(size, 1), PIECE)
-    return [f"{kind} {lease} {escaped(name)} {place} {PIECE}" for place in places], places
-
-
-def wanted(text):
-    return [f"ok bytes {len(text)} {text[place:place + PIECE].hex() or '-'}" for place in range(0, max(len(text), 1), PIECE)]
-
-
 def compare_data(name, store, lease, files, others=()):
     """Each data file is as in the model, and there is none of the other names."""
     lines, answers = [], []
     for file, text in files.items():
-        lines += reading("data", lease, file, len(text))[0]
+        lines += reading("data", lease, file, len(text))
         answers += wanted(text)
     for file in sorted(set(others) - set(files)):
         lines.append(f"data {lease} {escaped(file)} 0 1")
@@ -222,14 +113,9 @@ def compare_data(name, store, lease, files, others=()):
 
 def compare_programs(name, store, lease, release):
     """Each program file is as in the published folder, and no data file is one."""
-    for file, text in release.programs.items():
-        got = session(store, reading("read", lease, file, len(text))[0])
-        with open(f"{work}/got", "wb") as out:
-            for line in got:
-                digits = line.split(" ")[-1]
-                out.write(b"" if digits == "-" else bytes.fromhex(digits) if line.startswith("ok bytes ") else line.encode())
-        same = subprocess.run(["cmp", "-s", f"{work}/got", f"{release.input}/{file}"]).returncode == 0
-        holds(f"{name}: the program file {file}", same)
+    read_into(store, lease, {file: len(text) for file, text in release.programs.items()}, f"{work}/got")
+    for file in release.programs:
+        holds(f"{name}: the program file {file}", same_bytes(f"{work}/got/{file}", f"{release.input}/{file}"))
     got = session(store, [f"read {lease} {escaped(file)} 0 1" for file in release.deployed])
     holds(f"{name}: data files are not read as program files", got == ["no no-file"] * len(got))
 
@@ -259,31 +145,14 @@ def text_of(lease, line):
 
 
 def batch_of(lease, lines):
-    """As many of the lines as one input takes."""
+    """As many of the lines as one session is given."""
     batch, size = [], 0
     for line in lines:
         size += len(text_of(lease, line)) + 1
-        if size > INPUT:
+        if size > BATCH:
             break
         batch.append(line)
     return batch
-
-
-def killed_session(store, lines, after):
-    """Kills a session after so many seconds, and answers what it wrote."""
-    with open(f"{work}/given", "w") as file:
-        file.write("\n".join(lines) + "\n")
-    with open(f"{work}/given") as file, open(f"{work}/answers", "wb") as out:
-        run = subprocess.Popen([CLIENT, store, f"{work}/empty"] + SESSION, stdin=file, stdout=out, stderr=subprocess.DEVNULL)
-        try:
-            run.wait(after)
-            cut = False
-        except subprocess.TimeoutExpired:
-            run.send_signal(signal.SIGKILL)
-            run.wait()
-            cut = True
-    with open(f"{work}/answers", "rb") as answers:
-        return answers.read().decode(), cut
 
 
 def put_under_kills(name, store, lease, files, lines):
@@ -334,7 +203,7 @@ def contents(store, lease, names, states):
     lines, place = [], []
     for name in names:
         size = max(len(state.get(name, b"")) for state in states)
-        some = reading("data", lease, name, size)[0]
+        some = reading("data", lease, name, size)
         lines += some
         place.append(len(some))
     got = session(store, lines)
@@ -354,16 +223,6 @@ def contents(store, lease, names, states):
 
 
 # ---- a life of an application
-
-def check(name, store, lines, answers):
-    got = session(store, lines)
-    holds(f"{name}: {got}", got == answers)
-
-
-def copied(store, to):
-    shutil.copyfile(store, to)
-    return to
-
 
 def killed_update(name, store, url, before, after):
     """An update is killed at ten moments: the store is as before or as after."""
@@ -434,7 +293,7 @@ def life(server, puts):
     stop(running)
     kept = copied(store, f"{work}/kept")
     check(f"{name}: no server", store, [f"install {url}"], [f"no links {url} missing,down"])
-    holds(f"{name}: no server: the store", subprocess.run(["cmp", "-s", store, kept]).returncode == 0)
+    holds(f"{name}: no server: the store", same_bytes(store, kept))
     at, running = serve(server, site)
     url = f"{at}/one/demo.application"
     three = migrated(two, second.deployed, third.deployed)
@@ -445,14 +304,7 @@ def life(server, puts):
         compare_programs(f"{name}: in the end, lease {lease}", store, lease, release)
 
 
-def finish():
-    print(f"{passed} passed, {failed} failed")
-    return 1 if failed else 0
-
-
 def main():
-    os.chmod(work, 0o755)
-    os.mkdir(f"{work}/empty")
     life("clickhost", 1000)
     if shutil.which("nginx"):
         life("nginx", 50)
