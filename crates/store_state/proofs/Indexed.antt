@@ -9,7 +9,7 @@ use Rattle.std.specs.declared.cmp.Ordering.{Ordering}
 use Rattle.std.specs.declared.cmp.Ordering.TheVariants.{Less, Equal, Greater}
 use Rattle.std.proofs.lemmas.Bool.{false_from_ne_true}
 use Rattle.std.proofs.lemmas.Cmp.{tied_itself}
-use Rattle.std.proofs.lemmas.List.{get_or-map, length-append, length-map}
+use Rattle.std.proofs.lemmas.List.{get_or-map, length-append, length-map, map-append}
 use Rattle.std.proofs.lemmas.Map.Keys.{IsDistinct-IsPermutation}
 use Rattle.std.proofs.lemmas.Map.Made.{AllPairs-from_IsDistinct, IsDistinct-from_AllPairs}
 use Rattle.std.proofs.lemmas.List.Sorted.{Contains-permutation, IsPermutation-refl, IsPermutation-sym}
@@ -26,6 +26,7 @@ use Rattle.store_state.specs.Contents.{Brings, IsMeasured, content_of, is_conten
 use Rattle.store_state.specs.Places.{ArePlaces, AreSorted}
 use Rattle.store_state.specs.Signs.{Agree, IsIndex, content_sign, entry_sign, sign_cmp}
 use Rattle.store_state.proofs.Firsts.{PassesOnce, find_place, none_pass}
+use Rattle.store_state.proofs.Inserted.{sorted_still}
 use Rattle.store_state.proofs.Places.{more_places}
 use Rattle.store_state.proofs.SignOrder.{one_sign, sign_total}
 use Rattle.store_state.proofs.Keyed.{alike, any_in, find_in, in_any, in_find, key_of, key_same, of_key, same_key}
@@ -308,6 +309,14 @@ pub same_places : (contents left : List Content) (index kept : List ℕ)
     → ArePlaces sign_cmp (map content_sign left) kept
 same_places contents left index kept are same_contents same_index =
     rw (same_contents, same_index) are
+
+-- the index of the first contents is in order among all
+pub placed_still : (old new all read : List Content) (index kept : List ℕ)
+    → ArePlaces sign_cmp (map content_sign old) index → all ≡ old ++ new → read ≡ all
+    → kept ≡ index → AreSorted sign_cmp (map content_sign read) kept
+placed_still old new all read index kept are more same_all same_index =
+    rw (same_index, same_all, more, map-append content_sign old new)
+    (sorted_still sign_cmp (map content_sign old) (map content_sign new) index are)
 
 module _ (old new all read held : List Content) (index kept larger : List ℕ)
     (are : ArePlaces sign_cmp (map content_sign old) index) (more : all ≡ old ++ new)

@@ -9,6 +9,7 @@ pub mod GroupShown
 pub mod Growing
 pub mod Holding
 pub mod Indexed
+pub mod Inserted
 pub mod Keyed
 pub mod LocalsOrdered
 pub mod LocalsShown

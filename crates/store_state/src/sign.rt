@@ -1,7 +1,7 @@
 // What contents are known by, and the indexes in which they are found.
-ghost use Rattle.std.specs.Prelude.{◌≡◌, ◌↔◌, ◌+◌, ◌-◌, ◌<◌, ◌≤◌, ◌++◌, length, map, slice_get, vec_capacity, vec_len, Contains, Some, IfOk, IfSome, IsTrue};
+ghost use Rattle.std.specs.Prelude.{◌≡◌, ◌↔◌, ◌+◌, ◌-◌, ◌<◌, ◌≤◌, ◌++◌, [], ◌∷◌, length, map, slice_get, vec_capacity, vec_len, Contains, Some, IfOk, IfSome, IsTrue};
 ghost use Rattle.std.specs.Cmp.Lexicographic.{slice_cmp};
-ghost use Rattle.std.specs.List.{range_with_len};
+ghost use Rattle.std.specs.List.{insert, range_with_len};
 ghost use Rattle.std.specs.List.Sorted.{IsBinarySearchResult, IsPermutation, IsSearchInRange, IsSorted};
 ghost use Rattle.std.specs.Option.{option_cmp};
 ghost use Rattle.store_state.specs.Places.{ArePlaces, AreSorted, IsPlaceOf};
@@ -21,6 +21,9 @@ pub(crate) struct Sign {
     pub(crate) size: u64,
     pub(crate) list: DigestList,
 }
+
+// Places are few where they are at most this part of those in the index.
+const FEW: usize = 16;
 
 // How digests compare: by their algorithms, then by their values.
 fn digest_order(a: &Digest, b: &Digest) -> Ordering
@@ -148,8 +151,58 @@ fn sort_contents(contents: &[Content], places: &mut Vec<usize>)
     places.sort_unstable_by(|a, b| contents_order(contents, *a, *b));
 }
 
-// Adds the places of the contents behind the first ones to their index, which has room.
-pub(crate) fn add_places(contents: &[Content], index: &mut Vec<usize>, held: usize)
+// Where the search for the content at the place in the index ends.
+fn search_place(contents: &[Content], index: &[usize], place: usize) -> Result<usize, usize>
+    ensures range { IsSearchInRange result (length index.now) }
+    ensures found { IsBinarySearchResult (λ other. option_cmp sign_cmp
+        (slice_get (map content_sign contents.now) other)
+        (slice_get (map content_sign contents.now) place)) index.now result }
+{
+    index.binary_search_by(|other| contents_order(contents, *other, place))
+}
+
+// Where the content at the place goes in the index.
+fn slot_of(contents: &[Content], index: &[usize], place: usize) -> usize
+    requires { AreSorted sign_cmp (map content_sign contents.now) index.now }
+    ensures within { result ≤ length index.now }
+    ensures sorted { AreSorted sign_cmp (map content_sign contents.now)
+        (insert index.now result place) }
+{
+    match search_place(contents, index, place) {
+        Ok(at) => at,
+        Err(at) => at,
+    }
+}
+
+// Adds the place of one content to the index, which has room.
+fn add_place(contents: &[Content], index: &mut Vec<usize>, place: usize)
+    requires sorted { AreSorted sign_cmp (map content_sign contents.now) index.old.items }
+    requires room { vec_len index.old < vec_capacity index.old }
+    ensures sorted { AreSorted sign_cmp (map content_sign contents.now) index.new.items }
+    ensures same { IsPermutation (index.old.items ++ place ∷ []) index.new.items }
+    ensures len { vec_len index.new ≡ vec_len index.old + 1 }
+    ensures capacity { vec_capacity index.old ≤ vec_capacity index.new }
+{
+    let slot = slot_of(contents, index.as_slice(), place);
+    let _added = index.insert(slot, place);
+}
+
+// Adds the places of the contents behind the first ones to the index, each where it goes.
+fn insert_places(contents: &[Content], index: &mut Vec<usize>, held: usize)
+    requires order { held ≤ length contents.now }
+    requires room { vec_len index.old + (length contents.now - held) ≤ vec_capacity index.old }
+    requires sorted { AreSorted sign_cmp (map content_sign contents.now) index.old.items }
+    ensures sorted { AreSorted sign_cmp (map content_sign contents.now) index.new.items }
+    ensures same { IsPermutation (index.old.items
+        ++ range_with_len held (length contents.now - held)) index.new.items }
+{
+    for place in held..contents.len() {
+        add_place(contents, index, place);
+    }
+}
+
+// Adds the places of the contents behind the first ones to the index, and sorts it.
+fn sort_places(contents: &[Content], index: &mut Vec<usize>, held: usize)
     requires order { held ≤ length contents.now }
     requires room { vec_len index.old + (length contents.now - held) ≤ vec_capacity index.old }
     ensures sorted { AreSorted sign_cmp (map content_sign contents.now) index.new.items }
@@ -158,6 +211,23 @@ pub(crate) fn add_places(contents: &[Content], index: &mut Vec<usize>, held: usi
 {
     push_numbers(index, held, contents.len());
     sort_contents(contents, index);
+}
+
+// Adds the places of the contents behind the first ones to their index, which has room. Where they
+// are few, each goes to where it belongs, and the index is not sorted anew.
+pub(crate) fn add_places(contents: &[Content], index: &mut Vec<usize>, held: usize)
+    requires order { held ≤ length contents.now }
+    requires room { vec_len index.old + (length contents.now - held) ≤ vec_capacity index.old }
+    requires sorted { AreSorted sign_cmp (map content_sign contents.now) index.old.items }
+    ensures sorted { AreSorted sign_cmp (map content_sign contents.now) index.new.items }
+    ensures same { IsPermutation (index.old.items
+        ++ range_with_len held (length contents.now - held)) index.new.items }
+{
+    if contents.len() - held <= index.len() / FEW {
+        insert_places(contents, index, held);
+    } else {
+        sort_places(contents, index, held);
+    }
 }
 
 // Where the search for the size and the digests in the index ends.

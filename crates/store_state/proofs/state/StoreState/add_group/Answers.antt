@@ -1,6 +1,13 @@
 use Rattle.store_state.proofs.Growing.{group_is, indexes_are, tables_are}
-use Rattle.store_state.proofs.Indexed.{placed_more}
+use Rattle.store_state.proofs.Indexed.{placed_more, placed_still}
 use Rattle.store_state.proofs.state.StoreState.add_group.Goals as goal
+
+-- the index is still in order
+pub add_places-requires-clause-sorted : goal.add_places-requires-clause-sorted
+add_places-requires-clause-sorted c =
+    placed_still c.self.inside.contents c.args.contents c.append.new.list c.as_slice-2.result.now
+    c.self.inside.index.items c.reserve.new.self.items c.self.invariant.2
+    c.in_ok-append.ensures.ok c.as_slice-2.ensures c.reserve.ensures.items
 
 -- the group and its contents stand
 pub invariant_of-self-2 : goal.invariant_of-self-2

@@ -6,7 +6,7 @@ use Rattle.store_state.specs.Change.{FitsInstall}
 use Rattle.store_state.specs.Named.{IsNameIndex}
 use Rattle.store_state.specs.Tables.{Tables}
 use Rattle.store_state.proofs.Holding.{cut_back, made_tables, read_last, same_tables}
-use Rattle.store_state.proofs.Indexed.{placed_more, same_places}
+use Rattle.store_state.proofs.Indexed.{placed_more, placed_still, same_places}
 use Rattle.store_state.proofs.Naming.{one_index_more, same_indexes}
 use Rattle.store_state.proofs.state.StoreState.install.Goals as goal
 
@@ -41,6 +41,13 @@ invariant_of-self-in-Err c =
       same_indexes inside.views c.cut.new.list inside.names c.cut-in-Err.new.list c.self.invariant.3
           views names,
     )
+
+-- the index is still in order
+pub add_places-requires-clause-sorted : goal.add_places-requires-clause-sorted
+add_places-requires-clause-sorted c =
+    placed_still c.self.inside.contents c.args.contents c.add_rows.new.contents
+    c.as_slice-4.result.now c.self.inside.index.items c.reserve.new.self.items c.self.invariant.2
+    c.in_ok-add_rows.ensures.contents c.as_slice-4.ensures c.reserve.ensures.items
 
 -- the view and its contents stand
 pub invariant_of-self-2 : goal.invariant_of-self-2
