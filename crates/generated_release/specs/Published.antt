@@ -1,0 +1,38 @@
+-- What is published of a release.
+use Rattle.std.specs.Prelude.{◌≡◌, ℕ, List, Some, Ok}
+use Rattle.folders.specs.declared.folder.Held.{Held}
+use Rattle.folders.specs.Files.{IsNames, file_in}
+use Rattle.publish_plan.specs.Places.{deployment_name, manifest_name}
+use Rattle.publisher.specs.Publication.{publish_of}
+use Rattle.publisher.specs.Puts.{PutsAll}
+use Rattle.generated_release.specs.declared.publishing.PublishedRelease.{PublishedRelease}
+use Rattle.generated_release.specs.declared.release.Release.{Release}
+use Rattle.generated_release.specs.Files.{input_files}
+use Rattle.generated_release.specs.Options.{demo_key, number_of, options_of}
+
+-- The texts are the two manifests that a publish by the options of the release writes, where the
+-- generated files of the release stand below `in`, and nothing else stands.
+pub record ArePublished (seed : ℕ) (release : Release) (deployment application : List ℕ)
+    : Type 0 where
+  pub names : List (List ℕ)
+  pub are : IsNames (input_files seed (number_of release)) names
+  pub files : List Held
+  pub written : publish_of (options_of release) names (input_files seed (number_of release))
+      ≡ Ok files
+  pub first : file_in (deployment_name (options_of release)) files ≡ Some deployment
+  pub second : file_in (manifest_name (options_of release)) files ≡ Some application
+
+-- a release that is published: the texts are those of its manifests, and the key is its
+-- application's
+pub record IsPublished (seed : ℕ) (release : Release) (published : PublishedRelease)
+    : Type 0 where
+  pub texts : ArePublished seed release published.deployment published.application
+  pub key : published.key ≡ demo_key
+
+-- the files of the release were written by its options, and stand in the folder with those before
+pub record IsWritten (release : Release) (old new : List Held) : Type 0 where
+  pub names : List (List ℕ)
+  pub are : IsNames old names
+  pub files : List Held
+  pub written : publish_of (options_of release) names old ≡ Ok files
+  pub puts : PutsAll files old new

@@ -1,0 +1,14 @@
+//! Releases of generated files: their bytes by a seed, and how they are published in a folder in
+//! memory.
+#![tactic(auto)]
+
+mod fault;
+mod files;
+mod options;
+mod publishing;
+mod release;
+
+pub use fault::MemoryFault;
+pub use files::{FILE_COUNT, file_bytes, file_name};
+pub use publishing::{PublishedRelease, publish_release};
+pub use release::Release;
