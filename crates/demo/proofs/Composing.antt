@@ -1,0 +1,173 @@
+-- Parts of the run, one after another.
+use Rattle.std.proofs.Common.{◌≡◌, ℕ, List, map, None, Ok, refl}
+use Rattle.disks.specs.declared.disk.Disk.{Ghosts}
+use Rattle.machine.specs.declared.event.Event.TheVariants.{Boot}
+use Rattle.machine.specs.Blocks.{used_blocks}
+use Rattle.machine.specs.Machine.{Step}
+use Rattle.machine.specs.Shape.{bare_view}
+use Rattle.machine.specs.Store.{Store}
+use Rattle.machine.specs.Valid.{Valid}
+use Rattle.store_state.specs.Shows.{Shows}
+use Rattle.updater.specs.declared.updater.Updater.{Updater}
+use Rattle.updater.specs.Updater.{tables_of}
+use Rattle.updater.proofs.Standing.{stored_stands}
+use Rattle.generated_release.specs.declared.release.Release.TheVariants.{One, Two, Three}
+use Rattle.demo.specs.declared.summary.Installed.{Installed}
+use Rattle.demo.specs.declared.summary.Summary.{Summary}
+use Rattle.demo.specs.Kept.{TablesKeep}
+use Rattle.demo.specs.Parts.{Begun, Ended, Goes, Left, Reaches}
+use Rattle.demo.specs.Run.{Demonstrates, start}
+use Rattle.demo.specs.Steps.{Cleans, Finishes, Installs, Launches}
+use Rattle.demo.proofs.ShownViews.{keeps_shown}
+use Rattle.demo.proofs.Touching.{after, with_answer}
+
+module _ {D : Type 0} (on : Ghosts D) where
+  -- an install and a launch
+  pub begun : {S : Type 0} (seed : ℕ) (installed : Installed) (done : S) (u v w : Updater)
+      (a b c : D) → Goes on (Installs seed One) u a (Ok installed) v b
+      → Goes on (λ (_ : S). Launches) v b (Ok done) w c
+      → Goes on (Begun seed) u a (Ok installed) w c
+  begun seed installed done u v w a b c one launch = record {
+    leads = λ old holds sound.
+        let first : Reaches on (Installs seed One installed old) v b = one.leads old holds sound in
+        let then : Reaches on (Launches first.session) w c =
+        launch.leads first.session first.holds first.sound in
+        record {
+          session = then.session;
+          is = record { first = first.session; one = first.is; launch = then.is };
+          holds = then.holds;
+          sound = then.sound;
+        };
+    touches = after on one.touches (with_answer on installed launch.touches);
+  }
+
+  -- a clean, the end of the lease and another clean
+  pub left : {S : Type 0} (one two three : S) (u v w x : Updater) (a b c d : D)
+      → Goes on (λ (_ : S). Cleans 0) u a (Ok one) v b
+      → Goes on (λ (_ : S). Finishes) v b (Ok two) w c
+      → Goes on (λ (_ : S). Cleans 1) w c (Ok three) x d
+      → Goes on (λ (_ : S). Left) u a (Ok three) x d
+  left one two three u v w x a b c d clean finish again = record {
+    leads = λ old holds sound.
+        let first : Reaches on (Cleans 0 old) v b = clean.leads old holds sound in
+        let second : Reaches on (Finishes first.session) w c =
+        finish.leads first.session first.holds first.sound in
+        let third : Reaches on (Cleans 1 second.session) x d =
+        again.leads second.session second.holds second.sound in
+        record {
+          session = third.session;
+          is = record {
+            cleaned = first.session;
+            finished = second.session;
+            clean = first.is;
+            finish = second.is;
+            clean_again = third.is;
+          };
+          holds = third.holds;
+          sound = third.sound;
+        };
+    touches = after on clean.touches (after on finish.touches again.touches);
+  }
+
+  -- an install, and what follows
+  pub ended : {S : Type 0} (seed : ℕ) (installed : Installed) (done : S) (u v w : Updater)
+      (a b c : D) → Goes on (Installs seed Three) u a (Ok installed) v b
+      → Goes on (λ (_ : S). Left) v b (Ok done) w c
+      → Goes on (Ended seed) u a (Ok installed) w c
+  ended seed installed done u v w a b c three leave = record {
+    leads = λ old holds sound.
+        let first : Reaches on (Installs seed Three installed old) v b =
+        three.leads old holds sound in
+        let then : Reaches on (Left first.session) w c =
+        leave.leads first.session first.holds first.sound in
+        record {
+          session = then.session;
+          is = record { third = first.session; three = first.is; left = then.is };
+          holds = then.holds;
+          sound = then.sound;
+        };
+    touches = after on three.touches (with_answer on installed leave.touches);
+  }
+
+  -- the whole run
+  pub demonstrates : (seed : ℕ) (s : Summary) (u v w x : Updater) (a b c d : D) → s.seed ≡ seed
+      → Reaches on (Step 0 start (Boot 1) None) u a
+      → Goes on (Begun seed) u a (Ok s.one) v b
+      → Goes on (Installs seed Two) v b (Ok s.two) w c
+      → Goes on (Ended seed) w c (Ok s.three) x d
+      → TablesKeep seed (tables_of x)
+      → ((blocks : ℕ) (image : List ℕ) (store : Store) → Shows blocks (tables_of x) image store
+      → Valid store → s.blocks ≡ used_blocks (map bare_view store.views))
+      → on.left_at d (on.moment d) (on.seen d)
+      → Demonstrates on seed s d
+  demonstrates seed s u v w x a b c d shown opened begins updates ends keeps blocks seen =
+      let one : Reaches on (Begun seed s.one opened.session) v b =
+      begins.leads opened.session opened.holds opened.sound in
+      let two : Reaches on (Installs seed Two s.two one.session) w c =
+      updates.leads one.session one.holds one.sound in
+      let three : Reaches on (Ended seed s.three two.session) x d =
+      ends.leads two.session two.holds two.sound in
+      let first = one.is in
+      let second = two.is in
+      let third = three.is in
+      let shows : Shows three.session.store.blocks (tables_of x) (on.seen d) three.session.store =
+      three.holds.shows (on.seen d) seen in
+      record {
+        last = three.session;
+        course = record {
+          opened = opened.session;
+          first = first.first;
+          launched = one.session;
+          second = two.session;
+          third = third.third;
+          cleaned = third.left.cleaned;
+          finished = third.left.finished;
+          boot = opened.is;
+          one = first.one;
+          launch = first.launch;
+          two = second;
+          three = third.three;
+          clean = third.left.clean;
+          finish = third.left.finish;
+          clean_again = third.left.clean_again;
+          seed_shown = shown;
+          blocks = blocks three.session.store.blocks (on.seen d) three.session.store shows
+              three.holds.valid;
+        };
+        run = (
+          opened.session,
+          opened.is,
+          (
+            first.first,
+            first.one.step,
+            (
+              one.session,
+              first.launch,
+              (
+                two.session,
+                second.step,
+                (
+                  third.third,
+                  third.three.step,
+                  (
+                    third.left.cleaned,
+                    third.left.clean,
+                    (
+                      third.left.finished,
+                      third.left.finish,
+                      (
+                        three.session,
+                        third.left.clean_again,
+                        refl,
+                      ),
+                    ),
+                  ),
+                ),
+              ),
+            ),
+          ),
+        );
+        stands = stored_stands on x d three.session.store three.holds (on.seen d) seen;
+        files = keeps_shown seed three.session.store.blocks (tables_of x) (on.seen d)
+            three.session.store shows keeps;
+      }

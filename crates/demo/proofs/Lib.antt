@@ -1,0 +1,7 @@
+pub mod Answering
+pub mod Composing
+pub mod Pairs
+pub mod ShownViews
+pub mod Starting
+pub mod Touching
+pub mod Urls

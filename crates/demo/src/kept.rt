@@ -1,0 +1,155 @@
+// Whether the kept views have the generated files.
+ghost use Rattle.std.specs.Prelude.{◌≡◌, ◌<◌, ℕ, List, All, map, IsTrue};
+ghost use Rattle.std.specs.Option.{option_copied};
+ghost use Rattle.machine.specs.Views.{same_digest};
+ghost use Rattle.store_state.specs.Contents as spec;
+ghost use Rattle.generated_release.specs.Files.{file_bytes as file_text, generated_files};
+ghost use Rattle.demo.specs.Kept.{HasGenerated, IsGenerated, TablesKeep, held_in, standing_of};
+ghost use lib.Pointwise.{pointwise};
+
+use digest_list::Digest;
+use generated_release::{FILE_COUNT, file_bytes, file_name};
+use manifests::FileEntry;
+use std::alloc::Global;
+use store_state::{Content, StoreState, View};
+
+// Whether the digests are equal.
+fn is_same_digest(a: &Digest, b: &Digest) -> bool
+    ensures { result ≡ same_digest a.now b.now }
+{
+    a.algorithm.name() == b.algorithm.name() && a.value.as_slice() == b.value.as_slice()
+}
+
+// Whether the lists of digests are equal.
+fn are_same_digests(a: &[Digest], b: &[Digest]) -> bool
+    ensures { result ≡ pointwise same_digest a.now b.now }
+{
+    if a.len() != b.len() {
+        return false;
+    }
+    for place in 0..a.len() {
+        if !is_same_digest(&a[place], &b[place]) {
+            return false;
+        }
+    }
+    true
+}
+
+// Whether the content is that of the file.
+fn is_content_of(entry: &FileEntry, content: &Content) -> bool
+    ensures { result ≡ spec.is_content_of entry.now content.now }
+{
+    entry.size == content.size && are_same_digests(entry.list.as_slice(), content.list.as_slice())
+}
+
+// The content of the file, where there is one.
+fn find_content<'a>(contents: &'a [Content], entry: &FileEntry) -> Option<&'a Content>
+    ensures { option_copied result ≡ spec.content_of contents.now entry.now }
+{
+    contents
+        .iter()
+        .find(|content| is_content_of(entry, content))
+}
+
+// Whether the bytes are those of the generated file. It is false, too, where there was no memory.
+fn are_bytes_of(alloc: Global, seed: u64, version: u16, file: u64, bytes: &[u8]) -> bool
+    ensures { IsTrue result → bytes.now ≡ file_text seed version file }
+{
+    match file_bytes(alloc, seed, version, file) {
+        Ok(made) => bytes == made.as_slice(),
+        Err(_) => false,
+    }
+}
+
+// Whether the file is a program file in no group that has the name and the bytes of the generated
+// one. It is false, too, where there was no memory.
+fn is_generated(
+    alloc: Global,
+    seed: u64,
+    version: u16,
+    contents: &[Content],
+    file: u64,
+    entry: &FileEntry,
+) -> bool
+    requires { file < 1000 }
+    ensures { IsTrue result → IsGenerated (held_in contents.now) seed version file entry.now }
+{
+    if entry.local {
+        return false;
+    }
+    if entry.group.is_some() {
+        return false;
+    }
+    if entry.name.as_bytes() != file_name(file).as_slice() {
+        return false;
+    }
+    match find_content(contents, entry) {
+        Some(content) => are_bytes_of(alloc, seed, version, file, content.bytes.as_slice()),
+        None => false,
+    }
+}
+
+// Whether the files are the generated ones of the version, in order. It is false, too, where there
+// was no memory.
+fn are_generated(
+    alloc: Global,
+    seed: u64,
+    version: u16,
+    contents: &[Content],
+    files: &[FileEntry],
+) -> bool
+    ensures { IsTrue result → (groups : List (List ℕ))
+        → map (held_in contents.now) (standing_of groups files.now)
+        ≡ generated_files seed version }
+{
+    if files.len() != FILE_COUNT as usize {
+        return false;
+    }
+    for file in 0..FILE_COUNT {
+        let entry = &files[file as usize];
+        if !is_generated(alloc, seed, version, contents, file, entry) {
+            return false;
+        }
+    }
+    true
+}
+
+// Whether the files of the view are the generated ones of its version. It is false, too, where
+// there was no memory.
+fn has_generated(alloc: Global, seed: u64, contents: &[Content], view: &View) -> bool
+    ensures { IsTrue result → HasGenerated seed contents.now view.now }
+{
+    let version = view.deployment.identity.version.a;
+    are_generated(
+        alloc,
+        seed,
+        version,
+        contents,
+        view.application.files.as_slice(),
+    )
+}
+
+// Whether those of each view are.
+fn each_has_generated(alloc: Global, seed: u64, contents: &[Content], views: &[View]) -> bool
+    ensures { IsTrue result → All (HasGenerated seed contents.now) views.now }
+{
+    for view in views {
+        if !has_generated(alloc, seed, contents, view) {
+            return false;
+        }
+    }
+    true
+}
+
+/// Whether the files of each view are the generated ones of its version. It is false, too, where
+/// there was no memory.
+pub(crate) fn keeps_generated(alloc: Global, seed: u64, state: &StoreState) -> bool
+    ensures { IsTrue result → TablesKeep seed state.now }
+{
+    each_has_generated(
+        alloc,
+        seed,
+        state.contents.as_slice(),
+        state.views.as_slice(),
+    )
+}

@@ -1,0 +1,223 @@
+// The generated run.
+ghost use Rattle.std.specs.Prelude.{ℕ, [], IfOk, None};
+ghost use Rattle.small_types.specs.declared.limits.TheConstants.{BLOCK_LIMIT as blocks};
+ghost use Rattle.machine.specs.declared.event.Event.TheVariants.{Boot};
+ghost use Rattle.machine.specs.Machine.{Step};
+ghost use Rattle.store_log.specs.Log.{IsStore};
+ghost use Rattle.demo.specs.Parts.{Begun, Ended, Goes, Left, Opens, Reaches, Touches};
+ghost use Rattle.demo.specs.Run.{Demonstrates, start};
+ghost use Rattle.demo.specs.Steps.{Installs, IsSite};
+ghost use Rattle.generated_release.specs.declared.release.Release.TheVariants as releases;
+
+use crate::kept::keeps_generated;
+use crate::lines::{clean, finish, install, launch};
+use crate::site::{Site, open_site};
+use crate::{DemoFault, Installed, Summary};
+use disks::Disk;
+use generated_release::Release;
+use small_types::limits::BLOCK_LIMIT;
+use std::alloc::Global;
+use store_log::{Log, LogFault};
+use updater::{RecoverFault, Updater};
+
+// The number of the boot with which the store is opened.
+const BOOT: u64 = 1;
+
+// Opens the new store, which is there.
+fn open_new<D: Disk>(alloc: Global, disk: &mut D) -> Result<Updater, DemoFault>
+    ensures begins { D.tells disk.new → IsStore blocks [] (D.seen disk.old)
+        → IfOk result (λ updater. Reaches D.Disk (Step 0 start (Boot 1) None) updater disk.new) }
+    ensures touches { Touches D.Disk disk.old result disk.new }
+{
+    match Updater::recover(alloc, disk, BOOT) {
+        Ok(opened) => {
+            let (updater, _booted) = opened;
+            Ok(updater)
+        }
+        Err(RecoverFault::DiskFault) => Err(DemoFault::DiskFault),
+        Err(RecoverFault::NotAStore) => Err(DemoFault::Memory),
+        Err(RecoverFault::Memory) => Err(DemoFault::Memory),
+    }
+}
+
+// Makes a new store, and opens it.
+fn open<D: Disk>(alloc: Global, disk: &mut D) -> Result<Updater, DemoFault>
+    ensures { Opens D.Disk disk.old result disk.new }
+{
+    match Log::format(alloc, disk, BLOCK_LIMIT, 0, &[]) {
+        Ok(()) => open_new(alloc, disk),
+        Err(LogFault::DiskFault) => Err(DemoFault::DiskFault),
+        Err(LogFault::NoRoom { .. }) => Err(DemoFault::Memory),
+        Err(LogFault::NotALog) => Err(DemoFault::Memory),
+        Err(LogFault::Memory) => Err(DemoFault::Memory),
+    }
+}
+
+// Installs the first release from its site, and launches it.
+fn begin_at<D: Disk>(
+    alloc: Global,
+    site: &mut Site,
+    disk: &mut D,
+    updater: &mut Updater,
+) -> Result<Installed, DemoFault>
+    ensures { (seed : ℕ) → IsSite seed releases.One site.old → Goes D.Disk (Begun seed) updater.old
+        disk.old result updater.new disk.new }
+{
+    let installed = match install(alloc, Release::One, site, disk, updater) {
+        Ok(installed) => installed,
+        Err(fault) => return Err(fault),
+    };
+    match launch(alloc, site, disk, updater) {
+        Ok(()) => Ok(installed),
+        Err(fault) => Err(fault),
+    }
+}
+
+// Installs the first release, and launches it.
+fn begin<D: Disk>(
+    alloc: Global,
+    seed: u64,
+    disk: &mut D,
+    updater: &mut Updater,
+) -> Result<Installed, DemoFault>
+    ensures { Goes D.Disk (Begun seed) updater.old disk.old result updater.new disk.new }
+{
+    match open_site(alloc, seed, Release::One) {
+        Ok(mut site) => begin_at(alloc, &mut site, disk, updater),
+        Err(_) => Err(DemoFault::Memory),
+    }
+}
+
+// Installs the second release.
+fn update<D: Disk>(
+    alloc: Global,
+    seed: u64,
+    disk: &mut D,
+    updater: &mut Updater,
+) -> Result<Installed, DemoFault>
+    ensures { Goes D.Disk (Installs seed releases.Two) updater.old disk.old result updater.new
+        disk.new }
+{
+    match open_site(alloc, seed, Release::Two) {
+        Ok(mut site) => install(alloc, Release::Two, &mut site, disk, updater),
+        Err(_) => Err(DemoFault::Memory),
+    }
+}
+
+// Cleans, finishes the lease, and cleans again.
+fn leave<D: Disk>(
+    alloc: Global,
+    site: &mut Site,
+    disk: &mut D,
+    updater: &mut Updater,
+) -> Result<(), DemoFault>
+    ensures { Goes D.Disk (λ (_ : Unit {0}). Left) updater.old disk.old result updater.new
+        disk.new }
+{
+    match clean(alloc, 0, site, disk, updater) {
+        Ok(()) => {}
+        Err(fault) => return Err(fault),
+    }
+    match finish(alloc, site, disk, updater) {
+        Ok(()) => {}
+        Err(fault) => return Err(fault),
+    }
+    match clean(alloc, 1, site, disk, updater) {
+        Ok(()) => Ok(()),
+        Err(fault) => Err(fault),
+    }
+}
+
+// Installs the third release from its site, and takes away the first.
+fn end_at<D: Disk>(
+    alloc: Global,
+    site: &mut Site,
+    disk: &mut D,
+    updater: &mut Updater,
+) -> Result<Installed, DemoFault>
+    ensures { (seed : ℕ) → IsSite seed releases.Three site.old → Goes D.Disk (Ended seed)
+        updater.old disk.old result updater.new disk.new }
+{
+    let installed = match install(alloc, Release::Three, site, disk, updater) {
+        Ok(installed) => installed,
+        Err(fault) => return Err(fault),
+    };
+    match leave(alloc, site, disk, updater) {
+        Ok(()) => Ok(installed),
+        Err(fault) => Err(fault),
+    }
+}
+
+// Installs the third release, and takes away the first.
+fn end<D: Disk>(
+    alloc: Global,
+    seed: u64,
+    disk: &mut D,
+    updater: &mut Updater,
+) -> Result<Installed, DemoFault>
+    ensures { Goes D.Disk (Ended seed) updater.old disk.old result updater.new disk.new }
+{
+    match open_site(alloc, seed, Release::Three) {
+        Ok(mut site) => end_at(alloc, &mut site, disk, updater),
+        Err(_) => Err(DemoFault::Memory),
+    }
+}
+
+// Lives the run over the store that was opened.
+fn live<D: Disk>(
+    alloc: Global,
+    seed: u64,
+    disk: &mut D,
+    updater: &mut Updater,
+) -> Result<Summary, DemoFault>
+    ensures run { Reaches D.Disk (Step 0 start (Boot 1) None) updater.old disk.old
+        → IfOk result (λ summary. Demonstrates D.Disk seed summary disk.new) }
+    ensures touches { Touches D.Disk disk.old result disk.new }
+{
+    let one = match begin(alloc, seed, disk, updater) {
+        Ok(installed) => installed,
+        Err(fault) => return Err(fault),
+    };
+    let two = match update(alloc, seed, disk, updater) {
+        Ok(installed) => installed,
+        Err(fault) => return Err(fault),
+    };
+    let three = match end(alloc, seed, disk, updater) {
+        Ok(installed) => installed,
+        Err(fault) => return Err(fault),
+    };
+    if !keeps_generated(alloc, seed, updater.state()) {
+        return Err(DemoFault::Memory);
+    }
+    Ok(Summary {
+        seed,
+        one,
+        two,
+        three,
+        blocks: updater.used_blocks(),
+    })
+}
+
+/// Makes a new store of 65,536 blocks on the disk, and lives a generated run over it, all at moment
+/// 0, with boot number 1. It publishes the first release of 200 generated files in a folder in
+/// memory, and installs and launches it; it publishes and installs the second, and the third; it
+/// cleans, finishes the lease, and cleans again. Each answer is compared with what it must be, each
+/// text that is heard with what was published, and each program file that is kept with its
+/// generated bytes.
+///
+/// # Errors
+///
+/// `DiskFault`: the disk failed. `Memory`: there was no memory, or an answer was not what it must
+/// be. The disk then has what the steps up to then left.
+pub fn demo<D: Disk>(alloc: Global, seed: u64, disk: &mut D) -> Result<Summary, DemoFault>
+    // Where the disk tells, its reads stand for the store that the run leads to, and the summary
+    // has the numbers of this run.
+    ensures run { D.tells disk.new
+        → IfOk result (λ summary. Demonstrates D.Disk seed summary disk.new) }
+    ensures touches { Touches D.Disk disk.old result disk.new }
+{
+    match open(alloc, disk) {
+        Ok(mut updater) => live(alloc, seed, disk, &mut updater),
+        Err(fault) => Err(fault),
+    }
+}

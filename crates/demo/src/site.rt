@@ -1,0 +1,46 @@
+// Links to a release that is published in memory.
+ghost use Rattle.std.specs.Prelude.{◌≡◌, IfOk};
+ghost use Rattle.demo.specs.Steps.{IsSite};
+
+use crate::DemoFault;
+use fetcher::FolderLink;
+use folders::MemFolder;
+use generated_release::{PublishedRelease, Release, publish_release};
+use identity::Key;
+use links::Single;
+use small_types::{Bytes, List};
+use std::alloc::Global;
+
+/// The links to a folder in memory with a published release, the key of the application, and the
+/// texts of the two manifests.
+#[derive(Drop)]
+pub(crate) struct Site {
+    pub(crate) links: Single<FolderLink<MemFolder>>,
+    pub(crate) key: Key,
+    pub(crate) deployment: Bytes,
+    pub(crate) application: Bytes,
+}
+
+/// Publishes the generated files of the release in a folder in memory, and links to it.
+pub(crate) fn open_site(alloc: Global, seed: u64, release: Release) -> Result<Site, DemoFault>
+    ensures { IfOk result (IsSite seed release) }
+{
+    let Ok(published) = publish_release(alloc, seed, release) else {
+        return Err(DemoFault::Memory);
+    };
+    let PublishedRelease {
+        folder,
+        key,
+        deployment,
+        application,
+    } = published;
+    Ok(Site {
+        links: Single {
+            link: FolderLink::new(alloc, folder),
+            asked: List::from_vec(Vec::new(alloc)),
+        },
+        key,
+        deployment,
+        application,
+    })
+}
