@@ -4,7 +4,8 @@ usage: checks/life
 
 Three releases are published with options in any order, served, installed and launched; the application goes back to
 the version before, views that are not in use are cleaned away, and every answer is compared. The program is killed in
-the middle of a clean and of a rollback, and files fill up. Then come long lines and a large input.
+the middle of a clean and of a rollback, and files fill up. Then come long lines, a large input, and generated runs,
+which are compared with what their definition says.
 """
 import hashlib, os, resource, select, shutil, signal, subprocess, sys, time
 
@@ -432,6 +433,24 @@ def full_blocks():
          ["ok finished 1", "ok cleaned 1", f"ok installed {KEY} 3.0.0.0 3", "ok list 1", f"{KEY} 3.0.0.0"])
 
 
+def full_disk():
+    """Where the disk is full, a generated run ends with status 4 and says why, and the lines of a session do."""
+    status, said, why = limited(f"{work}/full.store", ["demo", "7"], "", 100000)
+    holds(f"a generated run on a full disk: {status} {said!r} {why!r}",
+          (status, said, why) == (4, "", f"clickstore: {work}/full.store: File too large\n"))
+    full = f"{work}/full"
+    os.mkdir(full)
+    if subprocess.run(["mount", "-t", "tmpfs", "-o", "size=1m", "tmpfs", full], stderr=subprocess.DEVNULL).returncode:
+        print("skipped: a full file system, which cannot be mounted here")
+        return
+    try:
+        got = run(f"{full}/store", ["demo", "7"])
+        holds(f"a generated run on a full file system: {got}",
+              got == (4, "", f"clickstore: {full}/store: No space left on device\n"))
+    finally:
+        subprocess.run(["umount", full])
+
+
 # ---- lines
 
 def long_lines(store):
@@ -485,6 +504,11 @@ def other_words(store):
                "step 1": none, "commit 1": none, "abandon 1": none, "demo 7": none}
     check("lines that are none", store, list(answers), list(answers.values()))
     kept = copied(store, f"{work}/kept")
+    seeds = {"no seed": [], "a seed that is no number": ["x"], "a negative seed": ["-1"], "an empty seed": [""],
+             "two seeds": ["7", "7"], "a seed above 2^62": [str(2**62 + 1)],
+             "a seed of twenty digits": ["0" * 19 + "7"]}
+    for name, seed in seeds.items():
+        refused(name, store, ["demo"] + seed, 1, f"'demo' does not take these words{HELP}")
     for words in (["rollback", KEY], ["clean"], ["list"], ["show", KEY]):
         refused(f"{words[0]} as a command", store, words, 1, f"no command '{words[0]}'{HELP}")
     holds("other words leave the store", same_bytes(store, kept))
@@ -562,6 +586,53 @@ def measured(store, text, want, rounds):
     return spent, used.ru_maxrss
 
 
+# ---- generated runs
+
+def generated(seed, number, change):
+    """The bytes of a generated file."""
+    return f"demo {seed} file {number} change {change}\n".encode() * (1 + 20 * (number % 20))
+
+
+def change_of(version, number):
+    """The number that the lines of a file have in a version."""
+    return 2 if version > 1 and number % 10 == 2 else 3 if version > 2 and number % 10 == 3 else 1
+
+
+def version_of(seed, version):
+    """The files of a generated version."""
+    return {f"f{number:03}.txt": generated(seed, number, change_of(version, number)) for number in range(200)}
+
+
+def blocks_of(*versions):
+    """The blocks of the contents that these versions have together."""
+    return sum((len(text) + 4095) // 4096 for text in {text for files in versions for text in files.values()})
+
+
+def demo(seed):
+    store = f"{work}/demo.store"
+    first, second, third = (version_of(seed, version) for version in (1, 2, 3))
+    asked = [2 + len(set(first.values())), 2 + len(set(second.values()) - set(first.values())),
+             2 + len(set(third.values()) - set(second.values()) - set(first.values()))]
+    blocks = [blocks_of(first), blocks_of(first, second), blocks_of(first, second, third), blocks_of(second, third)]
+    line = f"demo {int(seed)} files 200 asked {' '.join(map(str, asked))} blocks {' '.join(map(str, blocks))}\n"
+    got = run(store, ["demo", seed])
+    holds(f"demo {seed}: {got}", got == (0, line, ""))
+    if seed == "7":
+        holds(f"demo 7: {got[1]!r}", got[1] == "demo 7 files 200 asked 202 22 22 blocks 335 365 395 365\n")
+    check(f"demo {seed}: what stands", store, ["list", f"show {KEY}", "clean", "finish 1", f"launch {KEY}"],
+          ["ok list 1", f"{KEY} 3.0.0.0",
+           f"ok show {KEY} 3.0.0.0 2.0.0.0 - - - - 0 yes f000.txt http://demo.test:80/three/demo.application",
+           "ok cleaned 0", "no no-lease", "ok lease 2 3.0.0.0 -"])
+    check(f"demo {seed}: a way back", store, [f"rollback {KEY}", f"launch {KEY}"],
+          ["ok current 2.0.0.0", "ok lease 3 2.0.0.0 -"])
+    for lease, files in ((2, third), (3, second)):
+        lines, answers = [], []
+        for name, text in files.items():
+            lines += reading("read", lease, name, len(text))
+            answers += wanted(text)
+        holds(f"demo {seed}: lease {lease} reads what was generated", session(store, lines) == answers)
+
+
 def main():
     life("clickhost")
     if shutil.which("nginx"):
@@ -573,6 +644,9 @@ def main():
     long_lines(store)
     other_words(store)
     large_input(store)
+    for seed in ("7", str(chance.randrange(10**9))):
+        demo(seed)
+    full_disk()
     sys.exit(finish())
 
 

@@ -17,7 +17,11 @@ pub(crate) enum Misread<'a> {
 
 // Whether there is a command of this name. Each one that the program knows is listed here.
 fn is_command(name: &str) -> bool {
-    name == "format" || name == "session" || name == "inspect" || name == "publish"
+    name == "format"
+        || name == "session"
+        || name == "inspect"
+        || name == "publish"
+        || name == "demo"
 }
 
 // What is wrong with these words, which ask for nothing.

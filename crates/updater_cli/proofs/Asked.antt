@@ -3,7 +3,7 @@ use Rattle.std.proofs.Common.{◌≡◌, ℕ, Option, Some, sym, ◌∙◌, subs
 use Rattle.inspection.specs.declared.manifest.Kind.{Kind}
 use Rattle.publish_plan.specs.declared.options.Options.{Options}
 use Rattle.updater_cli.specs.declared.words.Request.{Request}
-use Rattle.updater_cli.specs.declared.words.Request.TheVariants.{Format, Session, Inspect, Publish}
+use Rattle.updater_cli.specs.declared.words.Request.TheVariants.{Demo, Format, Session, Inspect, Publish}
 
 module _ (asked : Option Request) where
   pub for_session : (P : ℕ → ℕ → Type 0) (b n : ℕ) → asked ≡ Some (Session b n) → P b n → (boot now : ℕ) → asked ≡ Some (Session boot now) → P boot now
@@ -23,6 +23,12 @@ module _ (asked : Option Request) where
   for_inspect P k is holds kind other =
       let both : Some (Inspect k) ≡ Some (Inspect kind) = sym is ∙ other in
       let same : k ≡ kind = cc (both) in
+      subst P same holds
+
+  pub for_demo : (P : ℕ → Type 0) (s : ℕ) → asked ≡ Some (Demo s) → P s → (seed : ℕ) → asked ≡ Some (Demo seed) → P seed
+  for_demo P s is holds seed other =
+      let both : Some (Demo s) ≡ Some (Demo seed) = sym is ∙ other in
+      let same : s ≡ seed = cc (both) in
       subst P same holds
 
   pub for_publish : (P : Options → Type 0) (o : Options) → asked ≡ Some (Publish o) → P o → (options : Options) → asked ≡ Some (Publish options) → P options

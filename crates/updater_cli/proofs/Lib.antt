@@ -2,6 +2,7 @@ pub mod Answering
 pub mod Asked
 pub mod Asking
 pub mod Begin
+pub mod DemoEnds
 pub mod Ends
 pub mod Inputs
 pub mod Leased

@@ -4,7 +4,7 @@ use Rattle.inspection.specs.declared.manifest.Kind.{Kind}
 use Rattle.publish_plan.specs.declared.options.Options.{Options}
 use Rattle.publication.specs.Words.{options_of}
 use Rattle.updater_cli.specs.declared.words.Request.{Request}
-use Rattle.updater_cli.specs.declared.words.Request.TheVariants.{Format, Session, Inspect}
+use Rattle.updater_cli.specs.declared.words.Request.TheVariants.{Demo, Format, Session, Inspect}
 use Rattle.updater_cli.specs.Words.{IsUntaken, is_publish, other_of, publish_of, request_of}
 
 -- a publish, or nothing
@@ -23,6 +23,10 @@ inspect : (o : Option Options) (kind : Kind) → publish_of o ≡ Some (Inspect 
 inspect None kind is = absurd (cc (is))
 inspect (Some options) kind is = absurd (cc (is))
 
+demo : (o : Option Options) (seed : ℕ) → publish_of o ≡ Some (Demo seed) → ⊥
+demo None seed is = absurd (cc (is))
+demo (Some options) seed is = absurd (cc (is))
+
 nothing : (r : Request) → None ≡ Some r → ⊥
 nothing r is = absurd (cc (is))
 
@@ -40,6 +44,9 @@ module _ (words : List (List ℕ)) (is : is_publish words ≡ true) where
   pub no_inspect : (kind : Kind) → request_of words ≡ Some (Inspect kind) → ⊥
   no_inspect kind asked = inspect (options_of (drop 1 words)) kind (sym (by_options words is) ∙ asked)
 
+  pub no_demo : (seed : ℕ) → request_of words ≡ Some (Demo seed) → ⊥
+  no_demo seed asked = demo (options_of (drop 1 words)) seed (sym (by_options words is) ∙ asked)
+
   pub no_others : is_publish words ≡ false → ⊥
   no_others other = both (is_publish words) is other
 
@@ -55,6 +62,10 @@ refused_format words (inr untaken) blocks asked = no_format words untaken.0 bloc
 pub refused_inspect : (words : List (List ℕ)) → (request_of words ≡ None) ⊎ IsUntaken words → (kind : Kind) → request_of words ≡ Some (Inspect kind) → ⊥
 refused_inspect words (inl none) kind asked = nothing (Inspect kind) (sym none ∙ asked)
 refused_inspect words (inr untaken) kind asked = no_inspect words untaken.0 kind asked
+
+pub refused_demo : (words : List (List ℕ)) → (request_of words ≡ None) ⊎ IsUntaken words → (seed : ℕ) → request_of words ≡ Some (Demo seed) → ⊥
+refused_demo words (inl none) seed asked = nothing (Demo seed) (sym none ∙ asked)
+refused_demo words (inr untaken) seed asked = no_demo words untaken.0 seed asked
 
 -- other words that are refused ask for nothing
 pub refused_others : (words : List (List ℕ)) → (request_of words ≡ None) ⊎ IsUntaken words → is_publish words ≡ false → request_of words ≡ None

@@ -1,3 +1,4 @@
+pub mod Demonstration
 pub mod Devices
 pub mod Format
 pub mod Headline

@@ -9,7 +9,7 @@ use Rattle.publisher.specs.Options.{IsPublishable}
 use Rattle.publication.specs.Command.{Takes}
 use Rattle.publication.specs.Words.{options_of}
 use Rattle.updater_cli.specs.declared.words.Request.{Request}
-use Rattle.updater_cli.specs.declared.words.Request.TheVariants.{Format, Session, Inspect, Publish}
+use Rattle.updater_cli.specs.declared.words.Request.TheVariants.{Demo, Format, Session, Inspect, Publish}
 
 -- a number of blocks is 1 to 65,536
 abbrev pub format_of : Option ℕ → Option Request
@@ -28,13 +28,19 @@ kind_of word =
     if bytes_eq word (codes "deployment") then Some (Inspect Deployment) else
     if bytes_eq word (codes "application") then Some (Inspect Application) else None
 
--- `format --blocks N`, `session --boot N --now N`, `inspect deployment` and `inspect application`,
--- and nothing else
+-- the number that a generated run is made from
+abbrev pub demo_of : Option ℕ → Option Request
+demo_of None = None
+demo_of (Some seed) = Some (Demo seed)
+
+-- `format --blocks N`, `session --boot N --now N`, `inspect deployment`, `inspect application` and
+-- `demo SEED`, and nothing else
 abbrev pub other_of : List (List ℕ) → Option Request
 other_of [] = None
 other_of (command ∷ []) = None
 other_of (command ∷ option ∷ []) =
-    if bytes_eq command (codes "inspect") then kind_of option else None
+    if bytes_eq command (codes "inspect") then kind_of option else
+    if bytes_eq command (codes "demo") then demo_of (number_of option) else None
 other_of (command ∷ option ∷ blocks ∷ []) =
     if bytes_eq command (codes "format") && bytes_eq option (codes "--blocks")
     then format_of (number_of blocks) else None
@@ -80,4 +86,5 @@ abbrev pub IsRequest : Request → Type 0
 IsRequest (Format blocks) = (1 ≤ blocks) × (blocks ≤ BLOCK_LIMIT)
 IsRequest (Session boot now) = (boot ≤ NUMBER_LIMIT) × (now ≤ NUMBER_LIMIT)
 IsRequest (Inspect kind) = Unit {0}
+IsRequest (Demo seed) = Unit {0}
 IsRequest (Publish options) = IsPublishable options

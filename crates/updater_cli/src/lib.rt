@@ -2,6 +2,7 @@
 #![tactic(auto)]
 
 mod course;
+mod demonstrating;
 mod laws;
 mod limits;
 mod line;

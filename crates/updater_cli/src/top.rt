@@ -7,6 +7,7 @@ ghost use Rattle.publish_plan.specs.declared.options.Options.{Options};
 ghost use Rattle.updater.specs.Stands.{StandsForNone};
 ghost use Rattle.updater_cli.specs.declared.status.Status.TheVariants as exit;
 ghost use Rattle.updater_cli.specs.declared.words.Request.TheVariants as asked;
+ghost use Rattle.updater_cli.specs.Demonstration.{RunsDemo};
 ghost use Rattle.updater_cli.specs.Devices.{Asks, devices_of};
 ghost use Rattle.updater_cli.specs.Format.{MakesStore};
 ghost use Rattle.updater_cli.specs.Headline.{Headline, IsNothing};
@@ -14,6 +15,7 @@ ghost use Rattle.updater_cli.specs.Requests.{InspectsInput, PublishesBy};
 ghost use Rattle.updater_cli.specs.Status.{code_of};
 ghost use Rattle.updater_cli.specs.Words.{AsksForSession, AsksToPublish, IsUntaken, is_publish, request_of};
 
+use crate::demonstrating::demonstrate;
 use crate::opening::session;
 use crate::status::Status;
 use crate::words::{Request, read_words};
@@ -66,6 +68,12 @@ fn format<D: Disk>(alloc: Global, disk: &mut D, blocks: u64) -> Status
 /// marks, `data:FILE` and `group:GROUP:FILE`. These stand in any order, and `read_options` of
 /// `publication` says what each may be.
 ///
+/// `demo SEED` makes a new store of 65,536 blocks on the disk, and lives a run over it that the
+/// number makes: three releases of 200 generated files are published in memory, each is installed,
+/// and the first is launched, finished and cleaned away. The line of its summary is written to the
+/// sink: how many targets each install asked for, and how many blocks were used behind each install
+/// and at the end.
+///
 /// The status is 0 where all was done, 1 where the words are none of these, 2 where the source
 /// failed, 3 the sink, 4 the disk, 5 where the disk holds no store, 6 where there was no memory, 7
 /// where a manifest or a publish is refused, and 8 where a session's input has more than
@@ -111,6 +119,12 @@ pub fn run<S: Source, K: Sink, D: Disk, F: Folder, L: Links>(
         → request_of words.now ≡ Some (asked.Publish options) → (source.new ≡ source.old)
         × (disk.new ≡ disk.old) × (report.new ≡ report.old) }
     ensures folder_kept { ¬ AsksToPublish (request_of words.now) → folder.new ≡ folder.old }
+
+    // A generated run was done, and the line of its summary was written.
+    ensures demo { (seed : ℕ) → request_of words.now ≡ Some (asked.Demo seed)
+        → RunsDemo K.Sink D.Disk seed result sink.old sink.new disk.old disk.new }
+    ensures demo_others { (seed : ℕ) → request_of words.now ≡ Some (asked.Demo seed)
+        → (source.new ≡ source.old) × (report.new ≡ report.old) }
 
     // Only a session asks a link.
     ensures links_kept { ¬ AsksForSession (request_of words.now) → links.new ≡ links.old }
@@ -163,5 +177,6 @@ pub fn run<S: Source, K: Sink, D: Disk, F: Folder, L: Links>(
         }
         Ok(Request::Inspect { kind }) => inspect(alloc, kind, source, sink).code(),
         Ok(Request::Publish { options }) => publish_options(alloc, &options, folder, sink).code(),
+        Ok(Request::Demo { seed }) => demonstrate(alloc, seed, sink, disk).code(),
     }
 }

@@ -5,7 +5,7 @@ ghost use Rattle.command_text.specs.Numbers.{number_of};
 ghost use Rattle.publication.specs.Command.{Takes};
 ghost use Rattle.publication.specs.Words.{options_of};
 ghost use Rattle.publication.specs.declared.values.WordFault.TheVariants as fault;
-ghost use Rattle.updater_cli.specs.Words.{IsRequest, IsUntaken, format_of, is_publish as asks_to_publish, kind_of, other_of, publish_of, request_of, session_of};
+ghost use Rattle.updater_cli.specs.Words.{IsRequest, IsUntaken, demo_of, format_of, is_publish as asks_to_publish, kind_of, other_of, publish_of, request_of, session_of};
 
 use command_text::read_number;
 use inspection::Kind;
@@ -26,6 +26,8 @@ pub enum Request {
     Inspect { kind: Kind },
     /// A release with these options.
     Publish { options: Options },
+    /// The generated run of this number.
+    Demo { seed: u64 },
 }
 
 // A format of so many blocks.
@@ -75,16 +77,28 @@ fn read_kind(word: &Word) -> Option<Request>
     None
 }
 
+// A generated run.
+fn read_demo(seed: &[u8]) -> Option<Request>
+    ensures request { result ≡ demo_of (number_of seed.now) }
+    ensures small { IfSome result IsRequest }
+{
+    let seed = read_number(seed)?;
+    Some(Request::Demo { seed })
+}
+
 // Two words.
 fn read_two(words: &[Word]) -> Option<Request>
     requires { length words.now ≡ 2 }
     ensures request { result ≡ other_of words.now }
     ensures small { IfSome result IsRequest }
 {
-    if !is_word(&words[0], b"inspect") {
-        return None;
+    if is_word(&words[0], b"inspect") {
+        return read_kind(&words[1]);
     }
-    read_kind(&words[1])
+    if is_word(&words[0], b"demo") {
+        return read_demo(words[1].as_slice());
+    }
+    None
 }
 
 // Three words.
@@ -159,9 +173,10 @@ fn is_publish(words: &[Word]) -> bool
 }
 
 /// What the words ask for: `format --blocks N` with N from 1 to 65,536, `session --boot N --now N`,
-/// `inspect deployment` or `inspect application`, or `publish` and its words. `Unreadable` comes
-/// where they ask for nothing, unless memory ran out. Else it comes only where they are those of a
-/// `publish` whose options do not take them. `Memory` comes only behind the word `publish`.
+/// `inspect deployment` or `inspect application`, `demo SEED`, or `publish` and its words.
+/// `Unreadable` comes where they ask for nothing, unless memory ran out. Else it comes only where
+/// they are those of a `publish` whose options do not take them. `Memory` comes only behind the word
+/// `publish`.
 pub(crate) fn read_words(alloc: Global, words: &[Word]) -> Result<Request, WordFault>
     ensures request { IfOk result (λ request. request_of words.now ≡ Some request) }
     ensures small { IfOk result IsRequest }

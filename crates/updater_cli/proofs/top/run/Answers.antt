@@ -1,14 +1,15 @@
 use Rattle.std.proofs.Common.{rules, arith, ◌≡◌, ◌≢◌, Some, Err, inr, refl, sym, ◌∙◌, ap}
 use Rattle.updater_cli.specs.declared.status.Status.{Status}
 use Rattle.updater_cli.specs.declared.status.Status.TheVariants.{Done, Words, SourceFault, SinkFault, DiskFault, NotAStore, Memory, TooMuchInput}
+use Rattle.updater_cli.specs.Demonstration.{RunsDemo}
 use Rattle.updater_cli.specs.Devices.{devices_of}
 use Rattle.updater_cli.specs.Format.{MakesStore}
 use Rattle.updater_cli.specs.Headline.{Headline}
 use Rattle.updater_cli.specs.Requests.{InspectsInput, PublishesBy}
 use Rattle.updater_cli.specs.Status.{code_of}
 use Rattle.updater_cli.specs.Words.{request_of}
-use Rattle.updater_cli.proofs.Asked.{for_session, for_format, for_inspect, for_publish}
-use Rattle.updater_cli.proofs.PublishWords.{no_session, no_format, no_inspect, no_others, refused_session, refused_format, refused_inspect, refused_others}
+use Rattle.updater_cli.proofs.Asked.{for_session, for_format, for_inspect, for_publish, for_demo}
+use Rattle.updater_cli.proofs.PublishWords.{no_session, no_format, no_inspect, no_demo, no_others, refused_session, refused_format, refused_inspect, refused_demo, refused_others}
 use Rattle.updater_cli.proofs.Publishing.{publishes, publishes_nothing}
 use Rattle.updater_cli.proofs.top.run.Goals as goal
 
@@ -43,6 +44,11 @@ returns-in-Ok-Inspect-clause-inspect g c =
     c.in-Ok-Inspect.kind (c.in-Ok-Inspect.ensures.request ∙ ap Some c.in-Ok-Inspect.field-0-is)
     (record { says = rw c.code-in-Ok-Inspect.ensures c.inspect.ensures.says; left = search rules; nothing = search rules; statuses = search rules })
 
+pub returns-in-Ok-Demo-clause-demo : goal.returns-in-Ok-Demo-clause-demo
+returns-in-Ok-Demo-clause-demo g c =
+    for_demo (request_of c.args.words.now) (λ seed. RunsDemo g.K.Sink g.D.Disk seed c.code-in-Ok-Demo.result c.args.sink.now c.demonstrate.new.sink c.args.disk.now c.demonstrate.new.disk)
+    c.in-Ok-Demo.seed (c.in-Ok-Demo.ensures.request ∙ ap Some c.in-Ok-Demo.field-0-is) (rw c.code-in-Ok-Demo.ensures c.demonstrate.ensures.runs)
+
 pub returns-in-Ok-Publish-clause-publish : goal.returns-in-Ok-Publish-clause-publish
 returns-in-Ok-Publish-clause-publish g c =
     for_publish (request_of c.args.words.now) (λ options. c.code-in-Ok-Publish.result ≢ 1 → PublishesBy g.F.Folder g.K.Sink options c.code-in-Ok-Publish.result c.args.folder.now c.publish_options.new.folder c.args.sink.now c.publish_options.new.sink)
@@ -62,6 +68,9 @@ returns-in-Err-Unreadable-clause-format g c = λ blocks asked. absurd (refused_f
 
 pub returns-in-Err-Unreadable-clause-inspect : goal.returns-in-Err-Unreadable-clause-inspect
 returns-in-Err-Unreadable-clause-inspect g c = λ kind asked. absurd (refused_inspect c.args.words.now (c.in-Err-Unreadable.ensures.none (ap Err c.in-Err-Unreadable.field-0-is)) kind asked)
+
+pub returns-in-Err-Unreadable-clause-demo : goal.returns-in-Err-Unreadable-clause-demo
+returns-in-Err-Unreadable-clause-demo g c = λ seed asked. absurd (refused_demo c.args.words.now (c.in-Err-Unreadable.ensures.none (ap Err c.in-Err-Unreadable.field-0-is)) seed asked)
 
 pub returns-in-Err-Unreadable-clause-publish : goal.returns-in-Err-Unreadable-clause-publish
 returns-in-Err-Unreadable-clause-publish g c = λ options asked other. absurd (other c.code.ensures)
@@ -83,6 +92,9 @@ returns-in-Err-Memory-clause-format g c = λ blocks asked. absurd (no_format c.a
 
 pub returns-in-Err-Memory-clause-inspect : goal.returns-in-Err-Memory-clause-inspect
 returns-in-Err-Memory-clause-inspect g c = λ kind asked. absurd (no_inspect c.args.words.now (c.in-Err-Memory.ensures.memory (ap Err c.in-Err-Memory.field-0-is)) kind asked)
+
+pub returns-in-Err-Memory-clause-demo : goal.returns-in-Err-Memory-clause-demo
+returns-in-Err-Memory-clause-demo g c = λ seed asked. absurd (no_demo c.args.words.now (c.in-Err-Memory.ensures.memory (ap Err c.in-Err-Memory.field-0-is)) seed asked)
 
 pub returns-in-Err-Memory-clause-no_request : goal.returns-in-Err-Memory-clause-no_request
 returns-in-Err-Memory-clause-no_request g c = λ none. inr (c.in-Err-Memory.ensures.memory (ap Err c.in-Err-Memory.field-0-is), c.code-in-Err-Memory.ensures)

@@ -1,0 +1,49 @@
+use Rattle.std.proofs.Common.{◌∙◌, Err, refl, ap, subst}
+use Rattle.std.specs.Prelude.{List, ℕ}
+use Rattle.outside.specs.Streams.{Appends, AppendsPart}
+use Rattle.updater_cli.specs.declared.status.Status.TheVariants as exit
+use Rattle.updater_cli.proofs.DemoEnds.{asks_by, by_disk, by_memory, cut_off, written}
+use Rattle.updater_cli.proofs.demonstrating.demonstrate.Goals as goal
+
+pub returns-in-Err-DiskFault-clause-runs : goal.returns-in-Err-DiskFault-clause-runs
+returns-in-Err-DiskFault-clause-runs g c = by_disk g.K.Sink g.D.Disk c.args.seed c.args.sink.now c.args.sink.now c.args.disk.now c.demo.new.disk refl
+
+pub returns-in-Err-DiskFault-clause-asks : goal.returns-in-Err-DiskFault-clause-asks
+returns-in-Err-DiskFault-clause-asks g c =
+    asks_by g.D.Disk c.args.disk.now c.demo.new.disk c.demo.result exit.DiskFault c.demo.ensures.touches
+    (λ is. c.in-Err-DiskFault.is ∙ ap Err c.in-Err-DiskFault.field-0-is) (λ is. refl)
+
+pub returns-in-Err-Memory-clause-runs : goal.returns-in-Err-Memory-clause-runs
+returns-in-Err-Memory-clause-runs g c = by_memory g.K.Sink g.D.Disk c.args.seed c.args.sink.now c.args.sink.now c.args.disk.now c.demo.new.disk refl
+
+pub returns-in-Err-Memory-clause-asks : goal.returns-in-Err-Memory-clause-asks
+returns-in-Err-Memory-clause-asks g c =
+    asks_by g.D.Disk c.args.disk.now c.demo.new.disk c.demo.result exit.Memory c.demo.ensures.touches
+    (λ is. cc (is)) (λ is. cc (is, c.in-Err-Memory.is, c.in-Err-Memory.field-0-is))
+
+pub returns-in-Err-clause-runs : goal.returns-in-Err-clause-runs
+returns-in-Err-clause-runs g c = by_memory g.K.Sink g.D.Disk c.args.seed c.args.sink.now c.args.sink.now c.args.disk.now c.demo.new.disk refl
+
+pub returns-in-Err-clause-asks : goal.returns-in-Err-clause-asks
+returns-in-Err-clause-asks g c =
+    asks_by g.D.Disk c.args.disk.now c.demo.new.disk c.demo.result exit.Memory c.demo.ensures.touches (λ is. cc (is)) (λ is. cc (is, c.in-Ok.is))
+
+pub returns-in-Ok-write_all-clause-runs : goal.returns-in-Ok-write_all-clause-runs
+returns-in-Ok-write_all-clause-runs g c =
+    written g.K.Sink g.D.Disk c.args.seed c.args.sink.now c.write_all.new.sink c.args.disk.now c.demo.new.disk c.in-Ok.summary c.in-Ok.ensures.run
+    (λ tells. subst (λ (bytes : List ℕ). Appends (g.K.Sink.taken c.args.sink.now) (g.K.Sink.taken c.write_all.new.sink) bytes) (c.as_bytes.ensures.value ∙ c.in-Ok-line.ensures)
+    (c.in-Ok-write_all.ensures.bytes tells))
+
+pub returns-in-Ok-write_all-clause-asks : goal.returns-in-Ok-write_all-clause-asks
+returns-in-Ok-write_all-clause-asks g c =
+    asks_by g.D.Disk c.args.disk.now c.demo.new.disk c.demo.result exit.Done c.demo.ensures.touches (λ is. cc (is)) (λ is. cc (is, c.in-Ok.is))
+
+pub returns-clause-runs : goal.returns-clause-runs
+returns-clause-runs g c =
+    cut_off g.K.Sink g.D.Disk c.args.seed c.args.sink.now c.write_all.new.sink c.args.disk.now c.demo.new.disk c.in-Ok.summary c.in-Ok.ensures.run
+    (λ tells. subst (λ (bytes : List ℕ). AppendsPart (g.K.Sink.taken c.args.sink.now) (g.K.Sink.taken c.write_all.new.sink) bytes) (c.as_bytes.ensures.value ∙ c.in-Ok-line.ensures)
+    (c.in-Err-write_all.ensures.part tells))
+
+pub returns-clause-asks : goal.returns-clause-asks
+returns-clause-asks g c =
+    asks_by g.D.Disk c.args.disk.now c.demo.new.disk c.demo.result exit.SinkFault c.demo.ensures.touches (λ is. cc (is)) (λ is. cc (is, c.in-Ok.is))

@@ -1,0 +1,28 @@
+-- What is done for a generated run.
+use Rattle.std.specs.Prelude.{◌≡◌, ◌⊎◌, ℕ}
+use Rattle.outside.specs.Streams.{Appends, AppendsPart}
+use Rattle.outside.specs.declared.sink.Sink.{Ghosts as SinkGhosts}
+use Rattle.disks.specs.declared.disk.Disk.{Ghosts}
+use Rattle.demo.specs.declared.summary.Summary.{Summary}
+use Rattle.demo.specs.Run.{Demonstrates}
+use Rattle.demo.specs.Summary.{summary_line}
+
+-- The run was done to its end: where the disk tells, its reads stand for the store to which it
+-- leads, and the summary has its numbers. The line of the summary was written, or a first part of
+-- it.
+pub record IsDone {K D : Type 0} (to : SinkGhosts K) (on : Ghosts D) (seed status : ℕ)
+    (sink_old sink : K) (disk : D) : Type 0 where
+  pub summary : Summary
+  pub run : on.tells disk → Demonstrates on seed summary disk
+  pub whole : to.tells → status ≡ 0
+      → Appends (to.taken sink_old) (to.taken sink) (summary_line summary)
+  pub part : to.tells → status ≡ 3
+      → AppendsPart (to.taken sink_old) (to.taken sink) (summary_line summary)
+
+-- It is done with status 0, and with status 3, where the sink failed. With 4 the disk failed, with
+-- 6 there was no memory, and then nothing was written.
+pub record RunsDemo {K D : Type 0} (to : SinkGhosts K) (on : Ghosts D) (seed status : ℕ)
+    (sink_old sink : K) (disk_old disk : D) : Type 0 where
+  pub done : (status ≡ 0) ⊎ (status ≡ 3) → IsDone to on seed status sink_old sink disk
+  pub nothing : (status ≡ 4) ⊎ (status ≡ 6) → sink ≡ sink_old
+  pub statuses : (status ≡ 0) ⊎ ((status ≡ 3) ⊎ ((status ≡ 4) ⊎ (status ≡ 6)))
