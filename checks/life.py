@@ -433,6 +433,16 @@ def full_blocks():
          ["ok finished 1", "ok cleaned 1", f"ok installed {KEY} 3.0.0.0 3", "ok list 1", f"{KEY} 3.0.0.0"])
 
 
+def full_output():
+    """Where the output takes nothing, a generated run is done, and ends with status 3."""
+    store = f"{work}/unwritten.store"
+    with open("/dev/full", "wb") as output:
+        got = subprocess.run([CLIENT, store, empty, "demo", "7"], stdout=output, stderr=subprocess.PIPE, text=True)
+    holds(f"a generated run whose output is full: {got}",
+          (got.returncode, got.stderr) == (3, "clickstore: standard output: No space left on device\n"))
+    check("what stands where the output was full", store, ["list"], ["ok list 1", f"{KEY} 3.0.0.0"])
+
+
 def full_disk():
     """Where the disk is full, a generated run ends with status 4 and says why, and the lines of a session do."""
     status, said, why = limited(f"{work}/full.store", ["demo", "7"], "", 100000)
@@ -610,14 +620,14 @@ def blocks_of(*versions):
 
 def demo(seed):
     store = f"{work}/demo.store"
-    first, second, third = (version_of(seed, version) for version in (1, 2, 3))
+    first, second, third = (version_of(int(seed), version) for version in (1, 2, 3))
     asked = [2 + len(set(first.values())), 2 + len(set(second.values()) - set(first.values())),
              2 + len(set(third.values()) - set(second.values()) - set(first.values()))]
     blocks = [blocks_of(first), blocks_of(first, second), blocks_of(first, second, third), blocks_of(second, third)]
     line = f"demo {int(seed)} files 200 asked {' '.join(map(str, asked))} blocks {' '.join(map(str, blocks))}\n"
     got = run(store, ["demo", seed])
     holds(f"demo {seed}: {got}", got == (0, line, ""))
-    if seed == "7":
+    if int(seed) == 7:
         holds(f"demo 7: {got[1]!r}", got[1] == "demo 7 files 200 asked 202 22 22 blocks 335 365 395 365\n")
     check(f"demo {seed}: what stands", store, ["list", f"show {KEY}", "clean", "finish 1", f"launch {KEY}"],
           ["ok list 1", f"{KEY} 3.0.0.0",
@@ -644,8 +654,9 @@ def main():
     long_lines(store)
     other_words(store)
     large_input(store)
-    for seed in ("7", str(chance.randrange(10**9))):
+    for seed in ("7", "0", "007", str(2**62), str(chance.randrange(10**9))):
         demo(seed)
+    full_output()
     full_disk()
     sys.exit(finish())
 
