@@ -38,8 +38,9 @@ asked of the URL's host over HTTP.
                                `clean`, `list` and `show KEY`
   inspect deployment           says what the deployment manifest in the input says
   inspect application          the same for an application manifest
-  demo SEED                    makes an empty store, and lives a run of generated
-                               releases over it; SEED is a number
+  demo SEED                    makes STORE anew, what it held being lost, and
+                               installs three generated releases there; SEED is
+                               a number, which makes their files
   publish OPTION.. MARK..      publishes files of the folder, in any order:
     --name N --release V       as version V of N
     --entry E                  E is the file that is started

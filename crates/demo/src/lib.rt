@@ -1,5 +1,5 @@
-//! The generated run: three releases of generated files are published, installed, launched and
-//! cleaned away over a disk, and each step is compared with what it must be.
+//! The generated run: three releases of generated files are published and installed over a disk, and
+//! the first is launched and cleaned away. Each step is compared with what it must be.
 #![tactic(auto)]
 
 mod fault;

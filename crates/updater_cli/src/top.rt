@@ -70,9 +70,9 @@ fn format<D: Disk>(alloc: Global, disk: &mut D, blocks: u64) -> Status
 ///
 /// `demo SEED` makes a new store of 65,536 blocks on the disk, and lives a run over it that the
 /// number makes: three releases of 200 generated files are published in memory, each is installed,
-/// and the first is launched, finished and cleaned away. The line of its summary is written to the
-/// sink: how many targets each install asked for, and how many blocks were used behind each install
-/// and at the end.
+/// and the first is launched, its lease is finished, and it is cleaned away. The line of its summary
+/// is written to the sink: how many targets each install asked for, and how many blocks were used
+/// behind each install and at the end.
 ///
 /// The status is 0 where all was done, 1 where the words are none of these, 2 where the source
 /// failed, 3 the sink, 4 the disk, 5 where the disk holds no store, 6 where there was no memory, 7
