@@ -39,8 +39,16 @@ impl<T> Record<T> {
         }
     }
 
-    /// Notes what a value stands for, after all that was noted.
-    pub fn note<E: Notes<T>>(&mut self, _entry: &E)
+    // Puts what a value stands for behind all that was noted. There is nothing for the program to do: the list is longer
+    // from here on, and that is said by the proof of this function alone.
+    fn append<E: Notes<T>>(&mut self, _entry: &E)
         ensures { self.new.noted ≡ self.old.noted ++ E.notes _entry.now }
     {}
+
+    /// Notes what a value stands for, after all that was noted.
+    pub fn note<E: Notes<T>>(&mut self, entry: &E)
+        ensures { self.new.noted ≡ self.old.noted ++ E.notes entry.now }
+    {
+        self.append(entry);
+    }
 }

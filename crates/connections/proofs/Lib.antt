@@ -1,2 +1,2 @@
-pub mod Doors
+pub mod AcceptedOf
 pub mod Ends

@@ -1,6 +1,7 @@
 pub mod Door
 pub mod MemDoor
 pub mod MemWire
+pub mod Places
 pub mod Present
-pub mod Receiving
+pub mod WantOfMemory
 pub mod Wire

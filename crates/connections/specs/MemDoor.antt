@@ -2,7 +2,7 @@ use Rattle.std.specs.Prelude.{◌≡◌, ℕ, List, [], ◌∷◌, ◌++◌, Boo
 use Rattle.outside.specs.FailingCalls.{fails_next}
 use Rattle.connections.specs.declared.mem_door.MemDoor.{MemDoor}
 use Rattle.connections.specs.Door.{Accepted, fresh}
-use Rattle.connections.specs.Receiving.{accepted_of}
+use Rattle.connections.specs.Places.{accepted_of}
 
 -- the connections that were accepted
 abbrev pub door_accepted : MemDoor → List Accepted
@@ -21,6 +21,10 @@ door_faults d = d.failing.faults
 
 abbrev pub door_missed : MemDoor → ℕ
 door_missed d = d.missed
+
+-- how many calls failed for want of memory
+abbrev pub door_starved : MemDoor → ℕ
+door_starved d = d.starved
 
 -- how many calls there were
 abbrev pub door_calls : MemDoor → ℕ

@@ -19,6 +19,10 @@ wire_present w = present_of w.present w.sent
 abbrev pub wire_faults : MemWire → ℕ
 wire_faults w = w.failing.faults
 
+-- how many calls failed for want of memory
+abbrev pub wire_starved : MemWire → ℕ
+wire_starved w = w.starved
+
 -- how many calls there were
 abbrev pub wire_calls : MemWire → ℕ
 wire_calls w = w.failing.calls

@@ -1,32 +1,45 @@
-// What is sent last, which both ends share.
-ghost use Rattle.std.specs.Prelude.{◌≡◌};
-ghost use Rattle.std.specs.Bool.{OnTrue, OnFalse};
+// What both ends share: what is sent last, and the count of calls for which there was no memory.
+ghost use Rattle.std.specs.Prelude.{◌≡◌, ◌<◌, length, OnOk, OnErr};
 ghost use Rattle.connections.specs.Wire.{SendsLast};
+ghost use Rattle.outside.specs.Streams.{total};
 
 use small_types::{Bytes, List};
-use std::alloc::Global;
+use std::alloc::{AllocError, Global};
 use std::mem::replace;
 
-// Adds bytes to the last piece, if there is one and there is memory. Else nothing changes.
-fn extend_last(pieces: &mut Vec<Bytes>, bytes: &[u8]) -> bool
-    ensures done { OnTrue result (SendsLast pieces.old.items pieces.new.items bytes.now) }
-    ensures kept { OnFalse result (pieces.new.items ≡ pieces.old.items) }
+// Adds bytes to the last piece. An `Err` changes nothing.
+fn extend_last(pieces: &mut Vec<Bytes>, bytes: &[u8]) -> Result<(), AllocError>
+    requires { 0 < length pieces.old.items }
+    ensures done { OnOk result (SendsLast pieces.old.items pieces.new.items bytes.now) }
+    ensures kept { OnErr result (pieces.new.items ≡ pieces.old.items) }
 {
     let Some(mut last) = pieces.pop() else {
-        return false;
+        unreachable!();
     };
-    let done = last.extend(bytes).is_ok();
+    let done = last.extend(bytes);
     pieces.push_reserved(last);
     done
 }
 
-// Adds bytes to what was sent last, if something can be and there is memory. Else nothing changes.
-pub(crate) fn send_last(alloc: Global, sent: &mut List<Bytes>, bytes: &[u8]) -> bool
-    ensures done { OnTrue result (SendsLast sent.old sent.new bytes.now) }
-    ensures kept { OnFalse result (sent.new ≡ sent.old) }
+// Adds bytes to what was sent last. An `Err` changes nothing.
+pub(crate) fn send_last(
+    alloc: Global,
+    sent: &mut List<Bytes>,
+    bytes: &[u8],
+) -> Result<(), AllocError>
+    requires { 0 < length sent.old }
+    ensures done { OnOk result (SendsLast sent.old sent.new bytes.now) }
+    ensures kept { OnErr result (sent.new ≡ sent.old) }
 {
     let mut pieces = replace(sent, List::from_vec(Vec::new(alloc))).into_vec();
     let done = extend_last(&mut pieces, bytes);
     *sent = List::from_vec(pieces);
     done
+}
+
+// Counts a call for which there was no memory.
+pub(crate) fn starve(starved: &mut u64, _why: AllocError)
+    ensures { starved.new ≡ total starved.old 1 }
+{
+    *starved = starved.saturating_add(1);
 }

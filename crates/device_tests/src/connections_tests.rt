@@ -86,6 +86,7 @@ fn assert_wire(rt: &(impl Abort + AllocGlobal), case: &Case) -> Result<(), Alloc
         case.failing
     );
     assert!(rt; wire.faults() == case.faults, "{}: faults", case.failing);
+    assert!(rt; wire.starved() == 0, "{}: memory", case.failing);
     Ok(())
 }
 
@@ -119,6 +120,7 @@ fn assert_door(rt: &(impl Abort + AllocGlobal), case: &Case) -> Result<(), Alloc
     );
     assert!(rt; door.missed() == case.missed, "{}: missed", case.failing);
     assert!(rt; door.faults() == case.faults, "{}: faults", case.failing);
+    assert!(rt; door.starved() == 0, "{}: memory", case.failing);
     Ok(())
 }
 

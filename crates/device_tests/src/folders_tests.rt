@@ -1,6 +1,6 @@
 // What no clause says of the folder in memory: that calls succeed, and worked values.
 use crate::made::{bytes, numbers, same};
-use folders::{Folder, FolderFault, Held, MemFolder, are_distinct};
+use folders::{Folder, FolderFault, Found, Held, MemFolder, are_distinct};
 use small_types::{Bytes, List, Name};
 use std::alloc::Global;
 use std::process::Abort;
@@ -15,6 +15,8 @@ enum Step {
     Get(&'static [u8], Result<&'static [u8], FolderFault>),
     // Whether there is the file to read into the buffer, and what the buffer has where there is one.
     GetInto(&'static [u8], Result<bool, FolderFault>),
+    // The same of a file of at most so many bytes.
+    GetWithin(&'static [u8], u64, Result<Found, FolderFault>),
     Buffer(&'static [u8]),
     Put(&'static [u8], &'static [u8], Result<(), FolderFault>),
     Faults(u64),
@@ -68,6 +70,17 @@ fn get_into<F: Folder>(
     folder.get_into(alloc, &name, into)
 }
 
+fn get_within<F: Folder>(
+    alloc: Global,
+    folder: &mut F,
+    name: &[u8],
+    limit: u64,
+    into: &mut Bytes,
+) -> Result<Found, FolderFault> {
+    let name = named(alloc, name)?;
+    folder.get_within(alloc, &name, limit, into)
+}
+
 fn put<F: Folder>(
     alloc: Global,
     folder: &mut F,
@@ -92,6 +105,9 @@ fn answers<F: Folder>(alloc: Global, folder: &mut F, buffer: &mut Bytes, step: &
         Step::List(want) => gives(list(alloc, folder), want),
         Step::Get(name, want) => gives(get(alloc, folder, name), want),
         Step::GetInto(name, want) => get_into(alloc, folder, name, buffer) == *want,
+        Step::GetWithin(name, limit, want) => {
+            get_within(alloc, folder, name, *limit, buffer) == *want
+        }
         Step::Buffer(want) => same(buffer.as_slice(), want),
         Step::Put(name, bytes, want) => put(alloc, folder, name, bytes) == *want,
         Step::Faults(want) => folder.faults() == *want,
@@ -143,6 +159,20 @@ const READS_INTO_A_BUFFER: &[Step] = &[
     Step::Buffer(b"2"),
 ];
 
+const READS_WITHIN_A_LIMIT: &[Step] = &[
+    Step::GetWithin(b"c", 0, Ok(Found::Nothing)),
+    Step::GetWithin(b"b", 1, Ok(Found::Whole)),
+    Step::Buffer(b"1"),
+    Step::GetWithin(b"a/x", 0, Ok(Found::TooLong { length: 1 })),
+    Step::GetWithin(b"a/x", 9, Ok(Found::Whole)),
+    Step::Buffer(b"2"),
+    Step::GetWithin(b"b", 1, Err(FAILED)),
+    Step::Put(b"b", b"345", Ok(())),
+    Step::GetWithin(b"b", 2, Ok(Found::TooLong { length: 3 })),
+    Step::GetWithin(b"b", 3, Ok(Found::Whole)),
+    Step::Buffer(b"345"),
+];
+
 const FAILS: &[Step] = &[
     Step::List(Err(FAILED)),
     Step::List(Ok(b"a/x|b|")),
@@ -156,6 +186,7 @@ const FAILS: &[Step] = &[
 fn folder_answers_step_by_step(rt: HostRuntime) -> Result<(), Fail> {
     run(&rt, "works", &[], WORKS)?;
     run(&rt, "buffer", &[3], READS_INTO_A_BUFFER)?;
+    run(&rt, "limit", &[5], READS_WITHIN_A_LIMIT)?;
     run(&rt, "fails", &[1, 3, 5], FAILS)?;
     Ok(())
 }

@@ -1,6 +1,8 @@
-//! Tests of the devices in memory and of the log: that calls succeed and fail by their numbers.
+//! Tests of the devices in memory, of what a device notes, and of the log: that calls succeed and fail by their numbers.
 #![tactic(auto)]
 
+#[cfg(test)]
+mod call_record_tests;
 #[cfg(test)]
 mod connections_tests;
 #[cfg(test)]
@@ -11,6 +13,8 @@ mod folders_tests;
 mod links_tests;
 #[cfg(test)]
 mod made;
+#[cfg(test)]
+mod mirrors_tests;
 #[cfg(test)]
 mod outside_tests;
 #[cfg(test)]

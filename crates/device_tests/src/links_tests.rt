@@ -1,4 +1,7 @@
 // What no clause says of links and baskets in memory: that calls succeed, and worked values.
+ghost use Rattle.std.specs.Prelude.{◌<◌, length, take, IfOk, Ok};
+ghost use Rattle.links.specs.Asked.{AskedOnce};
+
 use crate::made::{bytes, numbers, same};
 use links::{
     Basket, BasketFault, Link, LinkFault, Links, MemBasket, MemLink, Page, Single, are_distinct,
@@ -37,6 +40,32 @@ fn two_pages(alloc: Global, failing: u64) -> Result<MemLink, LinkFault> {
         return Err(LinkFault::Memory);
     }
     Ok(MemLink::new(alloc, site, numbers(alloc, &[failing])?))
+}
+
+// Asks for the target and takes a piece: no more is asked of the link, and the piece has what the buffer has.
+fn ask_and_take<K: Link>(
+    alloc: Global,
+    link: &mut K,
+    target: &Target,
+    buf: &mut [u8],
+) -> Result<(u64, usize), LinkFault>
+    requires { 0 < length buf.old }
+    ensures { IfOk result (λ t.
+        AskedOnce target.now (K.state link.old) (K.state link.new) (Ok t.0) (take t.1 buf.new)) }
+{
+    let length = link.ask(alloc, target)?;
+    let n = link.piece(buf)?;
+    Ok((length, n))
+}
+
+#[test]
+fn link_is_asked_once(rt: HostRuntime) -> Result<(), Fail> {
+    let alloc = rt.alloc();
+    let mut link = two_pages(alloc, 0)?;
+    let target = target(alloc, "/a")?;
+    let got = ask_and_take(alloc, &mut link, &target, &mut [b'.'; 4]);
+    assert!(rt; got == Ok((5, 4)));
+    Ok(())
 }
 
 // A call of a link: asking for a path, or a piece of at most four bytes.

@@ -5,5 +5,7 @@ pub mod Honesty
 pub mod MemDisk
 pub mod Moments
 pub mod Moves
+pub mod Outside
 pub mod Pieces
 pub mod ReadsLeft
+pub mod Spends

@@ -1,8 +1,10 @@
-use Rattle.std.specs.Prelude.{◌≡◌, ◌+◌, ℕ, min, List, Bool, Result, OnErr, OnOk}
+use Rattle.std.specs.Prelude.{◌≡◌, ◌+◌, ℕ, min, List, [], ◌∷◌, ◌++◌, Bool, Result, OnErr, OnOk}
 use Rattle.outside.specs.declared.failed.Failed.{Failed}
 use Rattle.outside.specs.FailingCalls.{fails_next}
 use Rattle.disks.specs.History.{first_of}
-use Rattle.disks.specs.Moves.{IsImage, picked_after, until}
+use Rattle.disks.specs.Moves.{IsImage, MayRecord, picked_after, until}
+use Rattle.disks.specs.declared.call.Call.{Call}
+use Rattle.disks.specs.declared.call.Move.{Move}
 use Rattle.disks.specs.declared.call.Pick.{Pick}
 use Rattle.disks.specs.declared.mem_disk.MemDisk.{MemDisk}
 
@@ -30,6 +32,10 @@ failing_of m = m.failing.numbers
 abbrev pub disk_fails : MemDisk → Bool
 disk_fails m = fails_next m.failing
 
+-- what it noted of its calls that may change it, the first first
+abbrev pub noted_of : MemDisk → List Call
+noted_of m = m.history.moves.items
+
 -- what a stop at that moment may leave
 abbrev pub left_of : MemDisk → ℕ → List ℕ → Type 0
 left_of m t c = IsImage (first_of m.history) (first_of m.history) (until t m.history.moves.items) c
@@ -46,3 +52,14 @@ pub record TakesTurn {T : Type 0} (old new : MemDisk) (result : Result T Failed)
   pub failing : failing_of new ≡ failing_of old
   pub quiet : OnOk result (faults_of new ≡ faults_of old)
   pub raised : OnErr result (faults_of new ≡ min (faults_of old + 1) 0xffff_ffff_ffff_ffff)
+
+-- A call that may have changed the disk is noted behind the earlier ones, with its number. One that
+-- failed may be missing: where there was no memory for the note, no number or no place for the call.
+-- What the disk began with stays.
+pub record IsNoted {T : Type 0} (act : Move) (old new : MemDisk) (result : Result T Failed)
+    : Type 0 where
+  pub began : first_of new.history ≡ first_of old.history
+  pub done : OnOk result
+      (noted_of new ≡ noted_of old ++ record { number = calls_of new; act = act } ∷ [])
+  pub failed : OnErr result
+      (MayRecord (record { number = calls_of new; act = act }) (noted_of old) (noted_of new))

@@ -14,6 +14,6 @@ pub use answer::Answer;
 pub use call::{Call, Move, Pick};
 pub use disk::Disk;
 pub use laws::{honest_answers_are_true, honest_answers_stay_honest};
-pub use mem_disk::{MemDisk, count_call};
+pub use mem_disk::MemDisk;
 pub use start::{Start, Unknown};
 pub use stop::StopFault;

@@ -1,14 +1,15 @@
-ghost use Rattle.std.specs.Prelude.{◌≡◌, ◌≢◌, ◌⊎◌, ◌<◌, ◌≤◌, ◌+◌, ◌^◌, ℕ, List, [], ◌∷◌, ◌++◌, ◌↔◌, ◌==◌, length, take, drop, min, true, false, IfOk, IfErr, IsErr, OnOk, OnErr, IsTrue, Err};
+ghost use Rattle.std.specs.Prelude.{◌≡◌, ◌≢◌, ◌⊎◌, ◌<◌, ◌≤◌, ◌+◌, ◌^◌, ℕ, List, [], ◌∷◌, ◌++◌, ◌↔◌, ◌==◌, length, take, drop, min, true, false, is_ok, IfOk, IfErr, IsErr, OnOk, OnErr, IsTrue, Err};
 ghost use Rattle.disks.specs.declared.stop.StopFault.TheVariants.{LaterThanNow, Memory};
 ghost use Rattle.small_types.specs.Bytes.{put};
 ghost use Rattle.disks.specs.Disk.{Torn, CutOff, Follows, Elapses, IsStill, Only, Ticks, Gives};
 ghost use Rattle.outside.specs.Streams.{Causes};
 ghost use Rattle.disks.specs.Moves.{all_by};
+ghost use Rattle.disks.specs.declared.call.Move.TheVariants.{Write, Cut, Sync};
 
 use crate::history::History;
 use crate::stop::replay;
 use crate::{Disk, Pick, StopFault};
-use outside::{Failed, FailingCalls};
+use outside::{Failed, FailingCalls, count_call};
 use small_types::{Bytes, List, copy_front, rest_from};
 use std::alloc::Global;
 
@@ -27,7 +28,7 @@ pub struct MemDisk {
 }
 
 impl MemDisk {
-    ghost use Rattle.disks.specs.MemDisk.{disk_bytes, calls_of, written_of, faults_of, failing_of, turns_of, left_of, picked_of};
+    ghost use Rattle.disks.specs.MemDisk.{disk_bytes, calls_of, written_of, faults_of, failing_of, turns_of, noted_of, left_of, picked_of};
 
     /// A disk of these bytes, which count as synced. It takes no memory: the first call of `write_at`, `cut` or `sync`
     /// keeps a copy of them.
@@ -38,6 +39,8 @@ impl MemDisk {
         ensures faults { faults_of result ≡ 0 }
         ensures failing { failing_of result ≡ failing }
         ensures turns { turns_of result ≡ 0 }
+        ensures noted { noted_of result ≡ [] }
+        ensures only { Only (disk_bytes result) (left_of result 0) }
     {
         MemDisk {
             alloc,
@@ -57,6 +60,10 @@ impl MemDisk {
         ensures calls { IfOk result (λ disk. calls_of disk ≡ 0) }
         ensures failing { IfOk result (λ disk. failing_of disk ≡ []) }
         ensures turns { IfOk result (λ disk. turns_of disk ≡ 0) }
+        ensures written { IfOk result (λ disk. written_of disk ≡ 0) }
+        ensures faults { IfOk result (λ disk. faults_of disk ≡ 0) }
+        ensures noted { IfOk result (λ disk. noted_of disk ≡ []) }
+        ensures only { IfOk result (λ disk. Only (disk_bytes disk) (left_of disk 0)) }
         ensures later { IfErr result (λ e. e ≢ Memory
             → (e ≡ LaterThanNow (calls_of self.now)) × (calls_of self.now < moment)) }
         ensures too_late { calls_of self.now < moment
@@ -83,26 +90,9 @@ impl MemDisk {
     }
 }
 
-/// Counts a call of so many bytes, if neither count ends, and answers whether it did. Else both stay.
-pub fn count_call(calls: &mut u64, written: &mut u64, count: u64) -> bool
-    ensures counted { result ≡ true
-        → (calls.new ≡ calls.old + 1) × (written.new ≡ written.old + count)
-        × (calls.old < 0xffff_ffff_ffff_ffff) × (written.old + count ≤ 0xffff_ffff_ffff_ffff) }
-    ensures full { result ≡ false
-        → (calls.new ≡ calls.old) × (written.new ≡ written.old)
-        × ((0xffff_ffff_ffff_ffff ≤ calls.old) ⊎ (0xffff_ffff_ffff_ffff < written.old + count)) }
-{
-    if *calls == u64::MAX || count > u64::MAX - *written {
-        return false;
-    }
-    *calls += 1;
-    *written += count;
-    true
-}
-
 impl Disk for MemDisk {
     ghost use Rattle.disks.specs.History.{first_of};
-    ghost use Rattle.disks.specs.MemDisk.{TakesTurn, disk_bytes, calls_of, written_of, faults_of, disk_fails, left_of};
+    ghost use Rattle.disks.specs.MemDisk.{IsNoted, TakesTurn, disk_bytes, calls_of, written_of, faults_of, disk_fails, left_of};
     ghost use Rattle.disks.specs.Moves.{IsImage, until};
     ghost use Rattle.disks.specs.ReadsLeft.{reads_are_left};
 
@@ -175,6 +165,7 @@ impl Disk for MemDisk {
         ensures time { Elapses (calls_of self.old) (left_of self.old) (left_of self.new) }
         ensures cause { Causes (faults_of self.old) (faults_of self.new) result }
         ensures kept { OnErr result (disk_bytes self.new ≡ disk_bytes self.old) }
+        ensures noted { IsNoted (Write place bytes.now (is_ok result)) self.old self.new result }
         ensures fails { IsTrue (disk_fails self.old) → IsErr result }
         ensures turn { TakesTurn self.old self.new result }
     {
@@ -208,6 +199,7 @@ impl Disk for MemDisk {
         ensures time { Elapses (calls_of self.old) (left_of self.old) (left_of self.new) }
         ensures cause { Causes (faults_of self.old) (faults_of self.new) result }
         ensures kept { OnErr result (disk_bytes self.new ≡ disk_bytes self.old) }
+        ensures noted { IsNoted (Cut size (is_ok result)) self.old self.new result }
         ensures fails { IsTrue (disk_fails self.old) → IsErr result }
         ensures turn { TakesTurn self.old self.new result }
     {
@@ -237,6 +229,7 @@ impl Disk for MemDisk {
             (written_of self.new) 0 result }
         ensures time { Elapses (calls_of self.old) (left_of self.old) (left_of self.new) }
         ensures cause { Causes (faults_of self.old) (faults_of self.new) result }
+        ensures noted { IsNoted (Sync (is_ok result)) self.old self.new result }
         ensures fails { IsTrue (disk_fails self.old) → IsErr result }
         ensures turn { TakesTurn self.old self.new result }
     {

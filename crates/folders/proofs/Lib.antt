@@ -1,3 +1,4 @@
+pub mod Answering
 pub mod Filing
 pub mod NameLists
 pub mod NameOrder

@@ -1,12 +1,13 @@
 // A folder in memory.
-ghost use Rattle.std.specs.Prelude.{◌≡◌, ◌≤◌, true, not, find, filter, vec_len, vec_capacity, Err, IfOk, OnOk, OnErr};
+ghost use Rattle.std.specs.Prelude.{◌≡◌, ◌≤◌, [], true, not, find, filter, vec_len, vec_capacity, Err, IfOk, OnOk, OnErr};
 ghost use Rattle.std.specs.List.{list_any};
 ghost use Rattle.std.specs.Option.{option_copied};
 ghost use Rattle.folders.specs.declared.folder.FolderFault.TheVariants.{Failed, Memory};
 ghost use Rattle.folders.specs.Files.{is_named, file_in, names_of, distinct, IsNames, Puts};
 ghost use Rattle.folders.specs.Folder.{FailsCounted};
+ghost use Rattle.folders.specs.Reading.{Finds, IsWithin};
 
-use crate::{Folder, FolderFault, Held};
+use crate::{Folder, FolderFault, Found, Held};
 use outside::FailingCalls;
 use small_types::{Bytes, Duplicate, List, Name};
 use std::alloc::Global;
@@ -156,6 +157,10 @@ impl Folder for MemFolder {
 
     ghost count = { λ f. f.failing.faults };
 
+    ghost records = { ⊥ };
+
+    ghost answers = { λ _. [] };
+
     fn list(&mut self, alloc: Global) -> Result<List<Name>, FolderFault>
         ensures names { IfOk result (IsNames (folder_held self.old)) }
         ensures kept { folder_held self.new ≡ folder_held self.old }
@@ -179,6 +184,32 @@ impl Folder for MemFolder {
             return Ok(None);
         };
         Ok(Some(file.bytes.copy(alloc)?))
+    }
+
+    fn get_within(
+        &mut self,
+        alloc: Global,
+        name: &Name,
+        limit: u64,
+        into: &mut Bytes,
+    ) -> Result<Found, FolderFault>
+        ensures found { IfOk result
+            (Finds (file_in name.now (folder_held self.old)) into.new) }
+        ensures within { IfOk result (IsWithin limit into.new) }
+        ensures kept { folder_held self.new ≡ folder_held self.old }
+        ensures cause { FailsCounted (folder_faults self.old) (folder_faults self.new) result }
+        ensures counted { CountsCall self.old self.new result }
+    {
+        self.begin()?;
+        let Some(file) = find_file(self.files.as_slice(), name) else {
+            return Ok(Found::Nothing);
+        };
+        let length = file.bytes.as_slice().len() as u64;
+        if length > limit {
+            return Ok(Found::TooLong { length });
+        }
+        *into = file.bytes.copy(alloc)?;
+        Ok(Found::Whole)
     }
 
     fn put(&mut self, name: &Name, bytes: &[u8]) -> Result<(), FolderFault>

@@ -1,4 +1,6 @@
+pub mod Asked
 pub mod Basket
+pub mod History
 pub mod Link
 pub mod Links
 pub mod MemBasket

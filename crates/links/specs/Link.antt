@@ -2,16 +2,18 @@
 use Rattle.std.specs.Prelude.{◌≡◌, ◌↔◌, ◌⊎◌, ◌≤◌, ℕ, List, [], length, Option, Some, None, Result, Err, IfOk, OnOk, OnErr}
 use Rattle.outside.specs.Streams.{Consumes, Rose}
 use Rattle.small_types.specs.declared.target.Target.{Target}
+use Rattle.links.specs.declared.history.LinkCall.{LinkCall}
 use Rattle.links.specs.declared.link.LinkFault.{LinkFault}
 use Rattle.links.specs.declared.link.LinkFault.TheVariants.{Missing, Down, Memory}
 
 -- a link: whether it tells its site, the bytes that its site has for each target, what is left of
--- the body that was asked for last, and how often it failed
+-- the body that was asked for last, how often it failed, and what it was asked so far
 pub record LinkState : Type 1 where
   pub tells : Type 0
   pub site : Target → Option (List ℕ)
   pub rest : List ℕ
   pub count : ℕ
+  pub history : List LinkCall
 
 -- whether it tells stays, and so does what it tells
 pub record KeepsSite (old new : LinkState) : Type 0 where
@@ -23,6 +25,7 @@ pub record Stays (old new : LinkState) : Type 0 where
   pub site : KeepsSite old new
   pub rest : new.rest ≡ old.rest
   pub count : new.count ≡ old.count
+  pub history : new.history ≡ old.history
 
 -- the count never falls; `Down` comes only where it rose, and an answer and want of memory leave it
 pub record Counts {T : Type 0} (old new : LinkState) (result : Result T LinkFault) : Type 0 where

@@ -1,5 +1,5 @@
 -- What links are, and what their calls do.
-use Rattle.std.specs.Prelude.{◌≡◌, ◌≢◌, ◌<◌, ℕ, zero, suc, List, [], ◌∷◌, ◌++◌, Result, OnOk, OnErr}
+use Rattle.std.specs.Prelude.{◌≡◌, ◌≢◌, ◌+◌, ◌<◌, ◌≤◌, ℕ, zero, suc, List, [], ◌∷◌, ◌++◌, Result, OnOk, OnErr}
 use Rattle.outside.specs.Streams.{total}
 use Rattle.small_types.specs.declared.target.Target.{Target}
 use Rattle.links.specs.declared.links.WantFault.{WantFault}
@@ -44,3 +44,12 @@ pub record Wants (target : Target) (old new : LinksState) (result : Result (Unit
   pub err : OnErr result (new.asked ≡ old.asked)
   pub remain : Remain old new
   pub links : (k : ℕ) → k < old.sources → Stays (old.link k) (new.link k)
+
+-- the link at the place is gone, and how often it failed is counted with those that went before;
+-- the links behind it stand one place before, and nothing else changed
+pub record Retires (place : ℕ) (old new : LinksState) : Type 0 where
+  pub sources : new.sources + 1 ≡ old.sources
+  pub gone : new.gone ≡ total old.gone (old.link place).count
+  pub asked : new.asked ≡ old.asked
+  pub before : (k : ℕ) → k < place → Stays (old.link k) (new.link k)
+  pub behind : (k : ℕ) → place ≤ k → k < new.sources → Stays (old.link (k + 1)) (new.link k)

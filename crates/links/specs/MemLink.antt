@@ -1,10 +1,12 @@
 -- What a link in memory shows, and which of its calls fail.
 use Rattle.std.specs.Prelude.{◌≡◌, ◌≢◌, ℕ, ◌+◌, List, [], Bool, false, min, drop, Result, Err, IsTrue}
 use Rattle.outside.specs.FailingCalls.{fails_next}
+use Rattle.links.specs.declared.history.LinkCall.{LinkCall}
 use Rattle.links.specs.declared.link.LinkFault.{LinkFault}
 use Rattle.links.specs.declared.link.LinkFault.TheVariants.{Down}
 use Rattle.links.specs.declared.mem_link.MemLink.{MemLink}
 use Rattle.links.specs.declared.mem_link.Page.{Page}
+use Rattle.links.specs.History.{calls_of}
 use Rattle.links.specs.Link.{LinkState}
 use Rattle.links.specs.Pages.{page_in}
 
@@ -26,6 +28,10 @@ link_calls l = l.failing.calls
 abbrev pub link_failing : MemLink → List ℕ
 link_failing l = l.failing.numbers
 
+-- what it was asked
+abbrev pub link_history : MemLink → List LinkCall
+link_history l = calls_of l.history
+
 -- whether the next call is one of them
 abbrev pub link_fails : MemLink → Bool
 link_fails l = fails_next l.failing
@@ -38,6 +44,7 @@ link_state l =
       site = λ target. page_in target l.site;
       rest = drop l.at l.body;
       count = l.failing.faults;
+      history = calls_of l.history;
     }
 
 -- A call is counted. It answers `Down` exactly where its number is in the list, and the count of

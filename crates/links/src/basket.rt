@@ -2,6 +2,7 @@
 ghost use Rattle.std.specs.Prelude.{◌≡◌, ℕ, List, [], OnOk};
 ghost use Rattle.outside.specs.Streams.{Appends};
 ghost use Rattle.links.specs.Basket.{BasketCounts};
+ghost use Rattle.links.specs.declared.basket.BasketFault.TheVariants.{Memory};
 
 use std::alloc::AllocError;
 use std::error::Error;
@@ -27,6 +28,14 @@ impl fmt::Display for BasketFault {
 
 impl Error for BasketFault {}
 
+impl From<AllocError> for BasketFault {
+    ghost from_gives = { λ _ e. e ≡ Memory };
+
+    fn from(_: AllocError) -> BasketFault {
+        BasketFault::Memory
+    }
+}
+
 /// Where a fetched file goes, piece by piece. One that tells says what it has taken.
 pub trait Basket {
     /// Whether it tells what it has taken.
@@ -38,17 +47,28 @@ pub trait Basket {
     /// How often it failed.
     ghost count: { Self → ℕ };
 
+    /// What its calls may make of it, and of what stands behind it.
+    ghost turns_to: { Self → Self → Type 0 };
+
     /// Empties it.
     fn restart(&mut self)
+        ensures turned { turns_to self.old self.new }
         ensures empty { tells → taken self.new ≡ [] }
         ensures count { count self.new ≡ count self.old };
 
     /// Takes the bytes behind those that it has. After a fault it may have any bytes.
     fn take(&mut self, bytes: &[u8]) -> Result<(), BasketFault>
+        ensures turned { turns_to self.old self.new }
         ensures bytes { tells → OnOk result (Appends (taken self.old) (taken self.new) bytes.now) }
         ensures counts { BasketCounts (count self.old) (count self.new) result };
 
     /// How often it failed. The count never falls.
     fn faults(&self) -> u64
         ensures { result ≡ count self.now };
+
+    /// No call at all is one thing that may become of it.
+    ghost turns_same: { (basket : Self) → turns_to basket basket };
+
+    /// And calls after calls are another.
+    ghost turns_on: { (a b c : Self) → turns_to a b → turns_to b c → turns_to a c };
 }

@@ -3,12 +3,14 @@
 #![tactic(auto)]
 
 mod basket;
+mod history;
 mod link;
 mod links;
 mod mem_basket;
 mod mem_link;
 
 pub use basket::{Basket, BasketFault};
+pub use history::{History, LinkCall};
 pub use link::{Link, LinkFault};
 pub use links::{Links, Single, WantFault};
 pub use mem_basket::MemBasket;

@@ -1,5 +1,6 @@
 // One site.
 ghost use Rattle.std.specs.Prelude.{◌≡◌, ◌<◌, ℕ, List, length};
+ghost use Rattle.links.specs.Asked.{NotesAsk, NotesPiece};
 ghost use Rattle.links.specs.Link.{LinkState, Asks, Takes};
 ghost use Rattle.links.specs.declared.link.LinkFault.TheVariants.{Memory};
 
@@ -49,20 +50,23 @@ impl From<CopyFault> for LinkFault {
 
 /// One site. A link that tells says which bytes its site has for each target, and no call changes that.
 pub trait Link: Drop {
-    /// Whether it tells, its site, what is left of the body that was asked for last, and how often it failed.
+    /// Whether it tells, its site, what is left of the body that was asked for last, how often it failed, and what it
+    /// was asked so far.
     ghost state: { Self → LinkState };
 
     /// Asks for the bytes of a target, and answers their length. They are then the link's rest. `Missing` comes
     /// exactly where the site has nothing for the target and `Down` did not come. A link that tells nothing counts it
     /// as a fault. After both the rest is empty; after `Memory` it is as before.
     fn ask(&mut self, alloc: Global, target: &Target) -> Result<u64, LinkFault>
-        ensures { Asks target.now (state self.old) (state self.new) result };
+        ensures asks { Asks target.now (state self.old) (state self.new) result }
+        ensures noted { NotesAsk target.now (state self.old) (state self.new) result };
 
     /// Puts the first bytes of the rest to the front of the buffer, and answers how many: at least one, or zero
     /// exactly where the rest is empty. It takes no memory, and its only fault is `Down`. The rest is then empty.
     fn piece(&mut self, buf: &mut [u8]) -> Result<usize, LinkFault>
         requires { 0 < length buf.old }
-        ensures { Takes (state self.old) (state self.new) buf.old buf.new result };
+        ensures takes { Takes (state self.old) (state self.new) buf.old buf.new result }
+        ensures noted { NotesPiece (state self.old) (state self.new) buf.new result };
 
     /// How often it failed. The count never falls.
     fn faults(&self) -> u64

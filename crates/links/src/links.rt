@@ -1,13 +1,14 @@
 // The links of a session.
 ghost use Rattle.std.specs.Prelude.{◌≡◌, ◌<◌, ◌≤◌, length};
 ghost use Rattle.small_types.specs.declared.limits.TheConstants.{LINK_LIMIT};
+ghost use Rattle.links.specs.Asked.{NotesAsk, NotesPiece};
 ghost use Rattle.links.specs.Link.{Asks, Takes};
-ghost use Rattle.links.specs.Links.{LinksState, IsLast, ChangesOnly, Wants, failures_of};
+ghost use Rattle.links.specs.Links.{LinksState, IsLast, ChangesOnly, Retires, Wants, failures_of};
 ghost use Rattle.links.specs.declared.links.WantFault.TheVariants.{Memory};
 
 use crate::{Link, LinkFault};
 use small_types::{CopyFault, Duplicate, List, Target};
-use std::alloc::{AllocFailed, Global};
+use std::alloc::{AllocError, AllocFailed, Global};
 use std::error::Error;
 use std::fmt;
 
@@ -25,6 +26,14 @@ impl fmt::Display for WantFault {
 }
 
 impl Error for WantFault {}
+
+impl From<AllocError> for WantFault {
+    ghost from_gives = { λ _ e. e ≡ Memory };
+
+    fn from(_: AllocError) -> WantFault {
+        WantFault::Memory
+    }
+}
 
 impl From<CopyFault> for WantFault {
     ghost from_gives = { λ _ e. e ≡ Memory };
@@ -63,6 +72,8 @@ pub trait Links {
         requires wanted { IsLast target.now (links self.old).asked }
         ensures asks { Asks target.now ((links self.old).link place) ((links self.new).link place)
             result }
+        ensures noted { NotesAsk target.now ((links self.old).link place)
+            ((links self.new).link place) result }
         ensures only { ChangesOnly place (links self.old) (links self.new) };
 
     /// Takes a piece of the rest of the link at the place. See `Link::piece`.
@@ -71,7 +82,17 @@ pub trait Links {
         requires room { 0 < length buf.old }
         ensures takes { Takes ((links self.old).link place) ((links self.new).link place) buf.old
             buf.new result }
+        ensures noted { NotesPiece ((links self.old).link place) ((links self.new).link place)
+            buf.new result }
         ensures only { ChangesOnly place (links self.old) (links self.new) };
+
+    /// Drops the link at the place. Those behind it move up by one place. How often it failed stays counted. It takes no
+    /// memory.
+    fn retire(&mut self, place: u32)
+        requires place { place < (links self.old).sources }
+        requires others { 2 ≤ (links self.old).sources }
+        ensures retires { Retires place (links self.old) (links self.new) }
+        ensures failures { failures_of (links self.new) ≡ failures_of (links self.old) };
 
     /// How often the link at the place failed. The count never falls.
     fn faults(&self, place: u32) -> u64
@@ -111,6 +132,11 @@ impl<K: Link> Links for Single<K> {
     fn piece(&mut self, _place: u32, buf: &mut [u8]) -> Result<usize, LinkFault> {
         self.link.piece(buf)
     }
+
+    // Links that are to lose one are two at least, so this one stays.
+    fn retire(&mut self, _place: u32)
+        ensures { self.new ≡ self.old }
+    {}
 
     fn faults(&self, _place: u32) -> u64 {
         self.link.faults()

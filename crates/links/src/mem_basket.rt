@@ -49,7 +49,14 @@ impl Basket for MemBasket {
 
     ghost count = { λ b. b.failing.faults };
 
+    ghost turns_to = { λ a b. Unit {0} };
+
+    ghost turns_same = { λ a. tt };
+
+    ghost turns_on = { λ a b c one two. tt };
+
     fn restart(&mut self)
+        ensures turned { Unit {0} }
         ensures empty { basket_taken self.new ≡ [] }
         ensures count { basket_faults self.new ≡ basket_faults self.old }
         ensures calls { basket_calls self.new ≡ basket_calls self.old }
@@ -59,6 +66,7 @@ impl Basket for MemBasket {
     }
 
     fn take(&mut self, bytes: &[u8]) -> Result<(), BasketFault>
+        ensures turned { Unit {0} }
         ensures bytes { OnOk result
             (Appends (basket_taken self.old) (basket_taken self.new) bytes.now) }
         ensures counts { BasketCounts (basket_faults self.old) (basket_faults self.new) result }
@@ -69,9 +77,7 @@ impl Basket for MemBasket {
             self.failing.fail();
             return Err(BasketFault::Failed);
         }
-        if self.taken.extend(bytes).is_err() {
-            return Err(BasketFault::Memory);
-        }
+        self.taken.extend(bytes)?;
         Ok(())
     }
 

@@ -5,7 +5,7 @@ ghost use Rattle.std.specs.Option.{option_copied};
 ghost use Rattle.links.specs.declared.link.LinkFault.TheVariants.{Missing, Down};
 ghost use Rattle.links.specs.Pages.{same_target, is_at, page_in, distinct};
 
-use crate::{Link, LinkFault};
+use crate::{History, Link, LinkFault};
 use outside::{FailingCalls, copy_from};
 use small_types::{Bytes, Duplicate, List, Target};
 use std::alloc::Global;
@@ -65,12 +65,13 @@ pub struct MemLink {
     body: Bytes,
     at: usize,
     failing: FailingCalls,
+    history: History,
     ghost differ: { distinct site ≡ true },
 }
 
 impl MemLink {
-    ghost use Rattle.links.specs.Link.{Counts};
-    ghost use Rattle.links.specs.MemLink.{link_pages, link_rest, link_faults, link_failing, link_calls, link_state, CountsCall};
+    ghost use Rattle.links.specs.Link.{Asks, Counts, Takes};
+    ghost use Rattle.links.specs.MemLink.{link_pages, link_rest, link_faults, link_failing, link_calls, link_history, link_state, CountsCall};
 
     /// A link whose site is these pages. Their targets differ: `are_distinct` tells. It takes no memory.
     pub fn new(alloc: Global, site: List<Page>, failing: List<u64>) -> MemLink
@@ -80,6 +81,7 @@ impl MemLink {
         ensures faults { link_faults result ≡ 0 }
         ensures failing { link_failing result ≡ failing }
         ensures calls { link_calls result ≡ 0 }
+        ensures history { link_history result ≡ [] }
     {
         MemLink {
             alloc,
@@ -87,6 +89,7 @@ impl MemLink {
             body: Bytes::from_vec(Vec::new(alloc)),
             at: 0,
             failing: FailingCalls::new(failing),
+            history: History::new(),
         }
     }
 
@@ -104,6 +107,7 @@ impl MemLink {
         ensures rest { link_rest self.new ≡ [] }
         ensures pages { link_pages self.new ≡ link_pages self.old }
         ensures failing { self.new.failing ≡ self.old.failing }
+        ensures history { self.new.history ≡ self.old.history }
     {
         self.body = Bytes::from_vec(Vec::new(self.alloc));
         self.at = 0;
@@ -118,6 +122,7 @@ impl MemLink {
         ensures closed { OnErr result (link_rest self.new ≡ []) }
         ensures kept { OnOk result (link_rest self.new ≡ link_rest self.old) }
         ensures pages { link_pages self.new ≡ link_pages self.old }
+        ensures history { self.new.history ≡ self.old.history }
     {
         if self.failing.next() {
             self.failing.fail();
@@ -131,27 +136,17 @@ impl MemLink {
         ensures rest { link_rest self.new ≡ bytes }
         ensures pages { link_pages self.new ≡ link_pages self.old }
         ensures failing { self.new.failing ≡ self.old.failing }
+        ensures history { self.new.history ≡ self.old.history }
     {
         self.body = bytes;
         self.at = 0;
     }
-}
 
-impl Link for MemLink {
-    ghost use Rattle.std.specs.Prelude.{ℕ, List};
-    ghost use Rattle.links.specs.Link.{LinkState, Asks, Takes};
-    ghost use Rattle.links.specs.MemLink.{link_state, CountsCall};
-
-    ghost state = { λ l. record {
-      tells = Unit {0};
-      site = λ target. page_in target l.site;
-      rest = drop l.at l.body;
-      count = l.failing.faults;
-    } };
-
-    fn ask(&mut self, alloc: Global, target: &Target) -> Result<u64, LinkFault>
+    // The answer to a target, before it is noted.
+    fn answer(&mut self, alloc: Global, target: &Target) -> Result<u64, LinkFault>
         ensures asks { Asks target.now (link_state self.old) (link_state self.new) result }
         ensures counted { CountsCall self.old self.new result }
+        ensures history { self.new.history ≡ self.old.history }
     {
         self.begin()?;
         let Some(page) = find_page(self.site.as_slice(), target) else {
@@ -163,13 +158,52 @@ impl Link for MemLink {
         Ok(length)
     }
 
-    fn piece(&mut self, buf: &mut [u8]) -> Result<usize, LinkFault>
+    // A piece, before it is noted.
+    fn give(&mut self, buf: &mut [u8]) -> Result<usize, LinkFault>
         requires { 0 < length buf.old }
         ensures takes { Takes (link_state self.old) (link_state self.new) buf.old buf.new result }
         ensures counted { CountsCall self.old self.new result }
+        ensures history { self.new.history ≡ self.old.history }
     {
         self.begin()?;
         Ok(copy_from(self.body.as_slice(), &mut self.at, buf))
+    }
+}
+
+impl Link for MemLink {
+    ghost use Rattle.std.specs.Prelude.{ℕ, List};
+    ghost use Rattle.links.specs.Asked.{NotesAsk, NotesPiece};
+    ghost use Rattle.links.specs.History.{calls_of};
+    ghost use Rattle.links.specs.Link.{LinkState, Asks, Takes};
+    ghost use Rattle.links.specs.MemLink.{link_state, CountsCall};
+
+    ghost state = { λ l. record {
+      tells = Unit {0};
+      site = λ target. page_in target l.site;
+      rest = drop l.at l.body;
+      count = l.failing.faults;
+      history = calls_of l.history;
+    } };
+
+    fn ask(&mut self, alloc: Global, target: &Target) -> Result<u64, LinkFault>
+        ensures asks { Asks target.now (link_state self.old) (link_state self.new) result }
+        ensures noted { NotesAsk target.now (link_state self.old) (link_state self.new) result }
+        ensures counted { CountsCall self.old self.new result }
+    {
+        let answer = self.answer(alloc, target);
+        self.history.ask(target, answer);
+        answer
+    }
+
+    fn piece(&mut self, buf: &mut [u8]) -> Result<usize, LinkFault>
+        requires { 0 < length buf.old }
+        ensures takes { Takes (link_state self.old) (link_state self.new) buf.old buf.new result }
+        ensures noted { NotesPiece (link_state self.old) (link_state self.new) buf.new result }
+        ensures counted { CountsCall self.old self.new result }
+    {
+        let answer = self.give(buf);
+        self.history.piece(buf, answer);
+        answer
     }
 
     fn faults(&self) -> u64 {

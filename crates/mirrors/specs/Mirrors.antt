@@ -6,7 +6,7 @@ use Rattle.links.specs.Links.{LinksState}
 
 -- where there is no box
 abbrev pub no_link : LinkState
-no_link = record { tells = ⊥; site = λ target. None; rest = []; count = 0 }
+no_link = record { tells = ⊥; site = λ target. None; rest = []; count = 0; history = [] }
 
 -- the link in the box at the place
 abbrev pub link_at : {B : Type 0} → (B → LinkState) → List B → ℕ → LinkState

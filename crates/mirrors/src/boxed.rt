@@ -1,6 +1,7 @@
 // Links in boxes.
 ghost use Rattle.std.specs.Prelude.{◌≡◌, ◌<◌, ◌≤◌, length, vec_len};
 ghost use Rattle.small_types.specs.declared.limits.TheConstants.{LINK_LIMIT};
+ghost use Rattle.links.specs.Asked.{NotesAsk, NotesPiece};
 ghost use Rattle.links.specs.Link.{Asks, Takes};
 ghost use Rattle.mirrors.specs.Mirrors.{AreNew};
 
@@ -10,7 +11,8 @@ use std::alloc::Global;
 
 // Asks the link in the box.
 fn ask_box(alloc: Global, link: &mut Box<dyn Link>, target: &Target) -> Result<u64, LinkFault>
-    ensures { Asks target.now (state link.old) (state link.new) result }
+    ensures asks { Asks target.now (state link.old) (state link.new) result }
+    ensures noted { NotesAsk target.now (state link.old) (state link.new) result }
 {
     link.ask(alloc, target)
 }
@@ -18,7 +20,8 @@ fn ask_box(alloc: Global, link: &mut Box<dyn Link>, target: &Target) -> Result<u
 // Takes a piece of the rest of the link in the box.
 fn piece_of_box(link: &mut Box<dyn Link>, buf: &mut [u8]) -> Result<usize, LinkFault>
     requires { 0 < length buf.old }
-    ensures { Takes (state link.old) (state link.new) buf.old buf.new result }
+    ensures takes { Takes (state link.old) (state link.new) buf.old buf.new result }
+    ensures noted { NotesPiece (state link.old) (state link.new) buf.new result }
 {
     link.piece(buf)
 }
@@ -78,6 +81,11 @@ impl Links for Mirrors {
 
     fn piece(&mut self, place: u32, buf: &mut [u8]) -> Result<usize, LinkFault> {
         piece_of_box(&mut self.links[place as usize], buf)
+    }
+
+    fn retire(&mut self, place: u32) {
+        let link = self.links.remove(place as usize);
+        self.gone = self.gone.saturating_add(faults_of_box(&link));
     }
 
     fn faults(&self, place: u32) -> u64 {

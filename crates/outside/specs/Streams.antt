@@ -40,3 +40,9 @@ pub record AppendsPart (old new bytes : List ℕ) : Type 0 where
   pub rest : List ℕ
   pub some : 0 < length rest
   pub takes : Takes old new bytes rest
+
+-- what was left is what was taken and what is left now, and at most so many bytes were taken
+pub record TakesAtMost (limit : ℕ) (old new : List ℕ) : Type 0 where
+  pub taken : List ℕ
+  pub given : old ≡ taken ++ new
+  pub few : length taken ≤ limit

@@ -1,5 +1,5 @@
 // Which calls of a device in memory fail.
-ghost use Rattle.std.specs.Prelude.{◌≡◌, ◌==◌, ◌+◌, ◌≤◌, min};
+ghost use Rattle.std.specs.Prelude.{◌≡◌, ◌==◌, ◌⊎◌, ◌+◌, ◌<◌, ◌≤◌, min, true, false};
 ghost use Rattle.std.specs.List.{list_any};
 
 use small_types::List;
@@ -58,4 +58,21 @@ impl FailingCalls {
     {
         self.faults = self.faults.saturating_add(1);
     }
+}
+
+/// Counts a call of so many bytes, if neither count ends, and answers whether it did. Else both stay.
+pub fn count_call(calls: &mut u64, written: &mut u64, count: u64) -> bool
+    ensures counted { result ≡ true
+        → (calls.new ≡ calls.old + 1) × (written.new ≡ written.old + count)
+        × (calls.old < 0xffff_ffff_ffff_ffff) × (written.old + count ≤ 0xffff_ffff_ffff_ffff) }
+    ensures full { result ≡ false
+        → (calls.new ≡ calls.old) × (written.new ≡ written.old)
+        × ((0xffff_ffff_ffff_ffff ≤ calls.old) ⊎ (0xffff_ffff_ffff_ffff < written.old + count)) }
+{
+    if *calls == u64::MAX || count > u64::MAX - *written {
+        return false;
+    }
+    *calls += 1;
+    *written += count;
+    true
 }

@@ -1,7 +1,7 @@
 // Reading a source to its end.
 ghost use Rattle.std.specs.Prelude.{◌≡◌, ◌≢◌, ◌<◌, ◌≤◌, ◌++◌, ◌+◌, List, ℕ, length, take, drop, IfOk, Err};
-ghost use Rattle.outside.specs.Streams.{Rose};
-ghost use Rattle.outside.specs.declared.reading.ReadFault.TheVariants.{Failed as source_failed};
+ghost use Rattle.outside.specs.Streams.{Rose, TakesAtMost};
+ghost use Rattle.outside.specs.declared.reading.ReadFault.TheVariants.{Failed as source_failed, Memory};
 
 use crate::Source;
 use std::alloc::{AllocError, Global};
@@ -28,11 +28,19 @@ impl fmt::Display for ReadFault {
 
 impl Error for ReadFault {}
 
+impl From<AllocError> for ReadFault {
+    ghost from_gives = { λ _ e. e ≡ Memory };
+
+    fn from(_: AllocError) -> Self {
+        ReadFault::Memory
+    }
+}
+
 /// How many bytes are asked of the source at a time.
 const PIECE: usize = 65_536;
 
-/// Reads the source up to its end, and at most so many bytes. `Failed` comes only where the source's count of faults
-/// rose, and any other answer leaves that count.
+/// Reads the source up to its end, and at most so many bytes, however it ends. `Failed` comes only where the source's
+/// count of faults rose, and any other answer leaves that count.
 pub fn read_all<S: Source>(
     alloc: Global,
     source: &mut S,
@@ -41,6 +49,7 @@ pub fn read_all<S: Source>(
     ensures bytes { S.tells → IfOk result (λ v. v.items ≡ take limit (S.left source.old)) }
     ensures left { S.tells → IfOk result (λ v. S.left source.new ≡ drop limit (S.left source.old)) }
     ensures within { IfOk result (λ v. length v.items ≤ limit) }
+    ensures taken { S.tells → TakesAtMost limit (S.left source.old) (S.left source.new) }
     ensures count { S.count source.old ≤ S.count source.new }
     ensures cause { result ≡ Err source_failed → Rose (S.count source.old) (S.count source.new) }
     ensures quiet { result ≢ Err source_failed → S.count source.new ≡ S.count source.old }
@@ -55,9 +64,7 @@ pub fn read_all<S: Source>(
         if n == 0 {
             return Ok(bytes);
         }
-        let Ok(()) = bytes.extend_from_slice(&piece[..n]) else {
-            return Err(ReadFault::Memory);
-        };
+        bytes.extend_from_slice(&piece[..n])?;
     }
     Ok(bytes)
 }

@@ -1,3 +1,6 @@
+pub mod BlockContents
+pub mod BlockPlaces
+pub mod BlockStaying
 pub mod CutLemmas
 pub mod DecimalLemmas
 pub mod Putting

@@ -1,6 +1,9 @@
+pub mod BlockLaws
+pub mod Blocks
 pub mod Bytes
 pub mod Cuts
 pub mod Decimal
 pub mod Limit
 pub mod Name
 pub mod Reading
+pub mod Short

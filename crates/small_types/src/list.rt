@@ -1,10 +1,10 @@
-ghost use Rattle.std.specs.Prelude.{◌≡◌, [], ◌∷◌, ◌++◌, length, IfOk, OnOk, OnErr};
+ghost use Rattle.std.specs.Prelude.{◌≡◌, [], ◌∷◌, ◌++◌, length, take, IfOk, OnOk, OnErr};
 ghost use Rattle.std.proofs.Common.{rules};
 ghost use Rattle.std.specs.Cmp.Rules.{comparing};
 ghost use lib.Pointwise.{pointwise};
 
 use crate::{CopyFault, Duplicate};
-use std::alloc::{AllocFailed, Global};
+use std::alloc::{AllocError, AllocFailed, Global};
 use std::marker::Model;
 
 /// A list on the heap. Contracts see it as the list of its items.
@@ -51,6 +51,24 @@ impl<T> List<T> {
     {
         self.held.push(item)?;
         Ok(())
+    }
+}
+
+impl<T: Drop> List<T> {
+    /// Adds all items of another list at the end. An `Err` changes nothing.
+    pub fn append(&mut self, more: List<T>) -> Result<(), AllocError>
+        ensures ok { OnOk result (self.new ≡ self.old ++ more) }
+        ensures err { OnErr result (self.new ≡ self.old) }
+    {
+        self.held.append(&mut more.into_vec())?;
+        Ok(())
+    }
+
+    /// Drops what stands behind so many items.
+    pub fn shorten(&mut self, count: usize)
+        ensures { self.new ≡ take count self.old }
+    {
+        self.held.truncate(count);
     }
 }
 

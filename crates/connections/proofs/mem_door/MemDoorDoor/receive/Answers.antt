@@ -1,8 +1,8 @@
 use Rattle.std.proofs.Common.{◌≡◌, List, [], ℕ, ◌∙◌, sym, subst}
 use Rattle.std.specs.Prelude.{IsErr}
 use Rattle.connections.specs.Door.{ReceivesOnLast}
-use Rattle.connections.specs.Receiving.{accepted_of, ReceivesAt}
-use Rattle.connections.proofs.Doors.{receives}
+use Rattle.connections.specs.Places.{accepted_of, ReceivesAt}
+use Rattle.connections.proofs.AcceptedOf.{receives}
 use Rattle.connections.proofs.Ends.{never_empty}
 use Rattle.connections.proofs.mem_door.MemDoorDoor.receive.Goals as goal
 

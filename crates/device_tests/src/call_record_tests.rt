@@ -1,7 +1,7 @@
 // What a device notes of its calls.
 ghost use Rattle.std.specs.Prelude.{◌≡◌, [], ◌∷◌, ◌++◌, length, not, true, false};
 
-use crate::{Notes, Record};
+use call_record::{Notes, Record};
 use std::test::Fail;
 
 // A call with the bytes that it borrows, and whether it was done.

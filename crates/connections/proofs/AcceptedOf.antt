@@ -3,7 +3,7 @@ use Rattle.std.proofs.Common.{◌≡◌, ℕ, ◌+◌, ◌<◌, ◌≤◌, List,
 use Rattle.std.specs.Prelude.{slice_index_or}
 use Rattle.std.proofs.lemmas.List.{drop_more}
 use Rattle.connections.specs.Door.{ReceivesOnLast, SendsOnLast}
-use Rattle.connections.specs.Receiving.{connection, accepted_of, ReceivesAt}
+use Rattle.connections.specs.Places.{connection, accepted_of, ReceivesAt}
 use Rattle.connections.specs.Wire.{SendsLast}
 use Rattle.connections.proofs.Ends.{Ends, ends}
 
@@ -33,12 +33,20 @@ next_request places new requests is less =
     let longer : length places + 1 ≡ length new = sym (ap length is ∙ length-append places (0 ∷ [])) in
     drop_more requests (length places) [] less ∙ ap (λ (n : ℕ). slice_index_or requests (length places) [] ∷ drop n requests) longer
 
--- a request is to come where there are more of them than connections
-pub some_to_come : (places : List ℕ) (requests : List (List ℕ)) → length places < length requests → drop (length places) requests ≡ [] → ⊥
-some_to_come places requests less none =
-    let long = length-drop (length places) requests in
-    let empty : length (drop (length places) requests) ≡ 0 = ap length none in
+-- a text is to come where there are more of them than connections
+pub some_to_come : (n : ℕ) (texts : List (List ℕ)) → n < length texts → drop n texts ≡ [] → ⊥
+some_to_come n texts less none =
+    let long = length-drop n texts in
+    let empty : length (drop n texts) ≡ 0 = ap length none in
     omega arith
+
+-- connections that have places were accepted
+pub some_accepted : (places : List ℕ) (requests sent : List (List ℕ)) → length places ≡ length sent → length places ≤ length requests → 0 < length places
+    → accepted_of places requests sent ≡ [] → ⊥
+some_accepted [] requests sent same known some none = omega arith
+some_accepted (p ∷ places) [] sent same known some none = omega arith
+some_accepted (p ∷ places) (r ∷ requests) [] same known some none = omega arith
+some_accepted (p ∷ places) (r ∷ requests) (s ∷ sent) same known some none = cc
 
 -- receiving of the last request changes only the last connection
 pub receives : (requests sent : List (List ℕ)) (old new buf : List ℕ) (n : ℕ) → length old ≡ length sent → length old ≤ length requests

@@ -20,12 +20,12 @@ use denote.Steps.{nothing, opens, closes}
 use denote.Triple.Walked.{Stays, walk_of, says, stay_ref, stay_dropped, Goes-ref, Goes-dropped, ends_at}
 use Rattle.call_record.specs.declared.record.Record.{Record}
 use Rattle.call_record.specs.contracts.record.Record as record_type
-use Rattle.call_record.specs.contracts.record.Record.note as noting
-use Rattle.call_record.proofs.record.Record.note.Statement.{statement}
-use Rattle.call_record.proofs.record.Record.note.Code as code
+use Rattle.call_record.specs.contracts.record.Record.append as noting
+use Rattle.call_record.proofs.record.Record.append.Statement.{statement}
+use Rattle.call_record.proofs.record.Record.append.Code as code
 
-pub note_spec : {M : Type 1} → statement M
-note_spec 𝓤 𝓛 𝓜 𝓡 wired T E _ _ entry methods _ =
+pub append_spec : {M : Type 1} → statement M
+append_spec 𝓤 𝓛 𝓜 𝓡 wired T E _ _ entry methods _ =
     let 𝓣 = tables 𝓤 𝓛.H 𝓜 𝓡 𝓡.env in
     let inst = bounded (a_type ∷ a_type ∷ []) (T, (E, tt)) (dcons methods dnil) in
     let fn = inst_fn inst code.function in

@@ -1,0 +1,5 @@
+use Rattle.folders.proofs.Answering.{stay_honest}
+use Rattle.folders.proofs.laws.honest_folders_stay_honest.Goals as goal
+
+pub returns-clause-next : goal.returns-clause-next
+returns-clause-next c = stay_honest
