@@ -7,6 +7,7 @@ use Rattle.url.specs.Parser.{Parsed, parse_url}
 use Rattle.small_types.specs.declared.limits.TheConstants.{URL_LIMIT}
 use Rattle.small_types.specs.declared.target.Target.{Target}
 use Rattle.small_types.specs.Reading.{◌>>=◌, GivesBut}
+use Rattle.addresses.specs.declared.address.TheConstants.{HTTP_PORT}
 use Rattle.addresses.specs.declared.fault.UrlFault.{UrlFault}
 use Rattle.addresses.specs.declared.fault.UrlFault.TheVariants.{BadUrl, NotHttp, Memory}
 
@@ -15,7 +16,7 @@ abbrev pub http : List ℕ
 http = codes "http"
 
 abbrev pub http_port : ℕ
-http_port = 80
+http_port = HTTP_PORT
 
 -- the text of the host; a URL may have none, and an empty one is none
 abbrev pub host_of : Parts → Option (List ℕ)

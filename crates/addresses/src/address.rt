@@ -11,8 +11,8 @@ use small_types::{Target, Text};
 use std::alloc::{AllocError, Global};
 use url::Url;
 
-// The port of an address that names none.
-const HTTP_PORT: u16 = 80;
+/// The port of an address that names none (RFC 9110, section 4.2.1).
+pub const HTTP_PORT: u16 = 80;
 
 // The URL that the text is.
 pub(crate) fn parse(alloc: Global, text: &str) -> Result<Url, UrlFault>

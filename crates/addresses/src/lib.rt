@@ -6,7 +6,7 @@ mod fault;
 mod join;
 mod laws;
 
-pub use address::target_of;
+pub use address::{HTTP_PORT, target_of};
 pub use fault::UrlFault;
 pub use join::{app_target, file_target};
-pub use laws::{bases_are_http, names_are_joined};
+pub use laws::{bases_are_http, http_port_is, names_are_joined};

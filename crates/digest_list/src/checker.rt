@@ -1,8 +1,7 @@
-ghost use Rattle.std.specs.Prelude.{◌≡◌, ◌↔◌, ◌+◌, ◌<◌, ◌^◌, ◌++◌, [], ℕ, List, Some, length, slice_get, IsOk, IfOk, IfErr};
-ghost use Rattle.digest_list.specs.declared.checker.CheckFault.TheVariants.{Memory};
+ghost use Rattle.std.specs.Prelude.{◌≡◌, ◌↔◌, ◌+◌, ◌<◌, ◌^◌, ◌++◌, [], ℕ, List, Some, length, slice_get, IfOk, IfSome, IsNone};
 ghost use Rattle.digest_list.specs.declared.digest.Digest.{Digest};
-ghost use Rattle.digest_list.specs.Checker.{IsFed, ShowsDifference, check_of, count_of};
-ghost use Rattle.digest_list.specs.Difference.{difference_of};
+ghost use Rattle.digest_list.specs.Checker.{IsFed, count_of};
+ghost use Rattle.digest_list.specs.Difference.{AreDistinct, difference_of};
 ghost use Rattle.digest_list.specs.Hashers.{sum_of};
 ghost use Rattle.digest_list.specs.Matches.{Matches};
 
@@ -11,45 +10,7 @@ use crate::matching::first_wrong;
 use crate::room::Room;
 use crate::{Difference, Digest, DigestList};
 use small_types::{CopyFault, Duplicate};
-use std::alloc::{AllocError, Global};
-use std::error::Error;
-use std::fmt;
-
-/// Why bytes were not found to match.
-#[derive(Drop, Debug, PartialEq, Eq)]
-pub enum CheckFault {
-    /// The bytes differ from what is listed. Only `finish` answers this.
-    Differs { difference: Difference },
-    /// There was no memory for the checker. Only `new` answers this.
-    Memory,
-}
-
-impl fmt::Display for CheckFault {
-    fn fmt<W: fmt::Write>(&self, f: &mut fmt::Formatter<W>) -> fmt::Result {
-        match self {
-            CheckFault::Differs { difference } => write!(f, "{difference}"),
-            CheckFault::Memory => write!(f, "out of memory"),
-        }
-    }
-}
-
-impl Error for CheckFault {}
-
-impl From<AllocError> for CheckFault {
-    ghost from_gives = { λ _ e. e ≡ Memory };
-
-    fn from(_: AllocError) -> CheckFault {
-        CheckFault::Memory
-    }
-}
-
-impl From<CopyFault> for CheckFault {
-    ghost from_gives = { λ _ e. e ≡ Memory };
-
-    fn from(_: CopyFault) -> CheckFault {
-        CheckFault::Memory
-    }
-}
+use std::alloc::Global;
 
 /// Finds whether bytes that come in pieces match a size and a list of digests. Each piece is hashed once for each
 /// algorithm of the list, and none is kept.
@@ -81,10 +42,9 @@ fn difference_at(listed: DigestList, place: usize, sums: &Sums, room: Room) -> D
 
 impl Checker {
     /// A checker to which no bytes came yet. It fails only for want of memory.
-    pub fn new(alloc: Global, list: &DigestList, size: u64) -> Result<Checker, CheckFault>
+    pub fn new(alloc: Global, list: &DigestList, size: u64) -> Result<Checker, CopyFault>
         ensures fresh { IfOk result (λ c. IsFed c list.now size []) }
         ensures count { IfOk result (λ c. count_of c ≡ 0) }
-        ensures memory { IfErr result (λ e. e ≡ CheckFault.Memory) }
     {
         let listed = list.copy(alloc)?;
         let room = Room::new(alloc)?;
@@ -109,16 +69,17 @@ impl Checker {
         self.hashers.update(bytes);
     }
 
-    /// Whether the bytes that came, as one, match the size and the list. If not, `Differs` shows the sizes where they
-    /// differ, else the first digest of the list that is not that of the bytes. It takes no memory.
-    pub fn finish(self) -> Result<(), CheckFault>
+    /// How the bytes that came, as one, differ from the size and the list: the sizes where they differ, else the first
+    /// digest of the list that is not that of the bytes. `None` exactly where they match. It takes no memory.
+    #[must_use]
+    pub fn finish(self) -> Option<Difference>
         ensures exact { (list : List Digest) (size : ℕ) (bytes : List ℕ)
             → IsFed self list size bytes
-            → result ≡ check_of (difference_of list size bytes) }
+            → result ≡ difference_of list size bytes }
         ensures matches { (list : List Digest) (size : ℕ) (bytes : List ℕ)
             → IsFed self list size bytes
-            → IsOk result ↔ Matches list size bytes }
-        ensures shown { IfErr result ShowsDifference }
+            → IsNone result ↔ Matches list size bytes }
+        ensures shown { IfSome result AreDistinct }
     {
         let Checker {
             listed,
@@ -128,19 +89,15 @@ impl Checker {
             room,
         } = self;
         if count != size {
-            return Err(CheckFault::Differs {
-                difference: Difference::Size {
-                    listed: size,
-                    found: count,
-                },
+            return Some(Difference::Size {
+                listed: size,
+                found: count,
             });
         }
         let sums = hashers.finish();
         match first_wrong(listed.as_slice(), &sums) {
-            None => Ok(()),
-            Some(place) => Err(CheckFault::Differs {
-                difference: difference_at(listed, place, &sums, room),
-            }),
+            None => None,
+            Some(place) => Some(difference_at(listed, place, &sums, room)),
         }
     }
 }

@@ -11,8 +11,8 @@ mod matching;
 mod room;
 
 pub use algorithm::Algorithm;
-pub use checker::{CheckFault, Checker};
+pub use checker::Checker;
 pub use difference::Difference;
 pub use digest::{Digest, DigestFault};
 pub use list::DigestList;
-pub use matching::matches;
+pub use matching::{difference_of, matches};

@@ -5,6 +5,7 @@ use Rattle.std.specs.List.{join_with_byte, flat_map}
 use Rattle.std.specs.Str.{IsUtf8, is_utf8}
 use Rattle.percent_encoding.specs.Percent.{percent_encode_byte, percent_decode}
 use Rattle.small_types.specs.declared.limits.TheConstants.{IDENTITY_PART_LIMIT, NAME_LIMIT}
+use Rattle.small_types.specs.Short.{IsShort}
 use Rattle.identity.specs.declared.key.Key.{Key}
 use Rattle.identity.specs.declared.key.KeyFault.{KeyFault}
 use Rattle.identity.specs.declared.key.KeyFault.TheVariants.{PartCount, BadPart, Memory}
@@ -48,7 +49,15 @@ pub record IsKey (key : Key) : Type 0 where
   pub language : IsPart IDENTITY_PART_LIMIT key.language
   pub architecture : IsPart IDENTITY_PART_LIMIT key.architecture
 
--- the same as a test
+-- Each part of a key is within its limit. A part may be empty: a journal can hold such a key,
+-- though no command reads one.
+pub record IsShortKey (key : Key) : Type 0 where
+  pub name : IsShort NAME_LIMIT key.name
+  pub token : IsShort IDENTITY_PART_LIMIT key.token
+  pub language : IsShort IDENTITY_PART_LIMIT key.language
+  pub architecture : IsShort IDENTITY_PART_LIMIT key.architecture
+
+-- a part as a test
 abbrev pub is_part : ℕ → List ℕ → Bool
 is_part limit text = nat_lt 0 (length text) && nat_le (length text) limit && is_utf8 text
 

@@ -5,6 +5,7 @@ use Rattle.std.specs.List.{join_with_byte, list_all}
 use Rattle.std.specs.Str.Parse.{digits_value}
 use Rattle.std.specs.declared.cmp.Ordering.{Ordering}
 use Rattle.std.specs.Ordering.{nat_cmp, ordering_then, is_lt}
+use Rattle.identity.specs.declared.version.TheConstants.{VERSION_DIGIT_LIMIT, VERSION_NUMBER_LIMIT}
 use Rattle.identity.specs.declared.version.Version.{Version}
 use Rattle.identity.specs.declared.version.VersionFault.{VersionFault}
 use Rattle.identity.specs.declared.version.VersionFault.TheVariants.{PartCount, NotDigits, TooLarge}
@@ -30,7 +31,8 @@ version_text v = join_with_byte dot (decimal v.a ∷ decimal v.b ∷ decimal v.c
 unfoldable pub number_of : ℕ → List ℕ → Result ℕ VersionFault
 number_of part bytes =
     if length bytes == 0 || not (list_all is_ascii_digit bytes) then Err (NotDigits part)
-    else if nat_lt 5 (length bytes) || nat_lt 65535 (digits_value 10 bytes) then Err (TooLarge part)
+    else if nat_lt VERSION_DIGIT_LIMIT (length bytes)
+    || nat_lt VERSION_NUMBER_LIMIT (digits_value 10 bytes) then Err (TooLarge part)
     else Ok (digits_value 10 bytes)
 
 -- there are four parts, which are read from the left

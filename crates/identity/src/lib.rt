@@ -10,4 +10,6 @@ mod version;
 
 pub use identity::Identity;
 pub use key::{Key, KeyFault, one_text_one_key, word_escape};
-pub use version::{Version, VersionFault};
+pub use version::{
+    VERSION_DIGIT_LIMIT, VERSION_NUMBER_LIMIT, Version, VersionFault, version_limits_are,
+};

@@ -12,6 +12,17 @@ use std::alloc::Global;
 use std::error::Error;
 use std::fmt;
 
+/// The most digits of a number of a version, where it is read.
+pub const VERSION_DIGIT_LIMIT: usize = 5;
+
+/// The greatest number of a version.
+pub const VERSION_NUMBER_LIMIT: u16 = 65_535;
+
+/// The numbers that versions are limited by.
+pub fn version_limits_are()
+    ensures { (VERSION_DIGIT_LIMIT ≡ 5) × (VERSION_NUMBER_LIMIT ≡ 65_535) }
+{}
+
 /// A version of four numbers, ordered by its numbers from the left.
 #[derive(Clone, Copy, Debug, PartialEq, Eq, PartialOrd, Ord)]
 pub struct Version {
@@ -37,7 +48,9 @@ impl fmt::Display for VersionFault {
         match self {
             VersionFault::PartCount => write!(f, "not four numbers between dots"),
             VersionFault::NotDigits { part } => write!(f, "part {part} is no number"),
-            VersionFault::TooLarge { part } => write!(f, "part {part} is over 65535"),
+            VersionFault::TooLarge { part } => {
+                write!(f, "part {part} is over {VERSION_NUMBER_LIMIT}")
+            }
         }
     }
 }
@@ -49,11 +62,11 @@ fn parse_short(digits: &[u8]) -> Option<u16>
     requires digits { IsTrue (list_all is_ascii_digit digits.now) }
     requires some { 0 < length digits.now }
     ensures { result
-        ≡ (if nat_lt 65535 (digits_value 10 digits.now) then None else Some
-        (digits_value 10 digits.now)) }
+        ≡ (if nat_lt VERSION_NUMBER_LIMIT (digits_value 10 digits.now) then None
+        else Some (digits_value 10 digits.now)) }
 {
     match parse_digits(digits) {
-        Some(number) if number <= 65_535 => Some(number as u16),
+        Some(number) if number <= u64::from(VERSION_NUMBER_LIMIT) => Some(number as u16),
         _ => None,
     }
 }
@@ -66,7 +79,7 @@ fn read_number(part: u8, bytes: &[u8]) -> Result<u16, VersionFault>
     if bytes.is_empty() || !are_digits(bytes) {
         return Err(VersionFault::NotDigits { part });
     }
-    if bytes.len() > 5 {
+    if bytes.len() > VERSION_DIGIT_LIMIT {
         return Err(VersionFault::TooLarge { part });
     }
     parse_short(bytes).ok_or(VersionFault::TooLarge { part })

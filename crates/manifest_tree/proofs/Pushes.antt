@@ -1,17 +1,61 @@
 -- What is written, or counted, item by item.
-use Rattle.std.proofs.Common.{◌≡◌, ℕ, suc, ◌+◌, ◌<◌, ◌≤◌, Bool, true, false, cond, Option, Some, None, Result, Ok, Err, List, [], ◌∷◌, ◌++◌, length, get_or, drop, refl, sym, ap, subst, ◌∙◌, append_assoc, arith, length-append}
-use Rattle.std.specs.Prelude.{◌^◌, map, ◌==◌, OnOk, codes}
-use Rattle.std.specs.Option.{SomeIff}
+use Rattle.std.proofs.Common.{◌≡◌, ℕ, suc, ◌+◌, ◌-◌, ◌<◌, ◌≤◌, Bool, true, false, cond, Result, Ok, Err, List, [], ◌∷◌, ◌++◌, length, get_or, drop, refl, sym, ap, subst, ◌∙◌, append_assoc, arith, inl, inr, length-append}
+use Rattle.std.specs.Prelude.{◌^◌, map, ◌==◌, nat_lt, OnOk, codes}
 use Rattle.std.specs.List.{flat_map}
 use Rattle.std.specs.Str.{IsUtf8}
-use Rattle.std.proofs.lemmas.Bool.{ne_eqb, true≢false}
+use Rattle.std.proofs.Math.Nat.{min-eq_left, min-eq_right, min-le_left, min-le_right}
+use Rattle.std.proofs.lemmas.Bool.{cases_Bool, ltb-false, ltb-true, ne_eqb, true≢false}
 use Rattle.std.proofs.lemmas.Str.{IsUtf8-append, IsUtf8-nil}
 use Rattle.std.proofs.lemmas.List.{append-nil, at_drop_more, at_drop_all}
 use Rattle.manifest_tree.specs.declared.node.Node.{Node}
 use Rattle.manifest_tree.specs.declared.node.Node.TheViews.{out-Node}
 use Rattle.manifest_tree.specs.declared.node.Node.TheFolds.{fold_out-Node}
 use Rattle.manifest_tree.specs.Tree.{Tree, tree, trees, tree_of, tree_step}
-use Rattle.manifest_tree.specs.Writing.{element_text, elements_text, is_bare, escaped, start_text, end_text, Counts}
+use Rattle.manifest_tree.specs.Writing.{element_text, elements_text, is_bare, escaped, start_text, end_text, counted}
+
+-- ---- counts
+
+abbrev pub greatest : ℕ
+greatest = 2 ^ 64 - 1
+
+pub counted_fits : (n : ℕ) → counted n ≤ greatest
+counted_fits n = min-le_right n greatest
+
+pub counted_small : (n : ℕ) → n ≤ greatest → counted n ≡ n
+counted_small n small = min-eq_left small
+
+pub counted_large : (n : ℕ) → greatest ≤ n → counted n ≡ greatest
+counted_large n large = min-eq_right large
+
+-- a count goes on from where it has come
+counted_sum : (a b : ℕ) → counted (counted a + b) ≡ counted (a + b)
+counted_sum a b =
+    elim (cases_Bool (nat_lt greatest a)) [
+      | inl p ↦
+          let large : greatest < a = ltb-true greatest a p in
+          ap (λ (n : ℕ). counted (n + b)) (counted_large a (omega arith))
+          ∙ counted_large (greatest + b) (omega arith) ∙ sym (counted_large (a + b) (omega arith))
+      | inr p ↦ ap (λ (n : ℕ). counted (n + b)) (counted_small a (ltb-false greatest a p))
+    ]
+
+pub counted_then : (a b x y : ℕ) → x ≡ counted a → y ≡ counted (x + b) → y ≡ counted (a + b)
+counted_then a b x y so_far next = next ∙ ap (λ (n : ℕ). counted (n + b)) so_far ∙ counted_sum a b
+
+-- what is counted is within a limit where the number is
+pub counted_within : (n limit : ℕ) → limit < greatest → counted n ≤ limit → n ≤ limit
+counted_within n limit low within =
+    elim (cases_Bool (nat_lt greatest n)) [
+      | inl p ↦
+          let large : greatest < n = ltb-true greatest n p in
+          let all : counted n ≡ greatest = counted_large n (omega arith) in
+          absurd (omega arith)
+      | inr p ↦ let all : counted n ≡ n = counted_small n (ltb-false greatest n p) in omega arith
+    ]
+
+pub counted_least : (n : ℕ) → counted n ≤ n
+counted_least n = min-le_left n greatest
+
+-- ---- item by item
 
 module _ {X : Type 0} (f : X → List ℕ) (xs : List X) where
   -- the items that are left, the first of them apart
@@ -30,14 +74,18 @@ module _ {X : Type 0} (f : X → List ℕ) (xs : List X) where
   left_length : (i : ℕ) (d : X) → i < length xs → length (flat_map f (drop i xs)) ≡ length (f (get_or xs i d)) + length (flat_map f (drop (i + 1) xs))
   left_length i d inside = ap length (items_left i d inside) ∙ length-append (f (get_or xs i d)) (flat_map f (drop (i + 1) xs))
 
-  pub count_item : (i : ℕ) (d : X) (count new whole : ℕ) → i < length xs → new ≡ count + length (f (get_or xs i d)) → count + length (flat_map f (drop i xs)) ≡ whole → new + length (flat_map f (drop (i + 1) xs)) ≡ whole
-  count_item i d count new whole inside is so_far = omega (arith, left_length i d inside)
+  pub count_item : (i : ℕ) (d : X) (count new whole : ℕ) → i < length xs → new ≡ counted (count + length (f (get_or xs i d)))
+      → counted (count + length (flat_map f (drop i xs))) ≡ whole → counted (new + length (flat_map f (drop (i + 1) xs))) ≡ whole
+  count_item i d count new whole inside is so_far =
+      let here = length (f (get_or xs i d)) in
+      let rest = length (flat_map f (drop (i + 1) xs)) in
+      let sum : count + here + rest ≡ count + length (flat_map f (drop i xs)) = omega (arith, left_length i d inside) in
+      counted_then (count + here) rest new (counted (new + rest)) is refl ∙ ap counted sum ∙ so_far
 
-  pub count_over : (i : ℕ) (d : X) (count limit whole : ℕ) → i < length xs → limit ≤ count + length (f (get_or xs i d)) → count + length (flat_map f (drop i xs)) ≡ whole → limit ≤ whole
-  count_over i d count limit whole inside over so_far = omega (arith, left_length i d inside)
-
-  pub count_end : (i count whole : ℕ) → length xs ≤ i → count + length (flat_map f (drop i xs)) ≡ whole → count ≡ whole
-  count_end i count whole outside so_far = omega (arith, ap length (at_drop_all (flat_map f) xs i outside))
+  pub count_end : (i count whole : ℕ) → length xs ≤ i → count ≤ greatest → counted (count + length (flat_map f (drop i xs))) ≡ whole → count ≡ whole
+  count_end i count whole outside small so_far =
+      let all : count ≡ count + length (flat_map f (drop i xs)) = omega (arith, ap length (at_drop_all (flat_map f) xs i outside)) in
+      sym (counted_small count small) ∙ ap counted all ∙ so_far
 
   -- the items that are left being UTF-8, so is the whole
   pub utf8_item : (i : ℕ) (d : X) (whole : List ℕ) → i < length xs → IsUtf8 (f (get_or xs i d)) → (IsUtf8 (flat_map f (drop i xs)) → IsUtf8 whole) → IsUtf8 (flat_map f (drop (i + 1) xs)) → IsUtf8 whole
@@ -110,15 +158,3 @@ length_four a b c d = simp length-append refl
 
 pub utf8_four : (a b c d : List ℕ) → IsUtf8 a → IsUtf8 b → IsUtf8 c → IsUtf8 d → IsUtf8 (a ++ (b ++ (c ++ d)))
 utf8_four a b c d p q r s = IsUtf8-append a (b ++ (c ++ d)) p (IsUtf8-append b (c ++ d) q (IsUtf8-append c d r s))
-
--- ---- counts
-
-pub counts_sum : (result : Option ℕ) (n m : ℕ) → SomeIff result (n < 2 ^ 64) n → m ≡ n → Counts m result
-counts_sum None n m over is = omega (arith, over)
-counts_sum (Some x) n m fits is = fits.1 ∙ sym is
-
-pub counts_none : (result : Option ℕ) (m : ℕ) → result ≡ None → 2 ^ 64 ≤ m → Counts m result
-counts_none result m is over = subst (λ (o : Option ℕ). Counts m o) (sym is) over
-
-pub counts_same : (result : Option ℕ) (n m : ℕ) → Counts n result → n ≡ m → Counts m result
-counts_same result n m counts is = subst (λ (k : ℕ). Counts k result) is counts

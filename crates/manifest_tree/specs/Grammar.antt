@@ -1,6 +1,6 @@
 -- What a text spells. In each relation the first list of bytes begins with the part, and the last
 -- is what stands behind it.
-use Rattle.std.specs.Prelude.{◌≡◌, ℕ, suc, ◌<◌, ◌≤◌, true, false, ◌==◌, List, [], ◌∷◌, ◌++◌, length, Some, Ok}
+use Rattle.std.specs.Prelude.{◌≡◌, ℕ, suc, ◌≤◌, true, false, ◌==◌, List, [], ◌∷◌, ◌++◌, length, Some, Ok}
 use Rattle.std.specs.Str.{IsUtf8}
 use Rattle.small_types.specs.declared.limits.TheConstants.{LEVEL_LIMIT, MANIFEST_LIMIT}
 use Rattle.manifest_tree.specs.declared.node.Attribute.{Attribute}

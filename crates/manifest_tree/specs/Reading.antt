@@ -1,5 +1,6 @@
 -- Reading a text from front to back, with the elements that are open.
-use Rattle.std.specs.Prelude.{◌≡◌, ℕ, true, false, ◌==◌, nat_lt, List, [], ◌∷◌, ◌++◌, length, map, Option, Some, None, Ok, Err, if◌then◌else◌}
+use Rattle.std.specs.Prelude.{◌≡◌, ℕ, ◌-◌, true, false, ◌==◌, nat_lt, List, [], ◌∷◌, ◌++◌, length, map, Option, Some, None, Ok, Err, if◌then◌else◌}
+use Rattle.small_types.specs.declared.limits.TheConstants.{LEVEL_LIMIT}
 use Rattle.manifest_tree.specs.declared.fault.TreeKind.TheVariants.{Syntax, TooDeep}
 use Rattle.manifest_tree.specs.declared.node.Attribute.{Attribute}
 use Rattle.manifest_tree.specs.Lexis.{Fault, Read, white, name_byte, past, has_name, name_at, aside, begin, unit_at, TagTurn, attribute, opens, closes, tag_turn, end_at}
@@ -84,7 +85,7 @@ markup_step o around (c ∷ cs) =
     if c == 47 then onward (end_at o.name (length (60 ∷ c ∷ cs)) cs)
     (λ rest. go (placed (finished o) around) rest) else
     if has_name (c ∷ cs) then
-    (if nat_lt (length around) 63 then go (in_tag (name_at (c ∷ cs)) [] (o
+    (if nat_lt (length around) (LEVEL_LIMIT - 1) then go (in_tag (name_at (c ∷ cs)) [] (o
     ∷ around)) (past name_byte (c ∷ cs)) else stop (TooDeep, length (60 ∷ c ∷ cs)))
     else stop (Syntax, length (c ∷ cs))
 

@@ -1,5 +1,5 @@
 -- The text that is written of a tree, and of which trees one can be.
-use Rattle.std.specs.Prelude.{◌≡◌, ℕ, suc, ◌^◌, ◌<◌, ◌≤◌, Bool, true, false, ◌&&◌, not, ◌==◌, nat_le, List, [], ◌∷◌, ◌++◌, Option, Some, None, if◌then◌else◌, unwrap_or, length, MatchOption, codes}
+use Rattle.std.specs.Prelude.{◌≡◌, ℕ, suc, ◌-◌, ◌^◌, ◌<◌, min, Bool, true, false, ◌&&◌, not, ◌==◌, nat_le, List, [], ◌∷◌, ◌++◌, Option, Some, None, if◌then◌else◌, unwrap_or, length, codes}
 use Rattle.std.specs.List.{flat_map, list_all}
 use Rattle.small_types.specs.declared.limits.TheConstants.{LEVEL_LIMIT, MANIFEST_LIMIT}
 use Rattle.manifest_tree.specs.declared.node.Attribute.{Attribute}
@@ -105,11 +105,11 @@ is_writable = is_element 1
 
 -- ---- counts and faults
 
--- the number, or none where it is no `u64`
-abbrev pub Counts : ℕ → Option ℕ → Type 0
-Counts n result = MatchOption result (2 ^ 64 ≤ n) (λ count. count ≡ n)
+-- the number, or the greatest one of 64 bits where it is above that
+abbrev pub counted : ℕ → ℕ
+counted n = min n (2 ^ 64 - 1)
 
 -- why this text is not written: it is longer than the limit, and so long; or memory ran out
 abbrev pub IsUnwritten : List ℕ → WriteFault → Type 0
-IsUnwritten text (TooLong count) = (MANIFEST_LIMIT < length text) × (count ≡ length text)
+IsUnwritten text (TooLong count) = (MANIFEST_LIMIT < length text) × (count ≡ counted (length text))
 IsUnwritten text Memory = Unit {0}

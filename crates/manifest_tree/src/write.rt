@@ -1,11 +1,11 @@
 // The text of a tree.
-ghost use Rattle.std.specs.Prelude.{◌≡◌, ◌<◌, ◌^◌, length, IsTrue, OnOk, IfOk, IfErr, Err};
+ghost use Rattle.std.specs.Prelude.{◌≡◌, ◌<◌, length, IsTrue, OnOk, IfOk, IfErr, Err};
 ghost use Rattle.std.specs.Str.{IsUtf8};
 ghost use Rattle.small_types.specs.declared.limits.TheConstants as limits;
 ghost use Rattle.manifest_tree.specs.declared.write.WriteFault.TheVariants.{Memory};
 ghost use Rattle.manifest_tree.specs.Grammar.{Spells};
 ghost use Rattle.manifest_tree.specs.Tree.{tree_of};
-ghost use Rattle.manifest_tree.specs.Writing.{element_text, written, is_writable as can_be_written, IsUnwritten};
+ghost use Rattle.manifest_tree.specs.Writing.{counted, element_text, written, is_writable as can_be_written, IsUnwritten};
 
 mod escape;
 mod measure;
@@ -31,9 +31,9 @@ const END: &[u8; 1] = b"\n";
 /// Why a tree is not written.
 #[derive(Clone, Copy, Debug, PartialEq, Eq)]
 pub enum WriteFault {
-    /// The text has more than 4,194,304 bytes: how many.
+    /// The text has more than 4,194,304 bytes: how many, or 2^64 - 1 where it has more.
     TooLong { length: u64 },
-    /// Memory ran out, or the text has 2^64 bytes or more, which no memory holds.
+    /// Memory ran out.
     Memory,
 }
 
@@ -73,8 +73,8 @@ fn text_of(alloc: Global, node: &Node, length: u64) -> Result<Bytes, AllocError>
 ///
 /// # Errors
 ///
-/// `TooLong` has the text's length where that is above 4,194,304 bytes. `Memory` says that memory
-/// ran out; it is answered too where the text has 2^64 bytes or more.
+/// `TooLong` comes exactly where the text has more than 4,194,304 bytes, and has the text's length; one
+/// above 2^64 - 1 is told as that number. `Memory` says that memory ran out.
 pub fn write_tree(alloc: Global, node: &Node) -> Result<Bytes, WriteFault>
     requires { IsTrue (can_be_written (tree_of node.now)) }
     ensures text { IfOk result (λ text. text ≡ written (tree_of node.now)) }
@@ -82,14 +82,12 @@ pub fn write_tree(alloc: Global, node: &Node) -> Result<Bytes, WriteFault>
     ensures read_back { IfOk result (λ text. Spells text node.now) }
     // A text that is too long is told as such, with its length.
     ensures too_long { let count = length (written (tree_of node.now)) in
-        limits.MANIFEST_LIMIT < count → count < 2 ^ 64 → result ≡ Err (WriteFault.TooLong count) }
+        limits.MANIFEST_LIMIT < count → result ≡ Err (WriteFault.TooLong (counted count)) }
     // No other is.
     ensures fault { IfErr result (IsUnwritten (written (tree_of node.now))) }
 {
     let around = DECLARATION.len() as u64 + END.len() as u64;
-    let Some(length) = count_element(around, node) else {
-        return Err(WriteFault::Memory);
-    };
+    let length = count_element(around, node);
     if length > MANIFEST_LIMIT as u64 {
         return Err(WriteFault::TooLong { length });
     }

@@ -1,5 +1,5 @@
 // Writing application manifests.
-ghost use Rattle.std.specs.Prelude.{◌≡◌, ◌<◌, ◌^◌, length, IfOk, IfErr, OnOk, Ok};
+ghost use Rattle.std.specs.Prelude.{◌≡◌, ◌<◌, length, IfOk, IfErr, OnOk, Ok};
 ghost use Rattle.small_types.specs.declared.limits.TheConstants.{MANIFEST_LIMIT};
 ghost use Rattle.manifest_tree.specs.Tree.{tree_of};
 ghost use Rattle.manifest_tree.specs.Writing.{IsUnwritten};
@@ -58,16 +58,15 @@ fn application_node(alloc: Global, a: &Application) -> Result<Node, NoMemory>
 ///
 /// # Errors
 ///
-/// `TooLong` has the text's length in bytes where that is above 4,194,304. `Memory` says that
-/// memory ran out; it is answered too where the text has 2^64 bytes or more.
+/// `TooLong` has the text's length in bytes where that is above 4,194,304; a length above 2^64 - 1 is
+/// told as that number. `Memory` says that memory ran out.
 pub fn write_application(alloc: Global, a: &Application) -> Result<Bytes, WriteFault>
     requires { AreApplicationFacts a.now }
     ensures text { IfOk result (λ text. text ≡ application_text a.now) }
     // Reading the text gives what it says.
     ensures facts { IfOk result (λ text. Tells application_of text (Ok a.now)) }
     // A text that is too long is not written.
-    ensures too_long { let count =
-        length (application_text a.now) in MANIFEST_LIMIT < count → count < 2 ^ 64 → OnOk result ⊥ }
+    ensures too_long { MANIFEST_LIMIT < length (application_text a.now) → OnOk result ⊥ }
     // The fault is that the text is too long, and says how long; or memory ran out.
     ensures fault { IfErr result (IsUnwritten (application_text a.now)) }
 {

@@ -1,5 +1,5 @@
 // Writing deployment manifests.
-ghost use Rattle.std.specs.Prelude.{◌≡◌, ◌<◌, ◌^◌, length, IsTrue, IfOk, IfErr, OnOk, Ok};
+ghost use Rattle.std.specs.Prelude.{◌≡◌, ◌<◌, length, IsTrue, IfOk, IfErr, OnOk, Ok};
 ghost use Rattle.small_types.specs.declared.limits.TheConstants.{MANIFEST_LIMIT};
 ghost use Rattle.manifest_tree.specs.Tree.{tree_of};
 ghost use Rattle.manifest_tree.specs.Writing.{is_content, IsUnwritten};
@@ -107,8 +107,8 @@ fn deployment_node(
 ///
 /// # Errors
 ///
-/// `TooLong` has the text's length in bytes where that is above 4,194,304. `Memory` says that
-/// memory ran out; it is answered too where the text has 2^64 bytes or more.
+/// `TooLong` has the text's length in bytes where that is above 4,194,304; a length above 2^64 - 1 is
+/// told as that number. `Memory` says that memory ran out.
 pub fn write_deployment(
     alloc: Global,
     d: &Deployment,
@@ -122,8 +122,8 @@ pub fn write_deployment(
     // Reading the text gives what it says.
     ensures facts { IfOk result (λ text. Tells deployment_of text (Ok d.now)) }
     // A text that is too long is not written.
-    ensures too_long { let count = length (deployment_text d.now publisher.now product.now) in
-        MANIFEST_LIMIT < count → count < 2 ^ 64 → OnOk result ⊥ }
+    ensures too_long { MANIFEST_LIMIT < length (deployment_text d.now publisher.now product.now)
+        → OnOk result ⊥ }
     // The fault is that the text is too long, and says how long; or memory ran out.
     ensures fault { IfErr result (IsUnwritten (deployment_text d.now publisher.now product.now)) }
 {

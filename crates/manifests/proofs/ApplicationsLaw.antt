@@ -94,23 +94,23 @@ name_is before l =
 
 -- ---- a file's group
 
-record IsGroup (is_local : Bool) (group : Option (List ℕ)) : Type 0 where
+record IsUse (is_local : Bool) (group : Option (List ℕ)) : Type 0 where
   value : IfSome group (IsValue 1 NAME_LIMIT)
   alone : is_local ≡ true → group ≡ None
 
-no_group : (is_local : Bool) → IsGroup is_local None
+no_group : (is_local : Bool) → IsUse is_local None
 no_group is_local = record { value = tt; alone = λ is. refl }
 
-in_group_is : (optional is_local : Bool) (group : List ℕ) → IsValue 0 NAME_LIMIT group → IsGroup is_local (in_group (optional && not is_local) group)
+in_group_is : (optional is_local : Bool) (group : List ℕ) → IsValue 0 NAME_LIMIT group → IsUse is_local (in_group (optional && not is_local) group)
 in_group_is optional is_local [] g = no_group is_local
 in_group_is false is_local (c ∷ cs) g = no_group is_local
 in_group_is true true (c ∷ cs) g = no_group true
 in_group_is true false (c ∷ cs) g = record { value = record { some = omega arith; few = g.few; allowed = g.allowed }; alone = λ is. absurd cc }
 
-group_is : (l : Listing) → IsListing l → IfOk (group_of l) (IsGroup l.is_local)
+group_is : (l : Listing) → IsListing l → IfOk (group_of l) (IsUse l.is_local)
 unfolding group_of
 group_is l h =
-    let P = IsGroup l.is_local in
+    let P = IsUse l.is_local in
     then_ok IsAny P (truth (codes "optional") false l.optional) _ (anything (truth (codes "optional") false l.optional)) (λ optional any.
     then_ok (IsValue 0 NAME_LIMIT) P (within NAME_LIMIT (codes "group") l.group) _ (within_is NAME_LIMIT (codes "group") l.group h) (λ group g.
     in_group_is optional l.is_local group g))
@@ -129,7 +129,7 @@ file_is before l h =
     then_ok (IsFit l.is_local) IsFile (file_name before l) _ (name_is before l) (λ name n.
     then_ok (λ (size : ℕ). size ≤ limit) IsFile (size_of limit l.size) _ (size_is limit l.size) (λ size s.
     then_ok (All IsSized) IsFile (digests_of name l.hashed) _ (digests_sized name l.hashed) (λ digests d.
-    then_ok (IsGroup l.is_local) IsFile (group_of l) _ (group_is l h) (λ group g.
+    then_ok (IsUse l.is_local) IsFile (group_of l) _ (group_is l h) (λ group g.
     counted_is before (record { name = name; size = size; list = digests; group = group; local = l.is_local })
     (record { above = n.above; short = n.short; size = s; list = d; group = g.value; alone = g.alone })))))
 

@@ -1,13 +1,14 @@
 -- Ages as numbers of units.
 use Rattle.std.specs.Prelude.{ℕ, ◌/◌, ◌%◌, ◌==◌, List, codes, if◌then◌else◌}
+use Rattle.manifests.specs.declared.ages.TheConstants.{DAY, HOUR, WEEK}
 use Rattle.manifests.specs.declared.ages.AgeUnit.{AgeUnit}
 use Rattle.manifests.specs.declared.ages.AgeUnit.TheVariants.{Hours, Days, Weeks}
 
 -- the seconds of a unit
 abbrev pub seconds_in : AgeUnit → ℕ
-seconds_in Hours = 3600
-seconds_in Days = 86400
-seconds_in Weeks = 604800
+seconds_in Hours = HOUR
+seconds_in Days = DAY
+seconds_in Weeks = WEEK
 
 abbrev pub unit_word : AgeUnit → List ℕ
 unit_word Hours = codes "hours"
@@ -18,8 +19,8 @@ unit_word Weeks = codes "weeks"
 unfoldable pub largest_unit : ℕ → AgeUnit
 largest_unit seconds =
     if seconds == 0 then Days else
-    if seconds % 604800 == 0 then Weeks else
-    if seconds % 86400 == 0 then Days else Hours
+    if seconds % WEEK == 0 then Weeks else
+    if seconds % DAY == 0 then Days else Hours
 
 -- how many of its units an age has
 abbrev pub count_of : ℕ → ℕ

@@ -16,6 +16,7 @@ use Rattle.small_types.specs.Reading.{◌>>=◌}
 use Rattle.manifest_parts.specs.Values.{needed, filled, truth, number_of, size_of, version_value}
 use Rattle.manifest_parts.specs.Parts.{identity_in, digests_of, manifest_of}
 use Rattle.manifests.specs.Types.{installed_type}
+use Rattle.manifests.specs.declared.ages.TheConstants.{AGE_DIGIT_LIMIT, AGE_LIMIT, DAY, HOUR, WEEK}
 use Rattle.manifests.specs.declared.facts.Rule.{Rule}
 use Rattle.manifests.specs.declared.facts.Rule.TheVariants.{Never, Before, Age}
 use Rattle.manifests.specs.declared.facts.Deployment.{Deployment}
@@ -40,15 +41,15 @@ minimum_of version (Some text) =
 -- the seconds of a unit
 abbrev pub unit_of : List ℕ → Read ℕ
 unit_of text =
-    if bytes_eq text (codes "hours") then Ok 3600 else
-    if bytes_eq text (codes "days") then Ok 86400 else
-    if bytes_eq text (codes "weeks") then Ok 604800 else Err (BadValue (codes "unit"))
+    if bytes_eq text (codes "hours") then Ok HOUR else
+    if bytes_eq text (codes "days") then Ok DAY else
+    if bytes_eq text (codes "weeks") then Ok WEEK else Err (BadValue (codes "unit"))
 
 -- what an `expiration` says: its age of one to nine digits, in units
 unfoldable pub age_of : Tree → Read Rule
 age_of expiration = do
   digits ← needed (codes "maximumAge") (attribute (codes "maximumAge") expiration)
-  age ← number_of 9 999999999 (codes "maximumAge") digits
+  age ← number_of AGE_DIGIT_LIMIT AGE_LIMIT (codes "maximumAge") digits
   text ← needed (codes "unit") (attribute (codes "unit") expiration)
   unit ← unit_of text
   Ok (Age (age * unit))

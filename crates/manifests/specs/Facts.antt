@@ -11,6 +11,7 @@ use Rattle.identity.specs.Version.{version_cmp}
 use Rattle.digest_list.specs.Digest.{IsSized}
 use Rattle.manifest_tree.specs.Writing.{is_content}
 use Rattle.manifest_parts.specs.Parts.{Tells}
+use Rattle.manifests.specs.declared.ages.TheConstants.{AGE_LIMIT, HOUR}
 use Rattle.manifests.specs.declared.facts.Rule.{Rule}
 use Rattle.manifests.specs.declared.facts.Rule.TheVariants.{Never, Before, Age}
 use Rattle.manifests.specs.declared.facts.Deployment.{Deployment}
@@ -42,8 +43,8 @@ IsMinimum version minimum = is_lt (version_cmp version minimum) ≡ false
 
 -- an age is a number of whole hours, which takes at most nine digits in its unit
 pub record IsAge (seconds : ℕ) : Type 0 where
-  pub whole : seconds % 3600 ≡ 0
-  pub few : count_of seconds ≤ 999999999
+  pub whole : seconds % HOUR ≡ 0
+  pub few : count_of seconds ≤ AGE_LIMIT
 
 abbrev pub IsRule : Rule → Type 0
 IsRule Never = Unit {0}

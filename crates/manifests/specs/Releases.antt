@@ -2,9 +2,6 @@
 use Rattle.std.specs.Prelude.{◌≡◌, ◌≢◌, ℕ, List, Some, Ok}
 use Rattle.identity.specs.declared.key.Key.{Key}
 use Rattle.identity.specs.declared.version.Version.{Version}
-use Rattle.digest_list.specs.declared.checker.CheckFault.{CheckFault}
-use Rattle.digest_list.specs.declared.checker.CheckFault.TheVariants.{Differs}
-use Rattle.digest_list.specs.declared.checker.CheckFault.TheVariants as check
 use Rattle.digest_list.specs.Difference.{difference_of}
 use Rattle.digest_list.specs.Matches.{Matches}
 use Rattle.manifest_parts.specs.Parts.{Tells}
@@ -61,8 +58,3 @@ Refuses d a bytes (IdentityDiffers listed found) = Matches d.app_list d.app_size
 Refuses d a bytes (VersionDiffers listed found) = Matches d.app_list d.app_size bytes
     × IsOtherVersion d a listed found
 Refuses d a bytes Memory = Unit {0}
-
--- a fault of the checker of bytes, as one of a release
-abbrev pub release_fault_of : CheckFault → ReleaseFault
-release_fault_of (Differs difference) = Mismatch difference
-release_fault_of check.Memory = Memory

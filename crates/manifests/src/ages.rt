@@ -2,6 +2,27 @@
 ghost use Rattle.std.specs.Prelude.{◌≡◌, ◌<◌};
 ghost use Rattle.manifests.specs.Ages.{seconds_in, unit_word, largest_unit};
 
+/// The seconds of an hour.
+pub const HOUR: u64 = 3_600;
+
+/// The seconds of a day.
+pub const DAY: u64 = 86_400;
+
+/// The seconds of a week.
+pub const WEEK: u64 = 604_800;
+
+/// The most digits of the number of an age, in its unit.
+pub const AGE_DIGIT_LIMIT: usize = 9;
+
+/// The greatest number of an age, in its unit.
+pub const AGE_LIMIT: u64 = 999_999_999;
+
+/// The numbers of ages.
+pub fn age_limits_are()
+    ensures units { (HOUR ≡ 3_600) × (DAY ≡ 86_400) × (WEEK ≡ 604_800) }
+    ensures numbers { (AGE_DIGIT_LIMIT ≡ 9) × (AGE_LIMIT ≡ 999_999_999) }
+{}
+
 /// A unit of ages.
 #[derive(Clone, Copy, Debug, PartialEq, Eq)]
 pub enum AgeUnit {
@@ -19,10 +40,10 @@ impl AgeUnit {
         if seconds == 0 {
             return AgeUnit::Days;
         }
-        if seconds % 604_800 == 0 {
+        if seconds % WEEK == 0 {
             return AgeUnit::Weeks;
         }
-        if seconds % 86_400 == 0 {
+        if seconds % DAY == 0 {
             return AgeUnit::Days;
         }
         AgeUnit::Hours
@@ -34,9 +55,9 @@ impl AgeUnit {
         ensures some { 0 < result }
     {
         match self {
-            AgeUnit::Hours => 3_600,
-            AgeUnit::Days => 86_400,
-            AgeUnit::Weeks => 604_800,
+            AgeUnit::Hours => HOUR,
+            AgeUnit::Days => DAY,
+            AgeUnit::Weeks => WEEK,
         }
     }
 

@@ -6,7 +6,7 @@ ghost use Rattle.manifest_tree.specs.Lexis.{allowed};
 ghost use Rattle.manifest_tree.specs.Writing.{is_content};
 ghost use Rattle.manifests.specs.Facts.{IsValue, IsIdentity, IsMinimum, IsAge, IsRule, IsProvider, AreDeploymentFacts, IsFile, AreApplicationFacts};
 
-use crate::ages::AgeUnit;
+use crate::ages::{AGE_LIMIT, AgeUnit, HOUR};
 use crate::entry::size_limit;
 use crate::file_lists::are_files;
 use crate::{Application, Deployment, FileEntry, Rule};
@@ -76,7 +76,7 @@ pub fn is_minimum(version: Version, minimum: Option<Version>) -> bool
 fn is_age(seconds: u64) -> bool
     ensures { IsTrue result ↔ IsAge seconds }
 {
-    seconds % 3_600 == 0 && seconds / AgeUnit::largest_of(seconds).seconds() <= 999_999_999
+    seconds % HOUR == 0 && seconds / AgeUnit::largest_of(seconds).seconds() <= AGE_LIMIT
 }
 
 /// Whether a manifest can say the rule: an age is of whole hours, and takes at most nine digits in its unit.

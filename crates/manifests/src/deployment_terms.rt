@@ -6,6 +6,7 @@ ghost use Rattle.manifest_parts.specs.Outcome.{Gives};
 ghost use Rattle.manifests.specs.Deployments.{minimum_of as minimum_in, unit_of as unit_in, age_of as age_in, update_rule as update_in, subscription_rule as subscription_in, rule_of as rule_in, address_of, provider_of as provider_in, terms_of as terms_in};
 
 use crate::Rule;
+use crate::ages::{AGE_DIGIT_LIMIT, AGE_LIMIT, DAY, HOUR, WEEK};
 use crate::attributes::{needed_attribute, truth_attribute};
 use addresses::{UrlFault, target_of};
 use identity::Version;
@@ -49,17 +50,17 @@ fn minimum_of(
 // The seconds of a unit of time.
 fn unit_of(alloc: Global, text: &Text) -> Result<u64, ManifestFault>
     ensures exact { Gives (λ n. n) result (unit_in text.now) }
-    ensures at_most_a_week { IfOk result (λ n. n ≤ 604800) }
+    ensures at_most_a_week { IfOk result (λ n. n ≤ WEEK) }
 {
     let unit = text.as_str();
     if unit == "hours" {
-        return Ok(3_600);
+        return Ok(HOUR);
     }
     if unit == "days" {
-        return Ok(86_400);
+        return Ok(DAY);
     }
     if unit == "weeks" {
-        return Ok(604_800);
+        return Ok(WEEK);
     }
     bad_value(alloc, "unit")
 }
@@ -69,7 +70,7 @@ fn age_of(alloc: Global, expiration: &Node) -> Result<Rule, ManifestFault>
     ensures { Gives (λ r. r) result (age_in (tree_of expiration.now)) }
 {
     let digits = needed_attribute(alloc, expiration, "maximumAge")?;
-    let age = number(alloc, 9, 999_999_999, "maximumAge", digits)?;
+    let age = number(alloc, AGE_DIGIT_LIMIT, AGE_LIMIT, "maximumAge", digits)?;
     let text = needed_attribute(alloc, expiration, "unit")?;
     let unit = unit_of(alloc, text)?;
     Ok(Rule::Age {

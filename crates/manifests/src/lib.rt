@@ -18,7 +18,7 @@ mod releases;
 mod types;
 
 pub use addresses::{UrlFault, app_target, file_target, target_of};
-pub use ages::AgeUnit;
+pub use ages::{AGE_DIGIT_LIMIT, AGE_LIMIT, AgeUnit, DAY, HOUR, WEEK, age_limits_are};
 pub use application::read_application;
 pub use conditions::{
     are_application_facts, are_deployment_facts, are_sized, is_file, is_identity, is_minimum,

@@ -4,10 +4,10 @@ ghost use Rattle.digest_list.specs.Matches.{Matches};
 ghost use Rattle.manifest_parts.specs.Parts.{Tells};
 ghost use Rattle.manifests.specs.declared.releases.ReleaseFault.TheVariants.{Memory};
 ghost use Rattle.manifests.specs.Applications.{application_of};
-ghost use Rattle.manifests.specs.Releases.{IsRelease, Refuses, RefusesBytes, RefusesIdentity, release_fault_of};
+ghost use Rattle.manifests.specs.Releases.{IsRelease, Refuses, RefusesBytes, RefusesIdentity};
 
 use crate::{Application, Deployment, Release};
-use digest_list::{CheckFault, Checker, Difference};
+use digest_list::{Difference, difference_of};
 use identity::{Key, Version};
 use small_types::{CopyFault, Duplicate};
 use std::alloc::Global;
@@ -51,17 +51,6 @@ impl From<CopyFault> for ReleaseFault {
     }
 }
 
-impl From<CheckFault> for ReleaseFault {
-    ghost from_gives = { λ fault e. e ≡ release_fault_of fault };
-
-    fn from(fault: CheckFault) -> Self {
-        match fault {
-            CheckFault::Differs { difference } => ReleaseFault::Mismatch { difference },
-            CheckFault::Memory => ReleaseFault::Memory,
-        }
-    }
-}
-
 // Whether the bytes are the ones that the deployment lists.
 fn check_bytes(alloc: Global, d: &Deployment, bytes: &[u8]) -> Result<(), ReleaseFault>
     requires { length bytes.now < 2 ^ 61 }
@@ -69,10 +58,10 @@ fn check_bytes(alloc: Global, d: &Deployment, bytes: &[u8]) -> Result<(), Releas
     ensures refused { IfErr result (RefusesBytes d.now bytes.now) }
     ensures accepted { Matches d.now.app_list d.now.app_size bytes.now → IsOkUnless result Memory }
 {
-    let mut checker = Checker::new(alloc, &d.app_list, d.app_size)?;
-    checker.update(bytes);
-    checker.finish()?;
-    Ok(())
+    match difference_of(alloc, &d.app_list, d.app_size, bytes)? {
+        None => Ok(()),
+        Some(difference) => Err(ReleaseFault::Mismatch { difference }),
+    }
 }
 
 // Whether the application has the key and the version that the deployment lists.

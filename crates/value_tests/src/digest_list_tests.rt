@@ -2,9 +2,9 @@ ghost use Rattle.std.specs.Prelude.{◌≡◌, ◌+◌, ◌<◌, ◌^◌};
 ghost use Rattle.digest_list.specs.Checker.{count_of};
 
 use digest_list::{
-    Algorithm, CheckFault, Checker, Difference, Digest, DigestFault, DigestList, matches,
+    Algorithm, Checker, Difference, Digest, DigestFault, DigestList, difference_of, matches,
 };
-use small_types::{Bytes, Duplicate, List};
+use small_types::{Bytes, CopyFault, Duplicate, List};
 use std::alloc::Global;
 use std::test::Fail;
 
@@ -152,7 +152,7 @@ fn thousand() -> [u8; 1000] {
     [b'a'; 1000]
 }
 
-fn finish_million(mut checker: Checker) -> Result<(), CheckFault>
+fn finish_million(mut checker: Checker) -> Option<Difference>
     requires { count_of checker ≡ 0 }
 {
     let bytes = thousand();
@@ -166,30 +166,37 @@ fn finish_million(mut checker: Checker) -> Result<(), CheckFault>
 fn a_million_bytes_come_in_pieces(rt: HostRuntime) -> Result<(), Fail> {
     let list = all_four(rt.alloc(), Message::Million)?;
     let checker = Checker::new(rt.alloc(), &list, 1_000_000)?;
-    assert!(rt; finish_million(checker) == Ok(()));
+    assert!(rt; finish_million(checker) == None);
     Ok(())
 }
 
-fn check_abc(alloc: Global, list: &DigestList, size: u64) -> Result<(), CheckFault> {
+// How `abc`, which comes in two pieces, differs.
+fn check_abc(alloc: Global, list: &DigestList, size: u64) -> Result<Option<Difference>, CopyFault> {
     let mut checker = Checker::new(alloc, list, size)?;
     checker.update(b"ab");
     checker.update(b"c");
-    checker.finish()
+    Ok(checker.finish())
 }
 
-fn other_size(listed: u64, found: u64) -> Result<(), CheckFault> {
-    let difference = Difference::Size { listed, found };
-    Err(CheckFault::Differs { difference })
+// Whether `abc` differs so, in pieces and as a whole.
+fn differs(
+    alloc: Global,
+    list: &DigestList,
+    size: u64,
+    wanted: &Option<Difference>,
+) -> Result<bool, Fail> {
+    let pieces = check_abc(alloc, list, size)?;
+    let whole = difference_of(alloc, list, size, b"abc")?;
+    Ok(pieces == *wanted && whole == *wanted)
 }
 
 // The digest of `abc` where that of the empty text is listed.
-fn other_digest(alloc: Global, algorithm: Algorithm) -> Result<Result<(), CheckFault>, Fail> {
-    let difference = Difference::Digest {
+fn other_digest(alloc: Global, algorithm: Algorithm) -> Result<Option<Difference>, Fail> {
+    Ok(Some(Difference::Digest {
         algorithm,
         listed: value_of(alloc, Message::Empty, algorithm)?,
         found: value_of(alloc, Message::Abc, algorithm)?,
-    };
-    Ok(Err(CheckFault::Differs { difference }))
+    }))
 }
 
 // The digests of two messages, of which three are of the empty text.
@@ -204,24 +211,24 @@ fn mixed(alloc: Global) -> Result<DigestList, Fail> {
     list_of(alloc, &listed)
 }
 
-// Whether `abc`, said to have a size, has another digest first of those in the list.
-fn has_other_digest(alloc: Global, list: &DigestList, algorithm: Algorithm) -> Result<bool, Fail> {
-    Ok(check_abc(alloc, list, 3) == other_digest(alloc, algorithm)?)
-}
-
-// Whether `abc` is what a copy of its digests lists.
+// Whether a copy of the digests of `abc` lists it.
 fn copy_matches(alloc: Global) -> Result<bool, Fail> {
     let right = all_four(alloc, Message::Abc)?;
     let copied = right.copy(alloc)?;
-    Ok(check_abc(alloc, &copied, 3) == Ok(()))
+    differs(alloc, &copied, 3, &None)
 }
 
 #[test]
 fn the_first_difference_is_told(rt: HostRuntime) -> Result<(), Fail> {
     let alloc = rt.alloc();
     let list = mixed(alloc)?;
-    assert!(rt; check_abc(alloc, &list, 4) == other_size(4, 3));
-    assert!(rt; has_other_digest(alloc, &list, Algorithm::Sha256)?);
+    let size = Some(Difference::Size {
+        listed: 4,
+        found: 3,
+    });
+    let digest = other_digest(alloc, Algorithm::Sha256)?;
+    assert!(rt; differs(alloc, &list, 4, &size)?);
+    assert!(rt; differs(alloc, &list, 3, &digest)?);
     assert!(rt; copy_matches(alloc)?);
     Ok(())
 }

@@ -1,5 +1,5 @@
 // What no clause says of values: that calls succeed, and worked values.
-use small_types::{Duplicate, Name, NameFault, Target, Text, is_name, read_decimal};
+use small_types::{Duplicate, List, Name, NameFault, Target, Text, is_name, read_decimal};
 use std::alloc::Global;
 use std::test::Fail;
 
@@ -122,4 +122,17 @@ fn decimal_numbers_are_read(rt: HostRuntime) {
     for (number, (bytes, wanted)) in cases.iter().enumerate() {
         assert!(rt; read_decimal(bytes) == *wanted, "{number}");
     }
+}
+
+#[test]
+fn lists_are_joined_and_cut(rt: HostRuntime) -> Result<(), Fail> {
+    let alloc = rt.alloc();
+    let mut list = List::from_vec(vec![in alloc; 1, 2]?);
+    list.append(List::from_vec(vec![in alloc; 3, 4]?))?;
+    assert_eq!(rt; list.as_slice(), [1, 2, 3, 4].as_slice());
+    list.shorten(3);
+    assert_eq!(rt; list.as_slice(), [1, 2, 3].as_slice());
+    list.shorten(5);
+    assert_eq!(rt; list.as_slice(), [1, 2, 3].as_slice());
+    Ok(())
 }

@@ -1,7 +1,7 @@
 // Values and texts as they are written.
 ghost use Rattle.std.specs.Prelude.{◌≡◌, ◌+◌, ◌++◌, length, OnOk};
 ghost use Rattle.std.specs.Option.{option_copied};
-ghost use Rattle.manifest_tree.specs.Writing.{reference_for, escape, escaped, Counts};
+ghost use Rattle.manifest_tree.specs.Writing.{reference_for, escape, escaped, counted};
 
 use small_types::Bytes;
 use std::alloc::AllocError;
@@ -44,14 +44,14 @@ fn push_escape(out: &mut Bytes, byte: u8) -> Result<(), AllocError>
 }
 
 // How long these bytes are as they are written, behind so many others.
-pub(super) fn count_escaped(total: u64, bytes: &[u8]) -> Option<u64>
-    ensures { Counts (total + length (escaped bytes.now)) result }
+pub(super) fn count_escaped(total: u64, bytes: &[u8]) -> u64
+    ensures { result ≡ counted (total + length (escaped bytes.now)) }
 {
     let mut count = total;
     for byte in bytes {
-        count = count.checked_add(escape_length(*byte))?;
+        count = count.saturating_add(escape_length(*byte));
     }
-    Some(count)
+    count
 }
 
 // Adds these bytes as they are written.
