@@ -36,34 +36,34 @@ enum Start {
     Print(&'static [u8]),
     // Other words.
     Words(Misread<'static>),
-    // There was no memory for the words.
-    Memory,
 }
 
-fn read_args(rt: &HostRuntime) -> Start {
+fn read_args(rt: &HostRuntime) -> Result<Start, AllocError> {
     let args = match env::args(rt) {
         Ok(args) => args,
-        Err(error) if error.kind() == ErrorKind::OutOfMemory => return Start::Memory,
-        Err(_) => return Start::Words(Misread::NoText),
+        Err(error) => {
+            return match error.kind() {
+                ErrorKind::OutOfMemory => Err(AllocError),
+                _ => Ok(Start::Words(Misread::NoText)),
+            };
+        }
     };
     let mut args = args.skip(1);
     let Some(folder) = args.next() else {
-        return Start::Words(Misread::Number);
+        return Ok(Start::Words(Misread::Number));
     };
     let mut words = Vec::new(rt.alloc());
     for arg in args {
-        if words.push(Word::from_vec(arg.into_bytes())).is_err() {
-            return Start::Memory;
-        }
+        words.push(Word::from_vec(arg.into_bytes()))?;
     }
     if words.is_empty() {
         return match folder.as_str() {
-            "--help" => Start::Print(HELP),
-            "--version" => Start::Print(VERSION),
-            _ => Start::Words(Misread::Number),
+            "--help" => Ok(Start::Print(HELP)),
+            "--version" => Ok(Start::Print(VERSION)),
+            _ => Ok(Start::Words(Misread::Number)),
         };
     }
-    Start::Run { folder, words }
+    Ok(Start::Run { folder, words })
 }
 
 // The port of the first word, or 0 where it gives none.
@@ -116,12 +116,11 @@ fn run_words(rt: &HostRuntime, folder: String, words: &[Word]) -> Result<u8, All
 }
 
 fn run_args(rt: &HostRuntime) -> Result<u8, AllocError> {
-    match read_args(rt) {
+    match read_args(rt)? {
         Start::Words(why) => {
             say(rt, why);
             Ok(1)
         }
-        Start::Memory => Err(AllocError),
         Start::Print(text) => print(rt, text),
         Start::Run { folder, words } => run_words(rt, folder, &words),
     }

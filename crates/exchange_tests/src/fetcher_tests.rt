@@ -1,4 +1,6 @@
 // What no clause says of fetching: that it succeeds, and worked values.
+ghost use Rattle.std.specs.Prelude.{◌≡◌, refl};
+ghost use Rattle.std.proofs.Common.{◌∙◌};
 ghost use Rattle.links.specs.Link.{LinkState};
 
 use crate::made::{bytes, failing, same};
@@ -6,7 +8,7 @@ use causes::Cause;
 use digest_list::{Algorithm, Difference, Digest, DigestList};
 use fetcher::{FetchFault, FolderLink, fetch_file, fetch_text};
 use folders::{Held, MemFolder};
-use links::{Link, LinkFault, MemBasket, MemLink, Page, Single};
+use links::{Basket, BasketFault, History, Link, LinkFault, MemBasket, MemLink, Page, Single};
 use outside::copy_from;
 use small_types::{Bytes, CopyFault, List, Name, Target, Text};
 use std::alloc::{AllocError, Global};
@@ -86,19 +88,30 @@ struct LooseLink {
     length: u64,
     bytes: Bytes,
     at: usize,
+    history: History,
 }
 
 impl Link for LooseLink {
     ghost use Rattle.std.specs.Prelude.{None, []};
+    ghost use Rattle.links.specs.History.{calls_of};
 
-    ghost state = { λ l. record { tells = ⊥; site = λ target. None; rest = []; count = 0 } };
+    ghost state = { λ l. record {
+      tells = ⊥;
+      site = λ target. None;
+      rest = [];
+      count = 0;
+      history = calls_of l.history;
+    } };
 
-    fn ask(&mut self, _alloc: Global, _target: &Target) -> Result<u64, LinkFault> {
+    fn ask(&mut self, _alloc: Global, target: &Target) -> Result<u64, LinkFault> {
+        self.history.ask(target, Ok(self.length));
         Ok(self.length)
     }
 
     fn piece(&mut self, buf: &mut [u8]) -> Result<usize, LinkFault> {
-        Ok(copy_from(self.bytes.as_slice(), &mut self.at, buf))
+        let n = copy_from(self.bytes.as_slice(), &mut self.at, buf);
+        self.history.piece(buf, Ok(n));
+        Ok(n)
     }
 
     fn faults(&self) -> u64 {
@@ -112,6 +125,7 @@ fn loose(alloc: Global, length: u64, content: &[u8]) -> Result<Single<LooseLink>
             length,
             bytes: bytes(alloc, content)?,
             at: 0,
+            history: History::new(),
         },
         asked: List::from_vec(Vec::new(alloc)),
     })
@@ -373,6 +387,82 @@ fn loose_links_give_files_that_match(rt: HostRuntime) -> Result<(), Fail> {
     assert!(rt; same(basket.bytes(), b"abc"));
     drop(basket);
     Ok(done?)
+}
+
+// A basket that stands for a shelf: its calls leave the shelf's number as it is.
+#[derive(Drop)]
+struct Shelf {
+    number: u64,
+    bytes: Bytes,
+}
+
+impl Basket for Shelf {
+    ghost tells = { Unit {0} };
+
+    ghost taken = { λ b. b.bytes };
+
+    ghost count = { λ b. 0 };
+
+    ghost turns_to = { λ a b. b.number ≡ a.number };
+
+    ghost turns_same = { λ a. refl };
+
+    ghost turns_on = { λ a b c one two. two ∙ one };
+
+    fn restart(&mut self) {
+        self.bytes.shorten(0);
+    }
+
+    fn take(&mut self, bytes: &[u8]) -> Result<(), BasketFault> {
+        match self.bytes.extend(bytes) {
+            Ok(()) => Ok(()),
+            Err(_) => Err(BasketFault::Memory),
+        }
+    }
+
+    fn faults(&self) -> u64 {
+        0
+    }
+}
+
+// Whatever comes of a fetch, it is the same shelf afterwards.
+fn fetch_to_shelf(
+    alloc: Global,
+    links: &mut Single<MemLink>,
+    list: &DigestList,
+    shelf: &mut Shelf,
+) -> Said
+    ensures { shelf.new.number ≡ shelf.old.number }
+{
+    let Ok(target) = target(alloc, "/a") else {
+        return Said::Memory;
+    };
+    match fetch_file(alloc, links, &target, 3, list, shelf) {
+        Ok(()) => Said::Given(shelf.bytes.as_slice().len() as u64),
+        Err(fault) => said_fault(&fault),
+    }
+}
+
+// What is said where the link has those bytes, and what then stands on the shelf of the number 7.
+fn said_shelf(alloc: Global, content: &[u8]) -> Result<(Said, Shelf), LinkFault> {
+    let list = listed(alloc, OF_ABC)?;
+    let mut links = link_of(alloc, content, 0)?;
+    let mut shelf = Shelf {
+        number: 7,
+        bytes: bytes(alloc, b"before")?,
+    };
+    let said = fetch_to_shelf(alloc, &mut links, &list, &mut shelf);
+    Ok((said, shelf))
+}
+
+#[test]
+fn baskets_keep_what_stands_behind_them(rt: HostRuntime) -> Result<(), Fail> {
+    for (content, want) in [(b"abc", Said::Given(3)), (b"abd", Said::OtherDigest)] {
+        let (said, shelf) = said_shelf(rt.alloc(), content)?;
+        assert!(rt; said == want && shelf.number == 7);
+        drop(shelf);
+    }
+    Ok(())
 }
 
 fn named(alloc: Global, name: &[u8], content: &[u8]) -> Result<Held, AllocError> {

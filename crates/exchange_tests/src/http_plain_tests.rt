@@ -1,7 +1,7 @@
 // What no clause says: that calls succeed, and worked values.
 use crate::made::{bytes, failing, same};
 use connections::{MemWire, Wire};
-use http_plain::{Begun, Demand, ExchangeFault, ask_wire, demand_in, read_request};
+use http_plain::{Begun, Demand, ExchangeFault, RequestFault, ask_wire, demand_in, read_request};
 use outside::Failed;
 use small_types::{List, Target, Text};
 use std::alloc::{AllocError, Global};
@@ -143,13 +143,13 @@ fn long_requests_ask(rt: HostRuntime) -> Result<(), Fail> {
 
 // What the head of a request says, in words.
 fn shown_request(alloc: Global, bytes: &[u8]) -> Result<String, AllocError> {
-    let Some(asked) = read_request(bytes) else {
-        return String::from_str(alloc, "malformed");
+    let asked = match read_request(alloc, bytes) {
+        Ok(asked) => asked,
+        Err(RequestFault::Malformed) => return String::from_str(alloc, "malformed"),
+        Err(RequestFault::Memory) => return Err(AllocError),
     };
-    let (Ok(method), Ok(target)) = (str::from_utf8(asked.method), str::from_utf8(asked.target))
-    else {
-        return String::from_str(alloc, "no text");
-    };
+    let method = asked.method.as_str();
+    let target = asked.target.as_str();
     let version = asked.version;
     let hosts = asked.hosts;
     format!(in alloc; "{method} {target} {version} {hosts}")
@@ -162,6 +162,7 @@ const HEADS: &[(&str, &str)] = &[
         "GET /a?b 1 2",
     ),
     ("A * HTTP/1.0\r\n\r\n", "A * 0 0"),
+    ("PUT /\u{e9} HTTP/1.1\r\nHost:\r\n\r\n", "PUT /\u{e9} 1 1"),
     ("A * HTTP/1.0\r\n\r\nx", "malformed"),
     ("A * HTTP/1.0\r\n", "malformed"),
     ("A * HTTP/2.0\r\n\r\n", "malformed"),

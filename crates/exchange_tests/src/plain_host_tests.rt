@@ -2,7 +2,7 @@
 use crate::made::{bytes, failing, same};
 use connections::{Door, MemDoor};
 use folders::{Folder, Held, MemFolder, are_distinct};
-use plain_host::{Room, ServeFault, Served, serve_connection};
+use plain_host::{Room, ServeFault, Served, serve_connection, serve_in_room};
 use small_types::{Bytes, List, Name};
 use std::alloc::{AllocError, Global};
 use std::test::Fail;
@@ -30,8 +30,21 @@ fn door_of(alloc: Global, request: &[u8], number: u64) -> Result<MemDoor, AllocE
     Ok(MemDoor::new(alloc, requests, failing(alloc, number)?))
 }
 
-// Serves the next connection. It promises nothing, so that what a test asks is tried and not proved.
+// Serves the next connection, in a room of its own. It promises nothing, so that what a test asks is tried and not
+// proved.
 fn serve_next<G: Door, F: Folder>(
+    alloc: Global,
+    door: &mut G,
+    folder: &mut F,
+) -> Result<Served, ServeFault> {
+    let Ok(()) = door.accept() else {
+        return Err(ServeFault::ReadFault);
+    };
+    serve_connection(alloc, door, folder)
+}
+
+// The same, in a room that the connections before it had.
+fn serve_next_in_room<G: Door, F: Folder>(
     alloc: Global,
     door: &mut G,
     folder: &mut F,
@@ -40,7 +53,7 @@ fn serve_next<G: Door, F: Folder>(
     let Ok(()) = door.accept() else {
         return Err(ServeFault::ReadFault);
     };
-    serve_connection(alloc, door, folder, room)
+    serve_in_room(alloc, door, folder, room)
 }
 
 // Whether that was sent, over all connections.
@@ -70,10 +83,9 @@ fn serve(
     folder_failing: u64,
     wanted: &[u8],
 ) -> Result<(Result<Served, ServeFault>, bool), AllocError> {
-    let mut room = Room::new(alloc);
     let mut folder = folder_of(alloc, folder_failing)?;
     let mut door = door_of(alloc, request, door_failing)?;
-    let served = serve_next(alloc, &mut door, &mut folder, &mut room);
+    let served = serve_next(alloc, &mut door, &mut folder);
     let sent = was_sent(alloc, &door, wanted)?;
     Ok((served, sent))
 }
@@ -311,7 +323,7 @@ fn next_length(
     folder: &mut MemFolder,
     room: &mut Room,
 ) -> usize {
-    let _ = serve_next(alloc, door, folder, room);
+    let _ = serve_next_in_room(alloc, door, folder, room);
     sent_length(door)
 }
 

@@ -1,14 +1,13 @@
 -- What the bytes of one link were found to be.
-use Rattle.std.proofs.Common.{◌≡◌, ◌≢◌, ℕ, List, [], ◌++◌, length, take, Option, Some, None, find, Err, refl, sym, ap, ◌∙◌, arith}
+use Rattle.std.proofs.Common.{◌≡◌, ◌≢◌, ℕ, List, [], ◌++◌, length, take, Option, Some, None, find, refl, sym, ap, ◌∙◌, arith}
 use Rattle.std.specs.Prelude.{option_map, replicate}
 use Rattle.std.proofs.lemmas.List.{length-replicate, take_all}
 use Rattle.small_types.specs.declared.target.Target.{Target}
-use Rattle.digest_list.specs.declared.checker.CheckFault.TheVariants.{Differs as OtherBytes}
 use Rattle.digest_list.specs.declared.checker.Checker.{Checker}
 use Rattle.digest_list.specs.declared.difference.Difference.{Difference}
 use Rattle.digest_list.specs.declared.difference.Difference.TheVariants.{Size}
 use Rattle.digest_list.specs.declared.digest.Digest.{Digest}
-use Rattle.digest_list.specs.Checker.{IsFed, check_of}
+use Rattle.digest_list.specs.Checker.{IsFed}
 use Rattle.digest_list.specs.Difference.{AreDistinct, difference_of, is_other, other_digest}
 use Rattle.digest_list.specs.Matches.{Matches}
 use Rattle.digest_list.proofs.DifferenceLemmas.{difference_of-found, difference_of-none, difference_of-size}
@@ -51,10 +50,6 @@ file_given list size n target a b c old new tells before after opens same site p
   told = site_poured size n target a b pours.bytes opens same site pours.told;
 }
 
-found_difference : (found : Option Difference) (d : Difference) → Err (OtherBytes d) ≡ check_of found → found ≡ Some d
-found_difference None d is = absurd (cc)
-found_difference (Some e) d is = cc
-
 -- bytes of the listed size do not differ by their size
 sized_alike : (list : List Digest) (size : ℕ) (m : List ℕ) (listed found : ℕ) → length m ≡ size → difference_of list size m ≡ Some (Size listed found) → ⊥
 sized_alike list size m listed found sized is = by (find (is_other m) list) refl
@@ -67,9 +62,9 @@ sized_alike list size m listed found sized is = by (find (is_other m) list) refl
 
 pub other_given : (list : List Digest) (size n : ℕ) (target : Target) (a b c : LinkState) (old new : Checker) (tells : Type 0) (before after : List ℕ) (d : Difference)
     → (a.tells → Opens target a b n) → n ≡ size → KeepsSite a b → Pours size b old new tells before after → IsFed old list size []
-    → ((bytes : List ℕ) → IsFed new list size bytes → Err (OtherBytes d) ≡ check_of (difference_of list size bytes)) → AreDistinct d → IsOther list size target a c d
+    → ((bytes : List ℕ) → IsFed new list size bytes → Some d ≡ difference_of list size bytes) → AreDistinct d → IsOther list size target a c d
 other_given list size n target a b c old new tells before after d opens same site pours fresh exact distinct =
-    let differ : difference_of list size pours.bytes ≡ Some d = found_difference (difference_of list size pours.bytes) d (exact pours.bytes (pours.fed list size [] fresh)) in
+    let differ : difference_of list size pours.bytes ≡ Some d = sym (exact pours.bytes (pours.fed list size [] fresh)) in
     record {
       bytes = pours.bytes;
       differ = differ;

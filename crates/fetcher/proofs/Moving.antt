@@ -15,13 +15,14 @@ keeps_then a b c one two = record {
 }
 
 pub stays_same : (s : LinkState) → Stays s s
-stays_same s = record { site = keeps_same s; rest = refl; count = refl }
+stays_same s = record { site = keeps_same s; rest = refl; count = refl; history = refl }
 
 pub stays_then : (a b c : LinkState) → Stays a b → Stays b c → Stays a c
 stays_then a b c one two = record {
   site = keeps_then a b c one.site two.site;
   rest = two.rest ∙ one.rest;
   count = two.count ∙ one.count;
+  history = two.history ∙ one.history;
 }
 
 pub remain_then : (a b c : LinksState) → Remain a b → Remain b c → Remain a c

@@ -3,6 +3,8 @@ use Rattle.std.specs.Prelude.{ℕ, List, drop}
 use Rattle.folders.specs.declared.folder.Held.{Held}
 use Rattle.fetcher.specs.declared.folder_link.FolderLink.{FolderLink}
 use Rattle.http_plain.specs.Sites.{served}
+use Rattle.links.specs.declared.history.LinkCall.{LinkCall}
+use Rattle.links.specs.History.{calls_of}
 use Rattle.links.specs.Link.{LinkState}
 use Rattle.outside.specs.Streams.{total}
 
@@ -14,6 +16,10 @@ folder_rest link = drop link.at link.body
 abbrev pub folder_unread : {F : Type 0} → FolderLink F → ℕ
 folder_unread link = link.unread
 
+-- what it was asked
+abbrev pub folder_history : {F : Type 0} → FolderLink F → List LinkCall
+folder_history link = calls_of link.history
+
 -- the link, by whether its folder tells, what stands in it and how often it failed
 abbrev pub folder_state : {F : Type 0} → Type 0 → List Held → ℕ → FolderLink F → LinkState
 folder_state tells files count link =
@@ -21,6 +27,6 @@ folder_state tells files count link =
       tells = tells;
       site = served files;
       rest = folder_rest link;
-      count =
-          total count (folder_unread link);
+      count = total count (folder_unread link);
+      history = folder_history link;
     }

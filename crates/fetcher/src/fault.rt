@@ -1,6 +1,11 @@
 // Why nothing was fetched.
+ghost use Rattle.std.specs.Prelude.{◌≡◌};
+ghost use Rattle.fetcher.specs.declared.fault.FetchFault.TheVariants.{Memory};
+
 use causes::Cause;
-use small_types::{List, Target};
+use links::WantFault;
+use small_types::{CopyFault, List, Target};
+use std::alloc::AllocFailed;
 use std::error::Error;
 use std::fmt;
 
@@ -26,3 +31,27 @@ impl fmt::Display for FetchFault {
 }
 
 impl Error for FetchFault {}
+
+impl From<WantFault> for FetchFault {
+    ghost from_gives = { λ _ e. e ≡ Memory };
+
+    fn from(_: WantFault) -> FetchFault {
+        FetchFault::Memory
+    }
+}
+
+impl From<CopyFault> for FetchFault {
+    ghost from_gives = { λ _ e. e ≡ Memory };
+
+    fn from(_: CopyFault) -> FetchFault {
+        FetchFault::Memory
+    }
+}
+
+impl<T: Drop> From<AllocFailed<T>> for FetchFault {
+    ghost from_gives = { λ _ e. e ≡ Memory };
+
+    fn from(_: AllocFailed<T>) -> FetchFault {
+        FetchFault::Memory
+    }
+}

@@ -10,7 +10,7 @@ ghost use Rattle.fetcher.specs.declared.fault.FetchFault.TheVariants.{BasketFaul
 use crate::FetchFault;
 use crate::stopped::{PIECE, Stopped, add_cause, all_links, stopped_basket, stopped_by};
 use causes::Cause;
-use digest_list::{CheckFault, Checker, Difference, DigestList};
+use digest_list::{Checker, Difference, DigestList};
 use links::{Basket, Links};
 use small_types::Target;
 use std::alloc::Global;
@@ -41,6 +41,7 @@ fn pour_piece<L: Links, B: Basket>(
         (((L.links links.new).link place).count ≡ ((L.links links.old).link place).count) }
     ensures moves { Moves place (L.links links.old) (L.links links.new) }
     ensures basket { KeepsBasket (B.count basket.old) (B.count basket.new) result }
+    ensures turned { B.turns_to basket.old basket.new }
 {
     let n = match links.piece(place, buf) {
         Ok(n) => n,
@@ -76,6 +77,7 @@ fn pour<L: Links, B: Basket>(
         (((L.links links.new).link place).count ≡ ((L.links links.old).link place).count) }
     ensures moves { Moves place (L.links links.old) (L.links links.new) }
     ensures basket { KeepsBasket (B.count basket.old) (B.count basket.new) result }
+    ensures turned { B.turns_to basket.old basket.new }
 {
     let mut done: u64 = 0;
     let mut piece = [0; PIECE];
@@ -114,6 +116,7 @@ fn file_of<L: Links, B: Basket>(
         (B.count basket.old) (B.count basket.new)) }
     ensures moves { Moves place (L.links links.old) (L.links links.new) }
     ensures basket { KeepsBasket (B.count basket.old) (B.count basket.new) result }
+    ensures turned { B.turns_to basket.old basket.new }
 {
     let length = match links.ask(alloc, place, target) {
         Ok(length) => length,
@@ -133,9 +136,8 @@ fn file_of<L: Links, B: Basket>(
         return Err(stop);
     }
     match checker.finish() {
-        Ok(()) => Ok(()),
-        Err(CheckFault::Differs { difference }) => { Err(Stopped::By(Cause::Differs(difference))) }
-        Err(CheckFault::Memory) => Err(Stopped::Memory),
+        None => Ok(()),
+        Some(difference) => Err(Stopped::By(Cause::Differs(difference))),
     }
 }
 
@@ -161,10 +163,9 @@ pub fn fetch_file<L: Links, B: Basket>(
     ensures kept { Kept (L.links links.old) (L.links links.new) }
     ensures later { B.count basket.old ≤ B.count basket.new }
     ensures quiet { result ≢ Err BasketFault → B.count basket.new ≡ B.count basket.old }
+    ensures turned { B.turns_to basket.old basket.new }
 {
-    let Ok(()) = links.want(alloc, target) else {
-        return Err(FetchFault::Memory);
-    };
+    links.want(alloc, target)?;
     let mut causes = Vec::new(alloc);
     for place in 0..links.sources() {
         let stop = match file_of(alloc, links, place, target, size, list, basket) {

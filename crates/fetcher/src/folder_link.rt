@@ -1,5 +1,6 @@
 // A folder as a link.
-ghost use Rattle.std.specs.Prelude.{◌≡◌, ◌≢◌, ◌<◌, [], length, drop, IfOk, IsOk, Err};
+ghost use Rattle.std.specs.Prelude.{◌≡◌, ◌≢◌, ◌<◌, [], ◌∷◌, ◌++◌, length, drop, IfOk, IsOk, Err};
+ghost use Rattle.links.specs.declared.history.LinkCall.TheVariants.{Asked};
 ghost use Rattle.links.specs.declared.link.LinkFault.TheVariants.{Missing, Down};
 ghost use Rattle.outside.specs.Streams.{Rose, total};
 ghost use Rattle.folders.specs.Folder.{FailsCounted};
@@ -8,7 +9,7 @@ ghost use Rattle.http_plain.specs.Sites.{file_named};
 
 use folders::{Folder, FolderFault};
 use http_plain::name_in_path;
-use links::{Link, LinkFault};
+use links::{History, Link, LinkFault};
 use outside::copy_from;
 use small_types::{Bytes, Target};
 use std::alloc::Global;
@@ -24,6 +25,7 @@ pub struct FolderLink<F: Folder> {
     at: usize,
     // How many targets were missing.
     unread: u64,
+    history: History,
 }
 
 // The file that the path names, if it names one that is there.
@@ -37,27 +39,28 @@ fn find_file<F: Folder>(
     ensures kept { F.tells → F.held folder.new ≡ F.held folder.old }
     ensures cause { FailsCounted (F.count folder.old) (F.count folder.new) result }
 {
-    match name_in_path(alloc, path) {
-        Ok(Some(name)) => folder.get(alloc, &name),
-        Ok(None) => Ok(None),
-        Err(_) => Err(FolderFault::Memory),
+    match name_in_path(alloc, path)? {
+        Some(name) => folder.get(alloc, &name),
+        None => Ok(None),
     }
 }
 
 impl<F: Folder> FolderLink<F> {
-    ghost use Rattle.fetcher.specs.FolderSites.{folder_rest, folder_unread};
+    ghost use Rattle.fetcher.specs.FolderSites.{folder_history, folder_rest, folder_unread};
 
     /// A link to the folder, of which nothing was asked. It takes no memory.
     pub fn new(alloc: Global, folder: F) -> FolderLink<F>
         ensures folder { result.folder ≡ folder }
         ensures rest { folder_rest result ≡ [] }
         ensures unread { folder_unread result ≡ 0 }
+        ensures history { folder_history result ≡ [] }
     {
         FolderLink {
             folder,
             body: Bytes::from_vec(Vec::new(alloc)),
             at: 0,
             unread: 0,
+            history: History::new(),
         }
     }
 
@@ -66,19 +69,23 @@ impl<F: Folder> FolderLink<F> {
         ensures rest { folder_rest self.new ≡ bytes }
         ensures folder { self.new.folder ≡ self.old.folder }
         ensures unread { folder_unread self.new ≡ folder_unread self.old }
+        ensures history { self.new.history ≡ self.old.history }
     {
         self.body = bytes;
         self.at = 0;
     }
 
-    // Leaves nothing of the body, and hands on the fault.
-    fn close(&mut self, alloc: Global, fault: LinkFault) -> LinkFault
+    // Leaves nothing of the body, and answers the fault to the target.
+    fn close(&mut self, alloc: Global, target: &Target, fault: LinkFault) -> LinkFault
         ensures fault { result ≡ fault }
         ensures rest { folder_rest self.new ≡ [] }
         ensures folder { self.new.folder ≡ self.old.folder }
         ensures unread { folder_unread self.new ≡ folder_unread self.old }
+        ensures history { folder_history self.new
+            ≡ folder_history self.old ++ Asked target.now (Err fault) ∷ [] }
     {
         self.open(Bytes::from_vec(Vec::new(alloc)));
+        self.history.ask(target, Err(fault));
         fault
     }
 
@@ -87,6 +94,7 @@ impl<F: Folder> FolderLink<F> {
         ensures unread { folder_unread self.new ≡ total (folder_unread self.old) 1 }
         ensures folder { self.new.folder ≡ self.old.folder }
         ensures rest { folder_rest self.new ≡ folder_rest self.old }
+        ensures history { self.new.history ≡ self.old.history }
     {
         self.unread = self.unread.saturating_add(1);
     }
@@ -94,6 +102,8 @@ impl<F: Folder> FolderLink<F> {
 
 impl<F: Folder + Drop> Link for FolderLink<F> {
     ghost use Rattle.std.specs.Prelude.{ℕ, List};
+    ghost use Rattle.links.specs.Asked.{NotesAsk, NotesPiece};
+    ghost use Rattle.links.specs.History.{calls_of};
     ghost use Rattle.links.specs.Link.{LinkState, Asks, Takes};
     ghost use Rattle.fetcher.specs.FolderSites.{folder_state, folder_unread};
     ghost use Rattle.http_plain.specs.Sites.{served};
@@ -103,10 +113,15 @@ impl<F: Folder + Drop> Link for FolderLink<F> {
       site = served (F.held l.folder);
       rest = drop l.at l.body;
       count = total (F.count l.folder) l.unread;
+      history = calls_of l.history;
     } };
 
     fn ask(&mut self, alloc: Global, target: &Target) -> Result<u64, LinkFault>
         ensures asks { Asks target.now
+            (folder_state F.tells (F.held self.old.folder) (F.count self.old.folder) self.old)
+            (folder_state F.tells (F.held self.new.folder) (F.count self.new.folder) self.new)
+            result }
+        ensures noted { NotesAsk target.now
             (folder_state F.tells (F.held self.old.folder) (F.count self.old.folder) self.old)
             (folder_state F.tells (F.held self.new.folder) (F.count self.new.folder) self.new)
             result }
@@ -123,14 +138,18 @@ impl<F: Folder + Drop> Link for FolderLink<F> {
             Ok(Some(bytes)) => {
                 let length = bytes.as_slice().len() as u64;
                 self.open(bytes);
+                self.history.ask(target, Ok(length));
                 Ok(length)
             }
             Ok(None) => {
                 self.miss();
-                Err(self.close(alloc, LinkFault::Missing))
+                Err(self.close(alloc, target, LinkFault::Missing))
             }
-            Err(FolderFault::Failed) => Err(self.close(alloc, LinkFault::Down)),
-            Err(FolderFault::Memory) => Err(LinkFault::Memory),
+            Err(FolderFault::Failed) => Err(self.close(alloc, target, LinkFault::Down)),
+            Err(FolderFault::Memory) => {
+                self.history.ask(target, Err(LinkFault::Memory));
+                Err(LinkFault::Memory)
+            }
         }
     }
 
@@ -140,13 +159,19 @@ impl<F: Folder + Drop> Link for FolderLink<F> {
             (folder_state F.tells (F.held self.old.folder) (F.count self.old.folder) self.old)
             (folder_state F.tells (F.held self.new.folder) (F.count self.new.folder) self.new)
             buf.old buf.new result }
+        ensures noted { NotesPiece
+            (folder_state F.tells (F.held self.old.folder) (F.count self.old.folder) self.old)
+            (folder_state F.tells (F.held self.new.folder) (F.count self.new.folder) self.new)
+            buf.new result }
 
         // It never fails.
         ensures gives { IsOk result }
         ensures unread { folder_unread self.new ≡ folder_unread self.old }
         ensures folder { self.new.folder ≡ self.old.folder }
     {
-        Ok(copy_from(self.body.as_slice(), &mut self.at, buf))
+        let n = copy_from(self.body.as_slice(), &mut self.at, buf);
+        self.history.piece(buf, Ok(n));
+        Ok(n)
     }
 
     fn faults(&self) -> u64 {

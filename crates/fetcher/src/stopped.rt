@@ -49,10 +49,10 @@ pub(crate) fn add_cause(causes: &mut Vec<Cause>, stop: Stopped) -> Result<(), Fe
     ensures ends { IfErr result (λ fault. fault ≡ end_of stop) }
 {
     match stop {
-        Stopped::By(cause) => match causes.push(cause) {
-            Ok(()) => Ok(()),
-            Err(_) => Err(FetchFault::Memory),
-        },
+        Stopped::By(cause) => {
+            causes.push(cause)?;
+            Ok(())
+        }
         Stopped::Basket => Err(FetchFault::BasketFault),
         Stopped::Memory => Err(FetchFault::Memory),
     }
@@ -62,11 +62,11 @@ pub(crate) fn add_cause(causes: &mut Vec<Cause>, stop: Stopped) -> Result<(), Fe
 pub(crate) fn all_links(alloc: Global, target: &Target, causes: Vec<Cause>) -> FetchFault
     ensures { TellsCauses target.now causes.items result }
 {
-    let Ok(target) = target.copy(alloc) else {
-        return FetchFault::Memory;
-    };
-    FetchFault::AllLinks {
-        target,
-        causes: List::from_vec(causes),
+    match target.copy(alloc) {
+        Ok(target) => FetchFault::AllLinks {
+            target,
+            causes: List::from_vec(causes),
+        },
+        Err(fault) => FetchFault::from(fault),
     }
 }

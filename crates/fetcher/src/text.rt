@@ -40,9 +40,7 @@ fn read_rest<L: Links>(
         if n == 0 {
             return Ok(bytes);
         }
-        let Ok(()) = bytes.extend_from_slice(&piece[..n]) else {
-            return Err(LinkFault::Memory);
-        };
+        bytes.extend_from_slice(&piece[..n])?;
     }
     Ok(bytes)
 }
@@ -90,9 +88,7 @@ pub fn fetch_text<L: Links>(
         (IsTextFault limit target.now (L.links links.old) (L.links links.new)) }
     ensures kept { Kept (L.links links.old) (L.links links.new) }
 {
-    let Ok(()) = links.want(alloc, target) else {
-        return Err(FetchFault::Memory);
-    };
+    links.want(alloc, target)?;
     let mut causes = Vec::new(alloc);
     for place in 0..links.sources() {
         let stop = match text_of(alloc, links, place, target, limit) {

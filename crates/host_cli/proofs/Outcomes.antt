@@ -8,8 +8,8 @@ use Rattle.folders.specs.declared.folder.Held.{Held}
 use Rattle.http_plain.specs.declared.demand.Demand.TheVariants.{File}
 use Rattle.plain_host.specs.declared.fault.ServeFault.{ServeFault}
 use Rattle.plain_host.specs.declared.fault.ServeFault.TheVariants.{ReadFault, WriteFault, FolderFault}
-use Rattle.plain_host.specs.Serving.{AsksFile, Serving, SendsNothing, ServesLast, ServesPart}
-use Rattle.host_cli.specs.Hosting.{AcceptsAsking, HostsOne, IsPart, IsServed}
+use Rattle.plain_host.specs.Connection.{AsksFile, Serving, SendsNothing, ServesLast, ServesPart}
+use Rattle.host_cli.specs.Run.{AcceptsAsking, HostsOne, HasPart, HasAnswer}
 
 -- a connection of which so much is left, and on which this was sent
 abbrev connection_of : List ℕ → List ℕ → List ℕ → Accepted
@@ -51,8 +51,8 @@ module _ (files : List Held) (old mid new : List Accepted) (door_old door_new fo
   hosts_served code s =
       let goes = goes_on old mid new s.front s.bytes a s.sent in
       let connection : Accepted = connection_of s.sent.last.left s.sent.left s.bytes in
-      let served : IsServed files connection = record { front = s.front; heard = goes.split; enough = s.enough; code = code; serves = s.serves } in
-      let part : IsPart files connection = record {
+      let served : HasAnswer files connection = record { front = s.front; heard = goes.split; enough = s.enough; code = code; serves = s.serves } in
+      let part : HasPart files connection = record {
         front = s.front;
         heard = goes.split;
         enough = s.enough;
@@ -74,7 +74,7 @@ module _ (files : List Held) (old mid new : List Accepted) (door_old door_new fo
   hosts_part rose s =
       let goes = goes_on old mid new s.front s.done a s.sent in
       let connection : Accepted = connection_of s.sent.last.left s.sent.left s.done in
-      let part : IsPart files connection = record {
+      let part : HasPart files connection = record {
         front = s.front;
         heard = goes.split;
         enough = s.enough;

@@ -1,12 +1,12 @@
 -- What the words of the command line ask for.
 use Rattle.std.specs.Prelude.{ℕ, List, [], ◌∷◌, ◌&&◌, nat_le, if◌then◌else◌, Option, Some, None}
 use Rattle.small_types.specs.Decimal.{at_most, decimal_of}
-use Rattle.host_cli.specs.declared.words.TheConstants.{CONNECTION_LIMIT}
+use Rattle.host_cli.specs.declared.words.TheConstants.{CONNECTION_LIMIT, PORT_LEAST, PORT_LIMIT}
 
--- a port is 1 to 65,535
+-- a port that a host may have
 abbrev pub port_in : Option ℕ → Option ℕ
 port_in None = None
-port_in (Some port) = if nat_le 1 port && nat_le port 65535 then Some port else None
+port_in (Some port) = if nat_le PORT_LEAST port && nat_le port PORT_LIMIT then Some port else None
 
 -- the port that a word gives
 abbrev pub port_of : List ℕ → Option ℕ

@@ -1,9 +1,10 @@
 // The run of a host.
 ghost use Rattle.std.specs.Prelude.{◌≡◌, ◌≢◌, ◌≤◌, ◌<◌, ◌+◌, ◌⊎◌, ◌↔◌, ℕ, length, Some, None, IfSome};
-ghost use Rattle.host_cli.specs.Hosting.{CountsRun, HostsBut, HostsButLast, IsBelowEnd, rises};
+ghost use Rattle.host_cli.specs.Run.{CountsRun, HostsBut, HostsButLast, IsBelowEnd, rises};
 ghost use Rattle.host_cli.specs.Words.{count_of};
 
-use crate::hosting::{RunFault, host_many};
+use crate::run::{RunFault, host_many};
+use crate::status::{STATUS_DONE, STATUS_MEMORY, STATUS_MISSED, STATUS_WORDS};
 use crate::words::read_words;
 use connections::Door;
 use folders::Folder;
@@ -32,43 +33,45 @@ pub fn host_run<F: Folder, G: Door>(
     folder: &mut F,
     door: &mut G,
 ) -> u8
-    ensures words { result ≡ 1 ↔ count_of words.now ≡ None }
-    ensures statuses { (result ≡ 0) ⊎ ((result ≡ 1) ⊎ ((result ≡ 2) ⊎ (result ≡ 6))) }
+    ensures words { result ≡ STATUS_WORDS ↔ count_of words.now ≡ None }
+    ensures statuses { (result ≡ STATUS_DONE) ⊎ ((result ≡ STATUS_WORDS)
+        ⊎ ((result ≡ STATUS_MISSED) ⊎ (result ≡ STATUS_MEMORY))) }
 
     // How many connections were accepted.
-    ensures done { G.tells → result ≡ 0 → IfSome (count_of words.now) (λ n.
+    ensures done { G.tells → result ≡ STATUS_DONE → IfSome (count_of words.now) (λ n.
         length (G.accepted door.new) ≡ length (G.accepted door.old) + n) }
-    ensures fewer { G.tells → result ≡ 2 → IfSome (count_of words.now) (λ n.
+    ensures fewer { G.tells → result ≡ STATUS_MISSED → IfSome (count_of words.now) (λ n.
         length (G.accepted door.new) < length (G.accepted door.old) + n) }
     ensures most { G.tells → IfSome (count_of words.now) (λ n.
         length (G.accepted door.new) ≤ length (G.accepted door.old) + n) }
 
     // How many of them were not served.
     ensures served { G.tells → F.tells
-        → IsBelowEnd (G.count door.new) → IsBelowEnd (F.count folder.new) → result ≢ 6
+        → IsBelowEnd (G.count door.new) → IsBelowEnd (F.count folder.new) → result ≢ STATUS_MEMORY
         → HostsBut (F.held folder.old) (G.accepted door.old) (G.accepted door.new)
         (rises (G.count door.old) (G.count door.new) (F.count folder.old) (F.count folder.new)) }
     ensures memory { G.tells → F.tells
-        → IsBelowEnd (G.count door.new) → IsBelowEnd (F.count folder.new) → result ≡ 6
+        → IsBelowEnd (G.count door.new) → IsBelowEnd (F.count folder.new) → result ≡ STATUS_MEMORY
         → HostsButLast (F.held folder.old) (G.accepted door.old) (G.accepted door.new)
         (rises (G.count door.old) (G.count door.new) (F.count folder.old) (F.count folder.new)) }
 
     // Where nothing is done.
-    ensures other_words { result ≡ 1 → (door.new ≡ door.old) × (folder.new ≡ folder.old) }
+    ensures other_words { result ≡ STATUS_WORDS
+        → (door.new ≡ door.old) × (folder.new ≡ folder.old) }
     ensures no_connections { count_of words.now ≡ Some 0
-        → (result ≡ 0) × (door.new ≡ door.old) × (folder.new ≡ folder.old) }
+        → (result ≡ STATUS_DONE) × (door.new ≡ door.old) × (folder.new ≡ folder.old) }
 
     // The counts, and that the folder is only read.
-    ensures counts { CountsRun (result ≡ 2) (G.misses door.old) (G.misses door.new)
+    ensures counts { CountsRun (result ≡ STATUS_MISSED) (G.misses door.old) (G.misses door.new)
         (G.count door.old) (G.count door.new) (F.count folder.old) (F.count folder.new) }
     ensures held { F.tells → F.held folder.new ≡ F.held folder.old }
 {
     let Some(count) = read_words(words) else {
-        return 1;
+        return STATUS_WORDS;
     };
     match host_many(alloc, count, folder, door) {
-        Ok(()) => 0,
-        Err(RunFault::Missed) => 2,
-        Err(RunFault::Memory) => 6,
+        Ok(()) => STATUS_DONE,
+        Err(RunFault::Missed) => STATUS_MISSED,
+        Err(RunFault::Memory) => STATUS_MEMORY,
     }
 }

@@ -9,12 +9,18 @@ use small_types::{Word, read_decimal};
 /// The most connections of a run.
 pub const CONNECTION_LIMIT: u64 = 1_000_000;
 
+/// The least port of a host.
+pub const PORT_LEAST: u64 = 1;
+
+/// The greatest port of a host.
+pub const PORT_LIMIT: u64 = 65_535;
+
 /// The port that a word gives: 1 to 65,535, in 1 to 19 decimal digits. `None` comes exactly at any other word.
 pub fn read_port(word: &[u8]) -> Option<u16>
     ensures { result ≡ port_of word.now }
 {
     let port = read_decimal(word)?;
-    if port < 1 || port > 65_535 {
+    if port < PORT_LEAST || port > PORT_LIMIT {
         return None;
     }
     Some(port as u16)

@@ -8,7 +8,7 @@ use Rattle.folders.specs.declared.folder.Held.{Held}
 use Rattle.http_plain.specs.declared.fault.ExchangeFault.{ExchangeFault}
 use Rattle.http_plain.specs.Exchange.{Gives}
 use Rattle.http_plain.specs.Head.{behind_head}
-use Rattle.http_plain.specs.Reading.{Fetches, IsPlain, ReadsAs}
+use Rattle.http_plain.specs.HostsAreFolders.{Fetches, IsPlain, ReadsAs}
 use Rattle.http_plain.specs.Served.{Serves}
 use Rattle.http_plain.specs.Sites.{file_named}
 use Rattle.http_plain.proofs.Determined.{one_outcome}

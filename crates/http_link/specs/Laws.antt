@@ -5,7 +5,7 @@ use Rattle.connections.specs.Wire.{Made}
 use Rattle.folders.specs.declared.folder.Held.{Held}
 use Rattle.http_plain.specs.declared.fault.ExchangeFault.{ExchangeFault}
 use Rattle.http_plain.specs.Exchange.{Gives}
-use Rattle.http_plain.specs.Reading.{IsPlain}
+use Rattle.http_plain.specs.HostsAreFolders.{IsPlain}
 use Rattle.http_plain.specs.Served.{Serves}
 use Rattle.http_plain.specs.Sites.{served}
 use Rattle.links.specs.declared.link.LinkFault.{LinkFault}

@@ -1,7 +1,9 @@
 -- What a link over HTTP shows.
-use Rattle.std.specs.Prelude.{ℕ, List, [], ◌++◌, take, drop, Option, Some, None}
+use Rattle.std.specs.Prelude.{◌≡◌, ℕ, List, [], ◌++◌, take, drop, Option, Some, None}
 use Rattle.outside.specs.Streams.{total}
 use Rattle.connections.specs.Wire.{Made}
+use Rattle.links.specs.declared.history.LinkCall.{LinkCall}
+use Rattle.links.specs.History.{calls_of}
 use Rattle.links.specs.Link.{LinkState}
 use Rattle.http_link.specs.declared.link.HttpLink.{HttpLink}
 use Rattle.http_link.specs.Counts.{Tally}
@@ -21,6 +23,14 @@ owed link = link.left
 -- how often an answer was of no use
 abbrev pub unread_of : {W : Type 0} → HttpLink W → ℕ
 unread_of link = link.unread
+
+-- what it was asked
+abbrev pub history_of : {W : Type 0} → HttpLink W → List LinkCall
+history_of link = calls_of link.history
+
+-- nothing changed but what is noted of its calls
+abbrev pub OnlyNotes : {W : Type 0} → HttpLink W → HttpLink W → Type 0
+OnlyNotes old new = new ≡ record old { history = new.history }
 
 -- what is to be had next, by the present connection of the wire: the bytes of the body that came
 -- early and were not given yet, and then what the connection has left
@@ -43,4 +53,5 @@ http_state present count link =
       site = λ target. None;
       rest = body_left present link;
       count = total count link.unread;
+      history = history_of link;
     }

@@ -1,6 +1,7 @@
 // A site over HTTP.
-ghost use Rattle.std.specs.Prelude.{◌≡◌, ◌≢◌, ◌<◌, ◌++◌, [], length, take, drop, false, None, Option, Err, IfOk, OnOk, OnErr, IsTrue, if◌then◌else◌};
+ghost use Rattle.std.specs.Prelude.{◌≡◌, ◌≢◌, ◌<◌, ◌++◌, ◌∷◌, [], length, take, drop, false, None, Option, Err, IfOk, OnOk, OnErr, IsTrue, if◌then◌else◌};
 ghost use Rattle.connections.specs.Wire.{Made, all_sent};
+ghost use Rattle.links.specs.declared.history.LinkCall.TheVariants.{Asked};
 ghost use Rattle.links.specs.declared.link.LinkFault.TheVariants.{Memory as no_memory};
 ghost use Rattle.outside.specs.Streams.{Consumes, total};
 ghost use Rattle.http_link.specs.Hearing.{fault_of, is_memory as lacks_memory, is_refusal as refuses};
@@ -9,7 +10,7 @@ use crate::reasons::{is_memory, is_refusal, link_fault};
 use crate::stream::receive_most;
 use connections::Wire;
 use http_plain::{Begun, ExchangeFault, ask_wire};
-use links::{Link, LinkFault};
+use links::{History, Link, LinkFault};
 use small_types::{Bytes, Target};
 use std::alloc::Global;
 
@@ -31,10 +32,11 @@ pub struct HttpLink<W: Wire> {
     at: usize,
     // How many answers were refused, and how many bodies ended early.
     unread: u64,
+    history: History,
 }
 
 impl<W: Wire> HttpLink<W> {
-    ghost use Rattle.http_link.specs.States.{body_left, owed, unread_of, wire_of};
+    ghost use Rattle.http_link.specs.States.{body_left, history_of, owed, unread_of, wire_of};
 
     /// A link over the wire, of which nothing was asked. It takes no memory.
     pub fn new(alloc: Global, wire: W) -> HttpLink<W>
@@ -42,6 +44,7 @@ impl<W: Wire> HttpLink<W> {
         ensures rest { (present : Option Made) → body_left present result ≡ [] }
         ensures owed { owed result ≡ 0 }
         ensures unread { unread_of result ≡ 0 }
+        ensures history { history_of result ≡ [] }
     {
         HttpLink {
             wire,
@@ -49,6 +52,7 @@ impl<W: Wire> HttpLink<W> {
             early: Bytes::from_vec(Vec::new(alloc)),
             at: 0,
             unread: 0,
+            history: History::new(),
         }
     }
 
@@ -59,19 +63,22 @@ impl<W: Wire> HttpLink<W> {
         &self.wire
     }
 
-    // Makes the body of an answer the rest, and answers its length.
-    fn open(&mut self, begun: Begun) -> u64
+    // Makes the body of an answer the rest, and answers its length to the target.
+    fn open(&mut self, target: &Target, begun: Begun) -> u64
         ensures length { result ≡ begun.length }
         ensures left { self.new.left ≡ begun.length }
         ensures early { self.new.early ≡ begun.early }
         ensures at { self.new.at ≡ 0 }
         ensures wire { self.new.wire ≡ self.old.wire }
         ensures unread { self.new.unread ≡ self.old.unread }
+        ensures history { history_of self.new
+            ≡ history_of self.old ++ Asked target.now (Ok result) ∷ [] }
     {
         let Begun { length, early } = begun;
         self.left = length;
         self.early = early;
         self.at = 0;
+        self.history.ask(target, Ok(length));
         length
     }
 
@@ -81,6 +88,7 @@ impl<W: Wire> HttpLink<W> {
         ensures wire { self.new.wire ≡ self.old.wire }
         ensures unread { self.new.unread
             ≡ (if refused then total self.old.unread 1 else self.old.unread) }
+        ensures history { self.new.history ≡ self.old.history }
     {
         self.left = 0;
         if !refused {
@@ -97,6 +105,7 @@ impl<W: Wire> HttpLink<W> {
         ensures wire { self.new.wire ≡ self.old.wire }
         ensures unread { lacks_memory fault ≡ false → self.new.unread
             ≡ (if refuses fault then total self.old.unread 1 else self.old.unread) }
+        ensures history { self.new.history ≡ self.old.history }
     {
         if is_memory(fault) {
             return link_fault(fault);
@@ -108,23 +117,29 @@ impl<W: Wire> HttpLink<W> {
 
 impl<W: Wire + Drop> Link for HttpLink<W> {
     ghost use Rattle.std.specs.Prelude.{ℕ, List};
+    ghost use Rattle.links.specs.Asked.{NotesAsk, NotesPiece};
+    ghost use Rattle.links.specs.History.{calls_of};
     ghost use Rattle.links.specs.Link.{LinkState, Asks, Takes};
     ghost use Rattle.http_link.specs.Counts.{CountsAsk, Unraised};
     ghost use Rattle.http_link.specs.Hearing.{Hears, Owes};
     ghost use Rattle.http_link.specs.Pieces.{GivesPiece, ReceivesAtMost, Stops};
-    ghost use Rattle.http_link.specs.States.{body_left, coming, http_state, left_on, owed, tally};
+    ghost use Rattle.http_link.specs.States.{OnlyNotes, body_left, coming, http_state, left_on, owed, tally};
 
     ghost state = { λ l. record {
       tells = ⊥;
       site = λ _. None;
       rest = take l.left (drop l.at l.early ++ left_on (W.present l.wire));
       count = total (W.count l.wire) l.unread;
+      history = calls_of l.history;
     } };
 
     /// Asks for the target by one request on a new connection. It takes all memory before: after `Memory` nothing
-    /// changed. Of the body no more is received than came with the head of the answer.
+    /// changed but what is noted. Of the body no more is received than came with the head of the answer.
     fn ask(&mut self, alloc: Global, target: &Target) -> Result<u64, LinkFault>
         ensures asks { Asks target.now
+            (http_state (W.present self.old.wire) (W.count self.old.wire) self.old)
+            (http_state (W.present self.new.wire) (W.count self.new.wire) self.new) result }
+        ensures noted { NotesAsk target.now
             (http_state (W.present self.old.wire) (W.count self.old.wire) self.old)
             (http_state (W.present self.new.wire) (W.count self.new.wire) self.new) result }
 
@@ -141,11 +156,15 @@ impl<W: Wire + Drop> Link for HttpLink<W> {
             (tally (W.count self.old.wire) self.old) (tally (W.count self.new.wire) self.new)
             result }
         ensures owes { Owes (owed self.new) result }
-        ensures memory { result ≡ Err no_memory → self.new ≡ self.old }
+        ensures memory { result ≡ Err no_memory → OnlyNotes self.old self.new }
     {
         match ask_wire(alloc, &mut self.wire, target) {
-            Ok(begun) => Ok(self.open(begun)),
-            Err(fault) => Err(self.stop(fault)),
+            Ok(begun) => Ok(self.open(target, begun)),
+            Err(fault) => {
+                let fault = self.stop(fault);
+                self.history.ask(target, Err(fault));
+                Err(fault)
+            }
         }
     }
 
@@ -157,6 +176,10 @@ impl<W: Wire + Drop> Link for HttpLink<W> {
             (http_state (W.present self.old.wire) (W.count self.old.wire) self.old)
             (http_state (W.present self.new.wire) (W.count self.new.wire) self.new)
             buf.old buf.new result }
+        ensures noted { NotesPiece
+            (http_state (W.present self.old.wire) (W.count self.old.wire) self.old)
+            (http_state (W.present self.new.wire) (W.count self.new.wire) self.new)
+            buf.new result }
 
         // Over a wire that tells, the body comes as it stands in the answer, no byte besides is received, and nothing
         // is sent.
@@ -174,7 +197,7 @@ impl<W: Wire + Drop> Link for HttpLink<W> {
         // left alone. `Down` comes where the wire failed, or where the body ended early, which is counted once.
         ensures gives { IfOk result (λ n. GivesPiece n (owed self.old) (owed self.new)) }
         ensures done { owed self.old ≡ 0 → result ≡ Ok 0 }
-        ensures still { owed self.old ≡ 0 → self.new ≡ self.old }
+        ensures still { owed self.old ≡ 0 → OnlyNotes self.old self.new }
         ensures quiet { OnOk result (Unraised
             (tally (W.count self.old.wire) self.old) (tally (W.count self.new.wire) self.new)) }
         ensures stops { OnErr result (Stops W.tells
@@ -182,6 +205,7 @@ impl<W: Wire + Drop> Link for HttpLink<W> {
             (tally (W.count self.old.wire) self.old) (tally (W.count self.new.wire) self.new)) }
     {
         if self.left == 0 {
+            self.history.piece(buf, Ok(0));
             return Ok(0);
         }
         let received = receive_most(
@@ -193,13 +217,16 @@ impl<W: Wire + Drop> Link for HttpLink<W> {
         );
         let Ok(n) = received else {
             self.close(false);
+            self.history.piece(buf, Err(LinkFault::Down));
             return Err(LinkFault::Down);
         };
         if n == 0 {
             self.close(true);
+            self.history.piece(buf, Err(LinkFault::Down));
             return Err(LinkFault::Down);
         }
         self.left -= n as u64;
+        self.history.piece(buf, Ok(n));
         Ok(n)
     }
 

@@ -5,7 +5,8 @@ use Rattle.httparse.proofs.GrammarLemmas.{request_unique, response_unique}
 use Rattle.folders.specs.declared.folder.Held.{Held}
 use Rattle.http_plain.specs.declared.demand.Demand.{Demand}
 use Rattle.http_plain.specs.declared.fault.ExchangeFault.{ExchangeFault}
-use Rattle.http_plain.specs.Asked.{Asked, AsksBy, IsRequest, asked_of}
+use Rattle.http_plain.specs.declared.request.Asked.{Asked}
+use Rattle.http_plain.specs.Asked.{AsksBy, IsRequest, asked_of}
 use Rattle.http_plain.specs.Exchange.{Gives, GivesBy, IsHeadBy, IsResponse, length_by}
 use Rattle.http_plain.specs.Head.{Front, Whole, TooLong, Short, front_of}
 use Rattle.http_plain.specs.Served.{Asks, Demands, demand_by, Answer, answer_of, Serves}

@@ -19,13 +19,14 @@ use Rattle.folders.specs.Files.{file_in}
 use Rattle.http_plain.specs.declared.demand.Demand.{Demand}
 use Rattle.http_plain.specs.declared.demand.Demand.TheVariants.{Refused}
 use Rattle.http_plain.specs.declared.refusals.Refusal.TheVariants.{BadRequest, FieldsTooLarge}
-use Rattle.http_plain.specs.Asked.{Asked, IsRequest, asked_of}
+use Rattle.http_plain.specs.declared.request.Asked.{Asked}
+use Rattle.http_plain.specs.Asked.{IsRequest, asked_of}
 use Rattle.http_plain.specs.Exchange.{host_value, request_text}
 use Rattle.http_plain.specs.Fields.{pairs_of, values_of}
 use Rattle.http_plain.specs.Head.{head_end, Whole, TooLong, Short, front_at, front_of}
 use Rattle.http_plain.specs.declared.head.TheConstants.{HEAD_LIMIT}
 use Rattle.http_plain.specs.Path.{name_in_path}
-use Rattle.http_plain.specs.Reading.{is_visible, IsPlain, ReadsAs, Fetches}
+use Rattle.http_plain.specs.HostsAreFolders.{is_visible, IsPlain, ReadsAs, Fetches}
 use Rattle.http_plain.specs.Served.{Asks, Demands, Answer, answer_of, demand_of, file_answer, file_demand, found_answer, head_text, Serves}
 use Rattle.http_plain.proofs.Answered.{and_true, are_values, decimal_digits, digits_clean, digits_values, field, file_answer_gives, is_field}
 use Rattle.http_plain.proofs.Determined.{one_demand}

@@ -2,15 +2,10 @@
 use Rattle.std.specs.Prelude.{◌≡◌, ◌≤◌, ℕ, List, [], length, codes, Option, Some, None}
 use Rattle.httparse.specs.Grammar.{RequestHead, ReadsRequest}
 use Rattle.http_plain.specs.declared.head.TheConstants.{FIELD_LIMIT}
+use Rattle.http_plain.specs.declared.request.Asked.{Asked}
 use Rattle.http_plain.specs.Fields.{pairs_of, values_of}
 
 -- the method, the target, the minor version and how many `Host` fields there are
-pub record Asked : Type 0 where
-  pub method : List ℕ
-  pub target : List ℕ
-  pub version : ℕ
-  pub hosts : ℕ
-
 abbrev pub asked_parts : List ℕ → List ℕ → ℕ → ℕ → Asked
 asked_parts method target version hosts =
     record { method = method; target = target; version = version; hosts = hosts }

@@ -5,11 +5,13 @@ use Rattle.std.specs.Str.{bytes_eq}
 use Rattle.httparse.specs.Grammar.{ResponseHead, ReadsResponse, status_code}
 use Rattle.small_types.specs.Decimal.{decimal_of}
 use Rattle.small_types.specs.declared.target.Target.{Target}
+use Rattle.http_plain.specs.declared.exchange.TheConstants.{HTTP_PORT}
 use Rattle.http_plain.specs.declared.fault.ExchangeFault.{ExchangeFault}
 use Rattle.http_plain.specs.declared.fault.ExchangeFault.TheVariants.{Cut, HeadTooLong, Malformed, Missing, Status, Encoded, NoLength}
 use Rattle.http_plain.specs.declared.head.TheConstants.{FIELD_LIMIT}
 use Rattle.http_plain.specs.declared.lengths.Named.{Named}
 use Rattle.http_plain.specs.declared.lengths.Named.TheVariants.{Nothing, Unclear, Length}
+use Rattle.http_plain.specs.declared.status.TheConstants.{STATUS_OK, STATUS_NOT_FOUND}
 use Rattle.http_plain.specs.Fields.{pairs_of, values_of}
 use Rattle.http_plain.specs.Head.{Front, Whole, TooLong, Short, front_of}
 use Rattle.http_plain.specs.Served.{head_text}
@@ -19,7 +21,7 @@ use Rattle.http_plain.specs.Served.{head_text}
 -- the host, with the port where it is not 80
 abbrev pub host_value : Target → List ℕ
 host_value target =
-    target.host ++ (if target.port == 80 then [] else codes ":" ++ decimal target.port)
+    target.host ++ (if target.port == HTTP_PORT then [] else codes ":" ++ decimal target.port)
 
 -- the whole request for a target
 unfoldable pub request_text : Target → List ℕ
@@ -69,11 +71,13 @@ is_encoded pairs =
 abbrev pub given : ℕ → Bool → Named → Result ℕ ExchangeFault
 given code encoded Unclear = Err Malformed
 given code encoded Nothing =
-    if code == 404 then Err Missing else if not (code == 200) then Err (Status code) else
-    if encoded then Err Encoded else Err NoLength
+    if code == STATUS_NOT_FOUND then Err Missing
+    else if not (code == STATUS_OK) then Err (Status code)
+    else if encoded then Err Encoded else Err NoLength
 given code encoded (Length n) =
-    if code == 404 then Err Missing else if not (code == 200) then Err (Status code) else
-    if encoded then Err Encoded else Ok n
+    if code == STATUS_NOT_FOUND then Err Missing
+    else if not (code == STATUS_OK) then Err (Status code)
+    else if encoded then Err Encoded else Ok n
 
 -- the length of the body behind a head, or why there is none
 unfoldable pub length_in : ResponseHead → Result ℕ ExchangeFault

@@ -4,9 +4,9 @@ pub mod Exchange
 pub mod Fields
 pub mod Flat
 pub mod Head
+pub mod HostsAreFolders
 pub mod Laws
 pub mod Path
-pub mod Reading
 pub mod Served
 pub mod Sites
 pub mod Spans

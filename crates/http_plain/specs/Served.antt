@@ -9,7 +9,9 @@ use Rattle.http_plain.specs.declared.demand.Demand.{Demand}
 use Rattle.http_plain.specs.declared.demand.Demand.TheVariants.{Silent, Refused, File}
 use Rattle.http_plain.specs.declared.refusals.Refusal.{Refusal}
 use Rattle.http_plain.specs.declared.refusals.Refusal.TheVariants.{BadRequest, NotFound, MethodNotAllowed, FieldsTooLarge}
-use Rattle.http_plain.specs.Asked.{Asked, AsksBy}
+use Rattle.http_plain.specs.declared.request.Asked.{Asked}
+use Rattle.http_plain.specs.declared.status.TheConstants.{STATUS_OK, STATUS_BAD_REQUEST, STATUS_NOT_FOUND, STATUS_METHOD_NOT_ALLOWED, STATUS_FIELDS_TOO_LARGE}
+use Rattle.http_plain.specs.Asked.{AsksBy}
 use Rattle.http_plain.specs.Head.{Front, Whole, TooLong, Short, front_of}
 use Rattle.http_plain.specs.Path.{name_in_path}
 
@@ -105,15 +107,15 @@ type_line name = codes "Content-Type: " ++ type_of name
 -- the answer with a file, whose bytes follow where they are wanted
 abbrev pub file_answer : List ℕ → Bool → List ℕ → List ℕ
 file_answer name whole bytes =
-    answer_head 200 (codes "OK") (type_line name ∷ []) (length bytes)
+    answer_head STATUS_OK (codes "OK") (type_line name ∷ []) (length bytes)
     ++ (if whole then bytes else [])
 
 -- the code of a refusal, its reason, and the lines of its own
 abbrev pub refusal_code : Refusal → ℕ
-refusal_code BadRequest = 400
-refusal_code NotFound = 404
-refusal_code MethodNotAllowed = 405
-refusal_code FieldsTooLarge = 431
+refusal_code BadRequest = STATUS_BAD_REQUEST
+refusal_code NotFound = STATUS_NOT_FOUND
+refusal_code MethodNotAllowed = STATUS_METHOD_NOT_ALLOWED
+refusal_code FieldsTooLarge = STATUS_FIELDS_TOO_LARGE
 
 abbrev pub refusal_reason : Refusal → List ℕ
 refusal_reason BadRequest = codes "Bad Request"
@@ -142,7 +144,7 @@ refused_answer why = record { code = Some (refusal_code why); bytes = refusal wh
 abbrev pub found_answer : List ℕ → Bool → Option (List ℕ) → Answer
 found_answer name whole None = refused_answer NotFound
 found_answer name whole (Some bytes) =
-    record { code = Some 200; bytes = file_answer name whole bytes }
+    record { code = Some STATUS_OK; bytes = file_answer name whole bytes }
 
 -- what a host of these files answers
 abbrev pub answer_of : List Held → Demand → Answer

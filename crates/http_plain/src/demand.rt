@@ -5,10 +5,10 @@ ghost use Rattle.http_plain.specs.declared.refusals.Refusal.TheVariants.{BadRequ
 ghost use Rattle.http_plain.specs.Head.{Whole, IsEnough, front_of};
 ghost use Rattle.http_plain.specs.Served.{Asks, AsksForFile, Demands, DemandsFile, IsFile, is_get as get_named, is_served, lacks_host as host_lacks, demand_of as demand_at};
 
+use crate::borrowed_request::{BorrowedRequest, borrow_request};
 use crate::head::{HEAD_LIMIT, end_within};
 use crate::path::name_in_path;
 use crate::refusals::Refusal;
-use crate::request::{Asked, read_request};
 use small_types::Name;
 use std::alloc::{AllocError, Global};
 
@@ -24,7 +24,7 @@ pub enum Demand {
 }
 
 // Whether a request of HTTP/1.1 has other than one `Host`.
-fn lacks_host(asked: &Asked) -> bool
+fn lacks_host(asked: &BorrowedRequest) -> bool
     ensures { result ≡ host_lacks asked.now }
 {
     asked.version == 1 && asked.hosts != 1
@@ -46,7 +46,7 @@ fn is_answered(method: &[u8]) -> bool
 
 /// What a whole head asks for. There may be no memory only for the name of a file that is asked for.
 #[tactic(auto, unfolding(crate::specs::Served::demand_of))]
-pub fn demand_of(alloc: Global, asked: &Asked) -> Result<Demand, AllocError>
+pub fn demand_of(alloc: Global, asked: &BorrowedRequest) -> Result<Demand, AllocError>
     ensures demand { IfOk result (λ demand. demand ≡ demand_at asked.now) }
     ensures memory { OnErr result (IsFile (demand_at asked.now)) }
 {
@@ -76,7 +76,7 @@ fn demand_of_head(alloc: Global, head: &[u8]) -> Result<Demand, AllocError>
     ensures demand { IfOk result (Demands (Whole head.now)) }
     ensures memory { OnErr result (DemandsFile (Whole head.now)) }
 {
-    match read_request(head) {
+    match borrow_request(head) {
         Some(asked) => demand_of(alloc, &asked),
         None => Ok(Demand::Refused {
             why: Refusal::BadRequest,

@@ -21,13 +21,16 @@ use std::alloc::{AllocError, Global};
 /// The most bytes of an answer that are received at once.
 pub const ANSWER_PIECE: usize = 4_096;
 
+/// The port that a request's `Host` does not name.
+pub const HTTP_PORT: u16 = 80;
+
 // The host, with the port where it is not 80.
 fn host_value(alloc: Global, target: &Target) -> Result<String, AllocError>
     ensures { IfOk result (λ text. string_bytes text ≡ host_given target.now) }
 {
     let host = target.host.as_str();
     let port = target.port;
-    if port == 80 {
+    if port == HTTP_PORT {
         return String::from_str(alloc, host);
     }
     format!(in alloc; "{host}:{port}")

@@ -5,7 +5,7 @@ ghost use Rattle.http_plain.specs.Head.{head_end, head_mark};
 ghost use Rattle.http_plain.specs.declared.head.TheConstants.{HEAD_LIMIT};
 
 /// The most bytes that a head has, up to and including its end.
-pub const HEAD_LIMIT: usize = 65536;
+pub const HEAD_LIMIT: usize = 65_536;
 
 /// The most fields that a head has.
 pub const FIELD_LIMIT: usize = 64;

@@ -2,6 +2,10 @@
 ghost use Rattle.std.specs.Prelude.{◌≡◌};
 ghost use Rattle.http_plain.specs.Served.{refusal, refusal_code};
 
+use crate::status::{
+    STATUS_BAD_REQUEST, STATUS_FIELDS_TOO_LARGE, STATUS_METHOD_NOT_ALLOWED, STATUS_NOT_FOUND,
+};
+
 /// Why a request is answered without a file.
 #[derive(Clone, Copy, Debug, PartialEq, Eq)]
 pub enum Refusal {
@@ -21,10 +25,10 @@ impl Refusal {
         ensures { result ≡ refusal_code self }
     {
         match self {
-            Refusal::BadRequest => 400,
-            Refusal::NotFound => 404,
-            Refusal::MethodNotAllowed => 405,
-            Refusal::FieldsTooLarge => 431,
+            Refusal::BadRequest => STATUS_BAD_REQUEST,
+            Refusal::NotFound => STATUS_NOT_FOUND,
+            Refusal::MethodNotAllowed => STATUS_METHOD_NOT_ALLOWED,
+            Refusal::FieldsTooLarge => STATUS_FIELDS_TOO_LARGE,
         }
     }
 

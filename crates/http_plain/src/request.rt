@@ -1,80 +1,82 @@
 // The head of a request.
-ghost use Rattle.std.specs.Prelude.{◌≡◌, ◌≤◌, ◌^◌, Some, length, codes, All, MatchOption};
-ghost use Rattle.httparse.specs.Spans.{IsHeaderWithin};
-ghost use Rattle.http_plain.specs.Asked.{AsksBy, IsNoRequest};
-ghost use Rattle.http_plain.specs.declared.head.TheConstants.{FIELD_LIMIT};
-ghost use Rattle.http_plain.specs.Fields.{values_at};
-ghost use Rattle.http_plain.specs.Spans.{FindsRequest};
+ghost use Rattle.std.specs.Prelude.{◌≡◌, ◌↔◌, Some, Err, IfOk, IsUtf8};
+ghost use Rattle.httparse.specs.Grammar.{RequestHead};
+ghost use Rattle.http_plain.specs.Asked.{AsksBy, IsNoRequest, IsRequest};
+ghost use Rattle.http_plain.specs.declared.request.RequestFault.TheVariants.{Malformed, Memory as no_memory};
 
-use crate::fields::count_named;
-use crate::head::FIELD_LIMIT;
-use httparse::Status;
-use httparse::spans::{EMPTY_HEADER_SPAN, HeaderSpan, RequestSpans, parse_request};
-use std::marker::Model;
+use crate::borrowed_request::borrow_request;
+use small_types::Text;
+use std::alloc::{AllocError, Global};
+use std::error::Error;
+use std::fmt;
 
 /// What the head of a request says.
 #[derive(Drop, Debug)]
-pub struct Asked<'b> {
-    pub method: &'b [u8],
-    pub target: &'b [u8],
+pub struct Asked {
+    pub method: Text,
+    pub target: Text,
     /// The minor version: 1 for HTTP/1.1.
     pub version: u8,
     /// How many `Host` fields there are.
     pub hosts: u32,
 }
 
-impl<'b> Model for Asked<'b> {
-    ghost use Rattle.http_plain.specs.Asked.{Asked, asked_parts};
-
-    ghost Value = { Asked };
-
-    ghost view = { λ a. asked_parts a.method.now a.target.now a.version a.hosts };
+/// Why a request was not read.
+#[derive(Clone, Copy, Debug, PartialEq, Eq)]
+pub enum RequestFault {
+    /// The bytes are no request head of at most 64 fields.
+    Malformed,
+    /// There was no memory for the method or the target.
+    Memory,
 }
 
-// Where the parts of a request head are, if the bytes are one and nothing else.
-fn request_spans(bytes: &[u8], headers: &mut [HeaderSpan]) -> Option<RequestSpans>
-    requires { length headers.old ≡ FIELD_LIMIT }
-    ensures { MatchOption result (IsNoRequest bytes.now) (FindsRequest bytes.now headers.new) }
-{
-    let Ok(Status::Complete(spans)) = parse_request(bytes, headers) else {
-        return None;
-    };
-    if spans.len != bytes.len() {
-        return None;
-    }
-    Some(spans)
-}
-
-// How many of the fields are `Host`.
-fn count_hosts(bytes: &[u8], headers: &[HeaderSpan]) -> u32
-    requires within { All (IsHeaderWithin (length bytes.now)) headers.now }
-    requires few { length headers.now ≤ FIELD_LIMIT }
-    ensures { result ≡ length (values_at bytes.now headers.now (codes "host")) }
-{
-    count_named(bytes, headers, b"host") as u32
-}
-
-// What the head says whose parts the spans cover.
-fn asked_at<'b>(bytes: &'b [u8], headers: &[HeaderSpan], spans: RequestSpans) -> Asked<'b>
-    requires { FindsRequest bytes.now headers.now spans }
-    ensures { AsksBy bytes.now (Some result) }
-{
-    Asked {
-        method: spans.method.of(bytes),
-        target: spans.path.of(bytes),
-        version: spans.version,
-        hosts: count_hosts(bytes, &headers[..spans.headers]),
+impl fmt::Display for RequestFault {
+    fn fmt<W: fmt::Write>(&self, f: &mut fmt::Formatter<W>) -> fmt::Result {
+        match self {
+            RequestFault::Malformed => write!(f, "the request is malformed"),
+            RequestFault::Memory => write!(f, "out of memory"),
+        }
     }
 }
 
-/// Reads one request head of at most 64 fields, which the bytes are as a whole. `None` comes exactly where they are
-/// none. It takes no memory.
-pub fn read_request(bytes: &[u8]) -> Option<Asked<'_>>
-    ensures { AsksBy bytes.now result }
+impl Error for RequestFault {}
+
+impl From<AllocError> for RequestFault {
+    ghost use Rattle.std.specs.Prelude.{◌≡◌};
+    ghost use Rattle.http_plain.specs.declared.request.RequestFault.TheVariants.{Memory};
+
+    ghost from_gives = { λ _ e. e ≡ Memory };
+
+    fn from(_: AllocError) -> RequestFault {
+        RequestFault::Memory
+    }
+}
+
+// A copy of bytes that are UTF-8, as a text.
+fn copy_text(alloc: Global, bytes: &[u8]) -> Result<Text, AllocError>
+    requires { IsUtf8 bytes.now }
+    ensures { IfOk result (λ text. text ≡ bytes.now) }
 {
-    let mut headers = [EMPTY_HEADER_SPAN; FIELD_LIMIT];
-    let Some(spans) = request_spans(bytes, &mut headers) else {
-        return None;
+    let Ok(text) = str::from_utf8(bytes) else {
+        unreachable!();
     };
-    Some(asked_at(bytes, &headers, spans))
+    Ok(Text::from_string(String::from_str(alloc, text)?))
+}
+
+/// Reads one request head of at most 64 fields, which the bytes are as a whole. `Malformed` comes exactly where they are
+/// none, so there may be no memory only for what a head says.
+pub fn read_request(alloc: Global, bytes: &[u8]) -> Result<Asked, RequestFault>
+    ensures asked { IfOk result (λ asked. AsksBy bytes.now (Some asked)) }
+    ensures malformed { result ≡ Err Malformed ↔ IsNoRequest bytes.now }
+    ensures memory { result ≡ Err no_memory → (h : RequestHead) × IsRequest bytes.now h }
+{
+    let Some(asked) = borrow_request(bytes) else {
+        return Err(RequestFault::Malformed);
+    };
+    Ok(Asked {
+        method: copy_text(alloc, asked.method)?,
+        target: copy_text(alloc, asked.target)?,
+        version: asked.version,
+        hosts: asked.hosts,
+    })
 }

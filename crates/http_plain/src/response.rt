@@ -11,6 +11,7 @@ use crate::fault::ExchangeFault;
 use crate::fields::{all_are, count_named};
 use crate::head::FIELD_LIMIT;
 use crate::lengths::{Named, named_length};
+use crate::status::{STATUS_NOT_FOUND, STATUS_OK};
 use httparse::Status;
 use httparse::spans::{EMPTY_HEADER_SPAN, HeaderSpan, ResponseSpans, parse_response};
 
@@ -46,10 +47,10 @@ fn judge(code: u16, encoded: bool, named: Named) -> Result<u64, ExchangeFault>
     if named == Named::Unclear {
         return Err(ExchangeFault::Malformed);
     }
-    if code == 404 {
+    if code == STATUS_NOT_FOUND {
         return Err(ExchangeFault::Missing);
     }
-    if code != 200 {
+    if code != STATUS_OK {
         return Err(ExchangeFault::Status { code });
     }
     if encoded {

@@ -1,3 +1,3 @@
-pub mod Course
-pub mod Replying
+pub mod LastAnswer
+pub mod Steps
 pub mod Texts

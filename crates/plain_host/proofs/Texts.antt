@@ -7,7 +7,7 @@ use Rattle.std.proofs.lemmas.List.{append-nil}
 use Rattle.httparse.specs.Ascii.{crlf_bytes}
 use Rattle.http_plain.specs.Served.{answer_head, status_line, length_line, type_line, type_of}
 use Rattle.http_plain.proofs.Answered.{decimal_200}
-use Rattle.plain_host.specs.Answering.{ended, closing}
+use Rattle.plain_host.specs.Prepared.{ended, closing}
 
 -- the first line of an answer with a file
 pub ok_line : codes "HTTP/1.1 200 OK\r\n" ≡ ended (status_line 200 (codes "OK"))

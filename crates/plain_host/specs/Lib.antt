@@ -1,2 +1,2 @@
-pub mod Answering
-pub mod Serving
+pub mod Connection
+pub mod Prepared

@@ -5,11 +5,11 @@ ghost use Rattle.folders.specs.declared.folder.Held.{Held};
 ghost use Rattle.folders.specs.Folder.{FailsCounted};
 ghost use Rattle.http_plain.specs.declared.demand.Demand.TheVariants.{File};
 ghost use Rattle.http_plain.specs.Served.{answer_head, found_answer, IsFile, type_of as type_at, type_line};
-ghost use Rattle.plain_host.specs.Answering.{ended, closing, answer_in, Answers, AnswersFront, FrontAsksFile, served_by};
+ghost use Rattle.plain_host.specs.Prepared.{ended, closing, answer_in, Answers, AnswersFront, FrontAsksFile, served_by};
 
 use crate::fault::Served;
 use folders::{Folder, FolderFault};
-use http_plain::{Demand, Refusal, demand_in};
+use http_plain::{Demand, Refusal, STATUS_OK, demand_in};
 use itoa::Buffer;
 use small_types::{Bytes, Name};
 use std::alloc::{AllocError, Global};
@@ -74,7 +74,7 @@ fn end_head(text: &mut Vec<u8>, count: usize) -> Result<(), AllocError>
 // The head before a file of so many bytes.
 fn file_head(alloc: Global, name: &Name, count: usize) -> Result<Vec<u8>, AllocError>
     ensures { IfOk result (λ text. text.items
-        ≡ answer_head 200 (codes "OK") (type_line name.now ∷ []) count) }
+        ≡ answer_head STATUS_OK (codes "OK") (type_line name.now ∷ []) count) }
 {
     let mut text = Vec::from_slice(alloc, b"HTTP/1.1 200 OK\r\n")?;
     push_line(&mut text, b"Content-Type: ", type_of(name))?;
@@ -183,6 +183,6 @@ pub(crate) fn served_of(prepared: &Prepared) -> Served
     match prepared {
         Prepared::Nothing => Served::Silent,
         Prepared::Refused { why } => Served::Answered { code: why.code() },
-        Prepared::Found { .. } => Served::Answered { code: 200 },
+        Prepared::Found { .. } => Served::Answered { code: STATUS_OK },
     }
 }

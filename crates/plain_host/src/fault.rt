@@ -1,6 +1,6 @@
 // What came of a connection.
 ghost use Rattle.std.specs.Prelude.{◌≡◌};
-ghost use Rattle.plain_host.specs.Serving.{fault_by};
+ghost use Rattle.plain_host.specs.Connection.{fault_by};
 
 use folders::FolderFault;
 use std::error::Error;

@@ -2,13 +2,15 @@
 #![tactic(auto)]
 
 mod answer;
+mod connection;
 mod fault;
-mod receiving;
+mod laws;
+mod reply;
+mod request;
 mod room;
-mod sending;
-mod serving;
 
+pub use connection::{serve_connection, serve_in_room};
 pub use fault::{ServeFault, Served};
-pub use receiving::REQUEST_PIECE;
+pub use laws::numbers_are;
+pub use request::REQUEST_PIECE;
 pub use room::Room;
-pub use serving::serve_connection;

@@ -3,17 +3,17 @@ use Rattle.links.specs.Links.{LinksState}
 use Rattle.fetcher.proofs.Ending.{count_stays, file_more, file_refused, file_served}
 use Rattle.fetcher.proofs.file.fetch_file.Goals as goal
 
-pub returns-in-Ok-file_of-clause-file : goal.returns-in-Ok-file_of-clause-file
-returns-in-Ok-file_of-clause-file g c =
+pub returns-in-Ok-clause-file : goal.returns-in-Ok-clause-file
+returns-in-Ok-clause-file g c =
     let a : LinksState = g.L.Links.links c.args.links.now in
     let b : LinksState = g.L.Links.links c.loop-place.links in
     let left : LinksState = g.L.Links.links c.file_of.new.links in
     let count = c.sources-place-end.ensures.count in
-    let less : c.loop-place.place < a.sources = omega (arith, count, c.in-Ok.ensures.remain.sources) in
+    let less : c.loop-place.place < a.sources = omega (arith, count, c.in_ok-want.ensures.remain.sources) in
     file_served c.loop-place.place a b left c.loop-place.causes.items c.args.target.now
-    c.in-Ok-file_of.ensures.moves less c.args.list.now c.args.size
+    c.in-Ok.ensures.moves less c.args.list.now c.args.size
     g.B.Basket.tells (g.B.Basket.taken c.file_of.new.basket)
-    c.loop-place.invariant.refused c.in-Ok-file_of.ensures.file
+    c.loop-place.invariant.refused c.in-Ok.ensures.file
 
 pub loop-place-preserved : goal.loop-place-preserved
 loop-place-preserved g c =
@@ -21,10 +21,10 @@ loop-place-preserved g c =
     let b : LinksState = g.L.Links.links c.loop-place.links in
     let left : LinksState = g.L.Links.links c.file_of.new.links in
     let count = c.sources-place-end.ensures.count in
-    let less : c.loop-place.place < a.sources = omega (arith, count, c.in-Ok.ensures.remain.sources) in
+    let less : c.loop-place.place < a.sources = omega (arith, count, c.in_ok-want.ensures.remain.sources) in
     let before = g.B.Basket.count c.loop-place.basket in
     let after = g.B.Basket.count c.file_of.new.basket in
-    let added = c.in_default-add_cause.ensures.added in
+    let added = c.in_default.ensures.added in
     record {
       refused = file_more c.loop-place.place a b left c.loop-place.causes.items c.args.target.now
           c.in-Err.ensures.moves less c.args.list.now c.args.size before after
@@ -33,6 +33,7 @@ loop-place-preserved g c =
       basket = count_stays before after c.in-Err.stop c.file_of.result c.loop-place.causes.items
           c.add_cause.new.causes.items c.in-Err.is c.file_of.ensures.basket added
           ∙ c.loop-place.invariant.basket;
+      turned = g.met.B.Basket.turns_on _ _ _ c.loop-place.invariant.turned c.in-Err.ensures.turned;
     }
 
 pub returns-clause-fault : goal.returns-clause-fault
@@ -40,7 +41,7 @@ returns-clause-fault g c =
     let a : LinksState = g.L.Links.links c.args.links.now in
     let left : LinksState = g.L.Links.links c.loop-place.links in
     let count = c.sources-place-end.ensures.count in
-    let all : c.loop-place.place ≡ a.sources = omega (arith, count, c.in-Ok.ensures.remain.sources) in
+    let all : c.loop-place.place ≡ a.sources = omega (arith, count, c.in_ok-want.ensures.remain.sources) in
     file_refused c.loop-place.place a left c.loop-place.causes.items c.args.target.now all
     c.args.list.now c.args.size (g.B.Basket.count c.args.basket.now)
     (g.B.Basket.count c.loop-place.basket) c.loop-place.invariant.refused

@@ -8,4 +8,5 @@ invariant-loop-place g l = record {
   refused : Refused (IsFileCause l.list l.size l.target) l.target l.place
       (g.L.Links.links l.fn.links) (g.L.Links.links l.links) l.causes.items;
   basket : g.B.Basket.count l.basket ≡ g.B.Basket.count l.fn.basket;
+  turned : g.B.Basket.turns_to l.fn.basket l.basket;
 }

@@ -1,6 +1,4 @@
-use Rattle.std.proofs.Common.{◌≡◌, Err, refl, sym, ap, subst, ◌∙◌, arith}
-use Rattle.digest_list.specs.declared.checker.CheckFault.{CheckFault}
-use Rattle.digest_list.specs.Checker.{ShowsDifference}
+use Rattle.std.proofs.Common.{◌≡◌, refl, ◌∙◌, arith}
 use Rattle.links.specs.Link.{LinkState}
 use Rattle.fetcher.proofs.Checked.{file_given, other_given, size_differs}
 use Rattle.fetcher.proofs.file.file_of.Goals as goal
@@ -11,8 +9,8 @@ returns-then-length-size-clause-stop g c =
     let asked : LinkState = (g.L.Links.links c.ask.new.self).link c.args.place in
     size_differs c.args.list.now c.args.size c.in-Ok.length c.args.target.now first asked c.in-Ok.ensures.asks.opens c.if-length-size.true
 
-pub returns-in-Ok-finish-clause-file : goal.returns-in-Ok-finish-clause-file
-returns-in-Ok-finish-clause-file g c =
+pub returns-in-None-clause-file : goal.returns-in-None-clause-file
+returns-in-None-clause-file g c =
     let first : LinkState = (g.L.Links.links c.args.links.now).link c.args.place in
     let asked : LinkState = (g.L.Links.links c.ask.new.self).link c.args.place in
     let left : LinkState = (g.L.Links.links c.pour.new.links).link c.args.place in
@@ -20,17 +18,17 @@ returns-in-Ok-finish-clause-file g c =
     file_given c.args.list.now c.args.size c.in-Ok.length c.args.target.now first asked left c.in-Ok-new.checker c.pour.new.checker
     g.B.Basket.tells (g.B.Basket.taken c.restart.new.self) (g.B.Basket.taken c.pour.new.basket)
     c.in-Ok.ensures.asks.opens same c.in-Ok.ensures.asks.site c.in_default-pour.ensures.poured c.restart.ensures.empty c.in-Ok-new.ensures.fresh
-    (λ bytes fed. (c.in-Ok-finish.ensures.matches c.args.list.now c.args.size bytes fed).0 refl)
+    (λ bytes fed. (c.in-None.ensures.matches c.args.list.now c.args.size bytes fed).0 refl)
     (c.in_default-pour.ensures.quiet ∙ c.in-Ok.ensures.asks.counts.quiet)
 
-pub returns-in-Err-Differs-clause-stop : goal.returns-in-Err-Differs-clause-stop
-returns-in-Err-Differs-clause-stop g c =
+pub returns-in-Some-clause-stop : goal.returns-in-Some-clause-stop
+returns-in-Some-clause-stop g c =
     let first : LinkState = (g.L.Links.links c.args.links.now).link c.args.place in
     let asked : LinkState = (g.L.Links.links c.ask.new.self).link c.args.place in
     let left : LinkState = (g.L.Links.links c.pour.new.links).link c.args.place in
     let same : c.in-Ok.length ≡ c.args.size = omega arith in
     other_given c.args.list.now c.args.size c.in-Ok.length c.args.target.now first asked left c.in-Ok-new.checker c.pour.new.checker
-    g.B.Basket.tells (g.B.Basket.taken c.restart.new.self) (g.B.Basket.taken c.pour.new.basket) c.in-Err-Differs.difference
+    g.B.Basket.tells (g.B.Basket.taken c.restart.new.self) (g.B.Basket.taken c.pour.new.basket) c.in-Some.difference
     c.in-Ok.ensures.asks.opens same c.in-Ok.ensures.asks.site c.in_default-pour.ensures.poured c.in-Ok-new.ensures.fresh
-    (λ bytes fed. sym (ap (λ (e : CheckFault). Err e) c.in-Err-Differs.field-0-is) ∙ c.in-Err-Differs.ensures.exact c.args.list.now c.args.size bytes fed)
-    (subst ShowsDifference c.in-Err-Differs.field-0-is c.in-Err-Differs.ensures.shown)
+    (λ bytes fed. c.in-Some.ensures.exact c.args.list.now c.args.size bytes fed)
+    c.in-Some.ensures.shown

@@ -37,4 +37,5 @@ loop-done-preserved g c =
       moves = moves_then c.args.place (g.L.Links.links c.args.links.now) (g.L.Links.links c.loop-done.links) (g.L.Links.links c.pour_piece.new.links) so.moves c.in-Ok.ensures.moves;
       link = c.in-Ok.ensures.quiet ∙ so.link;
       basket = c.in-Ok.ensures.basket.quiet (λ e. cc e) ∙ so.basket;
+      turned = g.met.B.Basket.turns_on _ _ _ so.turned c.in-Ok.ensures.turned;
     }

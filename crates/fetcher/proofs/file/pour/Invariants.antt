@@ -13,6 +13,7 @@ invariant-loop-done g l = record {
   moves : Moves l.place (g.L.Links.links l.initial.links) (g.L.Links.links l.links);
   link : ((g.L.Links.links l.links).link l.place).count ≡ ((g.L.Links.links l.initial.links).link l.place).count;
   basket : g.B.Basket.count l.basket ≡ g.B.Basket.count l.initial.basket;
+  turned : g.B.Basket.turns_to l.initial.basket l.basket;
 }
 
 abbrev pub decreases-loop-done : goal.decreases-loop-done

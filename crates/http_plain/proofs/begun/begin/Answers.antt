@@ -1,5 +1,5 @@
 use Rattle.std.proofs.Common.{sym, ◌∙◌, ◌++◌, ◌+◌, ◌<◌, length, arith}
-use Rattle.http_plain.proofs.Asking.{comes, gives_longer, near_room, refused_by, unended_refuses}
+use Rattle.http_plain.proofs.Enough.{comes, gives_longer, near_room, refused_by, unended_refuses}
 use Rattle.http_plain.specs.declared.exchange.TheConstants.{ANSWER_PIECE}
 use Rattle.http_plain.proofs.begun.begin.Goals as goal
 

@@ -1,5 +1,5 @@
 use Rattle.std.proofs.Common.{sym, ◌∙◌}
-use Rattle.http_plain.proofs.Asking.{asks_in, asks_nothing, file_in_front}
+use Rattle.http_plain.proofs.Enough.{asks_in, asks_nothing, file_in_front}
 use Rattle.http_plain.proofs.demand.demand_in.Goals as goal
 
 pub returns-then-is_empty : goal.returns-then-is_empty

@@ -1,5 +1,5 @@
 use Rattle.std.proofs.Common.{sym, ◌∙◌}
-use Rattle.http_plain.proofs.Asking.{head_demands, head_file, unended_demands}
+use Rattle.http_plain.proofs.Enough.{head_demands, head_file, unended_demands}
 use Rattle.http_plain.proofs.demand.demand_of_front.Goals as goal
 
 pub returns-in-Some : goal.returns-in-Some

@@ -1,4 +1,4 @@
-use Rattle.http_plain.proofs.Asking.{asked_demands, asked_file}
+use Rattle.http_plain.proofs.Enough.{asked_demands, asked_file}
 use Rattle.http_plain.proofs.demand.demand_of_head.Goals as goal
 
 pub returns-in-Some : goal.returns-in-Some

@@ -1,5 +1,5 @@
 use Rattle.std.proofs.Common.{take, arith, inr, ◌∙◌, length-take}
-use Rattle.http_plain.proofs.Sending.{exchanged, exchanges, half_asked, half_heard, not_for_memory}
+use Rattle.http_plain.proofs.Pieces.{exchanged, exchanges, half_asked, half_heard, not_for_memory}
 use Rattle.http_plain.proofs.exchange.ask_wire.Goals as goal
 
 pub returns-in_default-send_all-clause-exchange : goal.returns-in_default-send_all-clause-exchange

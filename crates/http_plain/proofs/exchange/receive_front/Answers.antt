@@ -2,7 +2,7 @@ use Rattle.std.proofs.Common.{◌≡◌, ◌+◌, take, ap, sym, ◌∙◌, refl
 use Rattle.std.specs.Option.{is_some}
 use Rattle.http_plain.specs.declared.exchange.TheConstants.{ANSWER_PIECE}
 use Rattle.http_plain.proofs.Ends.{no_end, near_none, near_taken}
-use Rattle.http_plain.proofs.Sending.{front_at_end, front_at_mark, front_at_limit}
+use Rattle.http_plain.proofs.Pieces.{front_at_end, front_at_mark, front_at_limit}
 use Rattle.http_plain.proofs.exchange.receive_front.Goals as goal
 
 pub loop-used-init : goal.loop-used-init

@@ -1,6 +1,6 @@
 use Rattle.std.proofs.Common.{◌-◌, arith}
 use borrow.Rule.Slice.PartMut.{post_of, mid_of}
-use Rattle.http_plain.proofs.Sending.{piece_read}
+use Rattle.http_plain.proofs.Pieces.{piece_read}
 use Rattle.http_plain.proofs.exchange.receive_piece.Goals as goal
 
 pub returns-clause-read : goal.returns-clause-read

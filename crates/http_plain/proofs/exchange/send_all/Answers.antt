@@ -1,6 +1,6 @@
 use Rattle.std.proofs.Common.{sym, subst, ◌∙◌, arith}
 use Rattle.http_plain.specs.Begin.{IsSending}
-use Rattle.http_plain.proofs.Sending.{send_more, send_done}
+use Rattle.http_plain.proofs.Pieces.{send_more, send_done}
 use Rattle.http_plain.proofs.exchange.send_all.Goals as goal
 
 pub loop-rest-preserved : goal.loop-rest-preserved

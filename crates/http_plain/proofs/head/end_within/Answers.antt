@@ -1,7 +1,7 @@
 use Rattle.std.proofs.Common.{ap, ◌∙◌, take}
 use Rattle.http_plain.specs.Head.{head_end}
 use Rattle.http_plain.proofs.Ends.{no_end}
-use Rattle.http_plain.proofs.Asking.{take_min, end_in}
+use Rattle.http_plain.proofs.Enough.{take_min, end_in}
 use Rattle.http_plain.proofs.head.end_within.Goals as goal
 
 pub find_head_end-requires-clause-none : goal.find_head_end-requires-clause-none

@@ -1,5 +1,5 @@
 use Rattle.std.proofs.Common.{Some, ◌∙◌}
-use Rattle.http_plain.proofs.Asking.{judged}
+use Rattle.http_plain.proofs.Enough.{judged}
 use Rattle.http_plain.proofs.response.judge_spans.Goals as goal
 
 pub returns-clause-value : goal.returns-clause-value

@@ -1,5 +1,5 @@
 use Rattle.std.proofs.Common.{[], ◌∷◌, true, refl}
-use Rattle.plain_host.proofs.Replying.{found_known, one_file}
+use Rattle.plain_host.proofs.LastAnswer.{found_known, one_file}
 use Rattle.plain_host.proofs.answer.prepare_file.Goals as goal
 
 pub returns-in_ok-prepare_found-in-Ok-true-clause-told : goal.returns-in_ok-prepare_found-in-Ok-true-clause-told
