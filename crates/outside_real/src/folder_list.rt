@@ -1,7 +1,7 @@
 // The names of the files below a folder.
 use crate::folder_path::{other_stands, path_below};
 use crate::folder_put::is_unfinished;
-use small_types::{Name, NameFault};
+use small_types::{List, Name, NameFault};
 use std::alloc::Global;
 use std::fs::{DirEntry, File};
 use std::io::ErrorKind;
@@ -86,7 +86,7 @@ pub(crate) fn list_files<R: Files<File = File> + AllocGlobal + Clone + Drop>(
     rt: &R,
     alloc: Global,
     root: &str,
-) -> io::Result<Vec<Name>> {
+) -> io::Result<List<Name>> {
     let mut walk = Walk {
         names: Vec::new(alloc),
         folders: Vec::new(alloc),
@@ -95,7 +95,7 @@ pub(crate) fn list_files<R: Files<File = File> + AllocGlobal + Clone + Drop>(
     for _ in 0..u64::MAX {
         let Some(folder) = walk.folders.pop() else {
             walk.names.sort_unstable();
-            return Ok(walk.names);
+            return Ok(List::from_vec(walk.names));
         };
         let path = path_below(alloc, root, folder.as_str())?;
         walk.add_all(rt, Some(&folder), path.as_str())?;

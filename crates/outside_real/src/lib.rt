@@ -1,6 +1,6 @@
 //! The devices of a program: standard input, standard output, a disk in a file, a folder and the
-//! connections of a client and of a host. The file and the output tell by a record of their calls;
-//! the others tell no content.
+//! connections of a client and of a host. The file and the output tell by a record of their calls, and
+//! the folder keeps one; the others tell no content.
 #![tactic(auto)]
 
 mod counted;
@@ -11,6 +11,7 @@ mod folder_get;
 mod folder_list;
 mod folder_path;
 mod folder_put;
+mod folder_told;
 mod real_folder;
 mod reason;
 mod std_sink;

@@ -7,8 +7,8 @@ ghost use Rattle.disks.specs.declared.call.Move.TheVariants.{Write, Cut, Sync};
 ghost use Rattle.outside_real.specs.Notes.{told_length, told_read};
 
 use call_record::{Notes, Record};
-use disks::{Answer, count_call};
-use outside::Failed;
+use disks::Answer;
+use outside::{Failed, count_call};
 
 // The counts of the calls that may change a file and of the bytes that are handed to them, and the record of all calls.
 // The record is seen by clauses alone.

@@ -1,6 +1,6 @@
 // What a folder of the file system does with real files.
 use crate::shown::{holds, is_said, same, stands};
-use folders::{Folder, FolderFault};
+use folders::{Folder, FolderFault, Found};
 use outside_real::RealFolder;
 use small_types::{Bytes, Name};
 use std::alloc::{AllocError, Global};
@@ -17,6 +17,9 @@ enum Step {
     List(Result<&'static str, FolderFault>),
     // The bytes of the file, or a bar where there is none.
     Get(&'static str, Result<&'static [u8], FolderFault>),
+    // The bytes of the file where they are at most so many, a bar where there is none, and a sign for each of its bytes where
+    // it has more.
+    Within(&'static str, u64, Result<&'static [u8], FolderFault>),
     Put(&'static str, &'static [u8], Result<(), FolderFault>),
     Faults(u64),
     Holds(&'static str, &'static [u8]),
@@ -53,6 +56,29 @@ fn get<F: Folder>(alloc: Global, folder: &mut F, name: &str) -> Result<Vec<u8>, 
     }
 }
 
+// The bytes of the file where they are at most so many, a bar where there is none, and a sign for each of its bytes where it
+// has more.
+fn within<F: Folder>(
+    alloc: Global,
+    folder: &mut F,
+    name: &str,
+    limit: u64,
+) -> Result<Vec<u8>, FolderFault> {
+    let name = named(alloc, name)?;
+    let mut bytes = Bytes::from_slice(alloc, b"before")?;
+    match folder.get_within(alloc, &name, limit, &mut bytes)? {
+        Found::Whole => Ok(bytes.into_vec()),
+        Found::Nothing => Ok(b"|".to_vec(alloc)?),
+        Found::TooLong { length } => {
+            let mut signs = Vec::new(alloc);
+            for _ in 0..length {
+                signs.push(b'>')?;
+            }
+            Ok(signs)
+        }
+    }
+}
+
 fn put<F: Folder>(
     alloc: Global,
     folder: &mut F,
@@ -84,6 +110,7 @@ fn answers<F: Folder>(rt: &HostRuntime, folder: &mut F, step: &Step) -> bool {
     match step {
         Step::List(want) => gives_text(list(alloc, folder), *want),
         Step::Get(name, want) => gives(get(alloc, folder, name), *want),
+        Step::Within(name, limit, want) => gives(within(alloc, folder, name, *limit), *want),
         Step::Put(name, bytes, want) => put(alloc, folder, name, bytes) == *want,
         Step::Faults(want) => folder.faults() == *want,
         Step::Holds(path, want) => holds(rt, path, want),
@@ -129,6 +156,16 @@ const PUT_AND_FOUND: &[Step] = &[
     Step::Get("e", Ok(b"|")),
     Step::Get("b", Ok(b"|")),
     Step::Holds("site/b/c d/%", b"2"),
+    Step::Within("b/c d/e", 5, Ok(b"other")),
+    Step::Within("b/c d/e", 4, Ok(b">>>>>")),
+    Step::Within("b/c d/e", 0, Ok(b">>>>>")),
+    Step::Within("b/c d/e", u64::MAX, Ok(b"other")),
+    Step::Within("a", 0, Ok(b"")),
+    Step::Within("c", 9, Ok(b"|")),
+    Step::Within("b", 9, Ok(b"|")),
+    Step::Write("site/b.x", b"longer"),
+    Step::Within("b.x", 5, Ok(b">>>>>>")),
+    Step::Within("b.x", 6, Ok(b"longer")),
     Step::Faults(0),
     Step::Put("b", b"", Err(FAILED)),
     Step::Put("a/b", b"", Err(FAILED)),
@@ -203,6 +240,33 @@ fn files_are_read_into_one_buffer(rt: HostRuntime) -> Result<(), Fail> {
     Ok(())
 }
 
+// Whether a file of so many bytes, which takes no room on the disk, is told by its length where that is more than the limit.
+fn is_too_long<F: Folder>(
+    rt: &HostRuntime,
+    path: &str,
+    site: &mut F,
+    length: u64,
+) -> Result<bool, Fail> {
+    let alloc = rt.alloc();
+    File::create(rt, path)?.set_len(length)?;
+    let Ok(name) = named(alloc, "file") else {
+        return Ok(false);
+    };
+    let mut into = Bytes::from_vec(Vec::new(alloc));
+    let found = site.get_within(alloc, &name, length.saturating_sub(1), &mut into);
+    Ok(found == Ok(Found::TooLong { length }) && into.as_slice().is_empty() && site.faults() == 0)
+}
+
+// No room is had for a file that is too long: its length is more than any memory.
+#[test]
+fn long_files_are_not_read(rt: HostRuntime) -> Result<(), Fail> {
+    begin(&rt, "long")?;
+    let mut site = folder_at(&rt, "long")?;
+    assert!(rt; is_too_long(&rt, "long/file", &mut site, 1 << 40)?);
+    fs::remove_dir_all(&rt, "long")?;
+    Ok(())
+}
+
 const LINKS: &[Step] = &[
     Step::Write("aside/f", b"secret"),
     Step::Link("../aside", "links/way"),
@@ -214,8 +278,9 @@ const LINKS: &[Step] = &[
     Step::Link("../aside/f", "links/f"),
     Step::List(Err(FAILED)),
     Step::Get("f", Err(FAILED)),
+    Step::Within("f", 9, Err(FAILED)),
     Step::Put("f", b"x", Err(FAILED)),
-    Step::Faults(7),
+    Step::Faults(8),
     Step::Holds("aside/f", b"secret"),
     Step::Absent("aside/g"),
     Step::Remove("links/f"),
@@ -232,7 +297,7 @@ const BAD_NAMES: &[Step] = &[
     Step::List(Err(FAILED)),
     Step::Remove("links/a\nb"),
     Step::List(Ok("")),
-    Step::Faults(10),
+    Step::Faults(11),
 ];
 
 #[test]
