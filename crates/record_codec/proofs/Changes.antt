@@ -1,38 +1,39 @@
 -- What is read is spelled so, and what is spelled so is read.
-use Rattle.std.proofs.Common.{◌≡◌, ◌≢◌, ℕ, ◌+◌, ◌^◌, ◌≤◌, cond, eqb, List, [], ◌∷◌, ◌++◌, length, drop, Option, Result, Ok, Err, refl, sym, ap, subst, ◌∙◌, arith, inl, inr}
+use Rattle.std.proofs.Common.{◌≡◌, ◌≢◌, ℕ, ◌+◌, ◌^◌, cond, eqb, List, [], ◌∷◌, ◌++◌, length, drop, Option, Result, Ok, Err, refl, sym, ap, subst, ◌∙◌, arith, inl, inr}
 use Rattle.std.specs.Prelude.{IfOk}
 use Rattle.std.specs.Int.{w32, w64, to_be_bytes}
 use Rattle.std.proofs.lemmas.Bool.{cases_Bool, eqb-true, eq-eqb}
 use Rattle.std.proofs.lemmas.List.{append-nil}
 use Rattle.small_types.specs.declared.limits.TheConstants.{FILE_COUNT_LIMIT, NAME_LIMIT}
 use Rattle.small_types.specs.declared.target.Target.{Target}
-use Rattle.small_types.specs.Name.{IsName}
 use Rattle.small_types.specs.Reading.{◌>>=◌}
 use Rattle.identity.specs.declared.key.Key.{Key}
 use Rattle.identity.specs.declared.version.Version.{Version}
-use Rattle.machine.specs.Fields.{IsShortKey}
 use Rattle.store_state.specs.declared.change.Change.{Change}
 use Rattle.store_state.specs.declared.change.Change.TheVariants.{Boot, Require, Install, Heard, Unheard, Skip, Rollback, Launch, Finish, Group, Put, Remove, Clean}
 use Rattle.store_state.specs.declared.view.Content.{Content}
 use Rattle.store_state.specs.declared.view.LocalFile.{LocalFile}
 use Rattle.store_state.specs.declared.view.View.{View}
-use Rattle.record_codec.specs.declared.fault.CodecFault.{CodecFault}
-use Rattle.record_codec.specs.declared.fault.CodecFault.TheVariants.{Bad}
+use Rattle.record_codec.specs.declared.numbers.TheConstants.{BOOT_KIND, CLEAN_KIND, FINISH_KIND, GROUP_KIND, HEARD_KIND, INSTALL_KIND, LAUNCH_KIND, PUT_KIND, REMOVE_KIND, REQUIRE_KIND, ROLLBACK_KIND, SKIP_KIND, UNHEARD_KIND}
+use Rattle.record_fields.specs.declared.fault.CodecFault.{CodecFault}
+use Rattle.record_fields.specs.declared.fault.CodecFault.TheVariants.{Bad}
 use Rattle.record_codec.specs.Codec.{change_text, group_text, heard_text, install_text, put_text, remove_text, IsChange}
-use Rattle.record_codec.specs.Fields.{key_field, text_field, version_field}
-use Rattle.record_codec.specs.Places.{Stands}
-use Rattle.record_codec.specs.Reading.{Gives, number_at, text_at, key_at, version_at}
-use Rattle.record_codec.specs.Parts.{Reader, list_at, name_at, option_at, target_at}
+use Rattle.record_fields.specs.Fields.{key_field, text_field, version_field}
+use Rattle.record_fields.specs.Places.{Stands}
+use Rattle.record_fields.specs.Reading.{Gives, number_at, text_at, key_at, version_at}
+use Rattle.record_fields.specs.Parts.{Reader, list_at, name_at, option_at, target_at}
 use Rattle.record_codec.specs.Records.{content_at, local_at, view_at}
 use Rattle.record_codec.specs.Changes.{boot_at, require_at, install_at, heard_at, unheard_at, skip_at, rollback_at, launch_at, finish_at, group_at, put_at, remove_at, clean_at, change_at, change_of}
-use Rattle.record_codec.specs.Spelling.{content_field, list_field, local_field, option_field, target_field, view_field}
-use Rattle.record_codec.specs.Values.{IsGroup, IsHeard, IsInstall, IsLocal}
-use Rattle.record_codec.proofs.Fields.{bind_ok, ok_is, passed_test, IsBytes, Stands-then, Stands-first, Stands-second, wide32, wide64, number_takes, number_again, text_takes, text_again}
-use Rattle.record_codec.proofs.Bytes.{name_reads}
-use Rattle.record_codec.proofs.Keys.{Stands-four, four_stand, key_takes, key_again, version_takes, version_again}
-use Rattle.record_codec.proofs.Lists.{list_reads, option_reads}
-use Rattle.record_codec.proofs.Records.{content_reads, local_reads, number64_reads, view_reads}
-use Rattle.record_codec.proofs.Structs.{target_reads, version_reads}
+use Rattle.record_fields.specs.Spelling.{list_field, option_field, target_field}
+use Rattle.record_codec.specs.Spelling.{content_field, local_field, view_field}
+use Rattle.record_codec.specs.Values.{IsGroup, IsHeard, IsInstall}
+use Rattle.record_fields.specs.Reads.{IsBytes}
+use Rattle.record_fields.proofs.Fields.{bind_ok, ok_is, passed_test, Stands-then, Stands-first, Stands-second, wide32, wide64, number_takes, number_again, text_takes, text_again}
+use Rattle.record_fields.proofs.Bytes.{name_reads}
+use Rattle.record_fields.proofs.Keys.{Stands-four, four_stand, key_takes, key_again, version_takes, version_again}
+use Rattle.record_fields.proofs.Lists.{list_reads, option_reads}
+use Rattle.record_codec.proofs.Records.{content_reads, local_reads, view_reads}
+use Rattle.record_fields.proofs.Structs.{number64_reads, target_reads, version_reads}
 
 -- ---- changes
 
@@ -43,31 +44,31 @@ Takes bytes x = Stands bytes 0 (change_text x.0) x.1 × IsChange x.0
 kind_stands : (kind : ℕ) (rest : List ℕ) → Stands (kind ∷ rest) 0 (kind ∷ []) 1
 kind_stands kind rest = record { behind = refl; within = omega arith; parts = refl }
 
-boot_takes : (rest : List ℕ) (x : Change × ℕ) → IsBytes (0 ∷ rest) → boot_at (0 ∷ rest) 1 ≡ Ok x → Stands (0 ∷ rest) 0 (change_text x.0) x.1 × IsChange x.0
+boot_takes : (rest : List ℕ) (x : Change × ℕ) → IsBytes (BOOT_KIND ∷ rest) → boot_at (BOOT_KIND ∷ rest) 1 ≡ Ok x → Stands (BOOT_KIND ∷ rest) 0 (change_text x.0) x.1 × IsChange x.0
 unfolding boot_at change_text
 boot_takes rest x fits e =
-    let boot = bind_ok (number_at w64 (0 ∷ rest) 1) (λ boot. Ok (Boot boot.0, boot.1)) x e in
-    let t = number_takes w64 (2 ^ 64) wide64 (0 ∷ rest) 1 boot.0 fits (omega arith) boot.1 in
+    let boot = bind_ok (number_at w64 (BOOT_KIND ∷ rest) 1) (λ boot. Ok (Boot boot.0, boot.1)) x e in
+    let t = number_takes w64 (2 ^ 64) wide64 (BOOT_KIND ∷ rest) 1 boot.0 fits (omega arith) boot.1 in
     let made : Change × ℕ = (Boot boot.0.0, boot.0.1) in
-    subst (λ (y : Change × ℕ). Stands (0 ∷ rest) 0 (change_text y.0) y.1 × IsChange y.0) (ok_is made x boot.2)
-    (Stands-then (0 ∷ rest) (0 ∷ []) (to_be_bytes w64 boot.0.0) 0 1 boot.0.1 (kind_stands 0 rest) t.0, t.1)
+    subst (λ (y : Change × ℕ). Stands (BOOT_KIND ∷ rest) 0 (change_text y.0) y.1 × IsChange y.0) (ok_is made x boot.2)
+    (Stands-then (BOOT_KIND ∷ rest) (BOOT_KIND ∷ []) (to_be_bytes w64 boot.0.0) 0 1 boot.0.1 (kind_stands BOOT_KIND rest) t.0, t.1)
 
-require_takes : (rest : List ℕ) (x : Change × ℕ) → IsBytes (1 ∷ rest) → require_at (1 ∷ rest) 1 ≡ Ok x → Stands (1 ∷ rest) 0 (change_text x.0) x.1 × IsChange x.0
+require_takes : (rest : List ℕ) (x : Change × ℕ) → IsBytes (REQUIRE_KIND ∷ rest) → require_at (REQUIRE_KIND ∷ rest) 1 ≡ Ok x → Stands (REQUIRE_KIND ∷ rest) 0 (change_text x.0) x.1 × IsChange x.0
 unfolding require_at change_text
 require_takes rest x fits e =
-    let key = bind_ok (key_at (1 ∷ rest) 1) (λ key. version_at (1 ∷ rest) key.1 >>= λ version. Ok (Require key.0 version.0, version.1)) x e in
-    let version = bind_ok (version_at (1 ∷ rest) key.0.1) (λ version. Ok (Require key.0.0 version.0, version.1)) x key.2 in
-    let tk = key_takes (1 ∷ rest) 1 key.0 fits (omega arith) key.1 in
-    let tv = version_takes (1 ∷ rest) key.0.1 version.0 fits tk.0.within version.1 in
+    let key = bind_ok (key_at (REQUIRE_KIND ∷ rest) 1) (λ key. version_at (REQUIRE_KIND ∷ rest) key.1 >>= λ version. Ok (Require key.0 version.0, version.1)) x e in
+    let version = bind_ok (version_at (REQUIRE_KIND ∷ rest) key.0.1) (λ version. Ok (Require key.0.0 version.0, version.1)) x key.2 in
+    let tk = key_takes (REQUIRE_KIND ∷ rest) 1 key.0 fits (omega arith) key.1 in
+    let tv = version_takes (REQUIRE_KIND ∷ rest) key.0.1 version.0 fits tk.0.within version.1 in
     let made : Change × ℕ = (Require key.0.0 version.0.0, version.0.1) in
-    let fields = Stands-then (1 ∷ rest) (key_field key.0.0) (version_field version.0.0) 1 key.0.1 version.0.1 tk.0 tv.0 in
-    subst (λ (y : Change × ℕ). Stands (1 ∷ rest) 0 (change_text y.0) y.1 × IsChange y.0) (ok_is made x version.2)
-    (Stands-then (1 ∷ rest) (1 ∷ []) (key_field key.0.0 ++ version_field version.0.0) 0 1 version.0.1 (kind_stands 1 rest) fields, (tk.1, tv.1))
+    let fields = Stands-then (REQUIRE_KIND ∷ rest) (key_field key.0.0) (version_field version.0.0) 1 key.0.1 version.0.1 tk.0 tv.0 in
+    subst (λ (y : Change × ℕ). Stands (REQUIRE_KIND ∷ rest) 0 (change_text y.0) y.1 × IsChange y.0) (ok_is made x version.2)
+    (Stands-then (REQUIRE_KIND ∷ rest) (REQUIRE_KIND ∷ []) (key_field key.0.0 ++ version_field version.0.0) 0 1 version.0.1 (kind_stands REQUIRE_KIND rest) fields, (tk.1, tv.1))
 
-install_takes : (rest : List ℕ) (x : Change × ℕ) → IsBytes (2 ∷ rest) → install_at (2 ∷ rest) 1 ≡ Ok x → Stands (2 ∷ rest) 0 (change_text x.0) x.1 × IsChange x.0
+install_takes : (rest : List ℕ) (x : Change × ℕ) → IsBytes (INSTALL_KIND ∷ rest) → install_at (INSTALL_KIND ∷ rest) 1 ≡ Ok x → Stands (INSTALL_KIND ∷ rest) 0 (change_text x.0) x.1 × IsChange x.0
 unfolding install_at change_text install_text
 install_takes rest x fits e =
-    let bytes : List ℕ = 2 ∷ rest in
+    let bytes : List ℕ = INSTALL_KIND ∷ rest in
     let a = bind_ok (view_at bytes 1) (λ view. list_at FILE_COUNT_LIMIT content_at bytes view.1 >>= λ contents. target_at bytes contents.1 >>= λ provider. number_at w64 bytes provider.1 >>= λ now. Ok (Install view.0 contents.0 provider.0 now.0, now.1)) x e in
     let b = bind_ok (list_at FILE_COUNT_LIMIT content_at bytes a.0.1) (λ contents. target_at bytes contents.1 >>= λ provider. number_at w64 bytes provider.1 >>= λ now. Ok (Install a.0.0 contents.0 provider.0 now.0, now.1)) x a.2 in
     let c = bind_ok (target_at bytes b.0.1) (λ provider. number_at w64 bytes provider.1 >>= λ now. Ok (Install a.0.0 b.0.0 provider.0 now.0, now.1)) x b.2 in
@@ -80,20 +81,20 @@ install_takes rest x fits e =
     let fields = Stands-four bytes (view_field a.0.0) (list_field content_field b.0.0) (target_field c.0.0) (to_be_bytes w64 d.0.0) 1 a.0.1 b.0.1 c.0.1 d.0.1 ta.0 tb.0 tc.0 td.0 in
     let within : IsInstall a.0.0 b.0.0 c.0.0 d.0.0 = record { view = ta.1; few = tb.1.0; contents = tb.1.1; provider = tc.1; now = td.1 } in
     subst (λ (y : Change × ℕ). Stands bytes 0 (change_text y.0) y.1 × IsChange y.0) (ok_is made x d.2)
-    (Stands-then bytes (2 ∷ []) (view_field a.0.0 ++ (list_field content_field b.0.0 ++ (target_field c.0.0 ++ to_be_bytes w64 d.0.0))) 0 1 d.0.1 (kind_stands 2 rest) fields, within)
+    (Stands-then bytes (INSTALL_KIND ∷ []) (view_field a.0.0 ++ (list_field content_field b.0.0 ++ (target_field c.0.0 ++ to_be_bytes w64 d.0.0))) 0 1 d.0.1 (kind_stands INSTALL_KIND rest) fields, within)
 
-install_again : (rest : List ℕ) (view : View) (contents : List Content) (provider : Target) (now next : ℕ) → IsInstall view contents provider now → Stands (2 ∷ rest) 1 (view_field view ++ (list_field content_field contents ++ (target_field provider ++ to_be_bytes w64 now))) next → install_at (2 ∷ rest) 1 ≡ Ok (Install view contents provider now, next)
+install_again : (rest : List ℕ) (view : View) (contents : List Content) (provider : Target) (now next : ℕ) → IsInstall view contents provider now → Stands (INSTALL_KIND ∷ rest) 1 (view_field view ++ (list_field content_field contents ++ (target_field provider ++ to_be_bytes w64 now))) next → install_at (INSTALL_KIND ∷ rest) 1 ≡ Ok (Install view contents provider now, next)
 unfolding install_at
 install_again rest view contents provider now next is stands =
-    let bytes : List ℕ = 2 ∷ rest in
+    let bytes : List ℕ = INSTALL_KIND ∷ rest in
     let four = four_stand bytes (view_field view) (list_field content_field contents) (target_field provider) (to_be_bytes w64 now) 1 next stands in
     rw (view_reads.again bytes 1 view _ is.view four.first, (list_reads content_reads FILE_COUNT_LIMIT (omega arith)).again bytes _ contents _ (is.few, is.contents) four.second, target_reads.again bytes _ provider _ is.provider four.third, number64_reads.again bytes _ now next is.now four.fourth) refl
 
-heard_takes : (rest : List ℕ) (x : Change × ℕ) → IsBytes (3 ∷ rest) → heard_at (3 ∷ rest) 1 ≡ Ok x
-    → Takes (3 ∷ rest) x
+heard_takes : (rest : List ℕ) (x : Change × ℕ) → IsBytes (HEARD_KIND ∷ rest) → heard_at (HEARD_KIND ∷ rest) 1 ≡ Ok x
+    → Takes (HEARD_KIND ∷ rest) x
 unfolding heard_at change_text heard_text
 heard_takes rest x fits e =
-    let bytes : List ℕ = 3 ∷ rest in
+    let bytes : List ℕ = HEARD_KIND ∷ rest in
     let a = bind_ok (key_at bytes 1) (λ key. version_at bytes key.1 >>= λ version. option_at version_at bytes version.1 >>= λ minimum. number_at w64 bytes minimum.1 >>= λ now. Ok (Heard key.0 version.0 minimum.0 now.0, now.1)) x e in
     let b = bind_ok (version_at bytes a.0.1) (λ version. option_at version_at bytes version.1 >>= λ minimum. number_at w64 bytes minimum.1 >>= λ now. Ok (Heard a.0.0 version.0 minimum.0 now.0, now.1)) x a.2 in
     let c = bind_ok (option_at version_at bytes b.0.1) (λ minimum. number_at w64 bytes minimum.1 >>= λ now. Ok (Heard a.0.0 b.0.0 minimum.0 now.0, now.1)) x b.2 in
@@ -110,79 +111,79 @@ heard_takes rest x fits e =
     let fields = Stands-four bytes key version minimum now 1 a.0.1 b.0.1 c.0.1 d.0.1 ta.0 tb.0 tc.0 td.0 in
     let within : IsHeard a.0.0 b.0.0 c.0.0 d.0.0 =
     record { key = ta.1; version = tb.1; minimum = tc.1; now = td.1 } in
-    let stands = Stands-then bytes (3 ∷ []) (key ++ (version ++ (minimum ++ now))) 0 1 d.0.1 (kind_stands 3 rest) fields in
+    let stands = Stands-then bytes (HEARD_KIND ∷ []) (key ++ (version ++ (minimum ++ now))) 0 1 d.0.1 (kind_stands HEARD_KIND rest) fields in
     subst (λ (y : Change × ℕ). Takes bytes y) (ok_is made x d.2) (stands, within)
 
 heard_again : (rest : List ℕ) (key : Key) (version : Version) (minimum : Option Version) (now next : ℕ)
     → IsHeard key version minimum now
-    → Stands (3 ∷ rest) 1 (key_field key ++ (version_field version ++ (option_field version_field minimum ++ to_be_bytes w64 now))) next
-    → heard_at (3 ∷ rest) 1 ≡ Ok (Heard key version minimum now, next)
+    → Stands (HEARD_KIND ∷ rest) 1 (key_field key ++ (version_field version ++ (option_field version_field minimum ++ to_be_bytes w64 now))) next
+    → heard_at (HEARD_KIND ∷ rest) 1 ≡ Ok (Heard key version minimum now, next)
 unfolding heard_at
 heard_again rest key version minimum now next is stands =
-    let bytes : List ℕ = 3 ∷ rest in
+    let bytes : List ℕ = HEARD_KIND ∷ rest in
     let four = four_stand bytes (key_field key) (version_field version) (option_field version_field minimum) (to_be_bytes w64 now) 1 next stands in
     rw (key_again bytes 1 key _ is.key four.first, version_again bytes _ version _ is.version four.second, (option_reads version_reads).again bytes _ minimum _ is.minimum four.third, number64_reads.again bytes _ now next is.now four.fourth) refl
 
-unheard_takes : (rest : List ℕ) (x : Change × ℕ) → IsBytes (4 ∷ rest) → unheard_at (4 ∷ rest) 1 ≡ Ok x
-    → Takes (4 ∷ rest) x
+unheard_takes : (rest : List ℕ) (x : Change × ℕ) → IsBytes (UNHEARD_KIND ∷ rest) → unheard_at (UNHEARD_KIND ∷ rest) 1 ≡ Ok x
+    → Takes (UNHEARD_KIND ∷ rest) x
 unfolding unheard_at change_text
 unheard_takes rest x fits e =
-    let key = bind_ok (key_at (4 ∷ rest) 1) (λ key. Ok (Unheard key.0, key.1)) x e in
-    let t = key_takes (4 ∷ rest) 1 key.0 fits (omega arith) key.1 in
+    let key = bind_ok (key_at (UNHEARD_KIND ∷ rest) 1) (λ key. Ok (Unheard key.0, key.1)) x e in
+    let t = key_takes (UNHEARD_KIND ∷ rest) 1 key.0 fits (omega arith) key.1 in
     let made : Change × ℕ = (Unheard key.0.0, key.0.1) in
     let field = key_field key.0.0 in
-    let stands = Stands-then (4 ∷ rest) (4 ∷ []) field 0 1 key.0.1 (kind_stands 4 rest) t.0 in
-    subst (λ (y : Change × ℕ). Takes (4 ∷ rest) y) (ok_is made x key.2) (stands, t.1)
+    let stands = Stands-then (UNHEARD_KIND ∷ rest) (UNHEARD_KIND ∷ []) field 0 1 key.0.1 (kind_stands UNHEARD_KIND rest) t.0 in
+    subst (λ (y : Change × ℕ). Takes (UNHEARD_KIND ∷ rest) y) (ok_is made x key.2) (stands, t.1)
 
-skip_takes : (rest : List ℕ) (x : Change × ℕ) → IsBytes (5 ∷ rest) → skip_at (5 ∷ rest) 1 ≡ Ok x
-    → Takes (5 ∷ rest) x
+skip_takes : (rest : List ℕ) (x : Change × ℕ) → IsBytes (SKIP_KIND ∷ rest) → skip_at (SKIP_KIND ∷ rest) 1 ≡ Ok x
+    → Takes (SKIP_KIND ∷ rest) x
 unfolding skip_at change_text
 skip_takes rest x fits e =
-    let app = bind_ok (number_at w32 (5 ∷ rest) 1) (λ app. Ok (Skip app.0, app.1)) x e in
-    let t = number_takes w32 (2 ^ 32) wide32 (5 ∷ rest) 1 app.0 fits (omega arith) app.1 in
+    let app = bind_ok (number_at w32 (SKIP_KIND ∷ rest) 1) (λ app. Ok (Skip app.0, app.1)) x e in
+    let t = number_takes w32 (2 ^ 32) wide32 (SKIP_KIND ∷ rest) 1 app.0 fits (omega arith) app.1 in
     let made : Change × ℕ = (Skip app.0.0, app.0.1) in
     let field = to_be_bytes w32 app.0.0 in
-    let stands = Stands-then (5 ∷ rest) (5 ∷ []) field 0 1 app.0.1 (kind_stands 5 rest) t.0 in
-    subst (λ (y : Change × ℕ). Takes (5 ∷ rest) y) (ok_is made x app.2) (stands, t.1)
+    let stands = Stands-then (SKIP_KIND ∷ rest) (SKIP_KIND ∷ []) field 0 1 app.0.1 (kind_stands SKIP_KIND rest) t.0 in
+    subst (λ (y : Change × ℕ). Takes (SKIP_KIND ∷ rest) y) (ok_is made x app.2) (stands, t.1)
 
-rollback_takes : (rest : List ℕ) (x : Change × ℕ) → IsBytes (6 ∷ rest) → rollback_at (6 ∷ rest) 1 ≡ Ok x
-    → Takes (6 ∷ rest) x
+rollback_takes : (rest : List ℕ) (x : Change × ℕ) → IsBytes (ROLLBACK_KIND ∷ rest) → rollback_at (ROLLBACK_KIND ∷ rest) 1 ≡ Ok x
+    → Takes (ROLLBACK_KIND ∷ rest) x
 unfolding rollback_at change_text
 rollback_takes rest x fits e =
-    let app = bind_ok (number_at w32 (6 ∷ rest) 1) (λ app. Ok (Rollback app.0, app.1)) x e in
-    let t = number_takes w32 (2 ^ 32) wide32 (6 ∷ rest) 1 app.0 fits (omega arith) app.1 in
+    let app = bind_ok (number_at w32 (ROLLBACK_KIND ∷ rest) 1) (λ app. Ok (Rollback app.0, app.1)) x e in
+    let t = number_takes w32 (2 ^ 32) wide32 (ROLLBACK_KIND ∷ rest) 1 app.0 fits (omega arith) app.1 in
     let made : Change × ℕ = (Rollback app.0.0, app.0.1) in
     let field = to_be_bytes w32 app.0.0 in
-    let stands = Stands-then (6 ∷ rest) (6 ∷ []) field 0 1 app.0.1 (kind_stands 6 rest) t.0 in
-    subst (λ (y : Change × ℕ). Takes (6 ∷ rest) y) (ok_is made x app.2) (stands, t.1)
+    let stands = Stands-then (ROLLBACK_KIND ∷ rest) (ROLLBACK_KIND ∷ []) field 0 1 app.0.1 (kind_stands ROLLBACK_KIND rest) t.0 in
+    subst (λ (y : Change × ℕ). Takes (ROLLBACK_KIND ∷ rest) y) (ok_is made x app.2) (stands, t.1)
 
-launch_takes : (rest : List ℕ) (x : Change × ℕ) → IsBytes (7 ∷ rest) → launch_at (7 ∷ rest) 1 ≡ Ok x
-    → Takes (7 ∷ rest) x
+launch_takes : (rest : List ℕ) (x : Change × ℕ) → IsBytes (LAUNCH_KIND ∷ rest) → launch_at (LAUNCH_KIND ∷ rest) 1 ≡ Ok x
+    → Takes (LAUNCH_KIND ∷ rest) x
 unfolding launch_at change_text
 launch_takes rest x fits e =
-    let app = bind_ok (number_at w32 (7 ∷ rest) 1) (λ app. Ok (Launch app.0, app.1)) x e in
-    let t = number_takes w32 (2 ^ 32) wide32 (7 ∷ rest) 1 app.0 fits (omega arith) app.1 in
+    let app = bind_ok (number_at w32 (LAUNCH_KIND ∷ rest) 1) (λ app. Ok (Launch app.0, app.1)) x e in
+    let t = number_takes w32 (2 ^ 32) wide32 (LAUNCH_KIND ∷ rest) 1 app.0 fits (omega arith) app.1 in
     let made : Change × ℕ = (Launch app.0.0, app.0.1) in
     let field = to_be_bytes w32 app.0.0 in
-    let stands = Stands-then (7 ∷ rest) (7 ∷ []) field 0 1 app.0.1 (kind_stands 7 rest) t.0 in
-    subst (λ (y : Change × ℕ). Takes (7 ∷ rest) y) (ok_is made x app.2) (stands, t.1)
+    let stands = Stands-then (LAUNCH_KIND ∷ rest) (LAUNCH_KIND ∷ []) field 0 1 app.0.1 (kind_stands LAUNCH_KIND rest) t.0 in
+    subst (λ (y : Change × ℕ). Takes (LAUNCH_KIND ∷ rest) y) (ok_is made x app.2) (stands, t.1)
 
-finish_takes : (rest : List ℕ) (x : Change × ℕ) → IsBytes (8 ∷ rest) → finish_at (8 ∷ rest) 1 ≡ Ok x
-    → Takes (8 ∷ rest) x
+finish_takes : (rest : List ℕ) (x : Change × ℕ) → IsBytes (FINISH_KIND ∷ rest) → finish_at (FINISH_KIND ∷ rest) 1 ≡ Ok x
+    → Takes (FINISH_KIND ∷ rest) x
 unfolding finish_at change_text
 finish_takes rest x fits e =
-    let lease = bind_ok (number_at w64 (8 ∷ rest) 1) (λ lease. Ok (Finish lease.0, lease.1)) x e in
-    let t = number_takes w64 (2 ^ 64) wide64 (8 ∷ rest) 1 lease.0 fits (omega arith) lease.1 in
+    let lease = bind_ok (number_at w64 (FINISH_KIND ∷ rest) 1) (λ lease. Ok (Finish lease.0, lease.1)) x e in
+    let t = number_takes w64 (2 ^ 64) wide64 (FINISH_KIND ∷ rest) 1 lease.0 fits (omega arith) lease.1 in
     let made : Change × ℕ = (Finish lease.0.0, lease.0.1) in
     let field = to_be_bytes w64 lease.0.0 in
-    let stands = Stands-then (8 ∷ rest) (8 ∷ []) field 0 1 lease.0.1 (kind_stands 8 rest) t.0 in
-    subst (λ (y : Change × ℕ). Takes (8 ∷ rest) y) (ok_is made x lease.2) (stands, t.1)
+    let stands = Stands-then (FINISH_KIND ∷ rest) (FINISH_KIND ∷ []) field 0 1 lease.0.1 (kind_stands FINISH_KIND rest) t.0 in
+    subst (λ (y : Change × ℕ). Takes (FINISH_KIND ∷ rest) y) (ok_is made x lease.2) (stands, t.1)
 
-group_takes : (rest : List ℕ) (x : Change × ℕ) → IsBytes (9 ∷ rest) → group_at (9 ∷ rest) 1 ≡ Ok x
-    → Takes (9 ∷ rest) x
+group_takes : (rest : List ℕ) (x : Change × ℕ) → IsBytes (GROUP_KIND ∷ rest) → group_at (GROUP_KIND ∷ rest) 1 ≡ Ok x
+    → Takes (GROUP_KIND ∷ rest) x
 unfolding group_at change_text group_text
 group_takes rest x fits e =
-    let bytes : List ℕ = 9 ∷ rest in
+    let bytes : List ℕ = GROUP_KIND ∷ rest in
     let a = bind_ok (number_at w64 bytes 1) (λ view. text_at NAME_LIMIT bytes view.1 >>= λ group. list_at FILE_COUNT_LIMIT content_at bytes group.1 >>= λ contents. Ok (Group view.0 group.0 contents.0, contents.1)) x e in
     let b = bind_ok (text_at NAME_LIMIT bytes a.0.1) (λ group. list_at FILE_COUNT_LIMIT content_at bytes group.1 >>= λ contents. Ok (Group a.0.0 group.0 contents.0, contents.1)) x a.2 in
     let c = bind_ok (list_at FILE_COUNT_LIMIT content_at bytes b.0.1) (λ contents. Ok (Group a.0.0 b.0.0 contents.0, contents.1)) x b.2 in
@@ -197,16 +198,16 @@ group_takes rest x fits e =
     let fields = Stands-then bytes view (group ++ contents) 1 a.0.1 c.0.1 ta.0 last in
     let within : IsGroup a.0.0 b.0.0 c.0.0 =
     record { view = ta.1; group = tb.1; few = tc.1.0; contents = tc.1.1 } in
-    let stands = Stands-then bytes (9 ∷ []) (view ++ (group ++ contents)) 0 1 c.0.1 (kind_stands 9 rest) fields in
+    let stands = Stands-then bytes (GROUP_KIND ∷ []) (view ++ (group ++ contents)) 0 1 c.0.1 (kind_stands GROUP_KIND rest) fields in
     subst (λ (y : Change × ℕ). Takes bytes y) (ok_is made x c.2) (stands, within)
 
 group_again : (rest : List ℕ) (view : ℕ) (group : List ℕ) (contents : List Content) (next : ℕ)
     → IsGroup view group contents
-    → Stands (9 ∷ rest) 1 (to_be_bytes w64 view ++ (text_field group ++ list_field content_field contents)) next
-    → group_at (9 ∷ rest) 1 ≡ Ok (Group view group contents, next)
+    → Stands (GROUP_KIND ∷ rest) 1 (to_be_bytes w64 view ++ (text_field group ++ list_field content_field contents)) next
+    → group_at (GROUP_KIND ∷ rest) 1 ≡ Ok (Group view group contents, next)
 unfolding group_at
 group_again rest view group contents next is stands =
-    let bytes : List ℕ = 9 ∷ rest in
+    let bytes : List ℕ = GROUP_KIND ∷ rest in
     let v = to_be_bytes w64 view in
     let g = text_field group in
     let c = list_field content_field contents in
@@ -216,11 +217,11 @@ group_again rest view group contents next is stands =
     let third = Stands-second bytes g c (1 + length v) next behind in
     rw (number64_reads.again bytes 1 view _ is.view first, text_again NAME_LIMIT bytes _ group _ (omega arith) is.group second, (list_reads content_reads FILE_COUNT_LIMIT (omega arith)).again bytes _ contents next (is.few, is.contents) third) refl
 
-put_takes : (rest : List ℕ) (x : Change × ℕ) → IsBytes (10 ∷ rest) → put_at (10 ∷ rest) 1 ≡ Ok x
-    → Takes (10 ∷ rest) x
+put_takes : (rest : List ℕ) (x : Change × ℕ) → IsBytes (PUT_KIND ∷ rest) → put_at (PUT_KIND ∷ rest) 1 ≡ Ok x
+    → Takes (PUT_KIND ∷ rest) x
 unfolding put_at change_text put_text
 put_takes rest x fits e =
-    let bytes : List ℕ = 10 ∷ rest in
+    let bytes : List ℕ = PUT_KIND ∷ rest in
     let a = bind_ok (number_at w64 bytes 1) (λ view. local_at bytes view.1 >>= λ file. Ok (Put view.0 file.0, file.1)) x e in
     let b = bind_ok (local_at bytes a.0.1) (λ file. Ok (Put a.0.0 file.0, file.1)) x a.2 in
     let ta = number64_reads.takes bytes 1 a.0 fits (omega arith) a.1 in
@@ -229,27 +230,27 @@ put_takes rest x fits e =
     let view = to_be_bytes w64 a.0.0 in
     let file = local_field b.0.0 in
     let fields = Stands-then bytes view file 1 a.0.1 b.0.1 ta.0 tb.0 in
-    let stands = Stands-then bytes (10 ∷ []) (view ++ file) 0 1 b.0.1 (kind_stands 10 rest) fields in
+    let stands = Stands-then bytes (PUT_KIND ∷ []) (view ++ file) 0 1 b.0.1 (kind_stands PUT_KIND rest) fields in
     subst (λ (y : Change × ℕ). Takes bytes y) (ok_is made x b.2) (stands, (ta.1, tb.1))
 
 put_again : (rest : List ℕ) (view : ℕ) (file : LocalFile) (next : ℕ)
     → IsChange (Put view file)
-    → Stands (10 ∷ rest) 1 (to_be_bytes w64 view ++ local_field file) next
-    → put_at (10 ∷ rest) 1 ≡ Ok (Put view file, next)
+    → Stands (PUT_KIND ∷ rest) 1 (to_be_bytes w64 view ++ local_field file) next
+    → put_at (PUT_KIND ∷ rest) 1 ≡ Ok (Put view file, next)
 unfolding put_at
 put_again rest view file next is stands =
-    let bytes : List ℕ = 10 ∷ rest in
+    let bytes : List ℕ = PUT_KIND ∷ rest in
     let v = to_be_bytes w64 view in
     let f = local_field file in
     let first = Stands-first bytes v f 1 next stands in
     let second = Stands-second bytes v f 1 next stands in
     rw (number64_reads.again bytes 1 view _ is.0 first, local_reads.again bytes _ file next is.1 second) refl
 
-remove_takes : (rest : List ℕ) (x : Change × ℕ) → IsBytes (11 ∷ rest) → remove_at (11 ∷ rest) 1 ≡ Ok x
-    → Takes (11 ∷ rest) x
+remove_takes : (rest : List ℕ) (x : Change × ℕ) → IsBytes (REMOVE_KIND ∷ rest) → remove_at (REMOVE_KIND ∷ rest) 1 ≡ Ok x
+    → Takes (REMOVE_KIND ∷ rest) x
 unfolding remove_at change_text remove_text
 remove_takes rest x fits e =
-    let bytes : List ℕ = 11 ∷ rest in
+    let bytes : List ℕ = REMOVE_KIND ∷ rest in
     let a = bind_ok (number_at w64 bytes 1) (λ view. name_at bytes view.1 >>= λ name. Ok (Remove view.0 name.0, name.1)) x e in
     let b = bind_ok (name_at bytes a.0.1) (λ name. Ok (Remove a.0.0 name.0, name.1)) x a.2 in
     let ta = number64_reads.takes bytes 1 a.0 fits (omega arith) a.1 in
@@ -258,28 +259,28 @@ remove_takes rest x fits e =
     let view = to_be_bytes w64 a.0.0 in
     let name = text_field b.0.0 in
     let fields = Stands-then bytes view name 1 a.0.1 b.0.1 ta.0 tb.0 in
-    let stands = Stands-then bytes (11 ∷ []) (view ++ name) 0 1 b.0.1 (kind_stands 11 rest) fields in
+    let stands = Stands-then bytes (REMOVE_KIND ∷ []) (view ++ name) 0 1 b.0.1 (kind_stands REMOVE_KIND rest) fields in
     subst (λ (y : Change × ℕ). Takes bytes y) (ok_is made x b.2) (stands, (ta.1, tb.1))
 
 remove_again : (rest : List ℕ) (view : ℕ) (name : List ℕ) (next : ℕ)
     → IsChange (Remove view name)
-    → Stands (11 ∷ rest) 1 (to_be_bytes w64 view ++ text_field name) next
-    → remove_at (11 ∷ rest) 1 ≡ Ok (Remove view name, next)
+    → Stands (REMOVE_KIND ∷ rest) 1 (to_be_bytes w64 view ++ text_field name) next
+    → remove_at (REMOVE_KIND ∷ rest) 1 ≡ Ok (Remove view name, next)
 unfolding remove_at
 remove_again rest view name next is stands =
-    let bytes : List ℕ = 11 ∷ rest in
+    let bytes : List ℕ = REMOVE_KIND ∷ rest in
     let v = to_be_bytes w64 view in
     let t = text_field name in
     let first = Stands-first bytes v t 1 next stands in
     let second = Stands-second bytes v t 1 next stands in
     rw (number64_reads.again bytes 1 view _ is.0 first, name_reads.again bytes _ name next is.1 second) refl
 
-clean_takes : (rest : List ℕ) (x : Change × ℕ) → IsBytes (12 ∷ rest) → clean_at (12 ∷ rest) 1 ≡ Ok x
-    → Takes (12 ∷ rest) x
+clean_takes : (rest : List ℕ) (x : Change × ℕ) → IsBytes (CLEAN_KIND ∷ rest) → clean_at (CLEAN_KIND ∷ rest) 1 ≡ Ok x
+    → Takes (CLEAN_KIND ∷ rest) x
 unfolding change_text
 clean_takes rest x fits e =
     let made : Change × ℕ = (Clean, 1) in
-    subst (λ (y : Change × ℕ). Takes (12 ∷ rest) y) (ok_is made x e) (kind_stands 12 rest, tt)
+    subst (λ (y : Change × ℕ). Takes (CLEAN_KIND ∷ rest) y) (ok_is made x e) (kind_stands CLEAN_KIND rest, tt)
 
 -- what is read of a kind, and what of any other
 by_kind : (n kind : ℕ) (rest : List ℕ) (f : Reader Change) (others : Result (Change × ℕ) CodecFault)
@@ -300,19 +301,19 @@ change_takes : (bytes : List ℕ) (x : Change × ℕ) → IsBytes bytes → chan
 unfolding change_at
 change_takes [] x fits e = absurd cc
 change_takes (kind ∷ rest) x fits e =
-    by_kind 0 kind rest boot_at _ x (boot_takes rest x)
-    (by_kind 1 kind rest require_at _ x (require_takes rest x)
-    (by_kind 2 kind rest install_at _ x (install_takes rest x)
-    (by_kind 3 kind rest heard_at _ x (heard_takes rest x)
-    (by_kind 4 kind rest unheard_at _ x (unheard_takes rest x)
-    (by_kind 5 kind rest skip_at _ x (skip_takes rest x)
-    (by_kind 6 kind rest rollback_at _ x (rollback_takes rest x)
-    (by_kind 7 kind rest launch_at _ x (launch_takes rest x)
-    (by_kind 8 kind rest finish_at _ x (finish_takes rest x)
-    (by_kind 9 kind rest group_at _ x (group_takes rest x)
-    (by_kind 10 kind rest put_at _ x (put_takes rest x)
-    (by_kind 11 kind rest remove_at _ x (remove_takes rest x)
-    (by_kind 12 kind rest clean_at _ x (clean_takes rest x) (λ bytes none. absurd cc)))))))))))))
+    by_kind BOOT_KIND kind rest boot_at _ x (boot_takes rest x)
+    (by_kind REQUIRE_KIND kind rest require_at _ x (require_takes rest x)
+    (by_kind INSTALL_KIND kind rest install_at _ x (install_takes rest x)
+    (by_kind HEARD_KIND kind rest heard_at _ x (heard_takes rest x)
+    (by_kind UNHEARD_KIND kind rest unheard_at _ x (unheard_takes rest x)
+    (by_kind SKIP_KIND kind rest skip_at _ x (skip_takes rest x)
+    (by_kind ROLLBACK_KIND kind rest rollback_at _ x (rollback_takes rest x)
+    (by_kind LAUNCH_KIND kind rest launch_at _ x (launch_takes rest x)
+    (by_kind FINISH_KIND kind rest finish_at _ x (finish_takes rest x)
+    (by_kind GROUP_KIND kind rest group_at _ x (group_takes rest x)
+    (by_kind PUT_KIND kind rest put_at _ x (put_takes rest x)
+    (by_kind REMOVE_KIND kind rest remove_at _ x (remove_takes rest x)
+    (by_kind CLEAN_KIND kind rest clean_at _ x (clean_takes rest x) (λ bytes none. absurd cc)))))))))))))
     fits e
 
 change_again : (bytes : List ℕ) (c : Change) (next : ℕ) → IsChange c → Stands bytes 0 (change_text c) next → change_at bytes ≡ Ok (c, next)
@@ -331,67 +332,67 @@ change_again [] (Put view file) next fits stands = absurd (let e = stands.parts 
 change_again [] (Remove view name) next fits stands = absurd (let e = stands.parts in cc)
 change_again [] Clean next fits stands = absurd (let e = stands.parts in cc)
 change_again (kind ∷ rest) (Boot boot) next fits stands =
-    let is : kind ≡ 0 = (let e = stands.parts in cc) in
-    let field = subst (λ (k : ℕ). Stands (k ∷ rest) 1 (to_be_bytes w64 boot) next) is (Stands-second (kind ∷ rest) (0 ∷ []) (to_be_bytes w64 boot) 0 next stands) in
-    rw (is, number_again w64 (2 ^ 64) wide64 (0 ∷ rest) 1 boot next fits field) refl
+    let is : kind ≡ BOOT_KIND = (let e = stands.parts in cc) in
+    let field = subst (λ (k : ℕ). Stands (k ∷ rest) 1 (to_be_bytes w64 boot) next) is (Stands-second (kind ∷ rest) (BOOT_KIND ∷ []) (to_be_bytes w64 boot) 0 next stands) in
+    rw (is, number_again w64 (2 ^ 64) wide64 (BOOT_KIND ∷ rest) 1 boot next fits field) refl
 change_again (kind ∷ rest) (Require key version) next fits stands =
-    let is : kind ≡ 1 = (let e = stands.parts in cc) in
-    let fields = subst (λ (k : ℕ). Stands (k ∷ rest) 1 (key_field key ++ version_field version) next) is (Stands-second (kind ∷ rest) (1 ∷ []) (key_field key ++ version_field version) 0 next stands) in
-    let first = Stands-first (1 ∷ rest) (key_field key) (version_field version) 1 next fields in
-    let second = Stands-second (1 ∷ rest) (key_field key) (version_field version) 1 next fields in
-    rw (is, key_again (1 ∷ rest) 1 key (1 + length (key_field key)) fits.0 first, version_again (1 ∷ rest) (1 + length (key_field key)) version next fits.1 second) refl
+    let is : kind ≡ REQUIRE_KIND = (let e = stands.parts in cc) in
+    let fields = subst (λ (k : ℕ). Stands (k ∷ rest) 1 (key_field key ++ version_field version) next) is (Stands-second (kind ∷ rest) (REQUIRE_KIND ∷ []) (key_field key ++ version_field version) 0 next stands) in
+    let first = Stands-first (REQUIRE_KIND ∷ rest) (key_field key) (version_field version) 1 next fields in
+    let second = Stands-second (REQUIRE_KIND ∷ rest) (key_field key) (version_field version) 1 next fields in
+    rw (is, key_again (REQUIRE_KIND ∷ rest) 1 key (1 + length (key_field key)) fits.0 first, version_again (REQUIRE_KIND ∷ rest) (1 + length (key_field key)) version next fits.1 second) refl
 change_again (kind ∷ rest) (Install view contents provider now) next fits stands =
     let fields = view_field view ++ (list_field content_field contents ++ (target_field provider ++ to_be_bytes w64 now)) in
-    let is : kind ≡ 2 = (let e = stands.parts in cc) in
-    let behind = subst (λ (k : ℕ). Stands (k ∷ rest) 1 fields next) is (Stands-second (kind ∷ rest) (2 ∷ []) fields 0 next stands) in
+    let is : kind ≡ INSTALL_KIND = (let e = stands.parts in cc) in
+    let behind = subst (λ (k : ℕ). Stands (k ∷ rest) 1 fields next) is (Stands-second (kind ∷ rest) (INSTALL_KIND ∷ []) fields 0 next stands) in
     rw is (install_again rest view contents provider now next fits behind)
 change_again (kind ∷ rest) (Heard key version minimum now) next fits stands =
     let fields = key_field key ++ (version_field version ++ (option_field version_field minimum ++ to_be_bytes w64 now)) in
-    let is : kind ≡ 3 = (let e = stands.parts in cc) in
-    let behind = subst (λ (k : ℕ). Stands (k ∷ rest) 1 fields next) is (Stands-second (kind ∷ rest) (3 ∷ []) fields 0 next stands) in
+    let is : kind ≡ HEARD_KIND = (let e = stands.parts in cc) in
+    let behind = subst (λ (k : ℕ). Stands (k ∷ rest) 1 fields next) is (Stands-second (kind ∷ rest) (HEARD_KIND ∷ []) fields 0 next stands) in
     rw is (heard_again rest key version minimum now next fits behind)
 change_again (kind ∷ rest) (Unheard key) next fits stands =
-    let is : kind ≡ 4 = (let e = stands.parts in cc) in
-    let second = Stands-second (kind ∷ rest) (4 ∷ []) (key_field key) 0 next stands in
+    let is : kind ≡ UNHEARD_KIND = (let e = stands.parts in cc) in
+    let second = Stands-second (kind ∷ rest) (UNHEARD_KIND ∷ []) (key_field key) 0 next stands in
     let field = subst (λ (k : ℕ). Stands (k ∷ rest) 1 (key_field key) next) is second in
-    rw (is, key_again (4 ∷ rest) 1 key next fits field) refl
+    rw (is, key_again (UNHEARD_KIND ∷ rest) 1 key next fits field) refl
 change_again (kind ∷ rest) (Skip app) next fits stands =
-    let is : kind ≡ 5 = (let e = stands.parts in cc) in
-    let second = Stands-second (kind ∷ rest) (5 ∷ []) (to_be_bytes w32 app) 0 next stands in
+    let is : kind ≡ SKIP_KIND = (let e = stands.parts in cc) in
+    let second = Stands-second (kind ∷ rest) (SKIP_KIND ∷ []) (to_be_bytes w32 app) 0 next stands in
     let field = subst (λ (k : ℕ). Stands (k ∷ rest) 1 (to_be_bytes w32 app) next) is second in
-    rw (is, number_again w32 (2 ^ 32) wide32 (5 ∷ rest) 1 app next fits field) refl
+    rw (is, number_again w32 (2 ^ 32) wide32 (SKIP_KIND ∷ rest) 1 app next fits field) refl
 change_again (kind ∷ rest) (Rollback app) next fits stands =
-    let is : kind ≡ 6 = (let e = stands.parts in cc) in
-    let second = Stands-second (kind ∷ rest) (6 ∷ []) (to_be_bytes w32 app) 0 next stands in
+    let is : kind ≡ ROLLBACK_KIND = (let e = stands.parts in cc) in
+    let second = Stands-second (kind ∷ rest) (ROLLBACK_KIND ∷ []) (to_be_bytes w32 app) 0 next stands in
     let field = subst (λ (k : ℕ). Stands (k ∷ rest) 1 (to_be_bytes w32 app) next) is second in
-    rw (is, number_again w32 (2 ^ 32) wide32 (6 ∷ rest) 1 app next fits field) refl
+    rw (is, number_again w32 (2 ^ 32) wide32 (ROLLBACK_KIND ∷ rest) 1 app next fits field) refl
 change_again (kind ∷ rest) (Launch app) next fits stands =
-    let is : kind ≡ 7 = (let e = stands.parts in cc) in
-    let second = Stands-second (kind ∷ rest) (7 ∷ []) (to_be_bytes w32 app) 0 next stands in
+    let is : kind ≡ LAUNCH_KIND = (let e = stands.parts in cc) in
+    let second = Stands-second (kind ∷ rest) (LAUNCH_KIND ∷ []) (to_be_bytes w32 app) 0 next stands in
     let field = subst (λ (k : ℕ). Stands (k ∷ rest) 1 (to_be_bytes w32 app) next) is second in
-    rw (is, number_again w32 (2 ^ 32) wide32 (7 ∷ rest) 1 app next fits field) refl
+    rw (is, number_again w32 (2 ^ 32) wide32 (LAUNCH_KIND ∷ rest) 1 app next fits field) refl
 change_again (kind ∷ rest) (Finish lease) next fits stands =
-    let is : kind ≡ 8 = (let e = stands.parts in cc) in
-    let second = Stands-second (kind ∷ rest) (8 ∷ []) (to_be_bytes w64 lease) 0 next stands in
+    let is : kind ≡ FINISH_KIND = (let e = stands.parts in cc) in
+    let second = Stands-second (kind ∷ rest) (FINISH_KIND ∷ []) (to_be_bytes w64 lease) 0 next stands in
     let field = subst (λ (k : ℕ). Stands (k ∷ rest) 1 (to_be_bytes w64 lease) next) is second in
-    rw (is, number_again w64 (2 ^ 64) wide64 (8 ∷ rest) 1 lease next fits field) refl
+    rw (is, number_again w64 (2 ^ 64) wide64 (FINISH_KIND ∷ rest) 1 lease next fits field) refl
 change_again (kind ∷ rest) (Group view group contents) next fits stands =
     let fields = to_be_bytes w64 view ++ (text_field group ++ list_field content_field contents) in
-    let is : kind ≡ 9 = (let e = stands.parts in cc) in
-    let behind = subst (λ (k : ℕ). Stands (k ∷ rest) 1 fields next) is (Stands-second (kind ∷ rest) (9 ∷ []) fields 0 next stands) in
+    let is : kind ≡ GROUP_KIND = (let e = stands.parts in cc) in
+    let behind = subst (λ (k : ℕ). Stands (k ∷ rest) 1 fields next) is (Stands-second (kind ∷ rest) (GROUP_KIND ∷ []) fields 0 next stands) in
     rw is (group_again rest view group contents next fits behind)
 change_again (kind ∷ rest) (Put view file) next fits stands =
     let fields = to_be_bytes w64 view ++ local_field file in
-    let is : kind ≡ 10 = (let e = stands.parts in cc) in
-    let behind = subst (λ (k : ℕ). Stands (k ∷ rest) 1 fields next) is (Stands-second (kind ∷ rest) (10 ∷ []) fields 0 next stands) in
+    let is : kind ≡ PUT_KIND = (let e = stands.parts in cc) in
+    let behind = subst (λ (k : ℕ). Stands (k ∷ rest) 1 fields next) is (Stands-second (kind ∷ rest) (PUT_KIND ∷ []) fields 0 next stands) in
     rw is (put_again rest view file next fits behind)
 change_again (kind ∷ rest) (Remove view name) next fits stands =
     let fields = to_be_bytes w64 view ++ text_field name in
-    let is : kind ≡ 11 = (let e = stands.parts in cc) in
-    let behind = subst (λ (k : ℕ). Stands (k ∷ rest) 1 fields next) is (Stands-second (kind ∷ rest) (11 ∷ []) fields 0 next stands) in
+    let is : kind ≡ REMOVE_KIND = (let e = stands.parts in cc) in
+    let behind = subst (λ (k : ℕ). Stands (k ∷ rest) 1 fields next) is (Stands-second (kind ∷ rest) (REMOVE_KIND ∷ []) fields 0 next stands) in
     rw is (remove_again rest view name next fits behind)
 change_again (kind ∷ rest) Clean next fits stands =
-    let is : kind ≡ 12 = (let e = stands.parts in cc) in
+    let is : kind ≡ CLEAN_KIND = (let e = stands.parts in cc) in
     let end = stands.behind in
     rw (is, end) refl
 

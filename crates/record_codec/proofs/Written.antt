@@ -1,7 +1,7 @@
--- Fields that are written one behind another.
-use Rattle.std.proofs.Common.{◌≡◌, ℕ, ◌+◌, ◌≤◌, List, [], ◌∷◌, ◌++◌, length, take, drop, Option, refl, sym, ap, ◌∙◌, append_assoc, arith}
+-- Changes that are written, field behind field.
+use Rattle.std.proofs.Common.{◌≡◌, ℕ, ◌+◌, ◌≤◌, List, [], ◌∷◌, ◌++◌, length, Option, refl, sym, ap, ◌∙◌, arith}
 use Rattle.std.specs.Int.{w32, w64, to_be_bytes}
-use Rattle.std.proofs.lemmas.List.{take_at, drop_at, drop-drop, take-append-drop, length-append, length-take, length-drop}
+use Rattle.std.proofs.lemmas.List.{length-append}
 use Rattle.small_types.specs.declared.target.Target.{Target}
 use Rattle.identity.specs.declared.version.Version.{Version}
 use Rattle.identity.specs.declared.key.Key.{Key}
@@ -10,86 +10,20 @@ use Rattle.store_state.specs.declared.change.Change.TheVariants.{Boot, Require, 
 use Rattle.store_state.specs.declared.view.Content.{Content}
 use Rattle.store_state.specs.declared.view.LocalFile.{LocalFile}
 use Rattle.store_state.specs.declared.view.View.{View}
+use Rattle.record_codec.specs.declared.numbers.TheConstants.{BOOT_KIND, CLEAN_KIND, FINISH_KIND, LAUNCH_KIND, REQUIRE_KIND, ROLLBACK_KIND, SKIP_KIND, UNHEARD_KIND}
 use Rattle.record_codec.specs.Codec.{change_text, group_text, heard_text, install_text, put_text, remove_text}
-use Rattle.record_codec.specs.Fields.{key_field, text_field, version_field}
-use Rattle.record_codec.specs.Spelling.{content_field, list_field, local_field, option_field, target_field, view_field}
-use Rattle.record_codec.specs.Places.{written, Writes}
-use Rattle.record_codec.proofs.Long.{length-version_field}
-
-length-written : (old a : List ℕ) (place : ℕ) → place + length a ≤ length old → length (written old place a) ≡ length old
-length-written old a place room = omega (arith, length-append (take place old) (a ++ drop (place + length a) old), length-append a (drop (place + length a) old), length-take place old, length-drop (place + length a) old)
-
-module _ (old a b : List ℕ) (place : ℕ) (room : place + length a + length b ≤ length old) where
-  regrouped : written old place a ≡ (take place old ++ a) ++ drop (place + length a) old
-  regrouped = sym (append_assoc (take place old) a (drop (place + length a) old))
-
-  long : length (take place old ++ a) ≡ place + length a
-  long = omega (arith, length-append (take place old) a, length-take place old)
-
-  front : take (place + length a) (written old place a) ≡ take place old ++ a
-  front = ap (take (place + length a)) regrouped ∙ take_at (take place old ++ a) (drop (place + length a) old) (place + length a) long
-
-  rest : drop (place + length a) (written old place a) ≡ drop (place + length a) old
-  rest = ap (drop (place + length a)) regrouped ∙ drop_at (take place old ++ a) (drop (place + length a) old) (place + length a) long
-
-  behind : drop (place + length a + length b) (written old place a) ≡ drop (place + length a + length b) old
-  behind = sym (drop-drop (length b) (place + length a) (written old place a)) ∙ ap (drop (length b)) rest ∙ drop-drop (length b) (place + length a) old
-
-  pub written_written : written (written old place a) (place + length a) b ≡ written old place (a ++ b)
-  written_written =
-      let same : place + length a + length b ≡ place + length (a ++ b) = omega (arith, length-append a b) in
-      rw (front, behind, same) (append_assoc (take place old) a (b ++ drop (place + length (a ++ b)) old) ∙ ap (λ (t : List ℕ). take place old ++ t) (sym (append_assoc a b (drop (place + length (a ++ b)) old))))
-
--- two fields
-pub two_written : (old first second a b : List ℕ) (place mid : ℕ) → place + length (a ++ b) ≤ length old → first ≡ written old place a → mid ≡ place + length a → second ≡ written first mid b → second ≡ written old place (a ++ b)
-two_written old first second a b place mid room one at two =
-    let enough : place + length a + length b ≤ length old = omega (arith, length-append a b) in
-    two ∙ ap (λ (xs : List ℕ). written xs mid b) one ∙ ap (λ (n : ℕ). written (written old place a) n b) at ∙ written_written old a b place enough
-
--- ---- fields that were written
-
-pub length-Writes : {old a new : List ℕ} {place next : ℕ} → Writes old place a new next
-    → length new ≡ length old
-length-Writes {old} {a} {new} {place} {next} w =
-    let behind = w.behind in
-    let within = w.within in
-    ap (length {A = ℕ}) w.text ∙ length-written old a place (omega arith)
-
--- two fields are one
-pub then : {old mid new a b : List ℕ} {place next last : ℕ} → Writes old place a mid next
-    → Writes mid next b new last → Writes old place (a ++ b) new last
-then {old} {mid} {new} {a} {b} {place} {next} {last} first second =
-    let at = first.behind in
-    let end = second.behind in
-    let long = length-Writes first in
-    let both = length-append a b in
-    let inside = second.within in
-    record {
-      text = two_written old mid new a b place next (omega arith) first.text at second.text;
-      behind = omega arith;
-      within = omega arith;
-    }
-
-pub at_front : {old new a : List ℕ} {next : ℕ} → Writes old 0 a new next → new ≡ a ++ drop next old
-at_front {old} {new} {a} {next} w =
-    let behind = w.behind in
-    let same : 0 + length a ≡ next = omega arith in
-    w.text ∙ ap (λ (n : ℕ). a ++ drop n old) same
-
--- nothing is written
-pub nothing : (out : List ℕ) (place : ℕ) → place ≤ length out → Writes out place [] out place
-nothing out place within =
-    let same : place + 0 ≡ place = omega arith in
-    let whole = ap (λ (n : ℕ). take place out ++ drop n out) same ∙ take-append-drop place out in
-    record { text = sym whole; behind = omega arith; within = within }
+use Rattle.record_fields.specs.Fields.{key_field, text_field, version_field}
+use Rattle.record_fields.specs.Spelling.{list_field, option_field, target_field}
+use Rattle.record_codec.specs.Spelling.{content_field, local_field, view_field}
+use Rattle.record_fields.proofs.Long.{length-version_field}
 
 -- ---- the parts of changes
 
-pub change_text_boot : (boot : ℕ) → change_text (Boot boot) ≡ (0 ∷ []) ++ to_be_bytes w64 boot
+pub change_text_boot : (boot : ℕ) → change_text (Boot boot) ≡ (BOOT_KIND ∷ []) ++ to_be_bytes w64 boot
 unfolding change_text
 change_text_boot boot = refl
 
-pub change_text_require : (key : Key) (version : Version) → change_text (Require key version) ≡ (1 ∷ []) ++ (key_field key ++ version_field version)
+pub change_text_require : (key : Key) (version : Version) → change_text (Require key version) ≡ (REQUIRE_KIND ∷ []) ++ (key_field key ++ version_field version)
 unfolding change_text
 change_text_require key version = refl
 
@@ -103,23 +37,23 @@ pub change_text_heard : (key : Key) (version : Version) (minimum : Option Versio
 unfolding change_text
 change_text_heard key version minimum now = refl
 
-pub change_text_unheard : (key : Key) → change_text (Unheard key) ≡ (4 ∷ []) ++ key_field key
+pub change_text_unheard : (key : Key) → change_text (Unheard key) ≡ (UNHEARD_KIND ∷ []) ++ key_field key
 unfolding change_text
 change_text_unheard key = refl
 
-pub change_text_skip : (app : ℕ) → change_text (Skip app) ≡ (5 ∷ []) ++ to_be_bytes w32 app
+pub change_text_skip : (app : ℕ) → change_text (Skip app) ≡ (SKIP_KIND ∷ []) ++ to_be_bytes w32 app
 unfolding change_text
 change_text_skip app = refl
 
-pub change_text_rollback : (app : ℕ) → change_text (Rollback app) ≡ (6 ∷ []) ++ to_be_bytes w32 app
+pub change_text_rollback : (app : ℕ) → change_text (Rollback app) ≡ (ROLLBACK_KIND ∷ []) ++ to_be_bytes w32 app
 unfolding change_text
 change_text_rollback app = refl
 
-pub change_text_launch : (app : ℕ) → change_text (Launch app) ≡ (7 ∷ []) ++ to_be_bytes w32 app
+pub change_text_launch : (app : ℕ) → change_text (Launch app) ≡ (LAUNCH_KIND ∷ []) ++ to_be_bytes w32 app
 unfolding change_text
 change_text_launch app = refl
 
-pub change_text_finish : (lease : ℕ) → change_text (Finish lease) ≡ (8 ∷ []) ++ to_be_bytes w64 lease
+pub change_text_finish : (lease : ℕ) → change_text (Finish lease) ≡ (FINISH_KIND ∷ []) ++ to_be_bytes w64 lease
 unfolding change_text
 change_text_finish lease = refl
 
@@ -137,7 +71,7 @@ pub change_text_remove : (view : ℕ) (name : List ℕ)
 unfolding change_text
 change_text_remove view name = refl
 
-pub change_text_clean : change_text Clean ≡ 12 ∷ []
+pub change_text_clean : change_text Clean ≡ CLEAN_KIND ∷ []
 unfolding change_text
 change_text_clean = refl
 

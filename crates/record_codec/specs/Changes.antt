@@ -1,14 +1,15 @@
 -- Reading changes from the left.
-use Rattle.std.specs.Prelude.{ℕ, List, [], ◌∷◌, length, Result, Ok, Err, ◌==◌, if◌then◌else◌}
+use Rattle.std.specs.Prelude.{ℕ, Bool, false, List, [], ◌∷◌, length, Result, Ok, Err, ◌==◌, ◌||◌, if◌then◌else◌}
 use Rattle.std.specs.Int.{w32, w64}
 use Rattle.small_types.specs.declared.limits.TheConstants.{FILE_COUNT_LIMIT, NAME_LIMIT}
 use Rattle.small_types.specs.Reading.{◌>>=◌}
 use Rattle.store_state.specs.declared.change.Change.{Change}
 use Rattle.store_state.specs.declared.change.Change.TheVariants.{Boot, Require, Install, Heard, Unheard, Skip, Rollback, Launch, Finish, Group, Put, Remove, Clean}
-use Rattle.record_codec.specs.declared.fault.CodecFault.{CodecFault}
-use Rattle.record_codec.specs.declared.fault.CodecFault.TheVariants.{Bad}
-use Rattle.record_codec.specs.Reading.{number_at, text_at, key_at, version_at}
-use Rattle.record_codec.specs.Parts.{Reader, list_at, name_at, option_at, target_at}
+use Rattle.record_codec.specs.declared.numbers.TheConstants.{BOOT_KIND, CLEAN_KIND, FINISH_KIND, GROUP_KIND, HEARD_KIND, INSTALL_KIND, LAUNCH_KIND, PUT_KIND, REMOVE_KIND, REQUIRE_KIND, ROLLBACK_KIND, SKIP_KIND, UNHEARD_KIND}
+use Rattle.record_fields.specs.declared.fault.CodecFault.{CodecFault}
+use Rattle.record_fields.specs.declared.fault.CodecFault.TheVariants.{Bad}
+use Rattle.record_fields.specs.Reading.{number_at, text_at, key_at, version_at}
+use Rattle.record_fields.specs.Parts.{Reader, list_at, name_at, option_at, target_at}
 use Rattle.record_codec.specs.Records.{content_at, local_at, view_at}
 
 unfoldable pub boot_at : Reader Change
@@ -96,19 +97,19 @@ clean_at bytes place = Ok (Clean, place)
 -- what stands behind the number of a kind; no other number is one
 abbrev pub kind_at : ℕ → List ℕ → Result (Change × ℕ) CodecFault
 kind_at kind bytes =
-    if kind == 0 then boot_at bytes 1
-    else if kind == 1 then require_at bytes 1
-    else if kind == 2 then install_at bytes 1
-    else if kind == 3 then heard_at bytes 1
-    else if kind == 4 then unheard_at bytes 1
-    else if kind == 5 then skip_at bytes 1
-    else if kind == 6 then rollback_at bytes 1
-    else if kind == 7 then launch_at bytes 1
-    else if kind == 8 then finish_at bytes 1
-    else if kind == 9 then group_at bytes 1
-    else if kind == 10 then put_at bytes 1
-    else if kind == 11 then remove_at bytes 1
-    else if kind == 12 then clean_at bytes 1
+    if kind == BOOT_KIND then boot_at bytes 1
+    else if kind == REQUIRE_KIND then require_at bytes 1
+    else if kind == INSTALL_KIND then install_at bytes 1
+    else if kind == HEARD_KIND then heard_at bytes 1
+    else if kind == UNHEARD_KIND then unheard_at bytes 1
+    else if kind == SKIP_KIND then skip_at bytes 1
+    else if kind == ROLLBACK_KIND then rollback_at bytes 1
+    else if kind == LAUNCH_KIND then launch_at bytes 1
+    else if kind == FINISH_KIND then finish_at bytes 1
+    else if kind == GROUP_KIND then group_at bytes 1
+    else if kind == PUT_KIND then put_at bytes 1
+    else if kind == REMOVE_KIND then remove_at bytes 1
+    else if kind == CLEAN_KIND then clean_at bytes 1
     else Err (Bad 0)
 
 -- the number of the kind, and the fields
@@ -121,3 +122,14 @@ unfoldable pub change_of : List ℕ → Result Change CodecFault
 change_of bytes = do
   change ← change_at bytes
   if change.1 == length bytes then Ok change.0 else Err (Bad change.1)
+
+-- the kinds of changes that own memory: a key, a view, a group, a data file or its name
+abbrev pub owns_memory : ℕ → Bool
+owns_memory kind =
+    kind == REQUIRE_KIND || kind == INSTALL_KIND || kind == HEARD_KIND || kind == UNHEARD_KIND
+    || kind == GROUP_KIND || kind == PUT_KIND || kind == REMOVE_KIND
+
+-- reading takes memory where such a kind stands at the front
+unfoldable pub takes_memory : List ℕ → Bool
+takes_memory [] = false
+takes_memory (kind ∷ rest) = owns_memory kind

@@ -6,52 +6,54 @@ use Rattle.small_types.specs.Name.{IsName}
 use Rattle.identity.specs.declared.key.Key.{Key}
 use Rattle.identity.specs.declared.version.Version.{Version}
 use Rattle.identity.specs.Version.{IsVersion}
-use Rattle.machine.specs.Fields.{IsShortKey}
+use Rattle.identity.specs.Key.{IsShortKey}
 use Rattle.store_state.specs.declared.change.Change.{Change}
 use Rattle.store_state.specs.declared.change.Change.TheVariants.{Boot, Require, Install, Heard, Unheard, Skip, Rollback, Launch, Finish, Group, Put, Remove, Clean}
 use Rattle.store_state.specs.declared.view.Content.{Content}
 use Rattle.store_state.specs.declared.view.LocalFile.{LocalFile}
 use Rattle.store_state.specs.declared.view.View.{View}
-use Rattle.record_codec.specs.Fields.{key_field, text_field, version_field}
-use Rattle.record_codec.specs.Spelling.{content_field, list_field, local_field, option_field, target_field, view_field}
+use Rattle.record_codec.specs.declared.numbers.TheConstants.{BOOT_KIND, CLEAN_KIND, FINISH_KIND, GROUP_KIND, HEARD_KIND, INSTALL_KIND, LAUNCH_KIND, PUT_KIND, REMOVE_KIND, REQUIRE_KIND, ROLLBACK_KIND, SKIP_KIND, UNHEARD_KIND}
+use Rattle.record_fields.specs.Fields.{key_field, text_field, version_field}
+use Rattle.record_fields.specs.Spelling.{list_field, option_field, target_field}
+use Rattle.record_codec.specs.Spelling.{content_field, local_field, view_field}
 use Rattle.record_codec.specs.Values.{IsGroup, IsHeard, IsInstall, IsLocal}
 
 -- the number of the kind, and the fields
 unfoldable pub install_text : View → List Content → Target → ℕ → List ℕ
 install_text view contents provider now =
-    2 ∷ (view_field view ++ (list_field content_field contents
+    INSTALL_KIND ∷ (view_field view ++ (list_field content_field contents
     ++ (target_field provider ++ to_be_bytes w64 now)))
 
 unfoldable pub heard_text : Key → Version → Option Version → ℕ → List ℕ
 heard_text key version minimum now =
-    3 ∷ (key_field key ++ (version_field version
+    HEARD_KIND ∷ (key_field key ++ (version_field version
     ++ (option_field version_field minimum ++ to_be_bytes w64 now)))
 
 unfoldable pub group_text : ℕ → List ℕ → List Content → List ℕ
 group_text view group contents =
-    9 ∷ (to_be_bytes w64 view ++ (text_field group ++ list_field content_field contents))
+    GROUP_KIND ∷ (to_be_bytes w64 view ++ (text_field group ++ list_field content_field contents))
 
 unfoldable pub put_text : ℕ → LocalFile → List ℕ
-put_text view file = 10 ∷ (to_be_bytes w64 view ++ local_field file)
+put_text view file = PUT_KIND ∷ (to_be_bytes w64 view ++ local_field file)
 
 unfoldable pub remove_text : ℕ → List ℕ → List ℕ
-remove_text view name = 11 ∷ (to_be_bytes w64 view ++ text_field name)
+remove_text view name = REMOVE_KIND ∷ (to_be_bytes w64 view ++ text_field name)
 
 -- the bytes of a change: the number of its kind, and its fields
 unfoldable pub change_text : Change → List ℕ
-change_text (Boot boot) = 0 ∷ to_be_bytes w64 boot
-change_text (Require key version) = 1 ∷ (key_field key ++ version_field version)
+change_text (Boot boot) = BOOT_KIND ∷ to_be_bytes w64 boot
+change_text (Require key version) = REQUIRE_KIND ∷ (key_field key ++ version_field version)
 change_text (Install view contents provider now) = install_text view contents provider now
 change_text (Heard key version minimum now) = heard_text key version minimum now
-change_text (Unheard key) = 4 ∷ key_field key
-change_text (Skip app) = 5 ∷ to_be_bytes w32 app
-change_text (Rollback app) = 6 ∷ to_be_bytes w32 app
-change_text (Launch app) = 7 ∷ to_be_bytes w32 app
-change_text (Finish lease) = 8 ∷ to_be_bytes w64 lease
+change_text (Unheard key) = UNHEARD_KIND ∷ key_field key
+change_text (Skip app) = SKIP_KIND ∷ to_be_bytes w32 app
+change_text (Rollback app) = ROLLBACK_KIND ∷ to_be_bytes w32 app
+change_text (Launch app) = LAUNCH_KIND ∷ to_be_bytes w32 app
+change_text (Finish lease) = FINISH_KIND ∷ to_be_bytes w64 lease
 change_text (Group view group contents) = group_text view group contents
 change_text (Put view file) = put_text view file
 change_text (Remove view name) = remove_text view name
-change_text Clean = 12 ∷ []
+change_text Clean = CLEAN_KIND ∷ []
 
 -- The fields are within their limits: just such a change has an encoding. A part of a key may be
 -- empty, as any text. A data file may be below `.pre`, and of any length that four bytes can say.

@@ -1,9 +1,5 @@
 pub mod Changes
 pub mod Codec
-pub mod Fields
-pub mod Parts
-pub mod Places
-pub mod Reading
 pub mod Records
 pub mod Spelling
 pub mod Values

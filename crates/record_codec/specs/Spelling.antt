@@ -1,97 +1,18 @@
--- How values are spelled as bytes: each field behind the one before it, in the order of its type.
-use Rattle.std.specs.Prelude.{ℕ, Bool, true, false, List, [], ◌∷◌, ◌++◌, flat_map, length, Option, Some, None}
-use Rattle.std.specs.Int.{to_be_bytes, w16, w32, w64}
-use Rattle.small_types.specs.declared.target.Target.{Target}
-use Rattle.identity.specs.declared.identity.Identity.{Identity}
-use Rattle.digest_list.specs.declared.algorithm.Algorithm.{Algorithm}
-use Rattle.digest_list.specs.declared.algorithm.Algorithm.TheVariants.{Sha1, Sha256, Sha384, Sha512}
-use Rattle.digest_list.specs.declared.digest.Digest.{Digest}
-use Rattle.manifests.specs.declared.facts.Application.{Application}
-use Rattle.manifests.specs.declared.facts.Deployment.{Deployment}
-use Rattle.manifests.specs.declared.facts.FileEntry.{FileEntry}
-use Rattle.manifests.specs.declared.facts.Rule.{Rule}
-use Rattle.manifests.specs.declared.facts.Rule.TheVariants.{Never, Before, Age}
+-- How views and their files are spelled as bytes: each field behind the one before it, in the
+-- order of its type.
+use Rattle.std.specs.Prelude.{ℕ, List, ◌++◌}
+use Rattle.std.specs.Int.{to_be_bytes, w64}
 use Rattle.store_state.specs.declared.view.Content.{Content}
 use Rattle.store_state.specs.declared.view.LocalFile.{LocalFile}
 use Rattle.store_state.specs.declared.view.View.{View}
-use Rattle.record_codec.specs.Fields.{text_field, key_field, version_field}
-
--- ---- forms
-
--- a truth value is a byte of 0 or 1
-abbrev pub truth_field : Bool → List ℕ
-truth_field false = 0 ∷ []
-truth_field true = 1 ∷ []
-
--- an optional value is a byte of 0, or one of 1 and the value
-abbrev pub option_field : {X : Type 0} → (X → List ℕ) → Option X → List ℕ
-option_field field None = 0 ∷ []
-option_field field (Some x) = 1 ∷ field x
-
--- a list is the number of its items and the items
-unfoldable pub list_field : {X : Type 0} → (X → List ℕ) → List X → List ℕ
-list_field field items = to_be_bytes w32 (length items) ++ flat_map field items
-
--- ---- addresses and identities
-
-unfoldable pub target_field : Target → List ℕ
-target_field t = text_field t.host ++ (to_be_bytes w16 t.port ++ text_field t.path)
-
-unfoldable pub identity_field : Identity → List ℕ
-identity_field i = key_field i.key ++ (version_field i.version ++ text_field i.kind)
-
--- ---- rules
-
--- the number of the variant, and its field
-unfoldable pub rule_field : Rule → List ℕ
-rule_field Never = 0 ∷ []
-rule_field Before = 1 ∷ []
-rule_field (Age seconds) = 2 ∷ to_be_bytes w64 seconds
-
--- ---- digests
-
-abbrev pub algorithm_number : Algorithm → ℕ
-algorithm_number Sha1 = 0
-algorithm_number Sha256 = 1
-algorithm_number Sha384 = 2
-algorithm_number Sha512 = 3
-
-unfoldable pub digest_field : Digest → List ℕ
-digest_field d = algorithm_number d.algorithm ∷ text_field d.value
-
--- ---- manifests
-
-unfoldable pub entry_field : FileEntry → List ℕ
-entry_field e =
-    text_field e.name ++ (to_be_bytes w64 e.size ++ (list_field digest_field e.list
-    ++ (option_field text_field e.group ++ truth_field e.local)))
-
--- what comes before the codebase, and what comes from it on
-unfoldable pub terms_field : Deployment → List ℕ
-terms_field d =
-    identity_field d.identity ++ (truth_field d.install ++ (option_field version_field d.minimum
-    ++ (truth_field d.mapped ++ (rule_field d.rule ++ option_field text_field d.provider))))
-
-unfoldable pub listed_field : Deployment → List ℕ
-listed_field d =
-    text_field d.codebase ++ (identity_field d.app ++ (to_be_bytes w64 d.app_size
-    ++ list_field digest_field d.app_list))
-
-unfoldable pub deployment_field : Deployment → List ℕ
-deployment_field d = terms_field d ++ listed_field d
-
-unfoldable pub application_field : Application → List ℕ
-application_field a =
-    identity_field a.identity ++ (text_field a.entry ++ (text_field a.parameters
-    ++ list_field entry_field a.files))
-
--- ---- views and their files
+use Rattle.record_fields.specs.Fields.{text_field}
+use Rattle.record_fields.specs.Spelling.{application_field, deployment_field, digest_field, list_field, target_field}
 
 unfoldable pub content_field : Content → List ℕ
-content_field c = to_be_bytes w64 c.size ++ (list_field digest_field c.list ++ text_field c.bytes)
+content_field c = to_be_bytes w64 c.size ++ (list_field digest_field c.list ++ text_field c.held)
 
 unfoldable pub local_field : LocalFile → List ℕ
-local_field f = text_field f.name ++ (to_be_bytes w64 f.length ++ text_field f.bytes)
+local_field f = text_field f.name ++ (to_be_bytes w64 f.length ++ text_field f.held)
 
 unfoldable pub view_field : View → List ℕ
 view_field v =

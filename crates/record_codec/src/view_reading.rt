@@ -1,26 +1,29 @@
 // Reading views and their files, from the left.
 ghost use Rattle.std.specs.Prelude.{◌≤◌, length, IfOk, IfErr};
-ghost use Rattle.record_codec.specs.Reading.{Gives, IsWithin};
+ghost use Rattle.record_fields.specs.Reading.{Gives, IsWithin};
 ghost use Rattle.record_codec.specs.Records.{view_at};
 
-use crate::CodecFault;
-use crate::application_reading::application_here;
-use crate::byte_reading::{bytes_here, name_here};
-use crate::deployment_reading::deployment_here;
-use crate::digest_reading::digests_here;
-use crate::list_reading::{Readable, list_here};
-use crate::part_reading::target_here;
-use crate::reading::read_u64;
+use crate::item_values::{ContentField, LocalField};
+use crate::numbers::BYTES_LIMIT;
+use record_fields::{
+    CodecFault, Readable, TextField, read_application, read_bytes, read_deployment, read_digests,
+    read_list, read_name, read_target, read_u64,
+};
 use small_types::Text;
 use small_types::limits::FILE_COUNT_LIMIT;
 use std::alloc::Global;
 use store_state::{Content, LocalFile, View};
 
-// The most bytes of a content or a data file: their length has four bytes.
-const BYTES_LIMIT: usize = 4_294_967_295;
+impl Readable for ContentField {
+    type Value = Content;
 
-impl Readable for Content {
     ghost use Rattle.record_codec.specs.Records.{content_at};
+    ghost use Rattle.record_codec.specs.Spelling.{content_field};
+    ghost use Rattle.record_codec.specs.Values.{IsContent};
+
+    ghost field = { content_field };
+
+    ghost fits = { IsContent };
 
     ghost at = { content_at };
 
@@ -31,19 +34,25 @@ impl Readable for Content {
         place: usize,
     ) -> Result<(Content, usize), CodecFault> {
         let (size, next) = read_u64(bytes, place)?;
-        let (list, next) = digests_here(alloc, bytes, next)?;
-        let (held, next) = bytes_here(alloc, bytes, next, BYTES_LIMIT)?;
-        let content = Content {
-            size,
-            list,
-            bytes: held,
-        };
+        let (list, next) = read_digests(alloc, bytes, next)?;
+        let (held, next) = read_bytes(alloc, bytes, next, BYTES_LIMIT)?;
+        let content = Content { size, list, held };
         Ok((content, next))
     }
+
+    fn reads_as_spelled() {}
 }
 
-impl Readable for LocalFile {
+impl Readable for LocalField {
+    type Value = LocalFile;
+
     ghost use Rattle.record_codec.specs.Records.{local_at};
+    ghost use Rattle.record_codec.specs.Spelling.{local_field};
+    ghost use Rattle.record_codec.specs.Values.{IsLocal};
+
+    ghost field = { local_field };
+
+    ghost fits = { IsLocal };
 
     ghost at = { local_at };
 
@@ -53,16 +62,14 @@ impl Readable for LocalFile {
         bytes: &[u8],
         place: usize,
     ) -> Result<(LocalFile, usize), CodecFault> {
-        let (name, next) = name_here(alloc, bytes, place)?;
+        let (name, next) = read_name(alloc, bytes, place)?;
         let (length, next) = read_u64(bytes, next)?;
-        let (held, next) = bytes_here(alloc, bytes, next, BYTES_LIMIT)?;
-        let file = LocalFile {
-            name,
-            length,
-            bytes: held,
-        };
+        let (held, next) = read_bytes(alloc, bytes, next, BYTES_LIMIT)?;
+        let file = LocalFile { name, length, held };
         Ok((file, next))
     }
+
+    fn reads_as_spelled() {}
 }
 
 // The view at the place, and the place behind it.
@@ -78,11 +85,11 @@ pub(crate) fn view_here(
     ensures fault { IfErr result (IsWithin (length bytes.now)) }
 {
     let (number, next) = read_u64(bytes, place)?;
-    let (deployment, next) = deployment_here(alloc, bytes, next)?;
-    let (application, next) = application_here(alloc, bytes, next)?;
-    let (base, next) = target_here(alloc, bytes, next)?;
-    let (groups, next) = list_here::<Text>(alloc, bytes, next, FILE_COUNT_LIMIT)?;
-    let (locals, next) = list_here::<LocalFile>(alloc, bytes, next, FILE_COUNT_LIMIT)?;
+    let (deployment, next) = read_deployment(alloc, bytes, next)?;
+    let (application, next) = read_application(alloc, bytes, next)?;
+    let (base, next) = read_target(alloc, bytes, next)?;
+    let (groups, next) = read_list::<TextField>(alloc, bytes, next, FILE_COUNT_LIMIT)?;
+    let (locals, next) = read_list::<LocalField>(alloc, bytes, next, FILE_COUNT_LIMIT)?;
     let view = View {
         number,
         deployment,

@@ -1,20 +1,19 @@
 // Writing views and their files.
 ghost use Rattle.std.specs.Prelude.{◌≡◌, ◌+◌, ◌<◌, ◌≤◌, ◌^◌, length};
-ghost use Rattle.record_codec.specs.Codec.{install_text};
-ghost use Rattle.record_codec.specs.Places.{Writes};
+ghost use Rattle.record_fields.specs.Places.{Writes};
 ghost use Rattle.record_codec.specs.Spelling.{content_field, local_field, view_field};
-ghost use Rattle.record_codec.specs.Values.{IsContent, IsInstall, IsLocal, IsView};
+ghost use Rattle.record_codec.specs.Values.{IsContent, IsLocal, IsView};
 
-use crate::item::write_list;
-use crate::manifest_writing::{write_application, write_deployment, write_digests};
-use crate::part_writing::write_target;
-use crate::writing::{put, write_bytes, write_u64};
-use small_types::Target;
+use crate::item_values::LocalField;
+use record_fields::{
+    TextField, write_application, write_bytes, write_deployment, write_digests, write_list,
+    write_name, write_target, write_u64,
+};
 use store_state::{Content, LocalFile, View};
 
 /// Writes the content at the place, its length, its digests and its bytes, and answers the place
 /// behind it.
-#[tactic(auto, using(crate::proofs::Long::lengths), unfolding(crate::specs::Spelling::content_field))]
+#[tactic(auto, using(record_fields::proofs::Long::lengths), unfolding(crate::specs::Spelling::content_field))]
 pub fn write_content(out: &mut [u8], place: usize, content: &Content) -> usize
     requires content { IsContent content.now }
     requires room { place + length (content_field content.now) ≤ length out.old }
@@ -22,24 +21,24 @@ pub fn write_content(out: &mut [u8], place: usize, content: &Content) -> usize
 {
     let next = write_u64(out, place, content.size);
     let next = write_digests(out, next, &content.list);
-    write_bytes(out, next, content.bytes.as_slice())
+    write_bytes(out, next, content.held.as_slice())
 }
 
 /// Writes the data file at the place, its name, its length and its bytes, and answers the place
 /// behind it.
-#[tactic(auto, using(crate::proofs::Long::lengths), unfolding(crate::specs::Spelling::local_field))]
+#[tactic(auto, using(record_fields::proofs::Long::lengths), unfolding(crate::specs::Spelling::local_field))]
 pub fn write_local(out: &mut [u8], place: usize, local: &LocalFile) -> usize
     requires local { IsLocal local.now }
     requires room { place + length (local_field local.now) ≤ length out.old }
     ensures { Writes out.old place (local_field local.now) out.new result }
 {
-    let next = write_bytes(out, place, local.name.as_bytes());
+    let next = write_name(out, place, &local.name);
     let next = write_u64(out, next, local.length);
-    write_bytes(out, next, local.bytes.as_slice())
+    write_bytes(out, next, local.held.as_slice())
 }
 
 /// Writes the view at the place, its fields in their order, and answers the place behind it.
-#[tactic(auto, using(crate::proofs::Long::lengths), unfolding(crate::specs::Spelling::view_field))]
+#[tactic(auto, using(record_fields::proofs::Long::lengths), unfolding(crate::specs::Spelling::view_field))]
 pub fn write_view(out: &mut [u8], place: usize, view: &View) -> usize
     requires view { IsView view.now }
     requires room { place + length (view_field view.now) ≤ length out.old }
@@ -49,28 +48,6 @@ pub fn write_view(out: &mut [u8], place: usize, view: &View) -> usize
     let next = write_deployment(out, next, &view.deployment);
     let next = write_application(out, next, &view.application);
     let next = write_target(out, next, &view.base);
-    let next = write_list(out, next, view.groups.as_slice());
-    write_list(out, next, view.locals.as_slice())
-}
-
-// Writes the installation at the front, the number of its kind and its fields, and answers the
-// place behind it.
-#[tactic(auto, using(crate::proofs::Long::lengths), unfolding(crate::specs::Codec::install_text))]
-pub(crate) fn write_install(
-    out: &mut [u8],
-    view: &View,
-    contents: &[Content],
-    provider: &Target,
-    now: u64,
-) -> usize
-    requires install { IsInstall view.now contents.now provider.now now }
-    requires room { length (install_text view.now contents.now provider.now now) ≤ length out.old }
-    ensures { let text = install_text view.now contents.now provider.now now in
-        Writes out.old 0 text out.new result }
-{
-    let next = put(out, 0, &[2]);
-    let next = write_view(out, next, view);
-    let next = write_list(out, next, contents);
-    let next = write_target(out, next, provider);
-    write_u64(out, next, now)
+    let next = write_list::<TextField>(out, next, view.groups.as_slice());
+    write_list::<LocalField>(out, next, view.locals.as_slice())
 }

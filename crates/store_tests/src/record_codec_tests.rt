@@ -2,7 +2,8 @@ ghost use Rattle.identity.specs.Key.{IsKey};
 ghost use Rattle.record_codec.specs.Codec.{IsChange};
 
 use identity::{Key, Version};
-use record_codec::{CodecFault, decode_change, encode_change, encoded_length};
+use record_codec::{decode_change, encode_change, encoded_length};
+use record_fields::CodecFault;
 use std::alloc::{AllocError, Global};
 use std::test::Fail;
 use store_state::{Change, Content};
@@ -143,7 +144,7 @@ fn short_form(change: &Change) -> Said {
             *view,
             file.name.as_bytes().len(),
             file.length,
-            file.bytes.as_slice().len(),
+            file.held.as_slice().len(),
         ),
         Change::Remove { view, name } => Said::Remove(*view, name.as_bytes().len()),
         Change::Clean => Said::Clean,
@@ -154,7 +155,7 @@ fn short_form(change: &Change) -> Said {
 fn sizes(contents: &[Content]) -> [usize; 2] {
     match contents {
         [] => [0, 0],
-        [first, ..] => [contents.len(), first.bytes.as_slice().len()],
+        [first, ..] => [contents.len(), first.held.as_slice().len()],
     }
 }
 

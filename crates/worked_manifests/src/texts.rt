@@ -1,144 +1,113 @@
-// The manifests that are inspected.
+// Texts with names, of which others are made.
+use std::alloc::Global;
+use std::io::{self, ErrorKind};
 
-// A deployment manifest as Visual Studio writes it.
-pub const DEPLOYMENT: &str = "<?xml version=\"1.0\" encoding=\"utf-8\"?>
-<asmv1:assembly manifestVersion=\"1.0\" xmlns:asmv1=\"urn:schemas-microsoft-com:asm.v1\" xmlns=\"urn:schemas-microsoft-com:asm.v2\" xmlns:asmv2=\"urn:schemas-microsoft-com:asm.v2\" xmlns:co.v1=\"urn:schemas-microsoft-com:clickonce.v1\" xmlns:dsig=\"http://www.w3.org/2000/09/xmldsig#\">
-  <assemblyIdentity name=\"demo.application\" version=\"1.0.0.0\" publicKeyToken=\"0000000000000000\" language=\"neutral\" processorArchitecture=\"msil\" xmlns=\"urn:schemas-microsoft-com:asm.v1\" />
-  <description asmv2:publisher=\"Demo\" asmv2:product=\"demo\" xmlns=\"urn:schemas-microsoft-com:asm.v1\" />
-  <deployment install=\"true\" mapFileExtensions=\"true\" minimumRequiredVersion=\"1.0.0.0\" co.v1:createDesktopShortcut=\"true\">
-    <subscription><update><expiration maximumAge=\"0\" unit=\"days\" /></update></subscription>
-    <deploymentProvider codebase=\"http://demo.test/demo.application\" />
-  </deployment>
-  <compatibleFrameworks xmlns=\"urn:schemas-microsoft-com:clickonce.v2\">
-    <framework targetVersion=\"4.7.2\" profile=\"Full\" supportedRuntime=\"4.0.30319\" />
-  </compatibleFrameworks>
-  <dependency>
-    <dependentAssembly dependencyType=\"install\" codebase=\"Application Files\\demo_1_0_0_0\\demo.exe.manifest\" size=\"3\">
-      <assemblyIdentity name=\"demo.exe\" version=\"1.0.0.0\" publicKeyToken=\"0000000000000000\" language=\"neutral\" processorArchitecture=\"msil\" type=\"win32\" />
-      <hash>
-        <dsig:Transforms><dsig:Transform Algorithm=\"urn:schemas-microsoft-com:HashTransforms.Identity\" /></dsig:Transforms>
-        <dsig:DigestMethod Algorithm=\"http://www.w3.org/2000/09/xmldsig#sha256\" />
-        <dsig:DigestValue>ungWv48Bz+pBQUDeXa4iI7ADYaOWF3qctBD/YfIAFa0=</dsig:DigestValue>
-      </hash>
-    </dependentAssembly>
-  </dependency>
-</asmv1:assembly>
-";
+// A text with a name.
+#[derive(Drop)]
+struct Named {
+    name: String,
+    text: String,
+}
 
-// A small application manifest, of one file.
-pub const APPLICATION: &str =
-    "<assembly><assemblyIdentity name=\"app.exe\" version=\"1.0.0.0\"/><entryPoint><commandLine file=\"app.exe\" parameters=\"x\"/></entryPoint><file name=\"app.exe\" size=\"3\"><hash><DigestMethod Algorithm=\"http://www.w3.org/2000/09/xmldsig#sha256\"/><DigestValue>ungWv48Bz+pBQUDeXa4iI7ADYaOWF3qctBD/YfIAFa0=</DigestValue></hash></file></assembly>";
+/// Texts with names.
+#[derive(Drop)]
+pub struct Texts {
+    named: Vec<Named>,
+}
 
-// Its file.
-pub const ENTRY: &str =
-    "<file name=\"app.exe\" size=\"3\"><hash><DigestMethod Algorithm=\"http://www.w3.org/2000/09/xmldsig#sha256\"/><DigestValue>ungWv48Bz+pBQUDeXa4iI7ADYaOWF3qctBD/YfIAFa0=</DigestValue></hash></file>";
+/// The word before the first space, and what follows it.
+pub fn first_of(words: &str) -> (&str, &str) {
+    words.split_once(' ').unwrap_or((words, ""))
+}
 
-// The hash of that file.
-pub const HASH: &str =
-    "<hash><DigestMethod Algorithm=\"http://www.w3.org/2000/09/xmldsig#sha256\"/><DigestValue>ungWv48Bz+pBQUDeXa4iI7ADYaOWF3qctBD/YfIAFa0=</DigestValue></hash>";
+/// The number before the first space, and what follows it.
+pub fn numbered(words: &str) -> io::Result<(u64, &str)> {
+    let (number, rest) = first_of(words);
+    match number.parse::<u64>() {
+        Ok(number) => Ok((number, rest)),
+        Err(_) => Err(ErrorKind::InvalidInput.into()),
+    }
+}
 
-// A usual one: files in a folder, whose names are written with backslashes, and prerequisites.
-pub const USUAL: &str = "<?xml version=\"1.0\" encoding=\"utf-8\"?>
-<asmv1:assembly xmlns=\"urn:schemas-microsoft-com:asm.v2\" manifestVersion=\"1.0\" xmlns:asmv1=\"urn:schemas-microsoft-com:asm.v1\" xmlns:dsig=\"http://www.w3.org/2000/09/xmldsig#\">
-  <asmv1:assemblyIdentity name=\"Usual.exe\" version=\"2.3.4.5\" publicKeyToken=\"\" language=\"de-DE\" processorArchitecture=\"amd64\" type=\"win32\" />
-  <application />
-  <entryPoint>
-    <assemblyIdentity name=\"Usual\" version=\"2.3.4.5\" language=\"neutral\" processorArchitecture=\"msil\" />
-    <commandLine file=\"Usual.exe\" parameters=\"\" />
-  </entryPoint>
-  <dependency>
-    <dependentOS><osVersionInfo /></dependentOS>
-  </dependency>
-  <dependency>
-    <dependentAssembly dependencyType=\"preRequisite\" allowDelayedBinding=\"true\">
-      <assemblyIdentity name=\"Microsoft.Windows.CommonLanguageRuntime\" version=\"4.0.30319.0\" />
-    </dependentAssembly>
-  </dependency>
-  <dependency>
-    <dependentAssembly dependencyType=\"install\" allowDelayedBinding=\"true\" codebase=\"Usual.exe\" size=\"3\">
-      <assemblyIdentity name=\"Usual\" version=\"2.3.4.5\" />
-      <hash>
-        <dsig:Transforms>
-          <dsig:Transform Algorithm=\"urn:schemas-microsoft-com:HashTransforms.Identity\" />
-        </dsig:Transforms>
-        <dsig:DigestMethod Algorithm=\"http://www.w3.org/2001/04/xmlenc#sha256\" />
-        <dsig:DigestValue>
-          ungWv48Bz+pBQUDeXa4iI7ADYaOWF3qctBD/YfIAFa0=
-        </dsig:DigestValue>
-      </hash>
-    </dependentAssembly>
-  </dependency>
-  <file name=\"en\\text0.dll\" size=\"3072\">
-    <hash>
-      <dsig:DigestMethod Algorithm=\"http://www.w3.org/2000/09/xmldsig#sha1\" />
-      <dsig:DigestValue>qZk+NkcGgWq6PiVxeFDCbJzQ2J0=</dsig:DigestValue>
-    </hash>
-  </file>
-  <file name=\"en\\text1.dll\" size=\"4096\">
-    <hash>
-      <dsig:DigestMethod Algorithm=\"http://www.w3.org/2000/09/xmldsig#sha1\" />
-      <dsig:DigestValue>qZk+NkcGgWq6PiVxeFDCbJzQ2J0=</dsig:DigestValue>
-    </hash>
-  </file>
-  <file name=\"en\\text2.dll\" size=\"5120\">
-    <hash>
-      <dsig:DigestMethod Algorithm=\"http://www.w3.org/2000/09/xmldsig#sha1\" />
-      <dsig:DigestValue>qZk+NkcGgWq6PiVxeFDCbJzQ2J0=</dsig:DigestValue>
-    </hash>
-  </file>
-  <file name=\"en\\text3.dll\" size=\"10240\">
-    <hash>
-      <dsig:DigestMethod Algorithm=\"http://www.w3.org/2000/09/xmldsig#sha1\" />
-      <dsig:DigestValue>qZk+NkcGgWq6PiVxeFDCbJzQ2J0=</dsig:DigestValue>
-    </hash>
-  </file>
-  <file name=\"en\\text4.dll\" size=\"20480\">
-    <hash>
-      <dsig:DigestMethod Algorithm=\"http://www.w3.org/2000/09/xmldsig#sha1\" />
-      <dsig:DigestValue>qZk+NkcGgWq6PiVxeFDCbJzQ2J0=</dsig:DigestValue>
-    </hash>
-  </file>
-  <file name=\"en\\text5.dll\" size=\"65536\">
-    <hash>
-      <dsig:DigestMethod Algorithm=\"http://www.w3.org/2000/09/xmldsig#sha1\" />
-      <dsig:DigestValue>qZk+NkcGgWq6PiVxeFDCbJzQ2J0=</dsig:DigestValue>
-    </hash>
-  </file>
-  <file name=\"en\\text6.dll\" size=\"100000\">
-    <hash>
-      <dsig:DigestMethod Algorithm=\"http://www.w3.org/2000/09/xmldsig#sha1\" />
-      <dsig:DigestValue>qZk+NkcGgWq6PiVxeFDCbJzQ2J0=</dsig:DigestValue>
-    </hash>
-  </file>
-  <file name=\"en\\text7.dll\" size=\"262144\">
-    <hash>
-      <dsig:DigestMethod Algorithm=\"http://www.w3.org/2000/09/xmldsig#sha1\" />
-      <dsig:DigestValue>qZk+NkcGgWq6PiVxeFDCbJzQ2J0=</dsig:DigestValue>
-    </hash>
-  </file>
-  <file name=\"en\\text8.dll\" size=\"524288\">
-    <hash>
-      <dsig:DigestMethod Algorithm=\"http://www.w3.org/2000/09/xmldsig#sha1\" />
-      <dsig:DigestValue>qZk+NkcGgWq6PiVxeFDCbJzQ2J0=</dsig:DigestValue>
-    </hash>
-  </file>
-  <file name=\"en\\text9.dll\" size=\"1048576\">
-    <hash>
-      <dsig:DigestMethod Algorithm=\"http://www.w3.org/2000/09/xmldsig#sha1\" />
-      <dsig:DigestValue>qZk+NkcGgWq6PiVxeFDCbJzQ2J0=</dsig:DigestValue>
-    </hash>
-  </file>
-  <file name=\"en\\text10.dll\" size=\"2097152\">
-    <hash>
-      <dsig:DigestMethod Algorithm=\"http://www.w3.org/2000/09/xmldsig#sha1\" />
-      <dsig:DigestValue>qZk+NkcGgWq6PiVxeFDCbJzQ2J0=</dsig:DigestValue>
-    </hash>
-  </file>
-  <file name=\"en\\text11.dll\" size=\"4194304\">
-    <hash>
-      <dsig:DigestMethod Algorithm=\"http://www.w3.org/2000/09/xmldsig#sha1\" />
-      <dsig:DigestValue>qZk+NkcGgWq6PiVxeFDCbJzQ2J0=</dsig:DigestValue>
-    </hash>
-  </file>
-</asmv1:assembly>
-";
+// Adds the text, in which each `%` stands for the number.
+fn add_numbered(alloc: Global, made: &mut String, text: &str, number: u64) -> io::Result<()> {
+    let shown = format!(in alloc; "{number}")?;
+    for (place, part) in text.split('%').enumerate() {
+        if place > 0 {
+            made.push_str(shown.as_str())?;
+        }
+        made.push_str(part)?;
+    }
+    Ok(())
+}
+
+// The text so many times, in each of which `%` stands for its number.
+fn repeated(alloc: Global, count: u64, text: &str) -> io::Result<String> {
+    let mut made = String::new(alloc);
+    for number in 0..count {
+        add_numbered(alloc, &mut made, text, number)?;
+    }
+    Ok(made)
+}
+
+impl Texts {
+    /// A line feed and a byte order mark.
+    pub fn new(alloc: Global) -> io::Result<Texts> {
+        let named = Vec::new(alloc);
+        let mut texts = Texts { named };
+        texts.push(alloc, "LF", String::from_str(alloc, "\n")?)?;
+        texts.push(alloc, "BOM", String::from_str(alloc, "\u{feff}")?)?;
+        Ok(texts)
+    }
+
+    fn push(&mut self, alloc: Global, name: &str, text: String) -> io::Result<()> {
+        if self.of(name).is_ok() {
+            return Err(ErrorKind::AlreadyExists.into());
+        }
+        let name = String::from_str(alloc, name)?;
+        self.named.push(Named { name, text })?;
+        Ok(())
+    }
+
+    // The text of that name.
+    fn of(&self, name: &str) -> io::Result<&str> {
+        match self.named.iter().find(|named| named.name.as_str() == name) {
+            Some(named) => Ok(named.text.as_str()),
+            None => Err(ErrorKind::NotFound.into()),
+        }
+    }
+
+    /// The text, in which each `{NAME}` stands for the text of that name.
+    pub fn filled(&self, alloc: Global, text: &str) -> io::Result<String> {
+        let (head, rest) = text.split_once('{').unwrap_or((text, ""));
+        let mut made = String::from_str(alloc, head)?;
+        if rest.is_empty() {
+            return Ok(made);
+        }
+        for part in rest.split('{') {
+            let Some((name, tail)) = part.split_once('}') else {
+                return Err(ErrorKind::InvalidInput.into());
+            };
+            made.push_str(self.of(name)?)?;
+            made.push_str(tail)?;
+        }
+        Ok(made)
+    }
+
+    /// Names a text: the name, a space, and the text.
+    pub fn set(&mut self, alloc: Global, words: &str) -> io::Result<()> {
+        let (name, text) = first_of(words);
+        let text = self.filled(alloc, text)?;
+        self.push(alloc, name, text)
+    }
+
+    /// Names a text so many times, in each of which `%` stands for its number: how often, a space, the
+    /// name, a space, and the text.
+    pub fn set_times(&mut self, alloc: Global, words: &str) -> io::Result<()> {
+        let (count, words) = numbered(words)?;
+        let (name, text) = first_of(words);
+        let text = self.filled(alloc, text)?;
+        let text = repeated(alloc, count, text.as_str())?;
+        self.push(alloc, name, text)
+    }
+}

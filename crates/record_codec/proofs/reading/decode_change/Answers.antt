@@ -1,7 +1,7 @@
 use Rattle.std.proofs.Common.{Result, ap, subst, ◌∙◌, arith}
 use Rattle.store_state.specs.declared.change.Change.{Change}
-use Rattle.record_codec.specs.declared.fault.CodecFault.{CodecFault}
-use Rattle.record_codec.specs.Reading.{Gives}
+use Rattle.record_fields.specs.declared.fault.CodecFault.{CodecFault}
+use Rattle.record_fields.specs.Reading.{Gives}
 use Rattle.record_codec.specs.Changes.{change_of}
 use Rattle.record_codec.proofs.Changes.{found, all_again}
 use Rattle.record_codec.proofs.reading.decode_change.Goals as goal

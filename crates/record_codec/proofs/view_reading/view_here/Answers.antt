@@ -1,6 +1,6 @@
 use Rattle.std.proofs.Common.{length}
 use Rattle.record_codec.specs.Records.{view_at}
-use Rattle.record_codec.proofs.Exits.{exit_gives, exit_within, fails_behind, fails_here}
+use Rattle.record_fields.proofs.Exits.{exit_gives, exit_within, fails_behind, fails_here}
 use Rattle.record_codec.proofs.view_reading.view_here.Goals as goal
 
 pub returns-in_err-base-clause-exact : goal.returns-in_err-base-clause-exact

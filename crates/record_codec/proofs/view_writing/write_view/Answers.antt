@@ -1,5 +1,5 @@
 use Rattle.record_codec.specs.Spelling.{view_field}
-use Rattle.record_codec.proofs.Written.{then}
+use Rattle.record_fields.proofs.Written.{then}
 use Rattle.record_codec.proofs.view_writing.write_view.Goals as goal
 
 pub returns : goal.returns

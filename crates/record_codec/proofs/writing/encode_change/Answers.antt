@@ -1,14 +1,15 @@
 use Rattle.std.proofs.Common.{length, ap, subst, arith}
 use Rattle.store_state.specs.declared.change.Change.{Change}
 use Rattle.record_codec.specs.Codec.{change_text, IsChange}
-use Rattle.record_codec.proofs.Written.{length-change_text_boot, length-change_text_require, length-installed, length-heard, length-grouped, length-put, length-removed, then, at_front, boot_room, require_room, unheard_room, skip_room, rollback_room, launch_room, finish_room, clean_room, length-change_text_unheard, length-change_text_skip, length-change_text_rollback, length-change_text_launch, length-change_text_finish, length-change_text_clean, change_text_boot, change_text_require, change_text_install, change_text_heard, change_text_unheard, change_text_skip, change_text_rollback, change_text_launch, change_text_finish, change_text_group, change_text_put, change_text_remove, change_text_clean}
-use Rattle.record_codec.proofs.Long.{length-version_field}
+use Rattle.record_fields.proofs.Written.{then, at_front}
+use Rattle.record_codec.proofs.Written.{length-change_text_boot, length-change_text_require, length-installed, length-heard, length-grouped, length-put, length-removed, boot_room, require_room, unheard_room, skip_room, rollback_room, launch_room, finish_room, clean_room, length-change_text_unheard, length-change_text_skip, length-change_text_rollback, length-change_text_launch, length-change_text_finish, length-change_text_clean, change_text_boot, change_text_require, change_text_install, change_text_heard, change_text_unheard, change_text_skip, change_text_rollback, change_text_launch, change_text_finish, change_text_group, change_text_put, change_text_remove, change_text_clean}
+use Rattle.record_fields.proofs.Long.{length-version_field}
 use Rattle.record_codec.proofs.writing.encode_change.Goals as goal
 
 -- ---- a boot number
 
-pub put-next-requires : goal.put-next-requires
-put-next-requires c = omega (arith, boot_room c.args.change.now c.in-Boot.boot (length c.args.out.now) c.in-Boot.is c.requires.room)
+pub write_u8-next-requires : goal.write_u8-next-requires
+write_u8-next-requires c = omega (arith, boot_room c.args.change.now c.in-Boot.boot (length c.args.out.now) c.in-Boot.is c.requires.room)
 
 pub write_u64-requires : goal.write_u64-requires
 write_u64-requires c = omega (arith, boot_room c.args.change.now c.in-Boot.boot (length c.args.out.now) c.in-Boot.is c.requires.room)
@@ -19,12 +20,12 @@ returns-in-Boot-clause-length c = let is = ap (λ (x : Change). length (change_t
 pub returns-in-Boot-clause-text : goal.returns-in-Boot-clause-text
 returns-in-Boot-clause-text c =
     rw (c.in-Boot.is, change_text_boot c.in-Boot.boot)
-    (at_front (then c.put-next.ensures c.write_u64.ensures))
+    (at_front (then c.write_u8-next.ensures c.write_u64.ensures))
 
 -- ---- a requirement
 
-pub put-next-requires-in-Require : goal.put-next-requires-in-Require
-put-next-requires-in-Require c = omega (arith, require_room c.args.change.now c.in-Require.key c.in-Require.version (length c.args.out.now) c.in-Require.is c.requires.room)
+pub write_u8-next-requires-in-Require : goal.write_u8-next-requires-in-Require
+write_u8-next-requires-in-Require c = omega (arith, require_room c.args.change.now c.in-Require.key c.in-Require.version (length c.args.out.now) c.in-Require.is c.requires.room)
 
 pub write_key-next-requires-clause-room : goal.write_key-next-requires-clause-room
 write_key-next-requires-clause-room c = omega (arith, require_room c.args.change.now c.in-Require.key c.in-Require.version (length c.args.out.now) c.in-Require.is c.requires.room)
@@ -44,7 +45,7 @@ returns-in-Require-clause-length c =
 pub returns-in-Require-clause-text : goal.returns-in-Require-clause-text
 returns-in-Require-clause-text c =
     rw (c.in-Require.is, change_text_require c.in-Require.key c.in-Require.version)
-    (at_front (then c.put-next-in-Require.ensures
+    (at_front (then c.write_u8-next-in-Require.ensures
     (then c.write_key-next.ensures c.write_version.ensures)))
 
 -- ---- an installation
@@ -90,8 +91,8 @@ returns-in-Heard-clause-text c =
 
 -- ---- a check that heard nothing
 
-pub put-next-requires-in-Unheard : goal.put-next-requires-in-Unheard
-put-next-requires-in-Unheard c =
+pub write_u8-next-requires-in-Unheard : goal.write_u8-next-requires-in-Unheard
+write_u8-next-requires-in-Unheard c =
     omega (arith, unheard_room c.args.change.now c.in-Unheard.key (length c.args.out.now) c.in-Unheard.is c.requires.room)
 
 pub write_key-requires-clause-key : goal.write_key-requires-clause-key
@@ -109,12 +110,12 @@ returns-in-Unheard-clause-length c =
 pub returns-in-Unheard-clause-text : goal.returns-in-Unheard-clause-text
 returns-in-Unheard-clause-text c =
     rw (c.in-Unheard.is, change_text_unheard c.in-Unheard.key)
-    (at_front (then c.put-next-in-Unheard.ensures c.write_key.ensures))
+    (at_front (then c.write_u8-next-in-Unheard.ensures c.write_key.ensures))
 
 -- ---- a skip
 
-pub put-next-requires-in-Skip : goal.put-next-requires-in-Skip
-put-next-requires-in-Skip c =
+pub write_u8-next-requires-in-Skip : goal.write_u8-next-requires-in-Skip
+write_u8-next-requires-in-Skip c =
     omega (arith, skip_room c.args.change.now c.in-Skip.app (length c.args.out.now) c.in-Skip.is c.requires.room)
 
 pub write_u32-requires : goal.write_u32-requires
@@ -129,12 +130,12 @@ returns-in-Skip-clause-length c =
 pub returns-in-Skip-clause-text : goal.returns-in-Skip-clause-text
 returns-in-Skip-clause-text c =
     rw (c.in-Skip.is, change_text_skip c.in-Skip.app)
-    (at_front (then c.put-next-in-Skip.ensures c.write_u32.ensures))
+    (at_front (then c.write_u8-next-in-Skip.ensures c.write_u32.ensures))
 
 -- ---- a rollback
 
-pub put-next-requires-in-Rollback : goal.put-next-requires-in-Rollback
-put-next-requires-in-Rollback c =
+pub write_u8-next-requires-in-Rollback : goal.write_u8-next-requires-in-Rollback
+write_u8-next-requires-in-Rollback c =
     omega (arith, rollback_room c.args.change.now c.in-Rollback.app (length c.args.out.now) c.in-Rollback.is c.requires.room)
 
 pub write_u32-requires-in-Rollback : goal.write_u32-requires-in-Rollback
@@ -149,12 +150,12 @@ returns-in-Rollback-clause-length c =
 pub returns-in-Rollback-clause-text : goal.returns-in-Rollback-clause-text
 returns-in-Rollback-clause-text c =
     rw (c.in-Rollback.is, change_text_rollback c.in-Rollback.app)
-    (at_front (then c.put-next-in-Rollback.ensures c.write_u32-in-Rollback.ensures))
+    (at_front (then c.write_u8-next-in-Rollback.ensures c.write_u32-in-Rollback.ensures))
 
 -- ---- a launch
 
-pub put-next-requires-in-Launch : goal.put-next-requires-in-Launch
-put-next-requires-in-Launch c =
+pub write_u8-next-requires-in-Launch : goal.write_u8-next-requires-in-Launch
+write_u8-next-requires-in-Launch c =
     omega (arith, launch_room c.args.change.now c.in-Launch.app (length c.args.out.now) c.in-Launch.is c.requires.room)
 
 pub write_u32-requires-in-Launch : goal.write_u32-requires-in-Launch
@@ -169,12 +170,12 @@ returns-in-Launch-clause-length c =
 pub returns-in-Launch-clause-text : goal.returns-in-Launch-clause-text
 returns-in-Launch-clause-text c =
     rw (c.in-Launch.is, change_text_launch c.in-Launch.app)
-    (at_front (then c.put-next-in-Launch.ensures c.write_u32-in-Launch.ensures))
+    (at_front (then c.write_u8-next-in-Launch.ensures c.write_u32-in-Launch.ensures))
 
 -- ---- the end of a lease
 
-pub put-next-requires-in-Finish : goal.put-next-requires-in-Finish
-put-next-requires-in-Finish c =
+pub write_u8-next-requires-in-Finish : goal.write_u8-next-requires-in-Finish
+write_u8-next-requires-in-Finish c =
     omega (arith, finish_room c.args.change.now c.in-Finish.lease (length c.args.out.now) c.in-Finish.is c.requires.room)
 
 pub write_u64-requires-in-Finish : goal.write_u64-requires-in-Finish
@@ -189,7 +190,7 @@ returns-in-Finish-clause-length c =
 pub returns-in-Finish-clause-text : goal.returns-in-Finish-clause-text
 returns-in-Finish-clause-text c =
     rw (c.in-Finish.is, change_text_finish c.in-Finish.lease)
-    (at_front (then c.put-next-in-Finish.ensures c.write_u64-in-Finish.ensures))
+    (at_front (then c.write_u8-next-in-Finish.ensures c.write_u64-in-Finish.ensures))
 
 -- ---- a group
 
@@ -257,14 +258,14 @@ returns-in-Remove-clause-text c =
 
 -- ---- a clean
 
-pub put-requires : goal.put-requires
-put-requires c =
+pub write_u8-requires : goal.write_u8-requires
+write_u8-requires c =
     omega (arith, clean_room c.args.change.now (length c.args.out.now) c.in-Clean.is c.requires.room)
 
 pub returns-in-Clean-clause-length : goal.returns-in-Clean-clause-length
 returns-in-Clean-clause-length c =
     let is = ap (λ (x : Change). length (change_text x)) c.in-Clean.is in
-    omega (arith, length-change_text_clean, c.put.ensures.behind)
+    omega (arith, length-change_text_clean, c.write_u8.ensures.behind)
 
 pub returns-in-Clean-clause-text : goal.returns-in-Clean-clause-text
-returns-in-Clean-clause-text c = rw (c.in-Clean.is, change_text_clean) (at_front c.put.ensures)
+returns-in-Clean-clause-text c = rw (c.in-Clean.is, change_text_clean) (at_front c.write_u8.ensures)

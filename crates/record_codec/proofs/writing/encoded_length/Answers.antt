@@ -1,8 +1,8 @@
-use Rattle.std.proofs.Common.{List, ℕ, length, ap, subst, ◌∙◌, arith}
+use Rattle.std.proofs.Common.{subst, ◌∙◌, arith}
 use Rattle.record_codec.specs.Codec.{IsChange}
-use Rattle.record_codec.specs.Fields.{text_field}
 use Rattle.record_codec.proofs.Written.{length-change_text_boot, length-change_text_require, length-change_text_unheard, length-change_text_skip, length-change_text_rollback, length-change_text_launch, length-change_text_finish, length-change_text_put, length-change_text_remove, length-change_text_clean, length-installed, length-heard, length-grouped}
-use Rattle.record_codec.proofs.Bounds.{change_le, key_le, local_le, named_le, installed_le, heard_within, grouped_within}
+use Rattle.record_fields.proofs.Bounds.{key_le, named_le}
+use Rattle.record_codec.proofs.Bounds.{change_le, local_le, installed_le, heard_within, grouped_within}
 use Rattle.record_codec.proofs.writing.encoded_length.Goals as goal
 
 pub key_length-requires : goal.key_length-requires
@@ -126,27 +126,24 @@ returns-in-Put-clause-bound c =
     let fits = subst IsChange c.in-Put.is c.requires in
     rw c.in-Put.is (omega (arith, local_le c.in-Put.file fits.1))
 
-pub bytes_length-requires : goal.bytes_length-requires
-bytes_length-requires c =
+pub name_length-requires : goal.name_length-requires
+name_length-requires c =
     let fits = subst IsChange c.in-Remove.is c.requires in
-    rw c.as_bytes.ensures.value (omega (arith, named_le c.in-Remove.name fits.1))
+    omega (arith, named_le c.in-Remove.name fits.1)
 
 pub overflow_add-result-in-Remove : goal.overflow_add-result-in-Remove
 overflow_add-result-in-Remove c =
     let fits = subst IsChange c.in-Remove.is c.requires in
-    let same = ap (λ (t : List ℕ). length (text_field t)) c.as_bytes.ensures.value in
     omega (arith, named_le c.in-Remove.name fits.1)
 
 pub returns-in-Remove-clause-length : goal.returns-in-Remove-clause-length
 returns-in-Remove-clause-length c =
-    let same = ap (λ (t : List ℕ). length (text_field t)) c.as_bytes.ensures.value in
     let long = length-change_text_remove c.in-Remove.view c.in-Remove.name in
     rw c.in-Remove.is (omega arith)
 
 pub returns-in-Remove-clause-bound : goal.returns-in-Remove-clause-bound
 returns-in-Remove-clause-bound c =
     let fits = subst IsChange c.in-Remove.is c.requires in
-    let same = ap (λ (t : List ℕ). length (text_field t)) c.as_bytes.ensures.value in
     rw c.in-Remove.is (omega (arith, named_le c.in-Remove.name fits.1))
 
 pub returns-in-Clean-clause-length : goal.returns-in-Clean-clause-length

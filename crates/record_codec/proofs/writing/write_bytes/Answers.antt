@@ -1,7 +1,0 @@
-use Rattle.record_codec.specs.Fields.{text_field}
-use Rattle.record_codec.proofs.Written.{then}
-use Rattle.record_codec.proofs.writing.write_bytes.Goals as goal
-
-pub returns : goal.returns
-unfolding text_field
-returns c = then c.write_u32-start.ensures c.put.ensures

@@ -1,0 +1,70 @@
+// Views and their files. What is read at a place is within its limits, and stands there as it is
+// spelled; a value within its limits that stands there is read, unless memory runs out.
+ghost use Rattle.std.specs.Prelude.{◌≤◌, ℕ, length, Ok, IfOk, IfErr};
+ghost use Rattle.store_state.specs.declared.view.Content.{Content};
+ghost use Rattle.store_state.specs.declared.view.LocalFile.{LocalFile};
+ghost use Rattle.store_state.specs.declared.view.View.{View};
+ghost use Rattle.record_fields.specs.Places.{Stands};
+ghost use Rattle.record_fields.specs.Reading.{Gives, IsWithin};
+ghost use Rattle.record_codec.specs.Spelling.{content_field, local_field, view_field};
+ghost use Rattle.record_codec.specs.Values.{IsContent, IsLocal, IsView};
+ghost use Rattle.record_codec.specs.Records.{content_at, local_at, view_at};
+
+use crate::item_values::{ContentField, LocalField};
+use crate::view_reading::view_here;
+use record_fields::{CodecFault, Readable};
+use std::alloc::Global;
+use store_state::{Content, LocalFile, View};
+
+/// The content at the place, and the place behind it.
+/// The fault is that of the first field that cannot be read.
+pub fn read_content(
+    alloc: Global,
+    bytes: &[u8],
+    place: usize,
+) -> Result<(Content, usize), CodecFault>
+    requires { place ≤ length bytes.now }
+    ensures found { IfOk result (λ x. Stands bytes.now place (content_field x.0) x.1
+        × IsContent x.0) }
+    ensures only { (x : Content) (next : ℕ) → IsContent x
+        → Stands bytes.now place (content_field x) next → Gives result (Ok (x, next)) }
+    ensures exact { Gives result (content_at bytes.now place) }
+    ensures next { IfOk result (λ x. x.1 ≤ length bytes.now) }
+    ensures fault { IfErr result (IsWithin (length bytes.now)) }
+{
+    ContentField::read_here(alloc, bytes, place)
+}
+
+/// The data file at the place, and the place behind it.
+/// The fault is that of the first field that cannot be read.
+pub fn read_local(
+    alloc: Global,
+    bytes: &[u8],
+    place: usize,
+) -> Result<(LocalFile, usize), CodecFault>
+    requires { place ≤ length bytes.now }
+    ensures found { IfOk result (λ x. Stands bytes.now place (local_field x.0) x.1
+        × IsLocal x.0) }
+    ensures only { (x : LocalFile) (next : ℕ) → IsLocal x
+        → Stands bytes.now place (local_field x) next → Gives result (Ok (x, next)) }
+    ensures exact { Gives result (local_at bytes.now place) }
+    ensures next { IfOk result (λ x. x.1 ≤ length bytes.now) }
+    ensures fault { IfErr result (IsWithin (length bytes.now)) }
+{
+    LocalField::read_here(alloc, bytes, place)
+}
+
+/// The view at the place, and the place behind it.
+/// The fault is that of the first field that cannot be read.
+pub fn read_view(alloc: Global, bytes: &[u8], place: usize) -> Result<(View, usize), CodecFault>
+    requires { place ≤ length bytes.now }
+    ensures found { IfOk result (λ x. Stands bytes.now place (view_field x.0) x.1
+        × IsView x.0) }
+    ensures only { (x : View) (next : ℕ) → IsView x
+        → Stands bytes.now place (view_field x) next → Gives result (Ok (x, next)) }
+    ensures exact { Gives result (view_at bytes.now place) }
+    ensures next { IfOk result (λ x. x.1 ≤ length bytes.now) }
+    ensures fault { IfErr result (IsWithin (length bytes.now)) }
+{
+    view_here(alloc, bytes, place)
+}

@@ -1,0 +1,10 @@
+use Rattle.std.proofs.Common.{arith}
+use Rattle.record_fields.proofs.Records.{deployment_reads}
+use Rattle.record_fields.proofs.Together.{found_there, only_there}
+use Rattle.record_fields.proofs.record_parts.read_deployment.Goals as goal
+
+pub returns-clause-found : goal.returns-clause-found
+returns-clause-found c = found_there deployment_reads c.args.bytes.now c.args.place c.deployment_here.result (λ i. omega (arith, c.type_inv.bytes i)) c.requires c.deployment_here.ensures.exact
+
+pub returns-clause-only : goal.returns-clause-only
+returns-clause-only c = only_there deployment_reads c.args.bytes.now c.args.place c.deployment_here.result c.deployment_here.ensures.exact

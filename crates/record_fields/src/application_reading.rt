@@ -1,0 +1,80 @@
+// Reading what an application manifest says, from the left.
+ghost use Rattle.std.specs.Prelude.{◌≤◌, length, IfOk, IfErr};
+ghost use Rattle.record_fields.specs.Reading.{Gives, IsWithin};
+ghost use Rattle.record_fields.specs.Parts.{list_at};
+ghost use Rattle.record_fields.specs.Records.{application_at, entry_at};
+
+use crate::CodecFault;
+use crate::byte_reading::name_here;
+use crate::digest_reading::digests_here;
+use crate::form_reading::truth_here;
+use crate::item_values::EntryField;
+use crate::list_reading::{Readable, list_here};
+use crate::option_reading::text_option_here;
+use crate::part_reading::identity_here;
+use crate::reading::{text_here, u64_here};
+use manifests::{Application, FileEntry};
+use small_types::limits::{FILE_COUNT_LIMIT, NAME_LIMIT, URL_LIMIT};
+use std::alloc::Global;
+
+impl Readable for EntryField {
+    type Value = FileEntry;
+
+    ghost use Rattle.record_fields.specs.Records.{entry_at};
+    ghost use Rattle.record_fields.specs.Spelling.{entry_field};
+    ghost use Rattle.record_fields.specs.Values.{IsEntry};
+
+    ghost field = { entry_field };
+
+    ghost fits = { IsEntry };
+
+    ghost at = { entry_at };
+
+    #[tactic(auto, unfolding(crate::specs::Records::entry_at))]
+    fn read_here(
+        alloc: Global,
+        bytes: &[u8],
+        place: usize,
+    ) -> Result<(FileEntry, usize), CodecFault> {
+        let (name, next) = name_here(alloc, bytes, place)?;
+        let (size, next) = u64_here(bytes, next)?;
+        let (list, next) = digests_here(alloc, bytes, next)?;
+        let (group, next) = text_option_here(alloc, bytes, next, NAME_LIMIT)?;
+        let (local, next) = truth_here(bytes, next)?;
+        let entry = FileEntry {
+            name,
+            size,
+            list,
+            group,
+            local,
+        };
+        Ok((entry, next))
+    }
+
+    fn reads_as_spelled() {}
+}
+
+// What an application manifest says, at the place, and the place behind it.
+#[tactic(auto, unfolding(crate::specs::Records::application_at))]
+pub(crate) fn application_here(
+    alloc: Global,
+    bytes: &[u8],
+    place: usize,
+) -> Result<(Application, usize), CodecFault>
+    requires { place ≤ length bytes.now }
+    ensures exact { Gives result (application_at bytes.now place) }
+    ensures next { IfOk result (λ x. x.1 ≤ length bytes.now) }
+    ensures fault { IfErr result (IsWithin (length bytes.now)) }
+{
+    let (identity, next) = identity_here(alloc, bytes, place)?;
+    let (entry, next) = text_here(alloc, bytes, next, NAME_LIMIT)?;
+    let (parameters, next) = text_here(alloc, bytes, next, URL_LIMIT)?;
+    let (files, next) = list_here::<EntryField>(alloc, bytes, next, FILE_COUNT_LIMIT)?;
+    let application = Application {
+        identity,
+        entry,
+        parameters,
+        files,
+    };
+    Ok((application, next))
+}
