@@ -8,6 +8,7 @@ use Rattle.std.proofs.lemmas.Bool.{false≢true}
 use Rattle.std.proofs.lemmas.List.{drop_more}
 use Rattle.std.proofs.lemmas.List.Folds.{list_any-append}
 use Rattle.std.proofs.lemmas.List.Sorted.{list_any-IsPermutation}
+use Rattle.small_types.specs.declared.room.Room.{Room}
 use Rattle.machine.specs.declared.app.AppState.{AppState}
 use Rattle.machine.specs.declared.lease.Lease.{Lease}
 use Rattle.machine.specs.CleanRow.{removable}
@@ -128,12 +129,12 @@ bare_numbers [] = refl
 bare_numbers (view ∷ views) =
     ap (λ (ns : List ℕ). view.number ∷ ns) (bare_numbers views)
 
-module _ (blocks : ℕ) (tables : Tables) where
+module _ (room : Room) (tables : Tables) where
   -- those that are not among the used ones
   pub free_is : (used : List ℕ)
       → ((number : ℕ) → list_any (λ (n : ℕ). eqb n number) used
       ≡ is_in_use number tables.apps tables.leases)
-      → free_numbers used tables.views ≡ removable (table_shape blocks tables)
+      → free_numbers used tables.views ≡ removable (table_shape room tables)
   free_is used is =
       filter_same (λ (number : ℕ). not (list_any (λ (n : ℕ). eqb n number) used))
       (λ (number : ℕ). not (is_in_use number tables.apps tables.leases))
@@ -142,11 +143,11 @@ module _ (blocks : ℕ) (tables : Tables) where
       (bare_numbers tables.views)
 
   abbrev numbers : List ℕ
-  numbers = removable (table_shape blocks tables)
+  numbers = removable (table_shape room tables)
 
   -- each is that of a view
   pub removable_kept : All (λ (number : ℕ). IsSome (row_at number tables.views))
-      (removable (table_shape blocks tables))
+      (removable (table_shape room tables))
   removable_kept =
       in_all (λ (number : ℕ). IsSome (row_at number tables.views)) numbers (λ number there. (
       let listed = (filter_in (λ (n : ℕ). not (is_in_use n tables.apps tables.leases)) _ number
@@ -162,7 +163,7 @@ module _ (blocks : ℕ) (tables : Tables) where
 
   -- and in no use
   pub removable_unused : All (λ (number : ℕ). ¬ IsInUse number tables.apps tables.leases)
-      (removable (table_shape blocks tables))
+      (removable (table_shape room tables))
   removable_unused =
       in_all (λ (number : ℕ). ¬ IsInUse number tables.apps tables.leases) numbers
       (λ number there used. (

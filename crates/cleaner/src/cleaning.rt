@@ -3,6 +3,7 @@ ghost use Rattle.std.specs.Prelude.{◌≡◌, ◌==◌, ℕ, filter, length, ma
 ghost use Rattle.std.specs.List.{list_any};
 ghost use Rattle.std.specs.List.Sorted.{IsSorted};
 ghost use Rattle.std.specs.Ordering.{nat_cmp};
+ghost use Rattle.small_types.specs.declared.room.Room.{Room};
 ghost use Rattle.machine.specs.CleanRow.{removable};
 ghost use Rattle.store_state.specs.declared.change.Change.TheVariants as change;
 ghost use Rattle.store_state.specs.Change.{effect};
@@ -33,8 +34,8 @@ fn unused_among(alloc: Global, views: &[View], used: &[u64]) -> Result<Vec<u64>,
 /// The numbers of the kept views that are neither current nor previous of any application nor
 /// leased, in their order. It fails only for want of memory.
 pub fn removable(alloc: Global, state: &StoreState) -> Result<List<u64>, CleanFault>
-    ensures { IfOk result (λ numbers. (blocks : ℕ)
-        → numbers ≡ removable (table_shape blocks state.now)) }
+    ensures { IfOk result (λ numbers. (room : Room)
+        → numbers ≡ removable (table_shape room state.now)) }
 {
     let used = numbers_in_use(alloc, state)?;
     let found = unused_among(alloc, state.views.as_slice(), used.as_slice())?;
@@ -45,8 +46,8 @@ pub fn removable(alloc: Global, state: &StoreState) -> Result<List<u64>, CleanFa
 /// answers how many they were. It fails only for want of memory, and then changes nothing.
 pub fn clean(alloc: Global, state: &mut StoreState) -> Result<usize, CleanFault>
     ensures ok { OnOk result (state.new ≡ effect change.Clean state.old) }
-    ensures count { IfOk result (λ count. (blocks : ℕ)
-        → count ≡ length (removable (table_shape blocks state.old))) }
+    ensures count { IfOk result (λ count. (room : Room)
+        → count ≡ length (removable (table_shape room state.old))) }
     ensures err { OnErr result (state.new ≡ state.old) }
 {
     let numbers = removable(alloc, state)?;

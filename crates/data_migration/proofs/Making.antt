@@ -5,6 +5,7 @@ use Rattle.std.specs.List.Sorted.{IsPermutation, IsSortedByKey}
 use Rattle.std.specs.declared.cmp.Ordering.TheVariants.{Less}
 use Rattle.std.proofs.lemmas.List.Sorted.{Contains-permutation, IsPermutation-sym}
 use Rattle.std.proofs.lemmas.Slice.Eq.{bytes_eq-Decides}
+use Rattle.small_types.specs.declared.room.Room.{Room}
 use Rattle.small_types.specs.Name.{IsBelowPre}
 use Rattle.identity.specs.Printed.{text_cmp}
 use Rattle.manifests.specs.declared.facts.FileEntry.{FileEntry}
@@ -16,6 +17,7 @@ use Rattle.machine.proofs.Members.{In, contains_in, in_contains, in_map, map_in,
 use Rattle.machine.proofs.Moving.{fresh_test}
 use Rattle.store_state.specs.declared.view.LocalFile.{LocalFile}
 use Rattle.store_state.specs.Shows.{shown_data}
+use Rattle.store_state.specs.Stored.{data_bytes}
 use Rattle.data_migration.specs.declared.plan.LocalPlan.{LocalPlan}
 use Rattle.data_migration.specs.declared.plan.LocalPlan.TheVariants.{Copy, Fresh}
 use Rattle.data_migration.specs.Migration.{AreApart, IsMigration, applied, bytes_in, deployed_files, listed_in, made}
@@ -44,20 +46,20 @@ same_file f name bytes n b =
     sym (ap (λ (x : List ℕ). record f { name = x }) n
     ∙ ap (λ (x : List ℕ). record { name = name; bytes = x }) b)
 
-shown_names : (files : List LocalFile)
-    → map (λ (f : DataFile). f.name) (map shown_data files) ≡ local_names files
-shown_names [] = refl
-shown_names (file ∷ files) =
-    ap (λ (ns : List (List ℕ)). file.name ∷ ns) (shown_names files)
+shown_names : (room : Room) (image : List ℕ) (files : List LocalFile)
+    → map (λ (f : DataFile). f.name) (map (shown_data room image) files) ≡ local_names files
+shown_names room image [] = refl
+shown_names room image (file ∷ files) =
+    ap (λ (ns : List (List ℕ)). file.name ∷ ns) (shown_names room image files)
 
-module _ (old : List LocalFile) (old_files new_files : List FileEntry)
-    (originals : List ListedFile) (plans : List LocalPlan)
+module _ (room : Room) (image : List ℕ) (old : List LocalFile)
+    (old_files new_files : List FileEntry) (originals : List ListedFile) (plans : List LocalPlan)
     (same : IsPermutation (planned old old_files new_files) plans)
     (sorted : IsSortedByKey plan_name text_cmp plans) (apart : AreApart old new_files)
     (deployed : map (λ (file : ListedFile). file.entry) originals ≡ deployed_files new_files)
   where
     abbrev held : List DataFile
-    held = map shown_data old
+    held = map (shown_data room image) old
 
     abbrev make : LocalPlan → DataFile
     make = made held originals
@@ -72,7 +74,7 @@ module _ (old : List LocalFile) (old_files new_files : List FileEntry)
 
     data_apart : AllPairs (λ (f g : DataFile). ◌≢◌ {A = List ℕ} f.name g.name) held
     data_apart =
-        pairs_map shown_data (λ (f g : LocalFile). ◌≢◌ {A = List ℕ} f.name g.name)
+        pairs_map (shown_data room image) (λ (f g : LocalFile). ◌≢◌ {A = List ℕ} f.name g.name)
         (λ (f g : DataFile). ◌≢◌ {A = List ℕ} f.name g.name) old (λ f g other. other)
         apart.old_names
 
@@ -85,11 +87,11 @@ module _ (old : List LocalFile) (old_files new_files : List FileEntry)
         apart.new_names)
 
     copy_is : (file : LocalFile) (to : List ℕ) → In file old
-        → ◌≡◌ {A = DataFile} (make (Copy file.name to)) (record { name = to; bytes = file.bytes })
+        → ◌≡◌ {A = DataFile} (make (Copy file.name to)) (record { name = to; bytes = data_bytes room image file })
     copy_is file to there =
         ap (λ (found : Option DataFile). record { name = to; bytes = bytes_in found })
-        (find_own (λ (f : DataFile). f.name) held data_apart (shown_data file)
-        (in_map shown_data old file there))
+        (find_own (λ (f : DataFile). f.name) held data_apart (shown_data room image file)
+        (in_map (shown_data room image) old file there))
 
     fresh_is : (o : ListedFile) → In o originals
         → ◌≡◌ {A = DataFile} (make (Fresh o.entry.name))
@@ -106,18 +108,18 @@ module _ (old : List LocalFile) (old_files new_files : List FileEntry)
 
     carried_comes : (s : Bool) (from : LocalFile) (file : DataFile) → stay from.name ≡ s
         → In from old → ¬ IsBelowPre from.name
-        → ◌≡◌ {A = DataFile} (record { name = carried_to s from.name; bytes = from.bytes }) file
+        → ◌≡◌ {A = DataFile} (record { name = carried_to s from.name; bytes = data_bytes room image from }) file
         → Comes file
     carried_comes true from file is there outside made_is =
         inl (subst (IsKept held old_files new_files) made_is (record {
-          there = contains_in held (shown_data from) (in_map shown_data old from there);
+          there = contains_in held (shown_data room image from) (in_map (shown_data room image) old from there);
           outside = outside;
           same = is;
         }))
     carried_comes false from file is there outside made_is =
         inr (inl (record {
-          from = shown_data from;
-          there = contains_in held (shown_data from) (in_map shown_data old from there);
+          from = (shown_data room image) from;
+          there = contains_in held (shown_data room image from) (in_map (shown_data room image) old from there);
           outside = outside;
           other = is;
           name = ap (λ (f : DataFile). f.name) (sym made_is);
@@ -135,7 +137,7 @@ module _ (old : List LocalFile) (old_files new_files : List FileEntry)
     alone : (name : List ℕ) → comes name ≡ true → (kept : DataFile)
         → IsKept held old_files new_files kept → ◌≢◌ {A = List ℕ} kept.name name
     alone name fresh kept is same_name =
-        let from = map_in shown_data old kept (in_contains held kept is.there) in
+        let from = map_in (shown_data room image) old kept (in_contains held kept is.there) in
         let named : from.0.name ≡ kept.name = ap (λ (f : DataFile). f.name) from.2 in
         fresh_alone old old_files new_files name fresh from.0 from.1
         (subst (λ (n : List ℕ). ¬ IsBelowPre n) (sym named) is.outside)
@@ -188,18 +190,18 @@ module _ (old : List LocalFile) (old_files new_files : List FileEntry)
 
     carried_made : (s : Bool) (from : LocalFile) (file : DataFile) → stay from.name ≡ s
         → In from old → ¬ IsBelowPre from.name
-        → ◌≡◌ {A = DataFile} (record { name = carried_to s from.name; bytes = from.bytes }) file
+        → ◌≡◌ {A = DataFile} (record { name = carried_to s from.name; bytes = data_bytes room image from }) file
         → In file (map make plans)
     carried_made s from file is there outside made_is =
         plan_made (Copy from.name (carried_to (stay from.name) from.name)) file
         (plan_of_old old old_files new_files from there outside)
         (copy_is from (carried_to (stay from.name) from.name) there
-        ∙ ap (λ (b : Bool). record { name = carried_to b from.name; bytes = from.bytes }) is
+        ∙ ap (λ (b : Bool). record { name = carried_to b from.name; bytes = data_bytes room image from }) is
         ∙ made_is)
 
     kept_made : (file : DataFile) → IsKept held old_files new_files file → In file (map make plans)
     kept_made file kept =
-        let from = map_in shown_data old file (in_contains held file kept.there) in
+        let from = map_in (shown_data room image) old file (in_contains held file kept.there) in
         let named : from.0.name ≡ file.name = ap (λ (f : DataFile). f.name) from.2 in
         carried_made true from.0 file
         (subst (λ (n : List ℕ). stay n ≡ true) (sym named) kept.same) from.1
@@ -208,13 +210,13 @@ module _ (old : List LocalFile) (old_files new_files : List FileEntry)
     aside_made : (file : DataFile) → IsAside held old_files new_files file
         → In file (map make plans)
     aside_made file off =
-        let from = map_in shown_data old off.from (in_contains held off.from off.there) in
+        let from = map_in (shown_data room image) old off.from (in_contains held off.from off.there) in
         let named : from.0.name ≡ off.from.name = ap (λ (f : DataFile). f.name) from.2 in
-        let filled : from.0.bytes ≡ off.from.bytes = ap (λ (f : DataFile). f.bytes) from.2 in
+        let filled : data_bytes room image from.0 ≡ off.from.bytes = ap (λ (f : DataFile). f.bytes) from.2 in
         carried_made false from.0 file
         (subst (λ (n : List ℕ). stay n ≡ false) (sym named) off.other) from.1
         (subst (λ (n : List ℕ). ¬ IsBelowPre n) (sym named) off.outside)
-        (same_file file (aside from.0.name) from.0.bytes
+        (same_file file (aside from.0.name) (data_bytes room image from.0)
         (off.name ∙ ap aside (sym named)) (off.bytes ∙ sym filled))
 
     fresh_made : (file : DataFile) → IsFresh held old_files new_files originals file
@@ -228,7 +230,7 @@ module _ (old : List LocalFile) (old_files new_files : List FileEntry)
         (in_map (λ (p : ListedFile). p.entry) originals o there))
         (subst (λ (n : List ℕ). comes n ≡ true) fresh.name
         (subst (λ (ns : List (List ℕ)). is_fresh ns old_files new_files file.name ≡ true)
-        (shown_names old) (fresh_test held old_files new_files originals file fresh))))
+        (shown_names room image old) (fresh_test held old_files new_files originals file fresh))))
         (fresh_is o there ∙ same_file file o.entry.name o.bytes fresh.name fresh.bytes)
 
     comes_made : (file : DataFile) → Comes file → In file (map make plans)
@@ -261,5 +263,5 @@ module _ (old : List LocalFile) (old_files new_files : List FileEntry)
 pub is_migration : (old : List LocalFile) (old_files new_files : List FileEntry)
     (plans : List LocalPlan) → IsPermutation (planned old old_files new_files) plans
     → IsSortedByKey plan_name text_cmp plans → IsMigration old old_files new_files plans
-is_migration old old_files new_files plans same sorted originals apart deployed =
-    migrated old old_files new_files originals plans same sorted apart deployed
+is_migration old old_files new_files plans same sorted room image originals apart deployed =
+    migrated room image old old_files new_files originals plans same sorted apart deployed

@@ -6,7 +6,7 @@ ghost use Rattle.machine.specs.Migrated.{aside};
 ghost use Rattle.data_migration.specs.Plans.{carried_to};
 
 use crate::MigrateFault;
-use small_types::{Duplicate, Name};
+use small_types::{Duplicate, Name, NameFault};
 use std::alloc::Global;
 
 // Whether the first part of the name is not `.pre`.
@@ -34,7 +34,8 @@ fn aside(alloc: Global, name: &Name) -> Result<Name, MigrateFault>
     let bytes = aside_bytes(alloc, name.as_bytes())?;
     match Name::read(alloc, &bytes) {
         Ok(name) => Ok(name),
-        Err(_) => Err(MigrateFault::Memory),
+        Err(NameFault::Memory) => Err(MigrateFault::Memory),
+        Err(NameFault::Bad) => unreachable!(),
     }
 }
 

@@ -6,8 +6,8 @@ ghost use Rattle.file_groups.specs.declared.fault.GroupFault.TheVariants as faul
 
 use crate::GroupFault;
 use manifests::FileEntry;
-use small_types::{Duplicate, List, Text};
-use std::alloc::Global;
+use small_types::{CopyFault, Duplicate, List, Text};
+use std::alloc::{AllocFailed, Global};
 use store_state::{View, is_in_group};
 
 // Those of the files that are program files of the group, in their order.
@@ -18,12 +18,13 @@ fn files_of(alloc: Global, files: &[FileEntry], group: &Text) -> Result<Vec<File
     let mut found = Vec::new(alloc);
     for entry in files {
         if is_in_group(entry, group) {
-            let Ok(copy) = entry.copy(alloc) else {
-                return Err(GroupFault::Memory);
+            let copy = match entry.copy(alloc) {
+                Ok(copy) => copy,
+                Err(CopyFault::Memory) => return Err(GroupFault::Memory),
             };
-            let Ok(()) = found.push(copy) else {
+            if let Err(AllocFailed { .. }) = found.push(copy) {
                 return Err(GroupFault::Memory);
-            };
+            }
         }
     }
     Ok(found)

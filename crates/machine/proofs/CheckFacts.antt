@@ -159,7 +159,7 @@ unheard_kept : (key : Key) (old : Session) (target : Target) (causes : List Caus
     → Kept (Check key) old (says.AllLinks target causes) (record old { store = unheard key old.store })
 unheard_kept key old target causes installed = record {
   memory = λ e. absurd (all_links_is_other target causes e);
-  blocks = refl;
+  room = refl;
   boot = refl;
   jobs = refl;
   next_job = refl;

@@ -357,7 +357,7 @@ second_lease = record { number = 2; view = 2 }
 
 abbrev pub store : Store
 store = record {
-  blocks = 7;
+  room = record { blocks = 7; half = 0 };
   boot = 0;
   next_view = 3;
   next_lease = 3;

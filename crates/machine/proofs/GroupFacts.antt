@@ -110,7 +110,7 @@ module _ (lease : ℕ) (group : List ℕ) where
           (λ e. group_is_other (length (group_files group done.view.application))
           (sym done.replied ∙ e))
           (ap (λ (r : Reply). moment_set (Some r)) done.replied)
-          (ap (λ (s : Store). s.blocks) grown.is) (ap (λ (s : Store). s.boot) grown.is)
+          (ap (λ (s : Store). s.room) grown.is) (ap (λ (s : Store). s.boot) grown.is)
           (rises_as old.store.apps done.store.apps
           (λ key. ap (λ (s : Store). minimum_of key s.apps) grown.is))
           (subst (λ (s : Store). KeepsLeases old.store s) (sym grown.is)

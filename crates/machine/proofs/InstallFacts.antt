@@ -113,7 +113,7 @@ module _ (now : ℕ) (heard : List (List ℕ)) (url : List ℕ) (old : Session) 
         (λ e. installed_is_other d.identity.key d.identity.version old.store.next_view
         (sym done.replied ∙ e))
         (ap (λ (r : Reply). moment_set (Some r)) done.replied)
-        (ap (λ (s : Store). s.blocks) done.installed.is)
+        (ap (λ (s : Store). s.room) done.installed.is)
         (ap (λ (s : Store). s.boot) done.installed.is)
         (λ key minimum is. subst (λ (s : Session). Holds minimum (minimum_of key s.store.apps))
         done.is

@@ -246,11 +246,11 @@ module _ {R C : Type 0} {says : Replies R C} {locals : ℕ} {url : List ℕ} {he
   left_ordered : Ordered old.store → Ordered is.effect.store
   left_ordered was = subst Ordered (sym is.effect.installed.is) (installed_ordered is.effect.installed.provider is.effect.base d a is.effect.files is.effect.installed.data_files now old.store (fitting was) was)
 
-  left_room : Valid old.store → used_blocks (map bare_view is.effect.store.views) ≤ is.effect.store.blocks
+  left_room : Valid old.store → used_blocks (map bare_view is.effect.store.views) ≤ is.effect.store.room.blocks
   left_room was =
       let used = used_after is.effect.installed.provider is.effect.base d a is.effect.files is.effect.originals is.effect.installed.data_files now old.store is.effect.fetched is.effect.installed.migrated in
       let room = was.room in
-      subst (λ (store : Store). used_blocks (map bare_view store.views) ≤ store.blocks) (sym is.effect.installed.is) (omega (arith, used, room, has_room))
+      subst (λ (store : Store). used_blocks (map bare_view store.views) ≤ store.room.blocks) (sym is.effect.installed.is) (omega (arith, used, room, has_room))
 
   pub left_valid : Valid old.store → Valid new.store
   left_valid was = subst (λ (s : Session). Valid s.store) (sym is.effect.is) (record { ordered = left_ordered was.ordered; room = left_room was })

@@ -6,6 +6,7 @@ use Rattle.std.specs.declared.cmp.Ordering.TheVariants.{Less, Equal, Greater}
 use Rattle.std.specs.Ordering.{is_lt}
 use Rattle.std.proofs.lemmas.Bool.{cases_lt}
 use Rattle.std.proofs.lemmas.List.Elements.{All-nil, All-weaker}
+use Rattle.small_types.specs.declared.room.Room.{Room}
 use Rattle.small_types.specs.declared.limits.TheConstants.{APPLICATION_LIMIT, BLOCK_LIMIT, NUMBER_LIMIT}
 use Rattle.identity.specs.declared.key.Key.{Key}
 use Rattle.identity.specs.declared.version.Version.{Version}
@@ -24,8 +25,8 @@ use Rattle.machine.proofs.Raising.{entry_of-alike, keeps}
 
 -- ---- the empty store
 
-pub empty_ordered : (blocks : ℕ) → 1 ≤ blocks → blocks ≤ BLOCK_LIMIT → Ordered (empty blocks)
-empty_ordered blocks some few = record {
+pub empty_ordered : (room : Room) → 1 ≤ room.blocks → room.blocks ≤ BLOCK_LIMIT → Ordered (empty room)
+empty_ordered room some few = record {
   some_blocks = some;
   few_blocks = few;
   boot = omega arith;
@@ -42,12 +43,12 @@ empty_ordered blocks some few = record {
   apps = All-nil _;
 }
 
-pub empty_valid : (blocks : ℕ) → 1 ≤ blocks → blocks ≤ BLOCK_LIMIT → Valid (empty blocks)
-empty_valid blocks some few = record { ordered = empty_ordered blocks some few; room = omega arith }
+pub empty_valid : (room : Room) → 1 ≤ room.blocks → room.blocks ≤ BLOCK_LIMIT → Valid (empty room)
+empty_valid room some few = record { ordered = empty_ordered room some few; room = omega arith }
 
-pub empty_sound : (blocks : ℕ) → 1 ≤ blocks → blocks ≤ BLOCK_LIMIT → Sound (empty blocks)
-empty_sound blocks some few = record {
-  valid = empty_valid blocks some few;
+pub empty_sound : (room : Room) → 1 ≤ room.blocks → room.blocks ≤ BLOCK_LIMIT → Sound (empty room)
+empty_sound room some few = record {
+  valid = empty_valid room some few;
   views = All-nil _;
   shared = λ i j d lt within. absurd (omega arith);
 }

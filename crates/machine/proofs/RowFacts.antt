@@ -50,7 +50,7 @@ rises_as old new same = λ key minimum is. holds_itself minimum (minimum_of key 
 pub record Acts (command : Command) (old : Session) (reply : Reply) (new : Session) : Type 0 where
   pub other : reply ≢ says.Memory
   pub sets : moment_set (Some reply) ≡ moment_by command
-  pub blocks : new.store.blocks ≡ old.store.blocks
+  pub room : new.store.room ≡ old.store.room
   pub boot : new.store.boot ≡ old.store.boot
   pub jobs : new.jobs ≡ old.jobs
   pub next_job : new.next_job ≡ old.next_job
@@ -60,14 +60,14 @@ pub record Acts (command : Command) (old : Session) (reply : Reply) (new : Sessi
 -- it changes the store alone
 pub acts_on : (command : Command) (old : Session) (reply : Reply) (new : Session) (later : Store)
     → new ≡ record old { store = later } → reply ≢ says.Memory
-    → moment_set (Some reply) ≡ moment_by command → later.blocks ≡ old.store.blocks
+    → moment_set (Some reply) ≡ moment_by command → later.room ≡ old.store.room
     → later.boot ≡ old.store.boot → Rises old.store.apps later.apps → KeepsLeases old.store later
     → Acts command old reply new
-acts_on command old reply new later is other sets blocks boot rises keeps =
+acts_on command old reply new later is other sets room boot rises keeps =
     subst (λ (s : Session). Acts command old reply s) (sym is) (record {
       other = other;
       sets = sets;
-      blocks = blocks;
+      room = room;
       boot = boot;
       jobs = refl;
       next_job = refl;
@@ -88,7 +88,7 @@ acts_not command old reply new is other sets =
 -- leaves everything as it was.
 pub record Kept (command : Command) (old : Session) (reply : Reply) (new : Session) : Type 0 where
   pub memory : reply ≡ says.Memory → new ≡ old
-  pub blocks : new.store.blocks ≡ old.store.blocks
+  pub room : new.store.room ≡ old.store.room
   pub boot : new.store.boot ≡ old.store.boot
   pub jobs : new.jobs ≡ old.jobs
   pub next_job : new.next_job ≡ old.next_job
@@ -101,7 +101,7 @@ pub record Kept (command : Command) (old : Session) (reply : Reply) (new : Sessi
 kept_itself : (command : Command) (old : Session) (reply : Reply) → Kept command old reply old
 kept_itself command old reply = record {
   memory = λ e. refl;
-  blocks = refl;
+  room = refl;
   boot = refl;
   jobs = refl;
   next_job = refl;

@@ -3,6 +3,7 @@ use Rattle.std.proofs.Common.{◌≡◌, ◌≤◌, ◌⊎◌, ◌∙◌, ◌++�
 use Rattle.std.specs.Prelude.{filter, flat_map}
 use Rattle.std.proofs.lemmas.List.{append-nil}
 use Rattle.std.proofs.lemmas.List.Elements.{All-nil}
+use Rattle.small_types.specs.declared.room.Room.{Room}
 use Rattle.small_types.specs.declared.limits.TheConstants.{JOB_LIMIT}
 use Rattle.manifests.specs.declared.facts.FileEntry.{FileEntry}
 use Rattle.machine.specs.declared.command.Command.{Command}
@@ -27,13 +28,13 @@ use Rattle.machine.proofs.Members.{In, in_either, in_left, in_right}
 use Rattle.machine.proofs.Refusals.{kept_or_effect}
 use Rattle.machine.proofs.RowFacts.{Kept, Shrinks}
 use Rattle.machine.proofs.Shared.{alike_each, each_alike}
-use Rattle.machine.proofs.Stepping.{step_blocks, step_leaves, step_sound}
+use Rattle.machine.proofs.Stepping.{step_room, step_leaves, step_sound}
 
 -- a session of the same views, jobs and numbers, over a sound store
 same_sound : (old new : Session) → new.store.views ≡ old.store.views
-    → new.store.blocks ≡ old.store.blocks → new.jobs ≡ old.jobs → new.next_job ≡ old.next_job
+    → new.store.room ≡ old.store.room → new.jobs ≡ old.jobs → new.next_job ≡ old.next_job
     → Sound new.store → SoundSession old → SoundSession new
-same_sound old new views blocks jobs next store sound = record {
+same_sound old new views same_room jobs next store sound = record {
   store = store;
   job_numbers = subst (λ (js : List Job). AreNumbers new.next_job (map (λ job. job.number) js)) (sym jobs)
       (subst (λ n. AreNumbers n (map (λ (job : Job). job.number) old.jobs)) (sym next) sound.job_numbers);
@@ -42,14 +43,14 @@ same_sound old new views blocks jobs next store sound = record {
   shared = subst (λ (js : List Job). ShareBytes (program_files_of new.store ++ program_files_in js)) (sym jobs)
       (subst (λ (vs : List View). ShareBytes (program_files_of (record old.store { views = vs })
       ++ program_files_in old.jobs)) (sym views) sound.shared);
-  room = subst (λ (js : List Job). blocks_with (map bare_view new.store.views) js ≤ new.store.blocks) (sym jobs)
-      (subst (λ (vs : List View). blocks_with (map bare_view vs) old.jobs ≤ new.store.blocks) (sym views)
-      (subst (λ n. session_blocks old ≤ n) (sym blocks) sound.room));
+  room = subst (λ (js : List Job). blocks_with (map bare_view new.store.views) js ≤ new.store.room.blocks) (sym jobs)
+      (subst (λ (vs : List View). blocks_with (map bare_view vs) old.jobs ≤ new.store.room.blocks) (sym views)
+      (subst (λ (r : Room). session_blocks old ≤ r.blocks) (sym same_room) sound.room));
 }
 
 -- a session whose views have no other program files, and data files that take no more blocks
 module _ (old new : Session) (shrinks : Shrinks old.store new.store)
-    (blocks : new.store.blocks ≡ old.store.blocks) (jobs : new.jobs ≡ old.jobs) where
+    (same_room : new.store.room ≡ old.store.room) (jobs : new.jobs ≡ old.jobs) where
   abbrev of_jobs : List FileEntry
   of_jobs = flat_map (λ (job : Job). filter is_required job.application.files) old.jobs
 
@@ -92,11 +93,12 @@ module _ (old new : Session) (shrinks : Shrinks old.store new.store)
         (alike_each (program_files_of new.store ++ program_files_in old.jobs)
         (λ f g a b. each_alike (program_files_of old.store ++ program_files_in old.jobs) sound.shared
         f g (among_files f a) (among_files g b)));
-    room = subst (λ (js : List Job). blocks_with (map bare_view new.store.views) js ≤ new.store.blocks) (sym jobs)
+    room = subst (λ (js : List Job). blocks_with (map bare_view new.store.views) js ≤ new.store.room.blocks) (sym jobs)
         (let room = sound.room in
+        let kept = ap (λ (r : Room). r.blocks) same_room in
         let files = blocks_among (standing_files (map bare_view new.store.views) ++ of_jobs)
         (standing_files (map bare_view old.store.views) ++ of_jobs) among_entries in
-        omega (arith, room, files, shrinks.data_blocks, blocks));
+        omega (arith, room, files, shrinks.data_blocks, kept));
   }
 
 pub step_jobs : (now : ℕ) (old : Session) (event : Event) (reply : Option Reply) (new : Session)
@@ -124,7 +126,7 @@ begins_sound store sound = record {
   few_jobs = omega arith;
   jobs = All-nil IsSoundJob;
   shared = subst ShareBytes (sym (append-nil (program_files_of store))) sound.shared;
-  room = subst (λ n. n ≤ store.blocks) (sym (none_more store)) sound.valid.room;
+  room = subst (λ n. n ≤ store.room.blocks) (sym (none_more store)) sound.valid.room;
 }
 
 -- ---- steps
@@ -144,7 +146,7 @@ without_jobs old new none jobs next store sound =
       shared = subst (λ (js : List Job). ShareBytes (program_files_of new.store
           ++ program_files_in js)) (sym no_jobs) begun.shared;
       room = subst (λ (js : List Job). blocks_with (map bare_view new.store.views) js
-          ≤ new.store.blocks) (sym no_jobs) begun.room;
+          ≤ new.store.room.blocks) (sym no_jobs) begun.room;
     }
 
 module _ (now : ℕ) (old : Session) (reply : Option Reply) (new : Session) (sound : SoundSession old) where
@@ -152,7 +154,7 @@ module _ (now : ℕ) (old : Session) (reply : Option Reply) (new : Session) (sou
   same_views : (event : Event) → IsEvent event → Step now old event reply new
       → new.store.views ≡ old.store.views → SoundSession new
   same_views event is step views =
-      same_sound old new views (step_blocks now old event reply new step) (step_jobs now old event reply new step)
+      same_sound old new views (step_room now old event reply new step) (step_jobs now old event reply new step)
       (step_next now old event reply new step) (step_sound now old event reply new is step sound.store) sound
 
   -- a line leaves the views, or takes no more of them, or there is no open job
@@ -179,7 +181,7 @@ module _ (now : ℕ) (old : Session) (reply : Option Reply) (new : Session) (sou
       by (inl views) = same_views (Line command at heard) is step views
       by (inr (inl shrinks)) =
           shrunk_sound old new shrinks
-          (step_blocks now old (Line command at heard) reply new step)
+          (step_room now old (Line command at heard) reply new step)
           (step_jobs now old (Line command at heard) reply new step)
           (step_next now old (Line command at heard) reply new step)
           (step_sound now old (Line command at heard) reply new is step sound.store) sound

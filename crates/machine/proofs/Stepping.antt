@@ -61,10 +61,10 @@ module _ {X : Type 0} (part : Session → X) (boots : (boot : ℕ) (old : Sessio
           ((facts now heard.texts command).acts old step.answer new done.1)
   step_leaves now old (Unread fault) reply new step = ap part step.1
 
-pub step_blocks : (now : ℕ) (old : Session) (event : Event) (reply : Option Reply) (new : Session)
-    → Step now old event reply new → new.store.blocks ≡ old.store.blocks
-step_blocks = step_leaves (λ (s : Session). s.store.blocks) (λ boot old. refl)
-    (λ command old reply new kept. kept.blocks) (λ command old reply new acts. acts.blocks)
+pub step_room : (now : ℕ) (old : Session) (event : Event) (reply : Option Reply) (new : Session)
+    → Step now old event reply new → new.store.room ≡ old.store.room
+step_room = step_leaves (λ (s : Session). s.store.room) (λ boot old. refl)
+    (λ command old reply new kept. kept.room) (λ command old reply new acts. acts.room)
 
 pub step_boot : (now : ℕ) (old : Session) (event : Event) (reply : Option Reply) (new : Session)
     → Step now old event reply new → new.store.boot ≡ boot_after old.store.boot event

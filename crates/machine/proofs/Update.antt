@@ -169,7 +169,7 @@ copied : copied_need (bare_data_of (current_bare old.key (shape_of old.store))) 
 unfolding is_below_pre
 copied = ap copied_need (bare_data_current old.key old.store ∙ ap (λ (view : Option View). map bare_data (data_of view)) is_current)
 
-room : used_blocks (map bare_view new.views) ≤ new.blocks
+room : used_blocks (map bare_view new.views) ≤ new.room.blocks
 room =
     let used = used_after old.target old.target d a files originals made.0 0 old.store fetched moved in
     omega (arith, used, old.counted, nothing_new, copied)

@@ -28,4 +28,4 @@ used_blocks views =
 
 -- the blocks that no file takes
 abbrev pub free_blocks : Shape → ℕ
-free_blocks shape = shape.blocks - used_blocks shape.views
+free_blocks shape = shape.room.blocks - used_blocks shape.views

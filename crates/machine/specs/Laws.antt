@@ -1,6 +1,7 @@
 -- What is true of the machine.
 use Rattle.std.specs.Prelude.{◌≡◌, ◌≢◌, ◌⊎◌, ◌↔◌, ◌<◌, ◌≤◌, ◌+◌, ◌*◌, ℕ, true, List, [], ◌∷◌, All, AllPairs, Any, Contains, length, Option, Some, Ok, IsSome, IsSomeAnd, count_by, map, not}
 use Rattle.std.specs.declared.cmp.Ordering.TheVariants.{Equal}
+use Rattle.small_types.specs.declared.room.Room.{Room}
 use Rattle.small_types.specs.declared.limits.TheConstants.{BLOCK_LIMIT, BLOCK_SIZE, NUMBER_LIMIT, URL_LIMIT}
 use Rattle.small_types.specs.declared.target.Target.{Target}
 use Rattle.small_types.specs.Name.{IsBelowPre}
@@ -114,9 +115,9 @@ JoinedAddressesMayBeHeld = (base : Target) (codebase : List ℕ) (target : Targe
 
 -- ---- stores
 
--- the empty store of a possible number of blocks is sound
+-- the empty store of a room with a possible number of blocks is sound
 abbrev pub EmptyStoresAreSound : Type 0
-EmptyStoresAreSound = (blocks : ℕ) → 1 ≤ blocks → blocks ≤ BLOCK_LIMIT → Sound (empty blocks)
+EmptyStoresAreSound = (room : Room) → 1 ≤ room.blocks → room.blocks ≤ BLOCK_LIMIT → Sound (empty room)
 
 -- how many program files an application has
 abbrev pub program_count : Application → ℕ
@@ -402,10 +403,10 @@ StepsKeepSoundSessions =
 abbrev pub SessionsBeginSound : Type 0
 SessionsBeginSound = (store : Store) → Sound store → SoundSession (session_over store)
 
--- no step changes the number of blocks
-abbrev pub BlocksStay : Type 0
-BlocksStay = (now : ℕ) (old : Session) (event : Event) (reply : Option Reply) (new : Session)
-    → Step now old event reply new → new.store.blocks ≡ old.store.blocks
+-- no step changes the room
+abbrev pub RoomStays : Type 0
+RoomStays = (now : ℕ) (old : Session) (event : Event) (reply : Option Reply) (new : Session)
+    → Step now old event reply new → new.store.room ≡ old.store.room
 
 -- the number of the last boot is that of the last boot event
 abbrev pub boot_after : ℕ → Event → ℕ

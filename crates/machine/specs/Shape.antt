@@ -1,6 +1,7 @@
 -- A store without the bytes of its files: what tables have as it stands, and what refusals are
 -- about.
 use Rattle.std.specs.Prelude.{ℕ, List, length, map}
+use Rattle.small_types.specs.declared.room.Room.{Room}
 use Rattle.small_types.specs.declared.target.Target.{Target}
 use Rattle.manifests.specs.declared.facts.Application.{Application}
 use Rattle.manifests.specs.declared.facts.Deployment.{Deployment}
@@ -22,7 +23,7 @@ pub record BareView : Type 0 where
   pub data_files : List BareData
 
 pub record Shape : Type 0 where
-  pub blocks : ℕ
+  pub room : Room
   pub boot : ℕ
   pub next_view : ℕ
   pub next_lease : ℕ
@@ -45,7 +46,7 @@ bare_view view = record {
 
 abbrev pub shape_of : Store → Shape
 shape_of store = record {
-  blocks = store.blocks;
+  room = store.room;
   boot = store.boot;
   next_view = store.next_view;
   next_lease = store.next_lease;

@@ -70,4 +70,4 @@ pub record SoundSession (session : Session) : Type 0 where
   pub few_jobs : length session.jobs ≤ JOB_LIMIT
   pub jobs : All IsSoundJob session.jobs
   pub shared : ShareBytes (program_files_of session.store ++ program_files_in session.jobs)
-  pub room : session_blocks session ≤ session.store.blocks
+  pub room : session_blocks session ≤ session.store.room.blocks

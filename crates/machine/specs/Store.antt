@@ -1,5 +1,6 @@
 -- The store of a client, and a session over it.
 use Rattle.std.specs.Prelude.{ℕ, List, [], ◌==◌, if◌then◌else◌}
+use Rattle.small_types.specs.declared.room.Room.{Room}
 use Rattle.small_types.specs.declared.target.Target.{Target}
 use Rattle.manifests.specs.declared.facts.Application.{Application}
 use Rattle.manifests.specs.declared.facts.Deployment.{Deployment}
@@ -8,11 +9,11 @@ use Rattle.machine.specs.declared.app.AppState.{AppState}
 use Rattle.machine.specs.declared.lease.Lease.{Lease}
 use Rattle.machine.specs.Views.{ListedFile, View}
 
--- A store: its number of blocks, which no line changes; the number of the last boot; the numbers
+-- A store: its room, which no line changes; the number of the last boot; the numbers
 -- that the next view and the next lease get; leases and kept views in order of their numbers;
 -- applications in order of their printed keys.
 pub record Store : Type 0 where
-  pub blocks : ℕ
+  pub room : Room
   pub boot : ℕ
   pub next_view : ℕ
   pub next_lease : ℕ
@@ -20,10 +21,14 @@ pub record Store : Type 0 where
   pub views : List View
   pub apps : List AppState
 
--- the empty store of so many blocks
-abbrev pub empty : ℕ → Store
-empty blocks = record {
-  blocks = blocks;
+-- the room of so many blocks where the journal has no halves
+abbrev pub plain_room : ℕ → Room
+plain_room blocks = record { blocks = blocks; half = 0 }
+
+-- the empty store of this room
+abbrev pub empty : Room → Store
+empty room = record {
+  room = room;
   boot = 0;
   next_view = 1;
   next_lease = 1;

@@ -73,8 +73,8 @@ pub record AreNumbers (next : ℕ) (numbers : List ℕ) : Type 0 where
 -- within its order and its limits, whatever room its files take
 pub record Ordered (store : Store) : Type 0 where
   -- its own numbers
-  pub some_blocks : 1 ≤ store.blocks
-  pub few_blocks : store.blocks ≤ BLOCK_LIMIT
+  pub some_blocks : 1 ≤ store.room.blocks
+  pub few_blocks : store.room.blocks ≤ BLOCK_LIMIT
   pub boot : store.boot ≤ NUMBER_LIMIT
   -- leases, each of a kept view
   pub lease_numbers : AreNumbers store.next_lease (map (λ lease. lease.number) store.leases)
@@ -95,4 +95,4 @@ pub record Ordered (store : Store) : Type 0 where
 -- and its files have room
 pub record Valid (store : Store) : Type 0 where
   pub ordered : Ordered store
-  pub room : used_blocks (map bare_view store.views) ≤ store.blocks
+  pub room : used_blocks (map bare_view store.views) ≤ store.room.blocks

@@ -1,5 +1,5 @@
 // What is true of the machine, with no code.
-ghost use Rattle.machine.specs.Laws.{AddressesAreShort, AtSetsTheMoment, BlocksAreRoundedUp, BlocksStay, CommandsAreAnswered, ContentsAreCompared, ContentsCountOnce, EmptyStoresAreSound, EntriesStayInOrder, EventsHaveSteps, JoinedAddressesAreShort, JoinedAddressesMayBeHeld, MemoryChangesNothing, MinimumsAreShown, MinimumsNeverFall, MomentsStayFew, NoRefusalIsGivenWherePassed, OneEntryIsMade, OneRefusalIsGiven, OnlyBootsChangeTheBoot, OtherEntriesStay, OthersLeaveTheMoment, ReadAddressesMayBeHeld, ReadApplicationsMayBeHeld, ReadDeploymentsMayBeHeld, RefusedChecksCount, RefusalsAreFirst, RefusalsChangeNothing, RefusalsComeInOrder, RowsAreExact, RowsChangeNothing, RunsKeepSound, SessionsBeginSound, StepsKeepSound, StepsKeepSoundSessions, StepsKeepValid, StoresMayBeUsed};
+ghost use Rattle.machine.specs.Laws.{AddressesAreShort, AtSetsTheMoment, BlocksAreRoundedUp, RoomStays, CommandsAreAnswered, ContentsAreCompared, ContentsCountOnce, EmptyStoresAreSound, EntriesStayInOrder, EventsHaveSteps, JoinedAddressesAreShort, JoinedAddressesMayBeHeld, MemoryChangesNothing, MinimumsAreShown, MinimumsNeverFall, MomentsStayFew, NoRefusalIsGivenWherePassed, OneEntryIsMade, OneRefusalIsGiven, OnlyBootsChangeTheBoot, OtherEntriesStay, OthersLeaveTheMoment, ReadAddressesMayBeHeld, ReadApplicationsMayBeHeld, ReadDeploymentsMayBeHeld, RefusedChecksCount, RefusalsAreFirst, RefusalsChangeNothing, RefusalsComeInOrder, RowsAreExact, RowsChangeNothing, RunsKeepSound, SessionsBeginSound, StepsKeepSound, StepsKeepSoundSessions, StepsKeepValid, StoresMayBeUsed};
 
 /// A change of an entry leaves the entries in order of their keys.
 pub fn entries_stay_in_order()
@@ -42,7 +42,7 @@ pub fn read_addresses_may_be_held()
     ensures joined { JoinedAddressesMayBeHeld }
 {}
 
-/// The empty store is sound, for each number of blocks that a store may have; and so is one with files in use.
+/// The empty store is sound, for each room with as many blocks as a store may have; and so is one with files in use.
 pub fn some_stores_are_sound()
     ensures empty { EmptyStoresAreSound }
     ensures used { StoresMayBeUsed }
@@ -116,9 +116,9 @@ pub fn sessions_stay_sound()
     ensures steps { StepsKeepSoundSessions }
 {}
 
-/// No step changes the number of blocks, and a boot event alone changes the number of the last boot.
+/// No step changes the room, and a boot event alone changes the number of the last boot.
 pub fn steps_keep_numbers()
-    ensures blocks { BlocksStay }
+    ensures room { RoomStays }
     ensures boot { OnlyBootsChangeTheBoot }
 {}
 

@@ -1,10 +1,12 @@
 -- What the bytes of a journal stand for, and what a stop may leave of one.
-use Rattle.std.specs.Prelude.{◌≡◌, ◌≢◌, ◌⊎◌, ℕ, ◌+◌, ◌-◌, ◌<◌, ◌≤◌, ◌^◌, min, replicate, codes, List, [], ◌∷◌, ◌++◌, length, take, drop}
+use Rattle.std.specs.Prelude.{◌≡◌, ◌≢◌, ◌⊎◌, ℕ, ◌+◌, ◌-◌, ◌<◌, ◌≤◌, ◌^◌, replicate, List, [], ◌∷◌, ◌++◌, length, take, drop}
 use Rattle.std.specs.List.{flat_map}
 use Rattle.std.specs.Int.{to_be_bytes, w32, w64}
+use Rattle.small_types.specs.declared.limits.TheConstants.{BLOCK_LIMIT}
 use Rattle.disks.specs.Disk.{Torn, CutOff}
 use Rattle.disks.specs.Moments.{Each}
 use Rattle.disks.specs.declared.disk.Disk.{Ghosts}
+use Rattle.store_log.specs.declared.form.TheConstants.{SIGN, HEAD_SIZE, HEAD_GATE}
 use Rattle.store_log.specs.declared.log.Log.{Log}
 use Rattle.store_log.specs.declared.piece.TheConstants.{BEFORE, AROUND, CHANGE_LIMIT}
 
@@ -48,11 +50,12 @@ zeros n = replicate n 0
 -- the head block before its gate: the sign, the number of blocks, the half's length, which is 0,
 -- and zeros
 unfoldable pub head_front : ℕ → List ℕ
-head_front blocks = codes "CLKSTOR0" ++ (to_be_bytes w64 blocks ++ (to_be_bytes w64 0 ++ zeros 40))
+head_front blocks =
+    SIGN ++ (to_be_bytes w64 blocks ++ (to_be_bytes w64 0 ++ zeros (HEAD_GATE - 24)))
 
--- the 4,096 bytes of a head block whose gate, at place 64, is this byte
+-- the bytes of a head block whose gate is this byte
 abbrev pub head_with : ℕ → ℕ → List ℕ
-head_with blocks gate = head_front blocks ++ gate ∷ zeros 4031
+head_with blocks gate = head_front blocks ++ gate ∷ zeros (HEAD_SIZE - (HEAD_GATE + 1))
 
 -- the head block of a journal: its gate is open
 unfoldable pub head_of : ℕ → List ℕ
@@ -61,7 +64,7 @@ head_of blocks = head_with blocks 1
 -- The bytes are a journal of this number of blocks and of these changes.
 pub record IsStore (blocks : ℕ) (changes : List (List ℕ)) (bytes : List ℕ) : Type 0 where
   pub some : 1 ≤ blocks
-  pub limit : blocks ≤ 65536
+  pub limit : blocks ≤ BLOCK_LIMIT
   pub log : IsLog (head_of blocks) changes bytes
 
 -- the bytes are no journal
@@ -81,8 +84,8 @@ pub record IsClosedNew (blocks : ℕ) (bytes : List ℕ) : Type 0 where
   pub is : bytes ≡ head_with blocks 0 ++ 0 ∷ []
   pub none : NoStore bytes
 
--- What stops leave over a format. It makes six calls: a cut and a sync, the write of 4,097 bytes
--- and a sync, the write of the head gate and a sync. A stop leaves an old image or a cut one, until
+-- What stops leave over a format. It makes six calls: a cut and a sync, the write of a head block
+-- and a closed gate and a sync, the write of the head gate and a sync. A stop leaves an old image or a cut one, until
 -- the first sync is done; then nothing stands there, and at the write what it makes of nothing;
 -- once the second sync is done the new journal with its head gate closed; and from then on the new
 -- journal or none.
@@ -96,7 +99,7 @@ pub record Formats {D : Type 0} (on : Ghosts D) (old new : D) (blocks : ℕ) : T
   pub empty : (bytes : List ℕ) → on.moment old + 2 < on.moment new
       → on.left_at new (on.moment old + 2) bytes → bytes ≡ []
   pub second : (t : ℕ) (bytes : List ℕ) → on.moment old + 2 < t → t ≤ on.moment new
-      → t ≤ on.moment old + 4 → on.left_at new t bytes → Torn 0 4097 [] bytes
+      → t ≤ on.moment old + 4 → on.left_at new t bytes → Torn 0 (HEAD_SIZE + 1) [] bytes
   pub closed : (bytes : List ℕ) → on.moment old + 4 < on.moment new
       → on.left_at new (on.moment old + 4) bytes → IsClosedNew blocks bytes
   pub third : (t : ℕ) (bytes : List ℕ) → on.moment old + 4 < t → t ≤ on.moment new
@@ -119,16 +122,3 @@ IsPiece piece = (AROUND < length piece) × (length piece ≤ AROUND + CHANGE_LIM
 -- the change in a piece: all but the room for gates and a length
 abbrev pub entry_in : List ℕ → List ℕ
 entry_in piece = take (length piece - AROUND) (drop BEFORE piece)
-
--- outside the n bytes from a place on the new bytes are the old ones
-pub record AgreesOutside (place n : ℕ) (old new : List ℕ) : Type 0 where
-  pub before : take (min place (length old)) new ≡ take place old
-  pub after : drop (place + n) new ≡ drop (place + n) old
-
--- outside that range the image is an old one
-abbrev pub IsOldOutside : ℕ → ℕ → (List ℕ → Type 0) → List ℕ → Type 0
-IsOldOutside place n old image = (before : List ℕ) × old before × AgreesOutside place n before image
-
--- the disk has no number left for a call that writes so many bytes
-abbrev pub IsFull : ℕ → ℕ → ℕ → Type 0
-IsFull moment total n = (0xffff_ffff_ffff_ffff ≤ moment) ⊎ (0xffff_ffff_ffff_ffff < total + n)

@@ -1,11 +1,13 @@
 // How a new journal is made.
-ghost use Rattle.std.specs.Prelude.{◌≡◌, ◌<◌, ◌≤◌, ◌+◌, ℕ, List, [], ◌∷◌, ◌++◌, length, IfOk, OnOk};
+ghost use Rattle.std.specs.Prelude.{◌≡◌, ◌<◌, ◌≤◌, ◌+◌, ℕ, List, [], ◌∷◌, ◌++◌, length, IfOk, IsErr, OnOk};
 ghost use Rattle.disks.specs.Disk.{Only, Torn};
 ghost use Rattle.disks.specs.Moments.{Each, LeavesOnly};
-ghost use Rattle.outside.specs.Streams.{Causes};
+ghost use Rattle.disks.specs.Spends.{Spends};
+ghost use Rattle.small_types.specs.declared.limits.TheConstants.{BLOCK_LIMIT};
 ghost use Rattle.store_log.specs.Log.{IsStore, IsNewOrNone, IsCutOrOld};
 ghost use Rattle.store_log.specs.Steps.{new_with};
 
+use crate::form::HEAD_GATE;
 use crate::head::head_bytes;
 use disks::Disk;
 use outside::Failed;
@@ -26,11 +28,8 @@ pub(crate) fn clear<D: Disk>(disk: &mut D) -> Result<(), Failed>
     ensures any_moment { LeavesOnly D.Disk disk.old disk.new (IsCutOrOld (D.left_at disk.old
         (D.moment disk.old))) }
     ensures tick { OnOk result (D.moment disk.new ≡ D.moment disk.old + 2) }
-    ensures later { D.moment disk.old ≤ D.moment disk.new }
-    ensures within { D.moment disk.new ≤ D.moment disk.old + 2 }
     ensures written { OnOk result (D.total disk.new ≡ D.total disk.old) }
-    ensures told { D.tells disk.new → D.tells disk.old }
-    ensures cause { Causes (D.count disk.old) (D.count disk.new) result }
+    ensures spends { Spends D.Disk 2 0 disk.old disk.new (IsErr result) }
 {
     disk.cut(0)?;
     disk.sync()?;
@@ -44,11 +43,8 @@ pub(crate) fn fill<D: Disk>(disk: &mut D, bytes: &[u8]) -> Result<(), Failed>
     ensures any_moment { Only [] (D.left_at disk.old (D.moment disk.old))
         → LeavesOnly D.Disk disk.old disk.new (Torn 0 (length bytes.now) []) }
     ensures tick { OnOk result (D.moment disk.new ≡ D.moment disk.old + 2) }
-    ensures later { D.moment disk.old ≤ D.moment disk.new }
-    ensures within { D.moment disk.new ≤ D.moment disk.old + 2 }
     ensures written { OnOk result (D.total disk.new ≡ D.total disk.old + length bytes.now) }
-    ensures told { D.tells disk.new → D.tells disk.old }
-    ensures cause { Causes (D.count disk.old) (D.count disk.new) result }
+    ensures spends { Spends D.Disk 2 (length bytes.now) disk.old disk.new (IsErr result) }
 {
     disk.write_at(0, bytes)?;
     disk.sync()?;
@@ -57,22 +53,19 @@ pub(crate) fn fill<D: Disk>(disk: &mut D, bytes: &[u8]) -> Result<(), Failed>
 
 // Opens the head gate, and keeps it open.
 pub(crate) fn open_head<D: Disk>(disk: &mut D) -> Result<(), Failed>
-    ensures ok { (blocks : ℕ) → 1 ≤ blocks → blocks ≤ 65536
+    ensures ok { (blocks : ℕ) → 1 ≤ blocks → blocks ≤ BLOCK_LIMIT
         → Only (new_with blocks 0) (D.left_at disk.old (D.moment disk.old))
         → OnOk result (Each D.Disk disk.new (IsStore blocks [])) }
-    ensures any_moment { (blocks : ℕ) → 1 ≤ blocks → blocks ≤ 65536
+    ensures any_moment { (blocks : ℕ) → 1 ≤ blocks → blocks ≤ BLOCK_LIMIT
         → Only (new_with blocks 0) (D.left_at disk.old (D.moment disk.old))
         → LeavesOnly D.Disk disk.old disk.new (IsNewOrNone blocks) }
     ensures durable { OnOk result (Only (D.seen disk.new) (D.left_at disk.new
         (D.moment disk.new))) }
     ensures tick { OnOk result (D.moment disk.new ≡ D.moment disk.old + 2) }
-    ensures later { D.moment disk.old ≤ D.moment disk.new }
-    ensures within { D.moment disk.new ≤ D.moment disk.old + 2 }
     ensures written { OnOk result (D.total disk.new ≡ D.total disk.old + 1) }
-    ensures told { D.tells disk.new → D.tells disk.old }
-    ensures cause { Causes (D.count disk.old) (D.count disk.new) result }
+    ensures spends { Spends D.Disk 2 1 disk.old disk.new (IsErr result) }
 {
-    disk.write_at(64, &[1])?;
+    disk.write_at(HEAD_GATE as u64, &[1])?;
     disk.sync()?;
     Ok(())
 }

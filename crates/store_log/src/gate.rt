@@ -1,10 +1,11 @@
 // How an entry is written: behind a closed gate, which is opened once the entry is there to stay.
-ghost use Rattle.std.specs.Prelude.{◌≡◌, ◌<◌, ◌≤◌, ◌+◌, ◌-◌, ◌^◌, ℕ, List, [], ◌∷◌, ◌++◌, length, drop, IfErr, OnOk, OnErr, ◌⊎◌};
-ghost use Rattle.outside.specs.Streams.{Causes};
+ghost use Rattle.std.specs.Prelude.{◌≡◌, ◌<◌, ◌≤◌, ◌+◌, ◌-◌, ◌^◌, ℕ, List, [], ◌∷◌, ◌++◌, length, drop, IfErr, IsErr, OnOk, OnErr, ◌⊎◌};
 ghost use Rattle.disks.specs.Disk.{Only};
 ghost use Rattle.disks.specs.Moments.{LeavesOnly, Each};
+ghost use Rattle.disks.specs.Outside.{AgreesOutside, IsOldOutside};
+ghost use Rattle.disks.specs.Spends.{HasNoNumber, Spends};
 ghost use Rattle.store_log.specs.declared.fault.LogFault.TheVariants.{DiskFault};
-ghost use Rattle.store_log.specs.Log.{size_bytes, ClosedAfter, IsPiece, entry_in, AgreesOutside, IsOldOutside, IsFull};
+ghost use Rattle.store_log.specs.Log.{size_bytes, ClosedAfter, IsPiece, entry_in};
 ghost use Rattle.store_log.specs.Steps.{OpenAfter, IsBeforeOrAfter};
 
 use crate::LogFault;
@@ -40,13 +41,10 @@ pub(crate) fn open_gate<D: Disk>(disk: &mut D, end: u64, tail: &[u8]) -> Result<
     ensures durable { OnOk result (Only (D.seen disk.new) (D.left_at disk.new
         (D.moment disk.new))) }
     ensures tick { OnOk result (D.moment disk.new ≡ D.moment disk.old + 4) }
-    ensures later { D.moment disk.old ≤ D.moment disk.new }
-    ensures within { D.moment disk.new ≤ D.moment disk.old + 4 }
     ensures counted { (D.moment disk.old + 1 ≤ D.moment disk.new)
-        ⊎ IsFull (D.moment disk.new) (D.total disk.new) (length tail.now + 1) }
+        ⊎ HasNoNumber (D.moment disk.new) (D.total disk.new) (length tail.now + 1) }
     ensures written { OnOk result (D.total disk.new ≡ D.total disk.old + length tail.now + 1) }
-    ensures told { D.tells disk.new → D.tells disk.old }
-    ensures cause { Causes (D.count disk.old) (D.count disk.new) result }
+    ensures spends { Spends D.Disk 4 (length tail.now + 1) disk.old disk.new (IsErr result) }
     ensures fault { IfErr result (λ e. e ≡ DiskFault) }
 {
     disk.write_at(end + 1, tail)?;

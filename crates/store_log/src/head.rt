@@ -2,11 +2,9 @@
 ghost use Rattle.std.specs.Prelude.{◌≡◌, ◌↔◌, IsTrue, ◌<◌, ◌≤◌, ◌+◌, ◌^◌, ℕ, List, ◌++◌, length, drop, IfOk, IfSome, IfNone, OnOk};
 ghost use Rattle.store_log.specs.Log.{head_of, head_with, zeros};
 
+use crate::form::{HEAD_GATE, HEAD_SIZE, SIGN};
 use small_types::limits::BLOCK_LIMIT;
 use std::alloc::{AllocError, Global};
-
-// The length of the head block.
-pub(crate) const HEAD: usize = 4096;
 
 fn push_zeros(bytes: &mut Vec<u8>, count: usize) -> Result<(), AllocError>
     requires { count < 2 ^ 32 }
@@ -22,12 +20,12 @@ pub(crate) fn head_bytes(alloc: Global, blocks: u64, gate: u8) -> Result<Vec<u8>
     ensures { IfOk result (λ head. head.items ≡ head_with blocks gate) }
 {
     let half: u64 = 0;
-    let mut head = b"CLKSTOR0".to_vec(alloc)?;
+    let mut head = SIGN.to_vec(alloc)?;
     head.extend_from_slice(&blocks.to_be_bytes())?;
     head.extend_from_slice(&half.to_be_bytes())?;
-    push_zeros(&mut head, 40)?;
+    push_zeros(&mut head, HEAD_GATE - 24)?;
     head.push(gate)?;
-    push_zeros(&mut head, 4031)?;
+    push_zeros(&mut head, HEAD_SIZE - (HEAD_GATE + 1))?;
     Ok(head)
 }
 
@@ -39,13 +37,13 @@ fn is_same(a: &[u8], b: &[u8]) -> bool
 
 // The number of blocks, where the bytes begin with the head block of a journal.
 pub(crate) fn read_head(alloc: Global, bytes: &[u8]) -> Result<Option<u64>, AllocError>
-    ensures limits { IfOk result (λ o. IfSome o (λ blocks. (1 ≤ blocks) × (blocks ≤ 65536))) }
-    ensures found { IfOk result (λ o. IfSome o (λ blocks. (4096 ≤ length bytes.now)
-        × (bytes.now ≡ head_of blocks ++ drop 4096 bytes.now))) }
+    ensures limits { IfOk result (λ o. IfSome o (λ blocks. (1 ≤ blocks) × (blocks ≤ BLOCK_LIMIT))) }
+    ensures found { IfOk result (λ o. IfSome o (λ blocks. (HEAD_SIZE ≤ length bytes.now)
+        × (bytes.now ≡ head_of blocks ++ drop HEAD_SIZE bytes.now))) }
     ensures none { IfOk result (λ o. IfNone o ((blocks : ℕ) (rest : List ℕ) → 1 ≤ blocks
-        → blocks ≤ 65536 → bytes.now ≡ head_of blocks ++ rest → ⊥)) }
+        → blocks ≤ BLOCK_LIMIT → bytes.now ≡ head_of blocks ++ rest → ⊥)) }
 {
-    if bytes.len() < HEAD {
+    if bytes.len() < HEAD_SIZE {
         return Ok(None);
     }
     let blocks = u64::from_be_bytes([
@@ -55,7 +53,7 @@ pub(crate) fn read_head(alloc: Global, bytes: &[u8]) -> Result<Option<u64>, Allo
         return Ok(None);
     }
     let head = head_bytes(alloc, blocks, 1)?;
-    let (front, _) = bytes.split_at(HEAD);
+    let (front, _) = bytes.split_at(HEAD_SIZE);
     if is_same(front, head.as_slice()) {
         Ok(Some(blocks))
     } else {

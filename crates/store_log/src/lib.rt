@@ -2,6 +2,7 @@
 #![tactic(auto)]
 
 mod fault;
+mod form;
 mod format;
 mod gate;
 mod head;
@@ -10,5 +11,6 @@ mod piece;
 mod read;
 
 pub use fault::LogFault;
+pub use form::{HEAD_GATE, HEAD_SIZE, SIGN, journal_numbers_are};
 pub use log::{Log, Recovered};
 pub use piece::{AROUND, BEFORE, CHANGE_LIMIT};

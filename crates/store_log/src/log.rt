@@ -1,8 +1,11 @@
 // The log of a journal: how it is made, read and added to.
-ghost use Rattle.std.specs.Prelude.{◌≡◌, ◌≢◌, ◌⊎◌, ◌<◌, ◌≤◌, ◌+◌, ◌-◌, ◌^◌, ℕ, List, [], ◌∷◌, ◌++◌, length, drop, IfOk, IfErr, OnOk, OnErr};
-ghost use Rattle.outside.specs.Streams.{Causes, Rose};
+ghost use Rattle.std.specs.Prelude.{◌≡◌, ◌≢◌, ◌⊎◌, ◌<◌, ◌≤◌, ◌+◌, ◌-◌, ◌^◌, ℕ, List, [], ◌∷◌, ◌++◌, length, drop, IfOk, IfErr, IsErr, OnOk, OnErr};
 ghost use Rattle.disks.specs.Disk.{Only};
 ghost use Rattle.disks.specs.Moments.{LeavesOnly, Each};
+ghost use Rattle.disks.specs.Outside.{AgreesOutside, IsOldOutside};
+ghost use Rattle.disks.specs.Spends.{HasNoNumber, Spends};
+ghost use Rattle.small_types.specs.declared.limits.TheConstants.{BLOCK_LIMIT};
+ghost use Rattle.store_log.specs.declared.form.TheConstants.{HEAD_SIZE};
 ghost use Rattle.store_log.specs.declared.fault.LogFault.TheVariants.{DiskFault, Memory, NotALog};
 
 use crate::LogFault;
@@ -34,7 +37,7 @@ pub struct Recovered {
 }
 
 impl Log {
-    ghost use Rattle.store_log.specs.Log.{head_of, IsLog, IsStore, NoStore, Formats, IsOpen, IsPiece, entry_in, end_of, AgreesOutside, IsOldOutside, IsFull};
+    ghost use Rattle.store_log.specs.Log.{head_of, IsLog, IsStore, NoStore, Formats, IsOpen, IsPiece, entry_in, end_of};
 
     /// Makes a new journal of this number of blocks, 1 to 65,536, and of no change. This form has no halves and no
     /// tables: `half` is 0 and `tables` is empty. What stood on the disk is lost. A stop inside leaves what stood
@@ -47,7 +50,7 @@ impl Log {
         half: u64,
         tables: &[u8],
     ) -> Result<(), LogFault>
-        requires limits { (1 ≤ blocks) × (blocks ≤ 65536) }
+        requires limits { (1 ≤ blocks) × (blocks ≤ BLOCK_LIMIT) }
         requires form { (half ≡ 0) × (tables.now ≡ []) }
 
         // From then on each stop leaves the new journal, and reads give it.
@@ -58,14 +61,10 @@ impl Log {
 
         // What a stop at each moment of the call leaves.
         ensures any_moment { Formats D.Disk disk.old disk.new blocks }
-        ensures told { D.tells disk.new → D.tells disk.old }
+        ensures spends { Spends D.Disk 6 (HEAD_SIZE + 2) disk.old disk.new
+            (result ≡ Err DiskFault) }
         ensures tick { OnOk result (D.moment disk.new ≡ D.moment disk.old + 6) }
-        ensures later { D.moment disk.old ≤ D.moment disk.new }
-        ensures within { D.moment disk.new ≤ D.moment disk.old + 6 }
-        ensures written { OnOk result (D.total disk.new ≡ D.total disk.old + 4098) }
-        ensures count { D.count disk.old ≤ D.count disk.new }
-        ensures cause { result ≡ Err DiskFault → Rose (D.count disk.old) (D.count disk.new) }
-        ensures quiet { result ≢ Err DiskFault → D.count disk.new ≡ D.count disk.old }
+        ensures written { OnOk result (D.total disk.new ≡ D.total disk.old + (HEAD_SIZE + 2)) }
         ensures memory { result ≡ Err Memory → disk.new ≡ disk.old }
         ensures faults { IfErr result (λ e. (e ≡ DiskFault) ⊎ (e ≡ Memory)) }
     {
@@ -87,7 +86,7 @@ impl Log {
             → IsStore blocks changes (D.seen disk.old)
             → IfOk result (λ r. (r.1.blocks ≡ blocks) × (r.1.changes ≡ changes)) }
         ensures not_a_log { D.tells disk.new → result ≡ Err NotALog → NoStore (D.seen disk.old) }
-        ensures limits { IfOk result (λ r. (1 ≤ r.1.blocks) × (r.1.blocks ≤ 65536)) }
+        ensures limits { IfOk result (λ r. (1 ≤ r.1.blocks) × (r.1.blocks ≤ BLOCK_LIMIT)) }
         ensures form { IfOk result (λ r. (r.1.half ≡ 0) × (r.1.tables ≡ [])) }
         ensures opened { D.tells disk.new
             → IfOk result (λ r. IsOpen D.Disk r.0 (head_of r.1.blocks) r.1.changes disk.new) }
@@ -102,16 +101,10 @@ impl Log {
         // A stop leaves what it could leave before the call.
         ensures any_moment { LeavesOnly D.Disk disk.old disk.new (D.left_at disk.old
             (D.moment disk.old)) }
-        ensures told { D.tells disk.new → D.tells disk.old }
+        ensures spends { Spends D.Disk 1 0 disk.old disk.new (result ≡ Err DiskFault) }
         ensures tick { OnOk result (D.moment disk.new ≡ D.moment disk.old + 1) }
         ensures tick_err { IfErr result (λ e. e ≢ DiskFault
             → D.moment disk.new ≡ D.moment disk.old + 1) }
-        ensures later { D.moment disk.old ≤ D.moment disk.new }
-        ensures within { D.moment disk.new ≤ D.moment disk.old + 1 }
-        ensures written { D.total disk.new ≡ D.total disk.old }
-        ensures count { D.count disk.old ≤ D.count disk.new }
-        ensures cause { result ≡ Err DiskFault → Rose (D.count disk.old) (D.count disk.new) }
-        ensures quiet { result ≢ Err DiskFault → D.count disk.new ≡ D.count disk.old }
         ensures faults { IfErr result (λ e. (e ≡ DiskFault) ⊎ ((e ≡ NotALog) ⊎ (e ≡ Memory))) }
     {
         disk.sync()?;
@@ -167,14 +160,11 @@ impl Log {
             (D.seen disk.old) (D.seen disk.new) }
         ensures kept { OnErr result (self.new ≡ self.old) }
         ensures change { entry_in piece.new ≡ entry_in piece.old }
-        ensures told { D.tells disk.new → D.tells disk.old }
+        ensures spends { Spends D.Disk 4 (length piece.old) disk.old disk.new (IsErr result) }
         ensures tick { OnOk result (D.moment disk.new ≡ D.moment disk.old + 4) }
-        ensures later { D.moment disk.old ≤ D.moment disk.new }
-        ensures within { D.moment disk.new ≤ D.moment disk.old + 4 }
         ensures written { OnOk result (D.total disk.new ≡ D.total disk.old + length piece.old) }
         ensures counted { (D.moment disk.old + 1 ≤ D.moment disk.new)
-            ⊎ IsFull (D.moment disk.new) (D.total disk.new) (length piece.old) }
-        ensures cause { Causes (D.count disk.old) (D.count disk.new) result }
+            ⊎ HasNoNumber (D.moment disk.new) (D.total disk.new) (length piece.old) }
         ensures faults { IfErr result (λ e. e ≡ DiskFault) }
     {
         frame(piece);

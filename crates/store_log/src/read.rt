@@ -1,13 +1,15 @@
 // How the bytes of a journal are read.
 ghost use Rattle.std.specs.Prelude.{◌≡◌, ◌≢◌, ◌⊎◌, ◌↔◌, IsTrue, slice_index, ◌<◌, ◌≤◌, ◌^◌, ℕ, List, length, drop, IfOk, IfErr, IfSome, IfNone};
-ghost use Rattle.outside.specs.Streams.{Rose};
 ghost use Rattle.disks.specs.Moments.{Untouched};
+ghost use Rattle.disks.specs.Spends.{Spends};
 ghost use Rattle.store_log.specs.declared.fault.LogFault.TheVariants.{DiskFault, Memory};
 ghost use Rattle.store_log.specs.Log.{NoStore};
 ghost use Rattle.store_log.specs.Steps.{AtGate, NoEntries, OpensSize, Finds};
 
 use crate::LogFault;
-use crate::head::{HEAD, read_head};
+use crate::form::HEAD_SIZE;
+use crate::head::read_head;
+use crate::piece::BEFORE;
 use disks::Disk;
 use small_types::{Bytes, List, rest_from};
 use std::alloc::{AllocError, Global};
@@ -29,13 +31,8 @@ fn read_through<D: Disk>(alloc: Global, disk: &mut D, buf: &mut [u8]) -> Result<
     requires { 0 < length buf.old }
     ensures bytes { D.tells disk.new → IfOk result (λ bytes. bytes.items ≡ D.seen disk.old) }
     ensures still { Untouched D.Disk disk.old disk.new }
-    ensures told { D.tells disk.new → D.tells disk.old }
-    ensures moment { D.moment disk.new ≡ D.moment disk.old }
-    ensures written { D.total disk.new ≡ D.total disk.old }
-    ensures count { D.count disk.old ≤ D.count disk.new }
-    ensures fault { IfErr result (λ e. (e ≡ Memory)
-        ⊎ ((e ≡ DiskFault) × Rose (D.count disk.old) (D.count disk.new))) }
-    ensures quiet { result ≢ Err DiskFault → D.count disk.new ≡ D.count disk.old }
+    ensures spends { Spends D.Disk 0 0 disk.old disk.new (result ≡ Err DiskFault) }
+    ensures faults { IfErr result (λ e. (e ≡ DiskFault) ⊎ (e ≡ Memory)) }
 {
     let mut bytes = Vec::new(alloc);
     loop {
@@ -52,13 +49,8 @@ fn read_through<D: Disk>(alloc: Global, disk: &mut D, buf: &mut [u8]) -> Result<
 pub(crate) fn read_all<D: Disk>(alloc: Global, disk: &mut D) -> Result<Vec<u8>, LogFault>
     ensures bytes { D.tells disk.new → IfOk result (λ bytes. bytes.items ≡ D.seen disk.old) }
     ensures still { Untouched D.Disk disk.old disk.new }
-    ensures told { D.tells disk.new → D.tells disk.old }
-    ensures moment { D.moment disk.new ≡ D.moment disk.old }
-    ensures written { D.total disk.new ≡ D.total disk.old }
-    ensures count { D.count disk.old ≤ D.count disk.new }
-    ensures fault { IfErr result (λ e. (e ≡ Memory)
-        ⊎ ((e ≡ DiskFault) × Rose (D.count disk.old) (D.count disk.new))) }
-    ensures quiet { result ≢ Err DiskFault → D.count disk.new ≡ D.count disk.old }
+    ensures spends { Spends D.Disk 0 0 disk.old disk.new (result ≡ Err DiskFault) }
+    ensures faults { IfErr result (λ e. (e ≡ DiskFault) ⊎ (e ≡ Memory)) }
 {
     let mut buf = buffer(alloc, CHUNK)?;
     read_through(alloc, disk, &mut buf)
@@ -73,11 +65,11 @@ fn is_open(gate: u8) -> bool
 
 // The size of the entry behind an open gate, where the bytes have one.
 fn open_size(bytes: &[u8]) -> Option<usize>
-    ensures some { IfSome result (λ n. OpensSize n (drop 5 bytes.now) bytes.now) }
+    ensures some { IfSome result (λ n. OpensSize n (drop BEFORE bytes.now) bytes.now) }
     ensures small { IfSome result (λ n. n < 2 ^ 32) }
-    ensures none { IfNone result ((length bytes.now < 5) ⊎ (slice_index bytes.now 0 ≢ 1)) }
+    ensures none { IfNone result ((length bytes.now < BEFORE) ⊎ (slice_index bytes.now 0 ≢ 1)) }
 {
-    if bytes.len() < 5 {
+    if bytes.len() < BEFORE {
         return None;
     }
     if !is_open(bytes[0]) {
@@ -96,7 +88,7 @@ fn read_entries(alloc: Global, bytes: &[u8]) -> Result<Option<(usize, List<Bytes
     let mut changes = List::from_vec(Vec::new(alloc));
     let mut rest = bytes;
     while let Some(size) = open_size(rest) {
-        let after = rest_from(rest, 5);
+        let after = rest_from(rest, BEFORE);
         if after.len() < size {
             return Ok(None);
         }
@@ -129,12 +121,12 @@ pub(crate) fn read_log(alloc: Global, bytes: &[u8]) -> Result<Option<Found>, All
     let Some(blocks) = read_head(alloc, bytes)? else {
         return Ok(None);
     };
-    let Some((place, changes)) = read_entries(alloc, rest_from(bytes, HEAD))? else {
+    let Some((place, changes)) = read_entries(alloc, rest_from(bytes, HEAD_SIZE))? else {
         return Ok(None);
     };
     Ok(Some(Found {
         blocks,
-        end: HEAD + place,
+        end: HEAD_SIZE + place,
         changes,
     }))
 }

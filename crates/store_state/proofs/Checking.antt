@@ -3,6 +3,7 @@ use Rattle.std.proofs.Common.{◌≡◌, ◌∙◌, ◌<◌, refl, sym, ap, subs
 use Rattle.std.specs.Prelude.{option_map, slice_get, unwrap_or}
 use Rattle.std.proofs.lemmas.Cmp.{tied_itself}
 use Rattle.std.proofs.lemmas.Option.{get_or_from_slice_get, slice_get-get_or, slice_get_within}
+use Rattle.small_types.specs.declared.room.Room.{Room}
 use Rattle.identity.specs.declared.key.Key.{Key}
 use Rattle.identity.specs.declared.version.Version.{Version}
 use Rattle.identity.specs.Key.{key_text}
@@ -28,10 +29,11 @@ use Rattle.store_state.specs.declared.view.View.{View}
 use Rattle.store_state.specs.Change.{effect}
 use Rattle.store_state.specs.Notes.{noted}
 use Rattle.store_state.specs.Rows.{current_at, current_row, current_version, row_at, with_app}
-use Rattle.store_state.specs.Shows.{Shows, shown_store}
+use Rattle.store_state.specs.Shows.{SameFiles, Shows, shown_store}
 use Rattle.store_state.specs.Tables.{Tables, bare_row, table_shape}
 use Rattle.store_state.proofs.Current.{bare_current}
 use Rattle.store_state.proofs.Placed.{placed_entry}
+use Rattle.store_state.proofs.Showing.{shows_same}
 
 -- ---- notes
 
@@ -122,52 +124,57 @@ same_version None = refl
 same_version (Some view) = refl
 
 -- the version that is current in the tables and in their shape
-pub version_shown : (blocks : ℕ) (tables : Tables) (key : Key)
-    → current_version key tables ≡ shape_version key (table_shape blocks tables)
-version_shown blocks tables key =
+pub version_shown : (room : Room) (tables : Tables) (key : Key)
+    → current_version key tables ≡ shape_version key (table_shape room tables)
+version_shown room tables key =
     sym (same_version (current_row key tables))
     ∙ ap (option_map (λ (v : BareView). v.deployment.identity.version))
-    (bare_current key tables blocks)
+    (bare_current key tables room)
 
-abbrev pub store_with : ℕ → Tables → List AppState → Store
-store_with blocks tables apps = record (shown_store blocks tables) { apps = apps }
+abbrev pub store_with : Room → List ℕ → Tables → List AppState → Store
+store_with room image tables apps = record (shown_store room image tables) { apps = apps }
 
-pub shows_heard : (blocks : ℕ) (tables : Tables) (key : Key) (have version : Version)
+pub shows_heard : (room : Room) (tables : Tables) (key : Key) (have version : Version)
     (minimum : Option Version) (now : ℕ) (image later : List ℕ) (store : Store)
-    → Shows blocks tables image store
-    → shape_version key (table_shape blocks tables) ≡ Some have
-    → Shows blocks (effect (Heard key version minimum now) tables) later
+    → Shows room tables image store → SameFiles room tables image later
+    → shape_version key (table_shape room tables) ≡ Some have
+    → Shows room (effect (Heard key version minimum now) tables) later
     (record store { apps = with_entry key (heard_app have version minimum now) store.apps })
-shows_heard blocks tables key have version minimum now image later store shows current = record {
-  is =
-      ap (λ (s : Store). record s {
-        apps = with_entry key (heard_app have version minimum now) s.apps;
-      }) shows.is
-      ∙ ap (λ (v : Version). store_with blocks tables
-      (with_entry key (heard_app v version minimum now) tables.apps))
-      (sym (ap (λ (o : Option Version). unwrap_or o version)
-      (version_shown blocks tables key ∙ current)));
-  held = shows.held;
-  measured = shows.measured;
-}
+shows_heard room tables key have version minimum now image later store first same current =
+    let shows = shows_same later same first in
+    record {
+      is =
+          ap (λ (s : Store). record s {
+            apps = with_entry key (heard_app have version minimum now) s.apps;
+          }) shows.is
+          ∙ ap (λ (v : Version). store_with room later tables
+          (with_entry key (heard_app v version minimum now) tables.apps))
+          (sym (ap (λ (o : Option Version). unwrap_or o version)
+          (version_shown room tables key ∙ current)));
+      held = shows.held;
+      measured = shows.measured;
+    }
 
-pub shows_unheard : (blocks : ℕ) (tables : Tables) (key : Key) (image later : List ℕ)
-    (store : Store) → Shows blocks tables image store
-    → Shows blocks (effect (Unheard key) tables) later (unheard key store)
-shows_unheard blocks tables key image later store shows =
+pub shows_unheard : (room : Room) (tables : Tables) (key : Key) (image later : List ℕ)
+    (store : Store) → Shows room tables image store → SameFiles room tables image later
+    → Shows room (effect (Unheard key) tables) later (unheard key store)
+shows_unheard room tables key image later store first same =
+    let shows = shows_same later same first in
     record { is = ap (unheard key) shows.is; held = shows.held; measured = shows.measured }
 
-pub shows_skipped : (blocks : ℕ) (tables : Tables) (key : Key) (place : ℕ) (offer : Version)
-    (image later : List ℕ) (store : Store) → Shows blocks tables image store
-    → AreInOrder tables.apps → slice_get tables.apps place ≡ entry_of key tables.apps
+pub shows_skipped : (room : Room) (tables : Tables) (key : Key) (place : ℕ) (offer : Version)
+    (image later : List ℕ) (store : Store) → Shows room tables image store
+    → SameFiles room tables image later → AreInOrder tables.apps
+    → slice_get tables.apps place ≡ entry_of key tables.apps
     → offer_of key tables.apps ≡ Some offer
-    → Shows blocks (effect (Skip place) tables) later (skipped key store)
-shows_skipped blocks tables key place offer image later store shows order stands offered =
+    → Shows room (effect (Skip place) tables) later (skipped key store)
+shows_skipped room tables key place offer image later store first same order stands offered =
+    let shows = shows_same later same first in
     let app = then_value (λ (a : AppState). a.offer) (entry_of key tables.apps) offer offered in
     record {
       is =
           ap (skipped key) shows.is
-          ∙ ap (store_with blocks tables)
+          ∙ ap (store_with room later tables)
           (placed_entry key skipped_app tables.apps place app.0 order (stands ∙ app.1)
           (entry_in key tables.apps app.0 app.1).1);
       held = shows.held;

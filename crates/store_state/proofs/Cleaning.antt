@@ -4,6 +4,7 @@ use Rattle.std.specs.Prelude.{filter}
 use Rattle.std.specs.List.{list_any}
 use Rattle.std.proofs.lemmas.Bool.{false_from_ne_true, false≢true}
 use Rattle.std.proofs.lemmas.List.Elements.{All-filter}
+use Rattle.small_types.specs.declared.room.Room.{Room}
 use Rattle.manifests.specs.declared.facts.FileEntry.{FileEntry}
 use Rattle.machine.specs.Blocks.{standing_files}
 use Rattle.machine.specs.CleanRow.{cleaned}
@@ -21,10 +22,10 @@ use Rattle.store_state.specs.Change.{effect}
 use Rattle.store_state.specs.Contents.{content_of, is_content_of}
 use Rattle.store_state.specs.Dropped.{dropped, is_among, is_needed, needed, removable_in, without_rows}
 use Rattle.store_state.specs.Laws.{without_views}
-use Rattle.store_state.specs.Shows.{Shows, bytes_in, shown_file, shown_store, shown_view}
+use Rattle.store_state.specs.Shows.{SameFiles, Shows, bytes_in, shown_file, shown_store, shown_view}
 use Rattle.store_state.specs.Tables.{Tables, bare_row}
 use Rattle.store_state.proofs.Growing.{files_row}
-use Rattle.store_state.proofs.Showing.{HasMeasured, IsHeld}
+use Rattle.store_state.proofs.Showing.{HasMeasured, IsHeld, shows_same}
 
 -- ---- lists whose elements agree
 
@@ -84,7 +85,7 @@ module _ (tables : Tables) where
 
 -- ---- the views that are left have their contents
 
-module _ (left : List View) (contents : List Content) where
+module _ (room : Room) (image : List ℕ) (left : List View) (contents : List Content) where
   abbrev kept : List Content
   kept = needed left contents
 
@@ -96,20 +97,20 @@ module _ (left : List View) (contents : List Content) where
       (λ content passes. in_passes (λ (e : FileEntry). is_content_of e content)
       (standing_files (map bare_row left)) entry (files_row left view entry there of) passes)
 
-  view_kept : (view : View) → In view left → shown_view contents view ≡ shown_view kept view
+  view_kept : (view : View) → In view left → shown_view room image contents view ≡ shown_view room image kept view
   view_kept view there =
-      ap (λ (files : List ListedFile). record (shown_view contents view) {
+      ap (λ (files : List ListedFile). record (shown_view room image contents view) {
         program_files = files;
       })
-      (map_agree (shown_file contents) (shown_file kept)
+      (map_agree (shown_file room image contents) (shown_file room image kept)
       (standing_entries view.groups view.application)
       (λ entry of. ap (λ (content : Option Content). record {
         entry = entry;
-        bytes = bytes_in content;
+        bytes = bytes_in room image content;
       }) (sym (content_kept view there entry of))))
 
-  pub views_kept : map (shown_view contents) left ≡ map (shown_view (needed left contents)) left
-  views_kept = map_agree (shown_view contents) (shown_view kept) left view_kept
+  pub views_kept : map (shown_view room image contents) left ≡ map (shown_view room image (needed left contents)) left
+  views_kept = map_agree (shown_view room image contents) (shown_view room image kept) left view_kept
 
   pub held_kept : All (IsHeld contents) left → All (IsHeld (needed left contents)) left
   held_kept held =
@@ -123,39 +124,42 @@ module _ (left : List View) (contents : List Content) where
       (all_in (IsHeld contents) left view held there) of)))
 
 -- the store without the views of these numbers is shown
-pub drops_shown : (blocks : ℕ) (tables : Tables) (numbers image later : List ℕ) (store : Store)
-    → Shows blocks tables image store
-    → Shows blocks (dropped numbers tables) later (without_views numbers store)
-drops_shown blocks tables numbers image later store shows =
+pub drops_shown : (room : Room) (tables : Tables) (numbers image later : List ℕ) (store : Store)
+    → Shows room tables image store → SameFiles room tables image later
+    → Shows room (dropped numbers tables) later (without_views numbers store)
+drops_shown room tables numbers image later store first same =
+    let shows = shows_same later same first in
     let keep = λ (view : View). not (is_among numbers view) in
     let left = without_rows numbers tables.views in
     record {
       is =
           ap (without_views numbers) shows.is
-          ∙ ap (λ (views : List KeptView). record (shown_store blocks tables) { views = views })
-          (filter_map_is (shown_view tables.contents)
+          ∙ ap (λ (views : List KeptView). record (shown_store room later tables) { views = views })
+          (filter_map_is (shown_view room later tables.contents)
           (λ (view : KeptView). not (list_any (λ (n : ℕ). eqb n view.number) numbers))
           tables.views
-          ∙ views_kept left tables.contents);
-      held = held_kept left tables.contents
+          ∙ views_kept room later left tables.contents);
+      held = held_kept room later left tables.contents
           (All-filter keep (IsHeld tables.contents) tables.views shows.held);
-      measured = All-filter keep HasMeasured tables.views shows.measured;
+      measured = All-filter keep (HasMeasured room later) tables.views shows.measured;
     }
 
-pub cleans_shown : (blocks : ℕ) (tables : Tables) (image later : List ℕ) (store : Store)
-    → Shows blocks tables image store → Shows blocks (effect Clean tables) later (cleaned store)
-cleans_shown blocks tables image later store shows =
+pub cleans_shown : (room : Room) (tables : Tables) (image later : List ℕ) (store : Store)
+    → Shows room tables image store → SameFiles room tables image later
+    → Shows room (effect Clean tables) later (cleaned store)
+cleans_shown room tables image later store first same =
+    let shows = shows_same later same first in
     let keep = λ (view : View). not (is_among (removable_in tables) view) in
     let left = without_rows (removable_in tables) tables.views in
     record {
       is =
           ap cleaned shows.is
-          ∙ ap (λ (views : List KeptView). record (shown_store blocks tables) { views = views })
-          (filter_map_is (shown_view tables.contents)
+          ∙ ap (λ (views : List KeptView). record (shown_store room later tables) { views = views })
+          (filter_map_is (shown_view room later tables.contents)
           (λ (view : KeptView). is_in_use view.number tables.apps tables.leases) tables.views
-          ∙ ap (map (shown_view tables.contents)) (sym (used_left tables))
-          ∙ views_kept left tables.contents);
-      held = held_kept left tables.contents
+          ∙ ap (map (shown_view room later tables.contents)) (sym (used_left tables))
+          ∙ views_kept room later left tables.contents);
+      held = held_kept room later left tables.contents
           (All-filter keep (IsHeld tables.contents) tables.views shows.held);
-      measured = All-filter keep HasMeasured tables.views shows.measured;
+      measured = All-filter keep (HasMeasured room later) tables.views shows.measured;
     }

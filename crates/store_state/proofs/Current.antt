@@ -1,6 +1,7 @@
 -- The current view and a leased one, without the bytes of their data files.
 use Rattle.std.proofs.Common.{◌≡◌, ◌∙◌, refl, ap, ℕ, Bool, true, false, cond, List, [], ◌∷◌, map, Option, Some, None, eqb}
 use Rattle.std.specs.Prelude.{option_and_then, option_map}
+use Rattle.small_types.specs.declared.room.Room.{Room}
 use Rattle.identity.specs.declared.key.Key.{Key}
 use Rattle.machine.specs.declared.lease.Lease.{Lease}
 use Rattle.machine.specs.Current.{bare_view_at, current_bare, current_of}
@@ -31,9 +32,9 @@ pub bare_then : (number : Option ℕ) (views : List View)
 bare_then None views = refl
 bare_then (Some number) views = bare_at number views
 
-pub bare_current : (key : Key) (tables : Tables) (blocks : ℕ)
-    → option_map bare_row (current_row key tables) ≡ current_bare key (table_shape blocks tables)
-bare_current key tables blocks = bare_then (current_of key tables.apps) tables.views
+pub bare_current : (key : Key) (tables : Tables) (room : Room)
+    → option_map bare_row (current_row key tables) ≡ current_bare key (table_shape room tables)
+bare_current key tables room = bare_then (current_of key tables.apps) tables.views
 
 -- ---- the view of a lease
 
@@ -43,7 +44,7 @@ bare_by : (lease : Option Lease) (views : List View)
 bare_by None views = refl
 bare_by (Some lease) views = bare_at lease.view views
 
-pub bare_leased : (number : ℕ) (tables : Tables) (blocks : ℕ)
+pub bare_leased : (number : ℕ) (tables : Tables) (room : Room)
     → option_map bare_row (leased_row number tables)
-    ≡ leased_bare number (table_shape blocks tables)
-bare_leased number tables blocks = bare_by (lease_of number tables.leases) tables.views
+    ≡ leased_bare number (table_shape room tables)
+bare_leased number tables room = bare_by (lease_of number tables.leases) tables.views

@@ -3,6 +3,7 @@ use Rattle.std.proofs.Common.{◌≡◌, ◌∙◌, ◌⊎◌, ◌++◌, ◌&&�
 use Rattle.std.specs.Prelude.{filter, option_map}
 use Rattle.std.proofs.lemmas.Bool.{cond-false, cond-true}
 use Rattle.std.proofs.lemmas.List.Elements.{All-weaker}
+use Rattle.small_types.specs.declared.room.Room.{Room}
 use Rattle.manifests.specs.declared.facts.FileEntry.{FileEntry}
 use Rattle.machine.specs.Current.{view_at}
 use Rattle.machine.specs.Groups.{group_files, group_stands, is_in}
@@ -20,12 +21,12 @@ use Rattle.store_state.specs.Change.{MayGrow, effect, grown}
 use Rattle.store_state.specs.Contents.{content_of}
 use Rattle.store_state.specs.Laws.{ShowsGroup, came_files, stand_files}
 use Rattle.store_state.specs.Rows.{row_at}
-use Rattle.store_state.specs.Shows.{Shows, shown_file, shown_store, shown_view}
+use Rattle.store_state.specs.Shows.{SameFiles, Shows, shown_file, shown_store, shown_view}
 use Rattle.store_state.specs.Tables.{Tables}
 use Rattle.store_state.proofs.Growing.{each_grown, grown_either, of_view, one_view, standing_apart, standing_grown, view_number, view_there}
 use Rattle.store_state.proofs.Keyed.{found_more}
 use Rattle.store_state.proofs.Naming.{is_standing}
-use Rattle.store_state.proofs.Showing.{HasMeasured, IsHeld, same_files}
+use Rattle.store_state.proofs.Showing.{HasMeasured, IsHeld, same_files, shows_same}
 
 -- ---- lists that are filtered twice
 
@@ -77,52 +78,58 @@ module _ (group : List ℕ) (view : View) where
       ∙ stayed_by (is_standing view.groups entry) (is_in group entry)
       (standing_apart view.groups group entry absent)) view.application.files
 
-pub entries_shown : (contents : List Content) (entries : List FileEntry)
-    → map (λ (file : ListedFile). file.entry) (map (shown_file contents) entries) ≡ entries
-entries_shown contents [] = refl
-entries_shown contents (entry ∷ entries) =
-    ap (λ (rest : List FileEntry). entry ∷ rest) (entries_shown contents entries)
+pub entries_shown : (room : Room) (later : List ℕ) (contents : List Content)
+    (entries : List FileEntry)
+    → map (λ (file : ListedFile). file.entry) (map (shown_file room later contents) entries) ≡ entries
+entries_shown room later contents [] = refl
+entries_shown room later contents (entry ∷ entries) =
+    ap (λ (rest : List FileEntry). entry ∷ rest) (entries_shown room later contents entries)
 
 -- ---- the store
 
-module _ (blocks : ℕ) (tables : Tables) (number : ℕ) (group : List ℕ) (contents : List Content)
-    (view : View) (image later : List ℕ) (store : Store) (shows : Shows blocks tables image store)
+module _ (room : Room) (tables : Tables) (number : ℕ) (group : List ℕ) (contents : List Content)
+    (view : View) (image later : List ℕ) (store : Store) (first : Shows room tables image store)
+    (same : SameFiles room tables image later)
     (rising : AllPairs (λ (m n : ℕ). m < n) (map of_view tables.views))
     (kept : row_at number tables.views ≡ Some view) (may : MayGrow tables group contents view) where
   abbrev after : List Content
   after = tables.contents ++ contents
 
+  shows : Shows room tables later store
+  shows = shows_same later same first
+
   abbrev files : List ListedFile
-  files = stand_files tables contents group view
+  files = stand_files room later tables contents group view
 
   abbrev before : KeptView
-  before = shown_view tables.contents view
+  before = shown_view room later tables.contents view
 
   view_held : IsHeld tables.contents view
   view_held =
       all_in (IsHeld tables.contents) tables.views view shows.held
       (view_there number group tables.views view rising kept)
 
-  among : StandAmong group before (came_files tables contents group view) files
+  among : StandAmong group before (came_files room later tables contents group view) files
   among = record {
-    order = entries_shown after (standing_entries (view.groups ++ group ∷ []) view.application);
+    order =
+        entries_shown room later after (standing_entries (view.groups ++ group ∷ []) view.application);
     came =
-        filter_map_is (shown_file after) (λ (file : ListedFile). is_in group file.entry)
+        filter_map_is (shown_file room later after) (λ (file : ListedFile). is_in group file.entry)
         (standing_entries (view.groups ++ group ∷ []) view.application)
-        ∙ ap (map (shown_file after)) (came_entries group view);
+        ∙ ap (map (shown_file room later after)) (came_entries group view);
     stayed =
-        filter_map_is (shown_file after) (λ (file : ListedFile). not (is_in group file.entry))
+        filter_map_is (shown_file room later after) (λ (file : ListedFile). not (is_in group file.entry))
         (standing_entries (view.groups ++ group ∷ []) view.application)
-        ∙ ap (map (shown_file after)) (stayed_entries group view may.absent)
-        ∙ same_files tables.contents contents
+        ∙ ap (map (shown_file room later after)) (stayed_entries group view may.absent)
+        ∙ same_files room later tables.contents contents
         (standing_entries view.groups view.application) view_held;
   }
 
   there : view_at number store.views ≡ Some before
   there =
       ap (λ (s : Store). view_at number s.views) shows.is
-      ∙ find-map (shown_view tables.contents) (λ (v : KeptView). eqb v.number number) tables.views
-      ∙ ap (option_map (shown_view tables.contents)) kept
+      ∙ find-map (shown_view room later tables.contents) (λ (v : KeptView). eqb v.number number) tables.views
+      ∙ ap (option_map (shown_view room later tables.contents)) kept
 
   -- ---- each view
 
@@ -130,14 +137,14 @@ module _ (blocks : ℕ) (tables : Tables) (number : ℕ) (group : List ℕ) (con
   put v = cond (eqb v.number number) (with_group group files v) v
 
   abbrev IsPut : View → Type 0
-  IsPut v = put (shown_view tables.contents v)
-      ≡ shown_view after (change of_view number (grown group) v)
+  IsPut v = put (shown_view room later tables.contents v)
+      ≡ shown_view room later after (change of_view number (grown group) v)
 
   put_here : (v : View) → v ≡ view → IsPut v
   put_here v is =
       subst IsPut (sym is)
       (cond-true (eqb view.number number) (with_group group files before) before numbered
-      ∙ sym (ap (shown_view after)
+      ∙ sym (ap (shown_view room later after)
       (cond-true (eqb view.number number) (grown group view) view numbered)))
     where
       numbered : eqb view.number number ≡ true
@@ -147,13 +154,13 @@ module _ (blocks : ℕ) (tables : Tables) (number : ℕ) (group : List ℕ) (con
   put_other : (v : View) → IsHeld tables.contents v → eqb v.number number ≡ false → IsPut v
   put_other v held other =
       cond-false (eqb v.number number)
-      (with_group group files (shown_view tables.contents v))
-      (shown_view tables.contents v) other
-      ∙ ap (λ (fs : List ListedFile). record (shown_view tables.contents v) {
+      (with_group group files (shown_view room later tables.contents v))
+      (shown_view room later tables.contents v) other
+      ∙ ap (λ (fs : List ListedFile). record (shown_view room later tables.contents v) {
         program_files = fs;
       })
-      (sym (same_files tables.contents contents (standing_entries v.groups v.application) held))
-      ∙ sym (ap (shown_view after) (cond-false (eqb v.number number) (grown group v) v other))
+      (sym (same_files room later tables.contents contents (standing_entries v.groups v.application) held))
+      ∙ sym (ap (shown_view room later after) (cond-false (eqb v.number number) (grown group v) v other))
 
   put_each : (v : View) → In v tables.views → IsPut v
   put_each v of = by (eqb v.number number) refl
@@ -166,13 +173,13 @@ module _ (blocks : ℕ) (tables : Tables) (number : ℕ) (group : List ℕ) (con
           put_other v (all_in (IsHeld tables.contents) tables.views v shows.held of) e
 
   put_all : (vs : List View) → ((v : View) → In v vs → IsPut v)
-      → map put (map (shown_view tables.contents) vs)
-      ≡ map (shown_view after) (map (change of_view number (grown group)) vs)
+      → map put (map (shown_view room later tables.contents) vs)
+      ≡ map (shown_view room later after) (map (change of_view number (grown group)) vs)
   put_all [] each = refl
   put_all (v ∷ vs) each =
-      ap (λ (w : KeptView). w ∷ map put (map (shown_view tables.contents) vs))
+      ap (λ (w : KeptView). w ∷ map put (map (shown_view room later tables.contents) vs))
       (each v (inl refl))
-      ∙ ap (λ (ws : List KeptView). shown_view after (change of_view number (grown group) v) ∷ ws)
+      ∙ ap (λ (ws : List KeptView). shown_view room later after (change of_view number (grown group) v) ∷ ws)
       (put_all vs (λ w of. each w (inr of)))
 
   -- ---- all views
@@ -203,28 +210,28 @@ module _ (blocks : ℕ) (tables : Tables) (number : ℕ) (group : List ℕ) (con
       (standing_entries v.groups v.application)
       (all_in (IsHeld tables.contents) tables.views v shows.held of)
 
-  pub shows_grouped : Shows blocks (effect (Group number group contents) tables) later
+  pub shows_grouped : Shows room (effect (Group number group contents) tables) later
       (grouped number group files store)
   shows_grouped = record {
     is =
         ap (grouped number group files) shows.is
-        ∙ ap (λ (views : List KeptView). record (shown_store blocks tables) { views = views })
+        ∙ ap (λ (views : List KeptView). record (shown_store room later tables) { views = views })
         (put_all tables.views put_each);
     held =
         each_grown number group tables.views view rising kept (IsHeld after) grown_held
         (λ other of unlike. still_held other of);
     measured =
-        each_grown number group tables.views view rising kept HasMeasured
-        (all_in HasMeasured tables.views view shows.measured
+        each_grown number group tables.views view rising kept (HasMeasured room later)
+        (all_in (HasMeasured room later) tables.views view shows.measured
         (view_there number group tables.views view rising kept))
-        (λ other of unlike. all_in HasMeasured tables.views other shows.measured of);
+        (λ other of unlike. all_in (HasMeasured room later) tables.views other shows.measured of);
   }
 
-  pub group_shown : ShowsGroup blocks tables number group contents view later store
+  pub group_shown : ShowsGroup room tables number group contents view later store
   group_shown = record {
     numbered = view_number number group tables.views view rising kept;
     there = there;
-    listed = entries_shown after (group_files group view.application);
+    listed = entries_shown room later after (group_files group view.application);
     among = among;
     shows = shows_grouped;
   }

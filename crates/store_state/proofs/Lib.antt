@@ -1,6 +1,7 @@
 pub mod ByNumber
 pub mod Checking
 pub mod Cleaning
+pub mod ContentsNamed
 pub mod Current
 pub mod Drops
 pub mod Edited
@@ -8,6 +9,7 @@ pub mod Firsts
 pub mod GroupShown
 pub mod Growing
 pub mod Holding
+pub mod Images
 pub mod Indexed
 pub mod Inserted
 pub mod Keyed

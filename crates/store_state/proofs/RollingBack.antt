@@ -2,6 +2,7 @@
 use Rattle.std.proofs.Common.{◌≡◌, ◌∙◌, ◌<◌, ◌==◌, refl, sym, ap, subst, length, ℕ, List, All, IsSome, Option, Some}
 use Rattle.std.specs.Prelude.{option_and_then, option_map, slice_get, unwrap_or}
 use Rattle.std.proofs.lemmas.Option.{same_Some, slice_get_within}
+use Rattle.small_types.specs.declared.room.Room.{Room}
 use Rattle.identity.specs.declared.key.Key.{Key}
 use Rattle.identity.specs.declared.version.Version.{Version}
 use Rattle.identity.specs.Version.{IsVersion}
@@ -22,11 +23,13 @@ use Rattle.store_state.specs.declared.change.Change.TheVariants.{Rollback}
 use Rattle.store_state.specs.declared.view.View.{View}
 use Rattle.store_state.specs.Change.{FitsRollback, effect}
 use Rattle.store_state.specs.Rows.{current_at, current_row, current_row_at, current_version, previous_row_at, row_at, version_at, with_app}
-use Rattle.store_state.specs.Shows.{Shows, shown_view}
+use Rattle.store_state.specs.Shows.{SameFiles, Shows, shown_view}
 use Rattle.store_state.specs.Tables.{Tables, table_shape}
 use Rattle.store_state.proofs.Checking.{own_entry, store_with, version_shown}
 use Rattle.store_state.proofs.Firsts.{in_place}
+use Rattle.store_state.proofs.Images.{same_image}
 use Rattle.store_state.proofs.Placed.{placed_entry}
+use Rattle.store_state.proofs.Showing.{shows_same}
 
 -- the effect, where a version is current for the application at the place
 pub back_at : (place : ℕ) (tables : Tables) (have : Version) → version_at place tables ≡ Some have
@@ -65,14 +68,16 @@ version_placed key place tables stands =
     (option_and_then (λ (n : ℕ). row_at n tables.views)
     (option_and_then (λ (app : AppState). app.current) entry))) stands
 
-pub shows_rolled_back : (blocks : ℕ) (tables : Tables) (key : Key) (place : ℕ) (have : Version)
-    (image later : List ℕ) (store : Store) → Shows blocks tables image store
-    → AreInOrder tables.apps → slice_get tables.apps place ≡ entry_of key tables.apps
-    → shape_version key (table_shape blocks tables) ≡ Some have
-    → Shows blocks (effect (Rollback place) tables) later (rolled_back key have store)
-shows_rolled_back blocks tables key place have image later store shows order stands current =
+pub shows_rolled_back : (room : Room) (tables : Tables) (key : Key) (place : ℕ) (have : Version)
+    (image later : List ℕ) (store : Store) → Shows room tables image store
+    → SameFiles room tables image later → AreInOrder tables.apps
+    → slice_get tables.apps place ≡ entry_of key tables.apps
+    → shape_version key (table_shape room tables) ≡ Some have
+    → Shows room (effect (Rollback place) tables) later (rolled_back key have store)
+shows_rolled_back room tables key place have image later store first same order stands current =
+    let shows = shows_same later same first in
     let version : current_version key tables ≡ Some have =
-    version_shown blocks tables key ∙ current in
+    version_shown room tables key ∙ current in
     let row = map_value (λ (v : View). v.deployment.identity.version) (current_row key tables) have
     version in
     let number = then_value (λ (n : ℕ). row_at n tables.views) (current_of key tables.apps) row.0
@@ -83,7 +88,7 @@ shows_rolled_back blocks tables key place have image later store shows order sta
     record {
       is =
           ap (rolled_back key have) shows.is
-          ∙ ap (store_with blocks tables)
+          ∙ ap (store_with room later tables)
           (placed_entry key (rolled_back_app have) tables.apps place app.0 order (stands ∙ app.1)
           (entry_in key tables.apps app.0 app.1).1
           ∙ ap (λ (t : Tables). t.apps) (back_at place tables have at));
@@ -93,8 +98,8 @@ shows_rolled_back blocks tables key place have image later store shows order sta
 
 -- ---- a rollback that fits
 
-module _ (blocks place : ℕ) (old : Tables) (image : List ℕ) (store : Store)
-    (shows : Shows blocks old image store) (was : Ordered store) (fits : FitsRollback old place)
+module _ (room : Room) (place : ℕ) (old : Tables) (image : List ℕ) (store : Store)
+    (shows : Shows room old image store) (was : Ordered store) (fits : FitsRollback old place)
   where
     abbrev row : (view : View) × (current_row_at place old ≡ Some view)
     row = value_of (current_row_at place old) fits.installed
@@ -141,16 +146,17 @@ module _ (blocks place : ℕ) (old : Tables) (image : List ℕ) (store : Store)
     is_version : IsVersion back_version
     is_version =
         let kept = found_in (λ (v : View). v.number == number.0) old.views row.0 number.2 in
-        let view = shown_view old.contents row.0 in
+        let view = shown_view room image old.contents row.0 in
         (all_in IsView store.views view was.views
         (subst (λ (s : Store). In view s.views) (sym shows.is)
-        (in_map (shown_view old.contents) old.views row.0 kept.0))).deployment.identity.version
+        (in_map (shown_view room image old.contents) old.views row.0 kept.0))).deployment.identity.version
 
-    pub back_shown : Shows blocks (effect (Rollback place) old) image (rolled_back back_key back_version store)
+    pub back_shown : Shows room (effect (Rollback place) old) image (rolled_back back_key back_version store)
     back_shown =
-        shows_rolled_back blocks old back_key place back_version image image store shows order
+        shows_rolled_back room old back_key place back_version image image store shows
+        (same_image room old image) order
         (app.1 ∙ sym entry)
-        (sym (version_shown blocks old back_key)
+        (sym (version_shown room old back_key)
         ∙ sym (version_placed back_key place old (app.1 ∙ sym entry))
         ∙ version_read_at place old row.0 (sym row.1))
 

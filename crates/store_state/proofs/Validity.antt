@@ -6,6 +6,7 @@ use Rattle.std.proofs.lemmas.List.{length-map}
 use Rattle.std.proofs.lemmas.List.Elements.{All-map, All-weaker}
 use Rattle.std.proofs.lemmas.Option.{MatchOption-at_some}
 use Rattle.std.proofs.lemmas.Slice.Eq.{bytes_eq-Decides}
+use Rattle.small_types.specs.declared.room.Room.{Room}
 use Rattle.small_types.specs.declared.limits.TheConstants.{APPLICATION_LIMIT, BLOCK_LIMIT, LEASE_LIMIT, LOCAL_COUNT_LIMIT, NAME_LIMIT, NUMBER_LIMIT}
 use Rattle.small_types.specs.declared.target.Target.{Target}
 use Rattle.identity.specs.Printed.{text_cmp}
@@ -54,7 +55,7 @@ use Rattle.store_state.specs.Change.{Fits, FitsInstall, FitsPut, IsLocal, MayPut
 use Rattle.store_state.specs.Laws.{ShowsOrdered, stand_files}
 use Rattle.store_state.specs.Locals.{outside_locals, with_local}
 use Rattle.store_state.specs.Rows.{current_at, current_row, listed_files, offer_at, row_at}
-use Rattle.store_state.specs.Shows.{Shows, shown_data, shown_file, shown_view}
+use Rattle.store_state.specs.Shows.{HoldsNew, SameFiles, Shows, shown_data, shown_file, shown_view}
 use Rattle.store_state.specs.Tables.{Tables, bare_row, empty}
 use Rattle.store_state.proofs.Checking.{current_entry, entry_ordered, own_entry, shows_heard, shows_skipped, shows_unheard, version_shown}
 use Rattle.store_state.proofs.Cleaning.{cleans_shown}
@@ -62,63 +63,70 @@ use Rattle.store_state.proofs.Firsts.{in_place}
 use Rattle.store_state.proofs.GroupShown.{group_shown}
 use Rattle.store_state.proofs.Growing.{of_view, row_grows, some_in, some_with}
 use Rattle.store_state.proofs.Holding.{room_is}
+use Rattle.store_state.proofs.Images.{images_hold, same_image}
 use Rattle.store_state.proofs.LocalsOrdered.{outside_data, put_ordered, removed_ordered}
 use Rattle.store_state.proofs.LocalsShown.{put_agrees, puts_shown, removals_shown}
 use Rattle.store_state.proofs.RollingBack.{back_key, back_ordered, back_shown, back_version}
-use Rattle.store_state.proofs.Showing.{data_files, files, installed, shape_shown, shows_booted, shows_empty, shows_finished, shows_installed, shows_launched, shows_required}
+use Rattle.store_state.proofs.Showing.{data_files, files, installed, shape_shown, shows_booted, shows_empty, shows_finished, shows_installed, shows_launched, shows_required, shows_same}
 use Rattle.store_state.proofs.ShownFiles.{row_shown}
 
 -- the store that tables show has their applications
-apps_shown : {blocks : ℕ} {tables : Tables} {image : List ℕ} {store : Store}
-    → Shows blocks tables image store → tables.apps ≡ store.apps
+apps_shown : {room : Room} {tables : Tables} {image : List ℕ} {store : Store}
+    → Shows room tables image store → tables.apps ≡ store.apps
 apps_shown shows = sym (ap (λ (s : Store). s.apps) shows.is)
 
 -- ---- the parts of a new view
 
-entries_of : (contents : List Content) (entries : List FileEntry)
-    → map (λ (file : ListedFile). file.entry) (map (shown_file contents) entries) ≡ entries
-entries_of contents [] = refl
-entries_of contents (entry ∷ entries) =
-    ap (λ (rest : List FileEntry). entry ∷ rest) (entries_of contents entries)
+entries_of : (room : Room) (image : List ℕ) (contents : List Content) (entries : List FileEntry)
+    → map (λ (file : ListedFile). file.entry) (map (shown_file room image contents) entries) ≡ entries
+entries_of room image contents [] = refl
+entries_of room image contents (entry ∷ entries) =
+    ap (λ (rest : List FileEntry). entry ∷ rest) (entries_of room image contents entries)
 
-are_data : (locals : List LocalFile) → All IsLocal locals → All IsDataFile (map shown_data locals)
-are_data locals is =
-    All-map IsDataFile shown_data locals
-    (All-weaker IsLocal (λ (file : LocalFile). IsDataFile (shown_data file))
+are_data : (room : Room) (image : List ℕ) (locals : List LocalFile) → All IsLocal locals
+    → All IsDataFile (map (shown_data room image) locals)
+are_data room image locals is =
+    All-map IsDataFile (shown_data room image) locals
+    (All-weaker IsLocal (λ (file : LocalFile). IsDataFile (shown_data room image file))
     (λ file local. record { name = local.name; short = local.short }) locals is)
 
-count_data : (locals : List LocalFile)
+count_data : (room : Room) (image : List ℕ) (locals : List LocalFile)
     → count_by (λ (file : DataFile). not (is_below_pre file.name))
-    (map shown_data locals) ≡ count_by (λ (file : LocalFile). not (is_below_pre file.name)) locals
-count_data locals =
-    sum_map shown_data (λ (file : DataFile). cond (not (is_below_pre file.name)) 1 0) locals
+    (map (shown_data room image) locals) ≡ count_by (λ (file : LocalFile). not (is_below_pre file.name)) locals
+count_data room image locals =
+    sum_map (shown_data room image) (λ (file : DataFile). cond (not (is_below_pre file.name)) 1 0) locals
 
-listed_shown : (contents : List Content) (views : List View)
-    → sum_by (λ (view : KeptView). length view.application.files) (map (shown_view contents) views)
+listed_shown : (room : Room) (image : List ℕ) (contents : List Content) (views : List View)
+    → sum_by (λ (view : KeptView). length view.application.files) (map (shown_view room image contents) views)
     ≡ listed_files views
-listed_shown contents views =
-    sum_map (shown_view contents) (λ (view : KeptView). length view.application.files) views
+listed_shown room image contents views =
+    sum_map (shown_view room image contents) (λ (view : KeptView). length view.application.files) views
 
-module _ (blocks : ℕ) (tables : Tables) (view : View) (contents : List Content) (provider : Target)
-    (now : ℕ) (image : List ℕ) (store : Store) (shows : Shows blocks tables image store)
+module _ (room : Room) (tables : Tables) (view : View) (contents : List Content) (provider : Target)
+    (now : ℕ) (image : List ℕ) (store : Store) (shows : Shows room tables image store)
+    (holds : HoldsNew room (Install view contents provider now) image)
     (fits : FitsInstall tables view contents provider now) where
+  abbrev same : SameFiles room tables image image
+  same = same_image room tables image
+
   abbrev new : Store
-  new = installed blocks tables view contents provider now image image store shows fits
+  new =
+      installed room tables view contents provider now image image store shows same holds fits
 
   views_long : length store.views ≡ length tables.views
   views_long =
       ap (λ (s : Store). length s.views) shows.is
-      ∙ length-map tables.views (shown_view tables.contents)
+      ∙ length-map tables.views (shown_view room image tables.contents)
 
   files_long : sum_by (λ (v : KeptView). length v.application.files) store.views ≡ listed_files
       tables.views
   files_long =
       ap (λ (s : Store). sum_by (λ (v : KeptView). length v.application.files) s.views) shows.is
-      ∙ listed_shown tables.contents tables.views
+      ∙ listed_shown room image tables.contents tables.views
 
   pub fitting : Fitting provider view.base view.deployment view.application
-      (files blocks tables view contents provider now image image store shows fits)
-      (data_files blocks tables view contents provider now image image store shows fits) now store
+      (files room tables view contents provider now image image store shows same holds fits)
+      (data_files room tables view contents provider now image image store shows same holds fits) now store
   fitting = record {
     deployment = fits.row.deployment;
     application = fits.row.application;
@@ -126,15 +134,15 @@ module _ (blocks : ℕ) (tables : Tables) (view : View) (contents : List Content
     has_base = fits.row.base;
     moment = fits.moment;
     required =
-        entries_of _ (standing_entries view.groups view.application)
+        entries_of room image _ (standing_entries view.groups view.application)
         ∙ ap (λ (groups : List (List ℕ)). standing_entries groups view.application) fits.groups
         ∙ standing_required view.application;
     data_order =
-        pairs_map shown_data (λ (f g : LocalFile). text_cmp f.name g.name ≡ Less)
+        pairs_map (shown_data room image) (λ (f g : LocalFile). text_cmp f.name g.name ≡ Less)
         (λ (f g : DataFile). text_cmp f.name g.name ≡ Less) view.locals (λ f g less. less)
         fits.row.order;
-    are_data = are_data view.locals fits.row.locals;
-    few_data = (let few = fits.row.few in omega (arith, count_data view.locals));
+    are_data = are_data room image view.locals fits.row.locals;
+    few_data = (let few = fits.row.few in omega (arith, count_data room image view.locals));
     entry_room =
         room_is view.deployment.identity.key store.apps
         (subst (λ (apps : List AppState). entry_of view.deployment.identity.key apps ≡ None
@@ -149,9 +157,9 @@ module _ (blocks : ℕ) (tables : Tables) (view : View) (contents : List Content
 -- ---- change after change
 
 -- a store in its order that tables show
-pub record Shown (blocks : ℕ) (tables : Tables) (image : List ℕ) : Type 0 where
+pub record Shown (room : Room) (tables : Tables) (image : List ℕ) : Type 0 where
   pub store : Store
-  pub shows : Shows blocks tables image store
+  pub shows : Shows room tables image store
   pub ordered : Ordered store
 
 -- a current view is among those that are kept
@@ -164,19 +172,19 @@ current_number views key number is =
     (in_contains views is.1 (is.0, is.2, is.3))))
 
 -- the numbers of the views rise, as those of the store do
-numbers_shown : (contents : List Content) (views : List View)
-    → map (λ (view : KeptView). view.number) (map (shown_view contents) views) ≡ map of_view views
-numbers_shown contents [] = refl
-numbers_shown contents (view ∷ views) =
-    ap (λ (ns : List ℕ). view.number ∷ ns) (numbers_shown contents views)
+numbers_shown : (room : Room) (image : List ℕ) (contents : List Content) (views : List View)
+    → map (λ (view : KeptView). view.number) (map (shown_view room image contents) views) ≡ map of_view views
+numbers_shown room image contents [] = refl
+numbers_shown room image contents (view ∷ views) =
+    ap (λ (ns : List ℕ). view.number ∷ ns) (numbers_shown room image contents views)
 
-rows_rising : {blocks : ℕ} {tables : Tables} {image : List ℕ} {store : Store}
-    → Shows blocks tables image store → Ordered store
+rows_rising : {room : Room} {tables : Tables} {image : List ℕ} {store : Store}
+    → Shows room tables image store → Ordered store
     → AllPairs (λ (m n : ℕ). m < n) (map of_view tables.views)
-rows_rising {tables = tables} shows ordered =
+rows_rising {room = room} {tables = tables} {image = image} shows ordered =
     subst (λ (ns : List ℕ). AllPairs (λ (m n : ℕ). m < n) ns)
     (ap (λ (s : Store). map (λ (view : KeptView). view.number) s.views) shows.is
-    ∙ numbers_shown tables.contents tables.views) ordered.view_numbers.rising
+    ∙ numbers_shown room image tables.contents tables.views) ordered.view_numbers.rising
 
 -- a key with a current view has an entry in the store
 known_shown : (key : Key) (tables : Tables) (store : Store) → tables.apps ≡ store.apps
@@ -212,46 +220,48 @@ put_row : (number : ℕ) (file : LocalFile) (tables : Tables) → FitsPut tables
     → (view : View) × (row_at number tables.views ≡ Some view) × MayPut file view
 put_row number file tables fits = some_with (MayPut file) (row_at number tables.views) fits
 
-few_with : (file : LocalFile) (view : View)
+few_with : (room : Room) (image : List ℕ) (file : LocalFile) (view : View)
     → outside_locals (with_local file view).locals ≤ LOCAL_COUNT_LIMIT
-    → outside_data (with_named data_name (shown_data file) (map shown_data view.locals))
+    → outside_data (with_named data_name (shown_data room image file) (map (shown_data room image) view.locals))
     ≤ LOCAL_COUNT_LIMIT
-few_with file view few =
-    let same = ap (λ (files : List DataFile). outside_data files) (put_agrees file view.locals)
-    ∙ count_data (with_local file view).locals in
+few_with room image file view few =
+    let same = ap (λ (files : List DataFile). outside_data files) (put_agrees room image file view.locals)
+    ∙ count_data room image (with_local file view).locals in
     omega (arith, few, same)
 
-pub changed_shown : (blocks : ℕ) (image : List ℕ) (old : Tables) (change : Change) → Fits old change
-    → Shown blocks old image → Shown blocks (effect change old) image
-changed_shown blocks image old (Boot boot) fits shown = record {
+pub changed_shown : (room : Room) (image : List ℕ) (old : Tables) (change : Change) → Fits old change
+    → HoldsNew room change image → Shown room old image → Shown room (effect change old) image
+changed_shown room image old (Boot boot) fits holds shown = record {
   store = booted boot shown.store;
-  shows = shows_booted image boot shown.shows;
+  shows = shows_booted image boot (same_image room old image) shown.shows;
   ordered = booted_ordered boot shown.store fits shown.ordered;
 }
-changed_shown blocks image old (Require key version) fits shown =
-    let room = subst (λ (apps : List AppState). entry_of key apps ≡ None
+changed_shown room image old (Require key version) fits holds shown =
+    let less = subst (λ (apps : List AppState). entry_of key apps ≡ None
     → length apps < APPLICATION_LIMIT) (apps_shown shown.shows) fits.2 in
     record {
       store = _;
-      shows = shows_required image key version shown.shows;
+      shows = shows_required image key version (same_image room old image) shown.shows;
       ordered =
-          required_ordered key version shown.store fits.0 fits.1 (room_is key shown.store.apps room)
+          required_ordered key version shown.store fits.0 fits.1 (room_is key shown.store.apps less)
           shown.ordered;
     }
-changed_shown blocks image old (Install view contents provider now) fits shown = record {
-  store = installed blocks old view contents provider now image image shown.store shown.shows fits;
+changed_shown room image old (Install view contents provider now) fits holds shown = record {
+  store =
+      installed room old view contents provider now image image shown.store shown.shows
+      (same_image room old image) holds fits;
   shows =
-      shows_installed blocks old view contents provider now image image shown.store shown.shows
-      fits;
+      shows_installed room old view contents provider now image image shown.store shown.shows
+      (same_image room old image) holds fits;
   ordered =
       installed_ordered provider view.base view.deployment view.application _ _ now shown.store
-      (fitting blocks old view contents provider now image shown.store shown.shows fits)
+      (fitting room old view contents provider now image shown.store shown.shows holds fits)
       shown.ordered;
 }
-changed_shown blocks image old (Heard key version minimum now) fits shown =
+changed_shown room image old (Heard key version minimum now) fits holds shown =
     let row = value_of (current_row key old) fits.installed in
     let have = row.0.deployment.identity.version in
-    let current = sym (version_shown blocks old key)
+    let current = sym (version_shown room old key)
     ∙ ap (λ (o : Option View). option_map (λ (v : View). v.deployment.identity.version) o) row.1 in
     let known = known_shown key old shown.store (apps_shown shown.shows) fits.installed in
     record {
@@ -259,7 +269,8 @@ changed_shown blocks image old (Heard key version minimum now) fits shown =
         apps = with_entry key (heard_app have version minimum now) shown.store.apps;
       };
       shows =
-          shows_heard blocks old key have version minimum now image image shown.store shown.shows
+          shows_heard room old key have version minimum now image image shown.store shown.shows
+          (same_image room old image)
           current;
       ordered =
           entry_ordered key (heard_app have version minimum now) (λ app. refl)
@@ -268,15 +279,16 @@ changed_shown blocks image old (Heard key version minimum now) fits shown =
           fits.moment)
           shown.ordered;
     }
-changed_shown blocks image old (Unheard key) fits shown = record {
+changed_shown room image old (Unheard key) fits holds shown = record {
   store = unheard key shown.store;
-  shows = shows_unheard blocks old key image image shown.store shown.shows;
+  shows =
+      shows_unheard room old key image image shown.store shown.shows (same_image room old image);
   ordered =
       entry_ordered key unheard_app (λ app. refl) (λ app some. some) shown.store
       (known_shown key old shown.store (apps_shown shown.shows) fits)
       (unheard_is_app shown.store.views) shown.ordered;
 }
-changed_shown blocks image old (Skip place) fits shown =
+changed_shown room image old (Skip place) fits holds shown =
     let order : AreInOrder old.apps = subst AreInOrder (sym (apps_shown shown.shows))
     shown.ordered.order in
     let offer = value_of (offer_at place old.apps) fits.offered in
@@ -286,8 +298,8 @@ changed_shown blocks image old (Skip place) fits shown =
     record {
       store = skipped app.0.key shown.store;
       shows =
-          shows_skipped blocks old app.0.key place offer.0 image image shown.store shown.shows order
-          (app.1 ∙ sym entry)
+          shows_skipped room old app.0.key place offer.0 image image shown.store shown.shows
+          (same_image room old image) order (app.1 ∙ sym entry)
           (ap (λ (o : Option AppState). option_and_then (λ (a : AppState). a.offer) o) entry
           ∙ app.2);
       ordered =
@@ -296,13 +308,13 @@ changed_shown blocks image old (Skip place) fits shown =
           (ap (entry_of app.0.key) (sym (apps_shown shown.shows)) ∙ entry))
           (skipped_is_app shown.store.views) shown.ordered;
     }
-changed_shown blocks image old (Rollback place) fits shown = record {
-  store = rolled_back (back_key blocks place old image shown.store shown.shows shown.ordered fits)
-      (back_version blocks place old image shown.store shown.shows shown.ordered fits) shown.store;
-  shows = back_shown blocks place old image shown.store shown.shows shown.ordered fits;
-  ordered = back_ordered blocks place old image shown.store shown.shows shown.ordered fits;
+changed_shown room image old (Rollback place) fits holds shown = record {
+  store = rolled_back (back_key room place old image shown.store shown.shows shown.ordered fits)
+      (back_version room place old image shown.store shown.shows shown.ordered fits) shown.store;
+  shows = back_shown room place old image shown.store shown.shows shown.ordered fits;
+  ordered = back_ordered room place old image shown.store shown.shows shown.ordered fits;
 }
-changed_shown blocks image old (Launch place) fits shown =
+changed_shown room image old (Launch place) fits holds shown =
     let apps = old.apps in
     let order : AreInOrder apps = subst AreInOrder (sym (apps_shown shown.shows))
     shown.ordered.order in
@@ -320,103 +332,117 @@ changed_shown blocks image old (Launch place) fits shown =
     record {
       store = launched key number.0 shown.store;
       shows =
-          shows_launched blocks old key place number.0 image image shown.store shown.shows order
-          (app.1 ∙ sym entry) current;
+          shows_launched room old key place number.0 image image shown.store shown.shows
+          (same_image room old image) order (app.1 ∙ sym entry) current;
       ordered = launched_ordered key number.0 shown.store is_app.key
           (some_there (entry_of key shown.store.apps) app.0 (ap (entry_of key) (sym same) ∙ entry))
           (current_number shown.store.views key number.0
           (MatchOption-at_some ⊤ (IsViewOf shown.store.views key) number.0 app.2
           is_app.current))
-          (let room = fits.room in subst (λ (leases : List Lease). length leases < LEASE_LIMIT)
-          (sym (ap (λ (s : Store). s.leases) shown.shows.is)) room)
+          (let less = fits.room in subst (λ (leases : List Lease). length leases < LEASE_LIMIT)
+          (sym (ap (λ (s : Store). s.leases) shown.shows.is)) less)
           (let left = fits.next in subst (λ (n : ℕ). n < NUMBER_LIMIT)
           (sym (ap (λ (s : Store). s.next_lease) shown.shows.is)) left)
           shown.ordered;
     }
-changed_shown blocks image old (Finish lease) fits shown = record {
+changed_shown room image old (Finish lease) fits holds shown = record {
   store = finished lease shown.store;
-  shows = shows_finished image lease shown.shows;
+  shows = shows_finished image lease (same_image room old image) shown.shows;
   ordered = finished_ordered lease shown.store shown.ordered;
 }
-changed_shown blocks image old (Group number group contents) fits shown =
+changed_shown room image old (Group number group contents) fits holds shown =
     let row = row_grows number group old contents fits in
     let rising = rows_rising shown.shows shown.ordered in
-    let is = group_shown blocks old number group contents row.0 image image shown.store shown.shows
-    rising row.1 row.2 in
+    let is = group_shown room old number group contents row.0 image image shown.store shown.shows
+    (same_image room old image) rising row.1 row.2 in
     record {
-      store = grouped number group (stand_files old contents group row.0) shown.store;
+      store = grouped number group (stand_files room image old contents group row.0) shown.store;
       shows = is.shows;
       ordered =
-          grouped_ordered number group (stand_files old contents group row.0) shown.store
-          (shown_view old.contents row.0) is.there is.among.order
+          grouped_ordered number group (stand_files room image old contents group row.0) shown.store
+          (shown_view room image old.contents row.0) is.there is.among.order
           (group_short group row.0.application
-          (all_in IsView shown.store.views (shown_view old.contents row.0) shown.ordered.views
-          (view_in number shown.store.views (shown_view old.contents row.0) is.there).0).application
+          (all_in IsView shown.store.views (shown_view room image old.contents row.0) shown.ordered.views
+          (view_in number shown.store.views (shown_view room image old.contents row.0) is.there).0).application
           row.2.listed)
           shown.ordered;
     }
-changed_shown blocks image old (Put number file) fits shown =
+changed_shown room image old (Put number file) fits holds shown =
     let row = put_row number file old fits in
     let c = old.contents in
     let there = ap (λ (s : Store). view_at number s.views) shown.shows.is
-    ∙ row_shown number c old.views ∙ ap (option_map (shown_view c)) row.1 in
+    ∙ row_shown room image number c old.views ∙ ap (option_map (shown_view room image c)) row.1 in
     record {
-      store = put_in number (shown_data file) shown.store;
+      store = put_in number (shown_data room image file) shown.store;
       shows =
-          puts_shown blocks old number file image image shown.store shown.shows
-          row.2.local.measured;
+          puts_shown room old number file image image shown.store shown.shows
+          (same_image room old image) holds;
       ordered =
-          put_ordered number (shown_data file) (shown_view c row.0) shown.store there
+          put_ordered number (shown_data room image file) (shown_view room image c row.0) shown.store there
           (record { name = row.2.local.name; short = row.2.local.short })
-          (few_with file row.0 row.2.few) shown.ordered;
+          (few_with room image file row.0 row.2.few) shown.ordered;
     }
-changed_shown blocks image old (Remove number name) fits shown = record {
+changed_shown room image old (Remove number name) fits holds shown = record {
   store = removed_in number name shown.store;
-  shows = removals_shown blocks old number name image image shown.store shown.shows;
+  shows = removals_shown room old number name image image shown.store shown.shows
+      (same_image room old image);
   ordered = removed_ordered number name shown.store shown.ordered;
 }
-changed_shown blocks image old Clean fits shown = record {
+changed_shown room image old Clean fits holds shown = record {
   store = cleaned shown.store;
-  shows = cleans_shown blocks old image image shown.store shown.shows;
+  shows = cleans_shown room old image image shown.store shown.shows (same_image room old image);
   ordered = cleaned_ordered shown.store shown.ordered;
 }
 
-replays_shown : (blocks : ℕ) (image : List ℕ) (old last : Tables) (changes : List Change)
-    → Shown blocks old image → Replays old changes last → Shown blocks last image
-replays_shown blocks image old last [] shown replays =
-    subst (λ (t : Tables). Shown blocks t image) (sym replays) shown
-replays_shown blocks image old last (change ∷ changes) shown replays =
-    replays_shown blocks image (effect change old) last changes
-    (changed_shown blocks image old change replays.0 shown) replays.1
+replays_shown : (room : Room) (image : List ℕ) (old last : Tables) (changes : List Change)
+    → Shown room old image → Replays old changes last → Shown room last image
+replays_shown room image old last [] shown replays =
+    subst (λ (t : Tables). Shown room t image) (sym replays) shown
+replays_shown room image old last (change ∷ changes) shown replays =
+    replays_shown room image (effect change old) last changes
+    (changed_shown room image old change replays.0 (images_hold room old change image replays.0)
+    shown) replays.1
 
-room_shown : (blocks : ℕ) (tables : Tables) (image : List ℕ) (store : Store)
-    → Shows blocks tables image store → used_blocks (map bare_row tables.views) ≤ blocks
-    → used_blocks (map bare_view store.views) ≤ store.blocks
-room_shown blocks tables image store shows few =
+room_shown : (room : Room) (tables : Tables) (image : List ℕ) (store : Store)
+    → Shows room tables image store → used_blocks (map bare_row tables.views) ≤ room.blocks
+    → used_blocks (map bare_view store.views) ≤ store.room.blocks
+room_shown room tables image store shows few =
     let shape = shape_shown shows in
     let used : used_blocks (map bare_view store.views) ≡ used_blocks (map bare_row tables.views) =
     ap (λ (s : Shape). used_blocks s.views) shape in
-    let same : store.blocks ≡ blocks = ap (λ (s : Shape). s.blocks) shape in
+    let same : store.room.blocks ≡ room.blocks = ap (λ (s : Shape). s.room.blocks) shape in
     omega (arith, few, used, same)
 
-pub loaded_ordered : (blocks : ℕ) (changes : List Change) (tables : Tables) (image : List ℕ)
-    → 1 ≤ blocks → blocks ≤ BLOCK_LIMIT → Replays empty changes tables
-    → ShowsOrdered blocks tables image
-loaded_ordered blocks changes tables image some few replays =
-    let shown = replays_shown blocks image empty tables changes
+as_ordered : (room : Room) (tables : Tables) (image : List ℕ) → Shown room tables image
+    → ShowsOrdered room tables image
+as_ordered room tables image shown = record {
+  store = shown.store;
+  shows = shown.shows;
+  ordered = shown.ordered;
+  valid =
+      λ few. record {
+        ordered = shown.ordered;
+        room = room_shown room tables image shown.store shown.shows few;
+      };
+}
+
+pub change_ordered : (room : Room) (tables : Tables) (change : Change) (image later : List ℕ)
+    (store : Store) → Shows room tables image store → Ordered store
+    → SameFiles room tables image later → HoldsNew room change later → Fits tables change
+    → ShowsOrdered room (effect change tables) later
+change_ordered room tables change image later store shows ordered same holds fits =
+    as_ordered room (effect change tables) later
+    (changed_shown room later tables change fits holds
+    (record { store = store; shows = shows_same later same shows; ordered = ordered }))
+
+pub loaded_ordered : (room : Room) (changes : List Change) (tables : Tables) (image : List ℕ)
+    → 1 ≤ room.blocks → room.blocks ≤ BLOCK_LIMIT → Replays empty changes tables
+    → ShowsOrdered room tables image
+loaded_ordered room changes tables image some few replays =
+    as_ordered room tables image
+    (replays_shown room image empty tables changes
     (record {
-      store = stores.empty blocks;
-      shows = shows_empty blocks image;
-      ordered = empty_ordered blocks some few;
-    }) replays in
-    record {
-      store = shown.store;
-      shows = shown.shows;
-      ordered = shown.ordered;
-      valid =
-          λ room. record {
-            ordered = shown.ordered;
-            room = room_shown blocks tables image
-                shown.store shown.shows room;
-          };
-    }
+      store = stores.empty room;
+      shows = shows_empty room image;
+      ordered = empty_ordered room some few;
+    }) replays)

@@ -1,9 +1,10 @@
 -- Contents: the bytes that program files of equal content keys share.
-use Rattle.std.specs.Prelude.{◌≡◌, Bool, true, false, ◌==◌, ◌&&◌, List, ◌++◌, All, AllPairs, Any, IsSome, Option, find, length}
+use Rattle.std.specs.Prelude.{◌≡◌, Bool, true, false, ◌==◌, ◌&&◌, List, ◌++◌, All, AllPairs, Any, IsSome, Option, find}
 use lib.Pointwise.{pointwise}
 use Rattle.manifests.specs.declared.facts.FileEntry.{FileEntry}
 use Rattle.machine.specs.Views.{same_digest}
 use Rattle.store_state.specs.declared.view.Content.{Content}
+use Rattle.store_state.specs.Stored.{IsHeldFor}
 
 -- the content is that of the file: of its size and its list of digests
 abbrev pub is_content_of : FileEntry → Content → Bool
@@ -24,9 +25,9 @@ pub record AreContentsOf (entries : List FileEntry) (contents : List Content) : 
   pub only : All (λ content. Any (λ entry. is_content_of entry content ≡ true) entries) contents
   pub once : AllPairs (λ (a b : Content). is_same a b ≡ false) contents
 
--- a content has as many bytes as its size says
+-- what is held of a content is what its size needs
 abbrev pub IsMeasured : Content → Type 0
-IsMeasured content = length content.bytes ≡ content.size
+IsMeasured content = IsHeldFor content.size content.held
 
 -- The new contents are exactly those that files lack, each once, and whole.
 pub record Brings (old : List Content) (entries : List FileEntry) (new : List Content)

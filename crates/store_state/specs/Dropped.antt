@@ -4,6 +4,7 @@ use Rattle.std.specs.List.{list_any}
 use Rattle.manifests.specs.declared.facts.FileEntry.{FileEntry}
 use Rattle.machine.specs.Blocks.{standing_files}
 use Rattle.machine.specs.CleanRow.{removable}
+use Rattle.machine.specs.Store.{plain_room}
 use Rattle.store_state.specs.declared.view.Content.{Content}
 use Rattle.store_state.specs.declared.view.View.{View}
 use Rattle.store_state.specs.Contents.{is_content_of}
@@ -32,6 +33,6 @@ dropped numbers old = record old {
   contents = needed (without_rows numbers old.views) old.contents;
 }
 
--- the numbers of the views that a clean takes, which do not depend on how many blocks there are
+-- the numbers of the views that a clean takes, which do not depend on the room
 abbrev pub removable_in : Tables → List ℕ
-removable_in tables = removable (table_shape 0 tables)
+removable_in tables = removable (table_shape (plain_room 0) tables)

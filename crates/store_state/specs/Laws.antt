@@ -1,6 +1,7 @@
 -- What is true of tables and the stores that they show.
-use Rattle.std.specs.Prelude.{◌≡◌, ◌≤◌, ◌++◌, ◌==◌, ℕ, List, [], ◌∷◌, All, Some, filter, is_some, length, map, not, option_and_then, option_map, slice_get}
+use Rattle.std.specs.Prelude.{◌≡◌, ◌≤◌, ◌++◌, ◌==◌, ℕ, List, [], ◌∷◌, All, Some, filter, is_some, map, not, option_and_then, option_map, slice_get}
 use Rattle.std.specs.List.{list_any}
+use Rattle.small_types.specs.declared.room.Room.{Room}
 use Rattle.small_types.specs.declared.limits.TheConstants.{BLOCK_LIMIT}
 use Rattle.small_types.specs.declared.target.Target.{Target}
 use Rattle.identity.specs.declared.key.Key.{Key}
@@ -19,14 +20,15 @@ use Rattle.machine.specs.InUse.{IsInUse}
 use Rattle.machine.specs.Installed.{with_view}
 use Rattle.machine.specs.LaunchRow.{launched}
 use Rattle.machine.specs.ReadRow.{entry_named, file_named}
+use Rattle.machine.specs.RequireRow.{required}
 use Rattle.machine.specs.RollbackRow.{rolled_back}
 use Rattle.machine.specs.Shape.{shape_of}
 use Rattle.machine.specs.SkipRow.{offer_of, skipped}
-use Rattle.machine.specs.Store.{Store}
+use Rattle.machine.specs.Store.{Store, booted, empty as empty_store}
 use Rattle.machine.specs.Valid.{Ordered, Valid}
 use Rattle.machine.specs.Views.{ListedFile, standing_entries}
 use Rattle.store_state.specs.declared.change.Change.{Change}
-use Rattle.store_state.specs.declared.change.Change.TheVariants.{Install, Heard, Unheard, Skip, Rollback, Launch, Finish, Group, Put, Remove, Clean}
+use Rattle.store_state.specs.declared.change.Change.TheVariants.{Boot, Require, Install, Heard, Unheard, Skip, Rollback, Launch, Finish, Group, Put, Remove, Clean}
 use Rattle.store_state.specs.declared.view.Content.{Content}
 use Rattle.store_state.specs.declared.view.LocalFile.{LocalFile}
 use Rattle.store_state.specs.declared.view.View.{View}
@@ -34,96 +36,129 @@ use Rattle.store_state.specs.Change.{Fits, Replays, effect}
 use Rattle.store_state.specs.Dropped.{dropped}
 use Rattle.store_state.specs.Kept.{AreTables}
 use Rattle.store_state.specs.Locals.{local_at}
-use Rattle.store_state.specs.Named.{file_at}
+use Rattle.store_state.specs.Named.{content_at, file_at, named_at}
 use Rattle.store_state.specs.Rows.{row_at}
-use Rattle.store_state.specs.Shows.{Shows, shown_data, shown_file, shown_view}
+use Rattle.store_state.specs.Shows.{HoldsNew, SameFiles, Shows, shown_data, shown_file, shown_view}
+use Rattle.store_state.specs.Stored.{content_bytes}
 use Rattle.store_state.specs.Tables.{Tables, bare_row, empty, table_shape}
 
 -- tables show one store
 abbrev pub OneStoreIsShown : Type 0
-OneStoreIsShown = (blocks : ℕ) (tables : Tables) (image : List ℕ) (a b : Store)
-    → Shows blocks tables image a → Shows blocks tables image b → a ≡ b
+OneStoreIsShown = (room : Room) (tables : Tables) (image : List ℕ) (a b : Store)
+    → Shows room tables image a → Shows room tables image b → a ≡ b
 
 -- a store that tables show has their shape
 abbrev pub ShapesAreShown : Type 0
-ShapesAreShown = (blocks : ℕ) (tables : Tables) (image : List ℕ) (store : Store)
-    → Shows blocks tables image store → shape_of store ≡ table_shape blocks tables
+ShapesAreShown = (room : Room) (tables : Tables) (image : List ℕ) (store : Store)
+    → Shows room tables image store → shape_of store ≡ table_shape room tables
 
 -- Tables that changes led to from the empty ones show a store within its order and its limits,
 -- where the number of blocks is possible. Where its files have room, it is valid.
-pub record ShowsOrdered (blocks : ℕ) (tables : Tables) (image : List ℕ) : Type 0 where
+pub record ShowsOrdered (room : Room) (tables : Tables) (image : List ℕ) : Type 0 where
   pub store : Store
-  pub shows : Shows blocks tables image store
+  pub shows : Shows room tables image store
   pub ordered : Ordered store
-  pub valid : used_blocks (map bare_row tables.views) ≤ blocks → Valid store
+  pub valid : used_blocks (map bare_row tables.views) ≤ room.blocks → Valid store
 
 abbrev pub ChangesShowOrderedStores : Type 0
-ChangesShowOrderedStores = (blocks : ℕ) (changes : List Change) (tables : Tables) (image : List ℕ)
-    → 1 ≤ blocks → blocks ≤ BLOCK_LIMIT → Replays empty changes tables
-    → ShowsOrdered blocks tables image
+ChangesShowOrderedStores = (room : Room) (changes : List Change) (tables : Tables) (image : List ℕ)
+    → 1 ≤ room.blocks → room.blocks ≤ BLOCK_LIMIT → Replays empty changes tables
+    → ShowsOrdered room tables image
+
+-- A change that fits leads from tables that show a store in its order to tables that show one.
+abbrev pub EachChangeShowsAnOrderedStore : Type 0
+EachChangeShowsAnOrderedStore = (room : Room) (tables : Tables) (change : Change)
+    (image later : List ℕ) (store : Store) → Shows room tables image store → Ordered store
+    → SameFiles room tables image later → HoldsNew room change later → Fits tables change
+    → ShowsOrdered room (effect change tables) later
+
+-- the empty tables show the empty store
+abbrev pub EmptyTablesAreShown : Type 0
+EmptyTablesAreShown = (room : Room) (image : List ℕ) → Shows room empty image (empty_store room)
+
+-- another boot number leads to tables that show the store with it
+abbrev pub BootsShowTheStore : Type 0
+BootsShowTheStore = (room : Room) (tables : Tables) (boot : ℕ) (image later : List ℕ)
+    (store : Store) → Shows room tables image store → SameFiles room tables image later
+    → Shows room (effect (Boot boot) tables) later (booted boot store)
+
+-- A version below which an application does not run leads to tables that show the store in which
+-- its minimum is raised.
+abbrev pub RequiresShowTheEntry : Type 0
+RequiresShowTheEntry = (room : Room) (tables : Tables) (key : Key) (version : Version)
+    (image later : List ℕ) (store : Store) → Shows room tables image store
+    → SameFiles room tables image later
+    → Shows room (effect (Require key version) tables) later
+    (record store { apps = required key version store.apps })
 
 -- an install that fits leads from tables that show a store to tables that show it with the new view
 abbrev pub InstallsShowTheView : Type 0
-InstallsShowTheView = (blocks : ℕ) (tables : Tables) (view : View) (contents : List Content)
+InstallsShowTheView = (room : Room) (tables : Tables) (view : View) (contents : List Content)
     (provider : Target) (now : ℕ) (image later : List ℕ) (store : Store)
-    → Shows blocks tables image store
+    → Shows room tables image store → SameFiles room tables image later
+    → HoldsNew room (Install view contents provider now) later
     → Fits tables (Install view contents provider now)
-    → Shows blocks (effect (Install view contents provider now) tables) later
+    → Shows room (effect (Install view contents provider now) tables) later
     (with_view provider view.base view.deployment view.application
-    (map (shown_file (effect (Install view contents provider now) tables).contents)
+    (map (shown_file room later (effect (Install view contents provider now) tables).contents)
     (standing_entries view.groups view.application))
-    (map shown_data view.locals) now store)
+    (map (shown_data room later) view.locals) now store)
 
 -- A launch of the application of a key leads to tables that show the store with one more lease on
 -- its current view.
 abbrev pub LaunchesShowTheLease : Type 0
-LaunchesShowTheLease = (blocks : ℕ) (tables : Tables) (key : Key) (place view : ℕ)
-    (image later : List ℕ) (store : Store) → Shows blocks tables image store
+LaunchesShowTheLease = (room : Room) (tables : Tables) (key : Key) (place view : ℕ)
+    (image later : List ℕ) (store : Store) → Shows room tables image store
+    → SameFiles room tables image later
     → AreInOrder tables.apps → slice_get tables.apps place ≡ entry_of key tables.apps
     → current_of key tables.apps ≡ Some view
-    → Shows blocks (effect (Launch place) tables) later (launched key view store)
+    → Shows room (effect (Launch place) tables) later (launched key view store)
 
 -- a finish leads to tables that show the store without the lease
 abbrev pub FinishesShowTheRest : Type 0
-FinishesShowTheRest = (blocks : ℕ) (tables : Tables) (lease : ℕ) (image later : List ℕ)
-    (store : Store) → Shows blocks tables image store
-    → Shows blocks (effect (Finish lease) tables) later (finished lease store)
+FinishesShowTheRest = (room : Room) (tables : Tables) (lease : ℕ) (image later : List ℕ)
+    (store : Store) → Shows room tables image store → SameFiles room tables image later
+    → Shows room (effect (Finish lease) tables) later (finished lease store)
 
 -- What was heard of the provider of a key with a current view leads to tables that show the store
 -- with that noted; so does a check that heard nothing.
 abbrev pub ChecksShowTheEntry : Type 0
-ChecksShowTheEntry = (blocks : ℕ) (tables : Tables) (key : Key) (have : Version) (d : Deployment)
-    (now : ℕ) (image later : List ℕ) (store : Store) → Shows blocks tables image store
-    → current_version key (table_shape blocks tables) ≡ Some have
-    → Shows blocks (effect (Heard key d.identity.version d.minimum now) tables) later
+ChecksShowTheEntry = (room : Room) (tables : Tables) (key : Key) (have : Version) (d : Deployment)
+    (now : ℕ) (image later : List ℕ) (store : Store) → Shows room tables image store
+    → SameFiles room tables image later
+    → current_version key (table_shape room tables) ≡ Some have
+    → Shows room (effect (Heard key d.identity.version d.minimum now) tables) later
     (checked key have d now store)
 
 abbrev pub UnheardChecksShowTheEntry : Type 0
-UnheardChecksShowTheEntry = (blocks : ℕ) (tables : Tables) (key : Key) (image later : List ℕ)
-    (store : Store) → Shows blocks tables image store
-    → Shows blocks (effect (Unheard key) tables) later (unheard key store)
+UnheardChecksShowTheEntry = (room : Room) (tables : Tables) (key : Key) (image later : List ℕ)
+    (store : Store) → Shows room tables image store → SameFiles room tables image later
+    → Shows room (effect (Unheard key) tables) later (unheard key store)
 
 -- a skip of what is offered for a key leads to tables that show the store in which it is skipped
 abbrev pub SkipsShowTheEntry : Type 0
-SkipsShowTheEntry = (blocks : ℕ) (tables : Tables) (key : Key) (place : ℕ) (offer : Version)
-    (image later : List ℕ) (store : Store) → Shows blocks tables image store
+SkipsShowTheEntry = (room : Room) (tables : Tables) (key : Key) (place : ℕ) (offer : Version)
+    (image later : List ℕ) (store : Store) → Shows room tables image store
+    → SameFiles room tables image later
     → AreInOrder tables.apps → slice_get tables.apps place ≡ entry_of key tables.apps
     → offer_of key tables.apps ≡ Some offer
-    → Shows blocks (effect (Skip place) tables) later (skipped key store)
+    → Shows room (effect (Skip place) tables) later (skipped key store)
 
 -- A rollback of the application of a key with a current view leads to tables that show the store in
 -- which its previous view is current and the version that was current is excluded.
 abbrev pub RollbacksShowTheEntry : Type 0
-RollbacksShowTheEntry = (blocks : ℕ) (tables : Tables) (key : Key) (place : ℕ) (have : Version)
-    (image later : List ℕ) (store : Store) → Shows blocks tables image store
+RollbacksShowTheEntry = (room : Room) (tables : Tables) (key : Key) (place : ℕ) (have : Version)
+    (image later : List ℕ) (store : Store) → Shows room tables image store
+    → SameFiles room tables image later
     → AreInOrder tables.apps → slice_get tables.apps place ≡ entry_of key tables.apps
-    → current_version key (table_shape blocks tables) ≡ Some have
-    → Shows blocks (effect (Rollback place) tables) later (rolled_back key have store)
+    → current_version key (table_shape room tables) ≡ Some have
+    → Shows room (effect (Rollback place) tables) later (rolled_back key have store)
 
 -- a clean leads to tables that show the store without the views that are not in use
 abbrev pub CleansShowTheRest : Type 0
-CleansShowTheRest = (blocks : ℕ) (tables : Tables) (image later : List ℕ) (store : Store)
-    → Shows blocks tables image store → Shows blocks (effect Clean tables) later (cleaned store)
+CleansShowTheRest = (room : Room) (tables : Tables) (image later : List ℕ) (store : Store)
+    → Shows room tables image store → SameFiles room tables image later
+    → Shows room (effect Clean tables) later (cleaned store)
 
 -- the store without the views of these numbers
 abbrev pub without_views : List ℕ → Store → Store
@@ -133,88 +168,116 @@ without_views numbers old = record old {
 
 -- The tables show the store without these views. It stays within its order and its limits, and
 -- valid.
-pub record ShowsDropped (blocks : ℕ) (numbers : List ℕ) (tables : Tables) (later : List ℕ)
+pub record ShowsDropped (room : Room) (numbers : List ℕ) (tables : Tables) (later : List ℕ)
     (store : Store) : Type 0 where
-  pub shows : Shows blocks (dropped numbers tables) later (without_views numbers store)
+  pub shows : Shows room (dropped numbers tables) later (without_views numbers store)
   pub ordered : Ordered store → Ordered (without_views numbers store)
   pub valid : Valid store → Valid (without_views numbers store)
 
 -- views that are not in use may be dropped
 abbrev pub DropsShowTheRest : Type 0
-DropsShowTheRest = (blocks : ℕ) (tables : Tables) (numbers image later : List ℕ) (store : Store)
-    → Shows blocks tables image store
+DropsShowTheRest = (room : Room) (tables : Tables) (numbers image later : List ℕ) (store : Store)
+    → Shows room tables image store → SameFiles room tables image later
     → All (λ number. ¬ IsInUse number tables.apps tables.leases) numbers
-    → ShowsDropped blocks numbers tables later store
+    → ShowsDropped room numbers tables later store
 
 -- the files that a group brings to a view, and all that stand in it then
-abbrev pub came_files : Tables → List Content → List ℕ → View → List ListedFile
-came_files tables contents group row =
-    map (shown_file (tables.contents ++ contents)) (group_files group row.application)
+abbrev pub came_files : Room → List ℕ → Tables → List Content → List ℕ → View → List ListedFile
+came_files room image tables contents group row =
+    map (shown_file room image (tables.contents ++ contents)) (group_files group row.application)
 
-abbrev pub stand_files : Tables → List Content → List ℕ → View → List ListedFile
-stand_files tables contents group row =
-    map (shown_file (tables.contents ++ contents))
+abbrev pub stand_files : Room → List ℕ → Tables → List Content → List ℕ → View → List ListedFile
+stand_files room image tables contents group row =
+    map (shown_file room image (tables.contents ++ contents))
     (standing_entries (row.groups ++ group ∷ []) row.application)
 
 -- The tables with a group of the view show the store in which its files stand among those that
 -- stood.
-pub record ShowsGroup (blocks : ℕ) (tables : Tables) (number : ℕ) (group : List ℕ)
+pub record ShowsGroup (room : Room) (tables : Tables) (number : ℕ) (group : List ℕ)
     (contents : List Content) (row : View) (later : List ℕ) (store : Store) : Type 0 where
   pub numbered : row.number ≡ number
-  pub there : view_at number store.views ≡ Some (shown_view tables.contents row)
-  pub listed : map (λ file. file.entry) (came_files tables contents group row)
+  pub there : view_at number store.views ≡ Some (shown_view room later tables.contents row)
+  pub listed : map (λ file. file.entry) (came_files room later tables contents group row)
       ≡ group_files group row.application
-  pub among : StandAmong group (shown_view tables.contents row)
-      (came_files tables contents group row) (stand_files tables contents group row)
-  pub shows : Shows blocks (effect (Group number group contents) tables) later
-      (grouped number group (stand_files tables contents group row) store)
+  pub among : StandAmong group (shown_view room later tables.contents row)
+      (came_files room later tables contents group row)
+      (stand_files room later tables contents group row)
+  pub shows : Shows room (effect (Group number group contents) tables) later
+      (grouped number group (stand_files room later tables contents group row) store)
 
 -- a group that fits leads to such tables
 abbrev pub GroupsShowTheFiles : Type 0
-GroupsShowTheFiles = (blocks : ℕ) (tables : Tables) (number : ℕ) (group : List ℕ)
+GroupsShowTheFiles = (room : Room) (tables : Tables) (number : ℕ) (group : List ℕ)
     (contents : List Content) (row : View) (image later : List ℕ) (store : Store)
-    → Shows blocks tables image store → AreTables tables → row_at number tables.views ≡ Some row
+    → Shows room tables image store → SameFiles room tables image later
+    → HoldsNew room (Group number group contents) later → AreTables tables
+    → row_at number tables.views ≡ Some row
     → Fits tables (Group number group contents)
-    → ShowsGroup blocks tables number group contents row later store
+    → ShowsGroup room tables number group contents row later store
 
 -- A data file that is put, and one that is removed, lead to tables that show the store with it and
--- without it. The bytes that are put are as many as the length says.
+-- without it.
 abbrev pub PutsShowTheFile : Type 0
-PutsShowTheFile = (blocks : ℕ) (tables : Tables) (number : ℕ) (file : LocalFile)
-    (image later : List ℕ) (store : Store) → Shows blocks tables image store
-    → length file.bytes ≡ file.length
-    → Shows blocks (effect (Put number file) tables) later (put_in number (shown_data file) store)
+PutsShowTheFile = (room : Room) (tables : Tables) (number : ℕ) (file : LocalFile)
+    (image later : List ℕ) (store : Store) → Shows room tables image store
+    → SameFiles room tables image later
+    → HoldsNew room (Put number file) later
+    → Shows room (effect (Put number file) tables) later
+    (put_in number (shown_data room later file) store)
 
 abbrev pub RemovalsShowTheRest : Type 0
-RemovalsShowTheRest = (blocks : ℕ) (tables : Tables) (number : ℕ) (name : List ℕ)
-    (image later : List ℕ) (store : Store) → Shows blocks tables image store
-    → Shows blocks (effect (Remove number name) tables) later (removed_in number name store)
+RemovalsShowTheRest = (room : Room) (tables : Tables) (number : ℕ) (name : List ℕ)
+    (image later : List ℕ) (store : Store) → Shows room tables image store
+    → SameFiles room tables image later
+    → Shows room (effect (Remove number name) tables) later (removed_in number name store)
 
 -- a data file that is found in the tables is that of the view that is shown
 abbrev pub LocalsShowFiles : Type 0
-LocalsShowFiles = (blocks : ℕ) (tables : Tables) (number : ℕ) (name image : List ℕ) (store : Store)
-    → Shows blocks tables image store
-    → option_map shown_data (local_at number name tables)
+LocalsShowFiles = (room : Room) (tables : Tables) (number : ℕ) (name image : List ℕ) (store : Store)
+    → Shows room tables image store
+    → option_map (shown_data room image) (local_at number name tables)
     ≡ option_and_then (λ view. data_named name view.data_files) (view_at number store.views)
 
 -- where none is found, no data file of that name stands in the view
 abbrev pub LocalsShowNames : Type 0
-LocalsShowNames = (blocks : ℕ) (tables : Tables) (number : ℕ) (name : List ℕ)
+LocalsShowNames = (room : Room) (tables : Tables) (number : ℕ) (name : List ℕ)
     → is_some (local_at number name tables) ≡ is_some (option_and_then
     (λ view. bare_data_named name view.data_files)
-    (bare_view_at number (table_shape blocks tables).views))
+    (bare_view_at number (table_shape room tables).views))
 
 -- the bytes that are found in the tables are those of the file in the view that is shown
 abbrev pub ReadsShowFiles : Type 0
-ReadsShowFiles = (blocks : ℕ) (tables : Tables) (number : ℕ) (name image : List ℕ) (store : Store)
-    → Shows blocks tables image store
-    → file_at number name tables ≡ option_and_then
+ReadsShowFiles = (room : Room) (tables : Tables) (number : ℕ) (name image : List ℕ) (store : Store)
+    → Shows room tables image store
+    → file_at room image number name tables ≡ option_and_then
     (λ view. option_map (λ file. file.bytes) (file_named name view.program_files))
     (view_at number store.views)
 
 -- where none are found, no program file of that name stands in the view
 abbrev pub ReadsShowNames : Type 0
-ReadsShowNames = (blocks : ℕ) (tables : Tables) (number : ℕ) (name : List ℕ)
-    → is_some (file_at number name tables) ≡ is_some (option_and_then
+ReadsShowNames = (room : Room) (tables : Tables) (number : ℕ) (name : List ℕ)
+    → is_some (named_at number name tables) ≡ is_some (option_and_then
     (λ view. entry_named name (standing_entries view.groups view.application))
-    (bare_view_at number (table_shape blocks tables).views))
+    (bare_view_at number (table_shape room tables).views))
+
+-- a program file that is found in the tables has the bytes of its content
+abbrev pub FilesAreTheirContents : Type 0
+FilesAreTheirContents = (room : Room) (tables : Tables) (number : ℕ) (name image : List ℕ)
+    → AreTables tables
+    → file_at room image number name tables
+    ≡ option_map (content_bytes room image) (content_at number name tables)
+
+-- and it has one
+abbrev pub NamesHaveContents : Type 0
+NamesHaveContents = (tables : Tables) (number : ℕ) (name : List ℕ) → AreTables tables
+    → is_some (content_at number name tables) ≡ is_some (named_at number name tables)
+
+-- In this form files stand in the tables: all images have the same bytes of them, and each has those
+-- of a change that fits.
+abbrev pub ImagesHaveTheFiles : Type 0
+ImagesHaveTheFiles = (room : Room) (tables : Tables) (image later : List ℕ)
+    → SameFiles room tables image later
+
+abbrev pub ImagesHoldTheNew : Type 0
+ImagesHoldTheNew = (room : Room) (tables : Tables) (change : Change) (image : List ℕ)
+    → Fits tables change → HoldsNew room change image

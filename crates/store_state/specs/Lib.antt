@@ -11,4 +11,5 @@ pub mod Places
 pub mod Rows
 pub mod Shows
 pub mod Signs
+pub mod Stored
 pub mod Tables

@@ -1,9 +1,11 @@
 -- Program files by their names.
 use Rattle.std.specs.Prelude.{◌≡◌, ℕ, List, Option, Some, AllPairs, length, map, option_and_then, option_map, slice_get}
+use Rattle.small_types.specs.declared.room.Room.{Room}
 use Rattle.identity.specs.Printed.{text_cmp}
 use Rattle.manifests.specs.declared.facts.FileEntry.{FileEntry}
 use Rattle.machine.specs.ReadRow.{entry_named}
 use Rattle.machine.specs.Views.{standing_entries}
+use Rattle.store_state.specs.declared.view.Content.{Content}
 use Rattle.store_state.specs.declared.view.View.{View}
 use Rattle.store_state.specs.Contents.{content_of}
 use Rattle.store_state.specs.Places.{ArePlaces}
@@ -19,10 +21,16 @@ named_in name view = entry_named name (standing_entries view.groups view.applica
 abbrev pub named_at : ℕ → List ℕ → Tables → Option FileEntry
 named_at number name tables = option_and_then (named_in name) (row_at number tables.views)
 
--- its bytes
-abbrev pub file_at : ℕ → List ℕ → Tables → Option (List ℕ)
-file_at number name tables =
-    option_map (λ entry. bytes_in (content_of tables.contents entry)) (named_at number name tables)
+-- its content
+abbrev pub content_at : ℕ → List ℕ → Tables → Option Content
+content_at number name tables =
+    option_and_then (content_of tables.contents) (named_at number name tables)
+
+-- its bytes in an image of the disk
+abbrev pub file_at : Room → List ℕ → ℕ → List ℕ → Tables → Option (List ℕ)
+file_at room image number name tables =
+    option_map (λ entry. bytes_in room image (content_of tables.contents entry))
+    (named_at number name tables)
 
 -- ---- the index of a view
 

@@ -1,5 +1,6 @@
 -- The tables: what the code holds of a store.
 use Rattle.std.specs.Prelude.{ℕ, List, [], map}
+use Rattle.small_types.specs.declared.room.Room.{Room}
 use Rattle.machine.specs.declared.app.AppState.{AppState}
 use Rattle.machine.specs.declared.lease.Lease.{Lease}
 use Rattle.machine.specs.Shape.{BareData, BareView, Shape}
@@ -30,7 +31,7 @@ empty = record {
   contents = [];
 }
 
--- ---- what they have of a store of so many blocks: all but the bytes of its files
+-- ---- what they have of a store of this room: all but the bytes of its files
 
 abbrev pub bare_local : LocalFile → BareData
 bare_local file = record { name = file.name; length = file.length }
@@ -45,9 +46,9 @@ bare_row view = record {
   data_files = map bare_local view.locals;
 }
 
-abbrev pub table_shape : ℕ → Tables → Shape
-table_shape blocks tables = record {
-  blocks = blocks;
+abbrev pub table_shape : Room → Tables → Shape
+table_shape room tables = record {
+  room = room;
   boot = tables.boot;
   next_view = tables.next_view;
   next_lease = tables.next_lease;

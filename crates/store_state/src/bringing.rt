@@ -19,7 +19,7 @@ use std::alloc::Global;
 fn is_measured(content: &Content) -> bool
     ensures { IsTrue result ↔ IsMeasured content.now }
 {
-    content.bytes.as_slice().len() as u64 == content.size
+    content.held.as_slice().len() as u64 == content.size
 }
 
 // Whether each content has.

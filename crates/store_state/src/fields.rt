@@ -163,7 +163,7 @@ pub(crate) fn is_local(file: &LocalFile) -> bool
 {
     is_file_name(&file.name)
         && is_short_name(&file.name)
-        && file.bytes.as_slice().len() as u64 == file.length
+        && file.held.as_slice().len() as u64 == file.length
 }
 
 fn are_each_locals(files: &[LocalFile]) -> bool

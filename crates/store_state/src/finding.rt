@@ -4,7 +4,7 @@ ghost use Rattle.std.specs.Option.{option_copied};
 ghost use Rattle.machine.specs.Blocks.{standing_files};
 ghost use Rattle.machine.specs.Wanted.{is_held};
 ghost use Rattle.store_state.specs.Contents.{content_of};
-ghost use Rattle.store_state.specs.Named.{file_at, named_at};
+ghost use Rattle.store_state.specs.Named.{content_at, named_at};
 ghost use Rattle.store_state.specs.Places.{IsPlaceOf};
 ghost use Rattle.store_state.specs.Signs.{content_sign};
 ghost use Rattle.store_state.specs.Tables.{bare_row};
@@ -15,7 +15,7 @@ use crate::views::place_of_view;
 use crate::{Content, StoreState};
 use digest_list::Digest;
 use manifests::FileEntry;
-use small_types::{Bytes, Name};
+use small_types::Name;
 
 impl StoreState {
     // The place of the content of that size and those digests.
@@ -66,16 +66,12 @@ impl StoreState {
         }
     }
 
-    /// The bytes of the program file of that name that stands in the view of that number.
-    pub fn file(&self, number: u64, name: &Name) -> Option<&Bytes>
-        ensures { option_copied result ≡ file_at number name.now self.now }
+    /// The content of the program file of that name that stands in the view of that number.
+    pub fn file(&self, number: u64, name: &Name) -> Option<&Content>
+        ensures { option_copied result ≡ content_at number name.now self.now }
     {
-        self.are_tables();
         match self.named(number, name) {
-            Some(entry) => match self.content(entry) {
-                Some(content) => Some(&content.bytes),
-                None => None,
-            },
+            Some(entry) => self.content(entry),
             None => None,
         }
     }

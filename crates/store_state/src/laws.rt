@@ -88,3 +88,42 @@ pub fn reads_show_files()
     ensures bytes { laws.ReadsShowFiles }
     ensures names { laws.ReadsShowNames }
 {}
+
+/// The program file that is found in the tables by its name has the bytes of its content, and it
+/// has one.
+pub fn files_are_their_contents()
+    ensures bytes { laws.FilesAreTheirContents }
+    ensures names { laws.NamesHaveContents }
+{}
+
+/// All images of a disk have the files that the tables name.
+pub fn images_have_the_files()
+    ensures { laws.ImagesHaveTheFiles }
+{}
+
+/// Each image of a disk holds what a change that fits brings.
+pub fn images_hold_the_new()
+    ensures { laws.ImagesHoldTheNew }
+{}
+
+/// Each change that fits leads to tables that show a store in its order, which is valid where its
+/// files have room.
+pub fn each_change_shows_an_ordered_store()
+    ensures { laws.EachChangeShowsAnOrderedStore }
+{}
+
+/// The empty tables show the empty store.
+pub fn empty_tables_are_shown()
+    ensures { laws.EmptyTablesAreShown }
+{}
+
+/// Another boot number leads to tables that show the store with it.
+pub fn boots_show_the_store()
+    ensures { laws.BootsShowTheStore }
+{}
+
+/// A version below which an application does not run leads to tables that show the store in which
+/// its minimum is raised.
+pub fn requires_show_the_entry()
+    ensures { laws.RequiresShowTheEntry }
+{}

@@ -18,6 +18,7 @@ use crate::views::{add_views, find_view, sum_files};
 use crate::{StoreState, View};
 use identity::Key;
 use machine::{AppState, Lease};
+use small_types::Room;
 
 impl StoreState {
     /// The tables are in their order and within their limits, the applications of their views are
@@ -87,8 +88,8 @@ impl StoreState {
     /// The view that is current for the key, where one is.
     pub fn current(&self, key: &Key) -> Option<&View>
         ensures row { option_copied result ≡ current_row key.now self.now }
-        ensures bare { (blocks : ℕ) → option_map bare_row (option_copied result)
-            ≡ current_bare key.now (table_shape blocks self.now) }
+        ensures bare { (room : Room) → option_map bare_row (option_copied result)
+            ≡ current_bare key.now (table_shape room self.now) }
     {
         self.current_row(key)
     }
@@ -96,8 +97,8 @@ impl StoreState {
     /// The view that is previous for the key, where one is.
     pub fn previous(&self, key: &Key) -> Option<&View>
         ensures row { option_copied result ≡ previous_row key.now self.now }
-        ensures bare { (blocks : ℕ) → option_map bare_row (option_copied result)
-            ≡ numbered_bare (previous_of key.now self.now.apps) (table_shape blocks self.now) }
+        ensures bare { (room : Room) → option_map bare_row (option_copied result)
+            ≡ numbered_bare (previous_of key.now self.now.apps) (table_shape room self.now) }
     {
         self.previous_row(key)
     }
@@ -106,8 +107,8 @@ impl StoreState {
     pub fn numbered(&self, number: Option<u64>) -> Option<&View>
         ensures row { option_copied result
             ≡ option_and_then (λ n. row_at n self.now.views) number }
-        ensures bare { (blocks : ℕ) → option_map bare_row (option_copied result)
-            ≡ numbered_bare number (table_shape blocks self.now) }
+        ensures bare { (room : Room) → option_map bare_row (option_copied result)
+            ≡ numbered_bare number (table_shape room self.now) }
     {
         self.numbered_row(number)
     }
@@ -115,8 +116,8 @@ impl StoreState {
     /// The view that the lease of that number names, where there is one.
     pub fn leased(&self, number: u64) -> Option<&View>
         ensures row { option_copied result ≡ leased_row number self.now }
-        ensures bare { (blocks : ℕ) → option_map bare_row (option_copied result)
-            ≡ leased_bare number (table_shape blocks self.now) }
+        ensures bare { (room : Room) → option_map bare_row (option_copied result)
+            ≡ leased_bare number (table_shape room self.now) }
     {
         self.leased_row(number)
     }
@@ -192,18 +193,18 @@ impl StoreState {
         add_views(sum_blocks(self.contents.as_slice()), self.views.as_slice())
     }
 
-    /// How many of so many blocks no file takes.
-    pub fn free_blocks(&self, blocks: u64) -> u64
-        ensures { result ≡ free_blocks (table_shape blocks self.now) }
+    /// How many blocks of the room no file takes.
+    pub fn free_blocks(&self, room: Room) -> u64
+        ensures { result ≡ free_blocks (table_shape room self.now) }
     {
-        blocks.saturating_sub(self.used_blocks())
+        room.blocks.saturating_sub(self.used_blocks())
     }
 
-    /// Whether files take at most so many blocks.
-    pub fn is_within(&self, blocks: u64) -> bool
-        requires { blocks < 2 ^ 64 - 1 }
-        ensures { IsTrue result ↔ used_blocks (map bare_row self.now.views) ≤ blocks }
+    /// Whether files take at most the blocks of the room.
+    pub fn is_within(&self, room: Room) -> bool
+        requires { room.blocks < 2 ^ 64 - 1 }
+        ensures { IsTrue result ↔ used_blocks (map bare_row self.now.views) ≤ room.blocks }
     {
-        self.used_blocks() <= blocks
+        self.used_blocks() <= room.blocks
     }
 }

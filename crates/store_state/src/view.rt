@@ -10,7 +10,11 @@ use crate::fields::count_outside;
 use crate::local_files::find_local;
 use digest_list::DigestList;
 use manifests::{Application, Deployment, FileEntry};
-use small_types::{Bytes, List, Name, Target, Text};
+use small_types::{Bytes, CopyFault, Duplicate, List, Name, Target, Text};
+use std::alloc::Global;
+
+/// How the bytes of a file are held: in this form they are the bytes.
+pub type Stored = Bytes;
 
 /// The bytes that program files of one size and one list of digests share.
 #[derive(Drop, Debug, PartialEq, Eq)]
@@ -18,7 +22,17 @@ pub struct Content {
     /// Its length in bytes.
     pub size: u64,
     pub list: DigestList,
-    pub bytes: Bytes,
+    pub held: Stored,
+}
+
+impl Duplicate for Content {
+    fn copy(&self, alloc: Global) -> Result<Self, CopyFault> {
+        Ok(Content {
+            size: self.size,
+            list: self.list.copy(alloc)?,
+            held: self.held.copy(alloc)?,
+        })
+    }
 }
 
 /// A data file of a view.
@@ -27,7 +41,17 @@ pub struct LocalFile {
     pub name: Name,
     /// Its length in bytes.
     pub length: u64,
-    pub bytes: Bytes,
+    pub held: Stored,
+}
+
+impl Duplicate for LocalFile {
+    fn copy(&self, alloc: Global) -> Result<Self, CopyFault> {
+        Ok(LocalFile {
+            name: self.name.copy(alloc)?,
+            length: self.length,
+            held: self.held.copy(alloc)?,
+        })
+    }
 }
 
 /// A version that was installed.
@@ -42,6 +66,19 @@ pub struct View {
     pub groups: List<Text>,
     /// The data files, in order of their names.
     pub locals: List<LocalFile>,
+}
+
+impl Duplicate for View {
+    fn copy(&self, alloc: Global) -> Result<Self, CopyFault> {
+        Ok(View {
+            number: self.number,
+            deployment: self.deployment.copy(alloc)?,
+            application: self.application.copy(alloc)?,
+            base: self.base.copy(alloc)?,
+            groups: self.groups.copy(alloc)?,
+            locals: self.locals.copy(alloc)?,
+        })
+    }
 }
 
 impl View {

@@ -1,5 +1,6 @@
 // What stands before a start of an application. None of it takes memory.
 ghost use Rattle.std.specs.Prelude.{◌≡◌, ◌||◌, ℕ, Some, IsSome};
+ghost use Rattle.small_types.specs.declared.room.Room.{Room};
 ghost use Rattle.machine.specs.Due.{check_due, checks_first, due, due_of, is_old, is_version, offered_to};
 ghost use Rattle.machine.specs.Installed.{above};
 ghost use Rattle.store_state.specs.Rows.{current_row};
@@ -106,7 +107,7 @@ fn due_of(version: Version, rule: Rule, app: &AppState, now: u64) -> Due
 /// plus the age, or it lies before the last check. It takes no memory.
 pub fn due(state: &StoreState, key: &Key, now: u64) -> Due
     requires { IsSome (current_row key.now state.now) }
-    ensures { (blocks : ℕ) → due key.now (table_shape blocks state.now) now ≡ Some result }
+    ensures { (room : Room) → due key.now (table_shape room state.now) now ≡ Some result }
 {
     let Some(app) = state.entry(key) else {
         unreachable!();

@@ -1,6 +1,6 @@
 use Rattle.std.proofs.Common.{◌+◌, length, arith}
-use Rattle.store_log.proofs.Counting.{counts}
-use Rattle.store_log.proofs.Ranges.{agrees_then, agrees_is, torn_agrees, outside_start, outside_write, outside_sync}
+use Rattle.disks.proofs.Books.{counted_or_full}
+use Rattle.disks.proofs.OutsideLemmas.{agrees_then, agrees_is, torn_agrees, outside_start, outside_write, outside_sync}
 use Rattle.store_log.proofs.Gates.{run1, run2, staged2, run3, run4, open4}
 use Rattle.store_log.proofs.gate.open_gate.Goals as goal
 
@@ -134,5 +134,5 @@ returns-clause-reads_outside g c =
 
 pub returns-in_err-write_at-clause-counted : goal.returns-in_err-write_at-clause-counted
 returns-in_err-write_at-clause-counted g c =
-    counts (g.D.Disk.moment c.args.disk.now) (g.D.Disk.moment c.write_at.new.self) (g.D.Disk.total c.args.disk.now) (g.D.Disk.total c.write_at.new.self)
+    counted_or_full (g.D.Disk.moment c.args.disk.now) (g.D.Disk.moment c.write_at.new.self) (g.D.Disk.total c.args.disk.now) (g.D.Disk.total c.write_at.new.self)
     (length c.args.tail.now) (length c.args.tail.now + 1) c.write_at.result (omega arith) c.write_at.ensures.tick

@@ -5,8 +5,8 @@ use Rattle.store_log.proofs.HeadBlock.{no_head, wrong_count, other_head, is_head
 use Rattle.store_log.proofs.head.read_head.Goals as goal
 use Rattle.store_log.proofs.head.read_head.Goals.{then-blocks-eq0-via-then-blocks-eq0, then-blocks-eq0-via-else-blocks-eq0+then-blocks-gt-BLOCK_LIMIT}
 
-pub returns-then-bytes-lt-HEAD-clause-none : goal.returns-then-bytes-lt-HEAD-clause-none
-returns-then-bytes-lt-HEAD-clause-none c = no_head c.args.bytes.now c.if-bytes-lt-HEAD.true
+pub returns-then-bytes-lt-HEAD_SIZE-clause-none : goal.returns-then-bytes-lt-HEAD_SIZE-clause-none
+returns-then-bytes-lt-HEAD_SIZE-clause-none c = no_head c.args.bytes.now c.if-bytes-lt-HEAD_SIZE.true
 
 pub returns-then-blocks-eq0-clause-none : goal.returns-then-blocks-eq0-clause-none
 returns-then-blocks-eq0-clause-none c =
@@ -20,7 +20,7 @@ returns-then-is_same-clause-found c =
     let same : c.split_at.result.0.now ≡ c.as_slice.result.now = search rules in
     let front : take 4096 c.args.bytes.now ≡ head_of c.from_be_bytes-blocks.result =
     sym c.split_at.ensures.front ∙ same ∙ c.as_slice.ensures.value ∙ is_head_of c.from_be_bytes-blocks.result _ c.in_ok-head.ensures in
-    (c.if-bytes-lt-HEAD.false, sym (take-append-drop 4096 c.args.bytes.now) ∙ ap (λ (l : List ℕ). l ++ drop 4096 c.args.bytes.now) front)
+    (c.if-bytes-lt-HEAD_SIZE.false, sym (take-append-drop 4096 c.args.bytes.now) ∙ ap (λ (l : List ℕ). l ++ drop 4096 c.args.bytes.now) front)
 
 pub returns-clause-none : goal.returns-clause-none
 returns-clause-none c =

@@ -18,9 +18,3 @@ loop-bytes-preserved g c = record {
   total = c.read.ensures.still.total ∙ c.loop-bytes.invariant.total;
   count = c.in_ok-n.ensures.cause.quiet ∙ c.loop-bytes.invariant.count;
 }
-
-pub returns-in_err-extend_from_slice-clause-quiet : goal.returns-in_err-extend_from_slice-clause-quiet
-returns-in_err-extend_from_slice-clause-quiet g c = λ _. c.in_ok-n.ensures.cause.quiet ∙ c.loop-bytes.invariant.count
-
-pub returns-clause-quiet : goal.returns-clause-quiet
-returns-clause-quiet g c = λ _. c.in_ok-n.ensures.cause.quiet ∙ c.loop-bytes.invariant.count

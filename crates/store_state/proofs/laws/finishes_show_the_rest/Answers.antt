@@ -2,4 +2,4 @@ use Rattle.store_state.proofs.Showing.{shows_finished}
 use Rattle.store_state.proofs.laws.finishes_show_the_rest.Goals as goal
 
 pub returns : goal.returns
-returns c = λ blocks tables lease image later store shows. shows_finished later lease shows
+returns c = λ room tables lease image later store shows same. shows_finished later lease same shows

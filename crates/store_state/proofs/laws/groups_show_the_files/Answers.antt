@@ -4,6 +4,6 @@ use Rattle.store_state.proofs.laws.groups_show_the_files.Goals as goal
 
 pub returns : goal.returns
 returns c =
-    λ blocks tables number group contents row image later store shows are kept fits. group_shown
-    blocks tables number group contents row image later store shows are.rising kept
+    λ room tables number group contents row image later store shows same holds are kept fits. group_shown
+    room tables number group contents row image later store shows same are.rising kept
     (may_row number group tables contents row kept fits)

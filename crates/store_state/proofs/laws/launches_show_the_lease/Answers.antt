@@ -2,6 +2,4 @@ use Rattle.store_state.proofs.Showing.{shows_launched}
 use Rattle.store_state.proofs.laws.launches_show_the_lease.Goals as goal
 
 pub returns : goal.returns
-returns c =
-    λ blocks tables key place view image later store shows order stands current. shows_launched
-    blocks tables key place view image later store shows order stands current
+returns c = shows_launched

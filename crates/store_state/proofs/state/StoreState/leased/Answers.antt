@@ -6,5 +6,5 @@ use Rattle.store_state.proofs.state.StoreState.leased.Goals as goal
 
 pub returns-clause-bare : goal.returns-clause-bare
 returns-clause-bare c =
-    λ blocks. ap (option_map bare_row) c.leased_row.ensures
-    ∙ bare_leased c.args.number c.args.self.now blocks
+    λ room. ap (option_map bare_row) c.leased_row.ensures
+    ∙ bare_leased c.args.number c.args.self.now room

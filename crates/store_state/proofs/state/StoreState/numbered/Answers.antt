@@ -6,5 +6,5 @@ use Rattle.store_state.proofs.state.StoreState.numbered.Goals as goal
 
 pub returns-clause-bare : goal.returns-clause-bare
 returns-clause-bare c =
-    λ blocks. ap (option_map bare_row) c.numbered_row.ensures
+    λ room. ap (option_map bare_row) c.numbered_row.ensures
     ∙ bare_then c.args.number c.args.self.now.views

@@ -7,5 +7,5 @@ use Rattle.store_state.proofs.state.StoreState.previous.Goals as goal
 
 pub returns-clause-bare : goal.returns-clause-bare
 returns-clause-bare c =
-    λ blocks. ap (option_map bare_row) c.previous_row.ensures
+    λ room. ap (option_map bare_row) c.previous_row.ensures
     ∙ bare_then (previous_of c.args.key.now c.args.self.now.apps) c.args.self.now.views

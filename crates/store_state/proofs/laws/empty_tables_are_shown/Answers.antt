@@ -1,0 +1,5 @@
+use Rattle.store_state.proofs.Showing.{shows_empty}
+use Rattle.store_state.proofs.laws.empty_tables_are_shown.Goals as goal
+
+pub returns : goal.returns
+returns c = shows_empty
