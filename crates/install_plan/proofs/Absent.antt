@@ -2,6 +2,7 @@
 use Rattle.std.proofs.Common.{◌≡◌, ◌∙◌, inl, inr, refl, sym, ap, subst, ℕ, List, [], Option, None, Some}
 use Rattle.std.specs.Prelude.{IfSome, option_and_then, slice_get}
 use Rattle.std.proofs.lemmas.List.{append-nil}
+use Rattle.small_types.specs.declared.room.Room.{Room}
 use Rattle.identity.specs.declared.key.Key.{Key}
 use Rattle.machine.specs.declared.app.AppState.{AppState}
 use Rattle.machine.specs.declared.reply.Reply.TheVariants as says
@@ -20,7 +21,7 @@ use Rattle.install_plan.specs.Checks.{IsCheckOver}
 use Rattle.install_plan.specs.Offers.{IsOfferText, OfferServed}
 use Rattle.install_plan.proofs.Currents.{none_current, none_provided}
 
-module _ (blocks : ℕ) (tables : Tables) (key : Key) (now : ℕ) (a : LinksState)
+module _ (room : Room) (tables : Tables) (key : Key) (now : ℕ) (a : LinksState)
     (texts : List (List ℕ)) (none : texts ≡ []) where
   served_none : (shape : Shape) → current_of key shape.apps ≡ None
       → OfferServed key shape texts a a says.NotInstalled
@@ -36,11 +37,11 @@ module _ (blocks : ℕ) (tables : Tables) (key : Key) (now : ℕ) (a : LinksStat
     accounts = inl (gone, refl);
   }
 
-  not_installed : ((image : List ℕ) (old : Session) → Shows blocks tables image old.store
+  not_installed : ((image : List ℕ) (old : Session) → Shows room tables image old.store
       → Valid old.store → current_of key old.store.apps ≡ None)
-      → IsCheckOver blocks tables key texts a a now says.NotInstalled
+      → IsCheckOver room tables key texts a a now says.NotInstalled
   not_installed absent = record {
-    hears = subst (HearsOffer key (table_shape blocks tables)) (sym none) tt;
+    hears = subst (HearsOffer key (table_shape room tables)) (sym none) tt;
     kept = kept_same a;
     still = refl;
     step = λ image old shows valid. let gone = absent image old shows valid in record {
@@ -52,16 +53,16 @@ module _ (blocks : ℕ) (tables : Tables) (key : Key) (now : ℕ) (a : LinksStat
   }
 
   pub no_view : current_row key tables ≡ None
-      → IsCheckOver blocks tables key texts a a now says.NotInstalled
+      → IsCheckOver room tables key texts a a now says.NotInstalled
   no_view is = not_installed (λ image old shows valid. none_current shows key valid.ordered is)
 
   pub no_entry : entry_of key tables.apps ≡ None
-      → IsCheckOver blocks tables key texts a a now says.NotInstalled
+      → IsCheckOver room tables key texts a a now says.NotInstalled
   no_entry is = not_installed (λ image old shows valid.
       ap (λ (s : Store). current_of key s.apps) shows.is
       ∙ ap (λ (o : Option AppState). option_and_then (λ (app : AppState). app.current) o) is)
 
   pub no_provider : (app : AppState) → entry_of key tables.apps ≡ Some app → app.provider ≡ None
-      → IsCheckOver blocks tables key texts a a now says.NotInstalled
+      → IsCheckOver room tables key texts a a now says.NotInstalled
   no_provider app is lacks =
       not_installed (λ image old shows valid. none_provided shows key valid.ordered app is lacks)

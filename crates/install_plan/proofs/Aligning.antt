@@ -19,6 +19,7 @@ use Rattle.install_plan.specs.declared.plan.WantedFile.{WantedFile}
 use Rattle.install_plan.specs.Brought.{AreContentsFor, IsContentFor}
 use Rattle.install_plan.specs.Fetching.{ArePlaces, IsContentAt, addresses}
 use Rattle.install_plan.specs.Hearing.{WereGiven}
+use Rattle.install_plan.specs.Held.{given_bytes}
 use Rattle.install_plan.proofs.Keyed.{kept_key}
 use Rattle.install_plan.proofs.Sufficing.{IsWholeContent}
 
@@ -149,8 +150,8 @@ whole_for a c (entry ∷ entries) [] contents are = absurd are
 whole_for a c (entry ∷ entries) (target ∷ targets) [] are = absurd are
 whole_for a c (entry ∷ entries) (target ∷ targets) (content ∷ contents) are =
     All-cons IsWholeContent content contents
-    (subst (λ (l : List Digest). Matches l content.size content.bytes) (sym are.0.list)
-    (subst (λ (n : ℕ). Matches entry.list n content.bytes) (sym are.0.size) are.0.from.fits))
+    (subst (λ (l : List Digest). Matches l content.size (given_bytes content.held)) (sym are.0.list)
+    (subst (λ (n : ℕ). Matches entry.list n (given_bytes content.held)) (sym are.0.size) are.0.from.fits))
     (whole_for a c entries targets contents are.1)
 
 pub given_for : (a c : LinksState) (entries : List FileEntry) (targets : List Target) (contents : List Content) → AreContentsFor a c entries targets contents → WereGiven a c entries targets
@@ -158,7 +159,7 @@ given_for a c [] [] contents are = tt
 given_for a c [] (target ∷ targets) contents are = absurd are
 given_for a c (entry ∷ entries) [] contents are = absurd are
 given_for a c (entry ∷ entries) (target ∷ targets) [] are = absurd are
-given_for a c (entry ∷ entries) (target ∷ targets) (content ∷ contents) are = ((content.bytes, are.0.from), given_for a c entries targets contents are.1)
+given_for a c (entry ∷ entries) (target ∷ targets) (content ∷ contents) are = ((given_bytes content.held, are.0.from), given_for a c entries targets contents are.1)
 
 pub count_for : (a c : LinksState) (entries : List FileEntry) (targets : List Target) (contents : List Content) → AreContentsFor a c entries targets contents → length contents ≡ length entries
 count_for a c [] [] [] are = refl

@@ -1,11 +1,12 @@
 -- The data files of the new view, beside those of the view that was current.
-use Rattle.std.proofs.Common.{◌≡◌, ◌≢◌, ◌∙◌, ◌⊎◌, ◌&&◌, ◌≤◌, inl, inr, refl, sym, ap, subst, ℕ, Bool, true, false, cond, not, List, [], ◌∷◌, length, map, All, AllPairs, Option, Some, None, ◌==◌, arith}
+use Rattle.std.proofs.Common.{◌≡◌, ◌≢◌, ◌∙◌, ◌⊎◌, ◌≤◌, inl, inr, refl, sym, ap, subst, ℕ, Bool, true, false, cond, not, List, [], ◌∷◌, length, map, All, AllPairs, Option, Some, None, arith}
 use Rattle.std.specs.Prelude.{count_by, filter, flat_map, option_map}
 use Rattle.std.specs.List.Sorted.{IsPermutation}
 use Rattle.std.specs.declared.cmp.Ordering.TheVariants.{Less}
 use Rattle.std.proofs.lemmas.List.Kept.{AllPairs-filter}
 use Rattle.std.proofs.lemmas.List.Sorted.{All-permutation}
-use Rattle.small_types.specs.declared.limits.TheConstants.{LOCAL_COUNT_LIMIT, LOCAL_NAME_LIMIT}
+use Rattle.small_types.specs.declared.room.Room.{Room}
+use Rattle.small_types.specs.declared.limits.TheConstants.{LOCAL_NAME_LIMIT}
 use Rattle.small_types.specs.Name.{IsBelowPre, IsName}
 use Rattle.identity.specs.declared.key.Key.{Key}
 use Rattle.identity.specs.Printed.{text_cmp}
@@ -25,7 +26,6 @@ use Rattle.store_state.specs.declared.view.Content.{Content}
 use Rattle.store_state.specs.declared.view.LocalFile.{LocalFile}
 use Rattle.store_state.specs.declared.view.View.{View}
 use Rattle.store_state.specs.Change.{IsLocal}
-use Rattle.store_state.specs.Kept.{AreTables}
 use Rattle.store_state.specs.Locals.{outside_locals}
 use Rattle.store_state.specs.Rows.{current_row}
 use Rattle.store_state.specs.Shows.{Shows, shown_data, shown_view}
@@ -36,29 +36,30 @@ use Rattle.data_migration.specs.Migration.{AreApart, applied, deployed_files, ma
 use Rattle.data_migration.specs.Plans.{local_names, plan_name}
 use Rattle.install_plan.specs.Carried.{ArePlans, Rise, row_files, row_locals}
 use Rattle.install_plan.specs.Changes.{local_of, made_locals}
+use Rattle.install_plan.specs.Held.{given_data}
 use Rattle.install_plan.proofs.Currents.{current_shown}
 use Rattle.install_plan.proofs.Keyed.{flat_map_in, pairs_before}
-use Rattle.install_plan.proofs.Planned.{current_in, one_outside, row_are}
+use Rattle.install_plan.proofs.Planned.{current_in, one_outside}
 
 -- ---- the files that plans make
 
 module _ (old : List LocalFile) (originals : List ListedFile) where
   abbrev make : LocalPlan → LocalFile
-  make plan = local_of (made (map shown_data old) originals plan)
+  make plan = local_of (made (map given_data old) originals plan)
 
   made_name : (plan : LocalPlan) → (make plan).name ≡ plan_name plan
   made_name (Copy from to) = refl
   made_name (Fresh name) = refl
 
-  made_back : (plan : LocalPlan) → made (map shown_data old) originals plan ≡ shown_data (make plan)
+  made_back : (plan : LocalPlan) → made (map given_data old) originals plan ≡ given_data (make plan)
   made_back (Copy from to) = refl
   made_back (Fresh name) = refl
 
-  pub made_shown : (plans : List LocalPlan) → applied (map shown_data old) originals plans ≡ map shown_data (made_locals old originals plans)
+  pub made_shown : (plans : List LocalPlan) → applied (map given_data old) originals plans ≡ map given_data (made_locals old originals plans)
   made_shown [] = refl
   made_shown (plan ∷ plans) =
-      ap (λ (file : DataFile). file ∷ applied (map shown_data old) originals plans) (made_back plan)
-      ∙ ap (λ (files : List DataFile). shown_data (make plan) ∷ files) (made_shown plans)
+      ap (λ (file : DataFile). file ∷ applied (map given_data old) originals plans) (made_back plan)
+      ∙ ap (λ (files : List DataFile). given_data (make plan) ∷ files) (made_shown plans)
 
   -- they stand in order
   pub made_order : (plans : List LocalPlan) → Rise plans → AllPairs (λ (f g : LocalFile). text_cmp f.name g.name ≡ Less) (made_locals old originals plans)
@@ -120,30 +121,30 @@ module _ (old : List LocalFile) (old_files : List FileEntry) (a : Application) (
 
 -- ---- the view that was current, in the store that is shown
 
-data_shown : (contents : List Content) (row : Option View) → data_of (option_map (shown_view contents) row) ≡ map shown_data (row_locals row)
-data_shown contents None = refl
-data_shown contents (Some view) = refl
+data_shown : (room : Room) (image : List ℕ) (contents : List Content) (row : Option View) → data_of (option_map (shown_view room image contents) row) ≡ map (shown_data room image) (row_locals row)
+data_shown room image contents None = refl
+data_shown room image contents (Some view) = refl
 
-files_shown : (contents : List Content) (row : Option View) → listed_by (option_map (shown_view contents) row) ≡ row_files row
-files_shown contents None = refl
-files_shown contents (Some view) = refl
+files_shown : (room : Room) (image : List ℕ) (contents : List Content) (row : Option View) → listed_by (option_map (shown_view room image contents) row) ≡ row_files row
+files_shown room image contents None = refl
+files_shown room image contents (Some view) = refl
 
-module _ (blocks : ℕ) (tables : Tables) (image : List ℕ) (store : Store) (shows : Shows blocks tables image store) (key : Key) where
+module _ (room : Room) (tables : Tables) (image : List ℕ) (store : Store) (shows : Shows room tables image store) (key : Key) where
   abbrev row : Option View
   row = current_row key tables
 
-  data_are : data_of (current_view key store) ≡ map shown_data (row_locals row)
-  data_are = ap data_of (current_shown shows key) ∙ data_shown tables.contents row
+  data_are : data_of (current_view key store) ≡ map (shown_data room image) (row_locals row)
+  data_are = ap data_of (current_shown shows key) ∙ data_shown room image tables.contents row
 
   files_are : listed_by (current_view key store) ≡ row_files row
-  files_are = ap listed_by (current_shown shows key) ∙ files_shown tables.contents row
+  files_are = ap listed_by (current_shown shows key) ∙ files_shown room image tables.contents row
 
   old_apart : Sound store → (o : Option View) → row ≡ o → AllPairs (λ (f g : LocalFile). ◌≢◌ {A = List ℕ} f.name g.name) (row_locals o)
   old_apart sound None e = λ i j d lt within. absurd (omega arith)
   old_apart sound (Some view) e =
-      let there = in_map (shown_view tables.contents) tables.views view (current_in key tables view e) in
-      let is = all_in IsSoundView store.views (shown_view tables.contents view) sound.views (subst (λ (s : Store). In (shown_view tables.contents view) s.views) (sym shows.is) there) in
-      pairs_before shown_data (λ (f g : DataFile). ◌≢◌ {A = List ℕ} f.name g.name) view.locals is.data_names
+      let there = in_map (shown_view room image tables.contents) tables.views view (current_in key tables view e) in
+      let is = all_in IsSoundView store.views (shown_view room image tables.contents view) sound.views (subst (λ (s : Store). In (shown_view room image tables.contents view) s.views) (sym shows.is) there) in
+      pairs_before (shown_data room image) (λ (f g : DataFile). ◌≢◌ {A = List ℕ} f.name g.name) view.locals is.data_names
 
   module _ (a : Application) (is : IsApplication a) (sound : Sound store) where
     apart : AreApart (row_locals row) a.files
@@ -155,9 +156,9 @@ module _ (blocks : ℕ) (tables : Tables) (image : List ℕ) (store : Store) (sh
 
     -- the data files that the plans make are those of the new version
     pub migrated : (plans : List LocalPlan) → ArePlans row a.files plans → (originals : List ListedFile) → map (λ (file : ListedFile). file.entry) originals ≡ deployed_files a.files
-        → Migrated (data_of (current_view key store)) (listed_by (current_view key store)) a.files originals (map shown_data (made_locals (row_locals row) originals plans))
+        → Migrated (data_of (current_view key store)) (listed_by (current_view key store)) a.files originals (map (shown_data room image) (made_locals (row_locals row) originals plans))
     migrated plans are originals deployed =
-        subst (λ (old : List DataFile). Migrated old (listed_by (current_view key store)) a.files originals (map shown_data (made_locals (row_locals row) originals plans))) (sym data_are)
-        (subst (λ (files : List FileEntry). Migrated (map shown_data (row_locals row)) files a.files originals (map shown_data (made_locals (row_locals row) originals plans))) (sym files_are)
-        (subst (λ (new : List DataFile). Migrated (map shown_data (row_locals row)) (row_files row) a.files originals new) (made_shown (row_locals row) originals plans)
-        (are.migrated originals apart deployed)))
+        subst (λ (old : List DataFile). Migrated old (listed_by (current_view key store)) a.files originals (map (shown_data room image) (made_locals (row_locals row) originals plans))) (sym data_are)
+        (subst (λ (files : List FileEntry). Migrated (map (shown_data room image) (row_locals row)) files a.files originals (map (shown_data room image) (made_locals (row_locals row) originals plans))) (sym files_are)
+        (subst (λ (new : List DataFile). Migrated (map (shown_data room image) (row_locals row)) (row_files row) a.files originals new) (made_shown (row_locals row) originals plans)
+        (are.migrated room image originals apart deployed)))

@@ -3,6 +3,7 @@ use Rattle.std.proofs.Common.{◌≡◌, ◌≢◌, ◌∙◌, ◌⊎◌, ◌++�
 use Rattle.std.specs.Prelude.{IfErr, IfOk, Result, option_and_then, option_map}
 use Rattle.std.proofs.lemmas.List.{append-nil}
 use Rattle.std.proofs.lemmas.Option.{none-some, same_Some}
+use Rattle.small_types.specs.declared.room.Room.{Room}
 use Rattle.small_types.specs.declared.limits.TheConstants.{MANIFEST_LIMIT, NUMBER_LIMIT}
 use Rattle.small_types.specs.declared.target.Target.{Target}
 use Rattle.causes.specs.declared.cause.Cause.{Cause}
@@ -56,13 +57,13 @@ use Rattle.install_plan.proofs.Told.{deployment_is}
 
 -- ---- the provider was asked
 
-module _ (blocks : ℕ) (tables : Tables) (key : Key) (now : ℕ)
+module _ (room : Room) (tables : Tables) (key : Key) (now : ℕ)
     (row : View) (is_row : current_row key tables ≡ Some row)
     (app : AppState) (is_app : entry_of key tables.apps ≡ Some app)
     (provider : Target) (is_provider : app.provider ≡ Some provider)
     (a b : LinksState) (both : Kept a b) where
   abbrev shape : Shape
-  shape = table_shape blocks tables
+  shape = table_shape room tables
 
   installed : current_of key tables.apps ≡ None → ⊥
   installed none = none-some row
@@ -96,7 +97,7 @@ module _ (blocks : ℕ) (tables : Tables) (key : Key) (now : ℕ)
 
   -- ---- steps of a session over the store that the tables show
 
-  module _ (old : Session) (image : List ℕ) (shows : Shows blocks tables image old.store)
+  module _ (old : Session) (image : List ℕ) (shows : Shows room tables image old.store)
       (texts : List (List ℕ)) where
     abbrev same_shape : shape_of old.store ≡ shape
     same_shape = shape_shown shows
@@ -146,7 +147,7 @@ module _ (blocks : ℕ) (tables : Tables) (key : Key) (now : ℕ)
 
   -- nothing is changed for want of memory
   memory_over : (texts : List (List ℕ)) → HearsOffer key shape texts
-      → OfferHearing key shape texts a b → IsCheckOver blocks tables key texts a b now says.Memory
+      → OfferHearing key shape texts a b → IsCheckOver room tables key texts a b now says.Memory
   memory_over texts hears hearing = record {
     hears = hears;
     kept = both;
@@ -164,7 +165,7 @@ module _ (blocks : ℕ) (tables : Tables) (key : Key) (now : ℕ)
   refused_over : (texts : List (List ℕ)) (reply : Reply) → HearsOffer key shape texts
       → moment_after now (Some reply) ≡ now → OfferServed key shape texts a b reply
       → ((old : Session) → Refuses (check_refusals key texts shape) old reply old)
-      → IsCheckOver blocks tables key texts a b now reply
+      → IsCheckOver room tables key texts a b now reply
   refused_over texts reply hears still served refuses = record {
     hears = hears;
     kept = both;
@@ -204,7 +205,7 @@ module _ (blocks : ℕ) (tables : Tables) (key : Key) (now : ℕ)
         inr (installed, inl (((provider, reasons), (provided, refl), refl), refl))
 
     unheard_ready : unheard_app app ≢ app
-        → IsCheckReady blocks tables key [] a b now (change.Unheard key) missing
+        → IsCheckReady room tables key [] a b now (change.Unheard key) missing
     unheard_ready other = record {
       hears = tt;
       kept = both;
@@ -217,13 +218,14 @@ module _ (blocks : ℕ) (tables : Tables) (key : Key) (now : ℕ)
             (unheard_refuses old);
         served = served_by old image shows [] missing unserved;
         leaves = record {
-          shows = λ later. shows_unheard blocks tables key image later old.store shows;
+          leads = λ first later had same new. shows_unheard room tables key first later old.store
+              had same;
           other = differs old image shows [] unheard_app unheard_keys other;
         };
       };
     }
 
-    unheard_over : unheard_app app ≡ app → IsCheckOver blocks tables key [] a b now missing
+    unheard_over : unheard_app app ≡ app → IsCheckOver room tables key [] a b now missing
     unheard_over same = record {
       hears = tt;
       kept = both;
@@ -257,10 +259,10 @@ module _ (blocks : ℕ) (tables : Tables) (key : Key) (now : ℕ)
 
     unread_over : (reply : Reply) (is : IsNotRead deployment_of (FitsText MANIFEST_LIMIT) provider
         a b [] (text ∷ []) reply) → is.text ≡ text
-        → IsCheckOver blocks tables key (text ∷ []) a b now reply
+        → IsCheckOver room tables key (text ∷ []) a b now reply
     unfolding hearing_one
     unread_over reply is same =
-        subst (IsCheckOver blocks tables key (text ∷ []) a b now) (sym is.replied)
+        subst (IsCheckOver room tables key (text ∷ []) a b now) (sym is.replied)
         (refused_over (text ∷ []) (says.Manifest is.reason) some_current refl
         (record { hearing = hearing_one; accounts = asks })
         (λ old. inr (
@@ -276,7 +278,7 @@ module _ (blocks : ℕ) (tables : Tables) (key : Key) (now : ℕ)
       readable = unrefused deployment_of text d tells 0 (text ∷ []) refl
 
       other_over : d.identity.key ≢ key
-          → IsCheckOver blocks tables key (text ∷ []) a b now (says.IdentityDiffers d.identity.key)
+          → IsCheckOver room tables key (text ∷ []) a b now (says.IdentityDiffers d.identity.key)
       unfolding hearing_one
       other_over other =
           refused_over (text ∷ []) (says.IdentityDiffers d.identity.key) some_current refl
@@ -327,10 +329,10 @@ module _ (blocks : ℕ) (tables : Tables) (key : Key) (now : ℕ)
 
           version_is : shape_version key shape ≡ Some have
           version_is =
-              sym (version_shown blocks tables key)
+              sym (version_shown room tables key)
               ∙ ap (option_map (λ (v : View). v.deployment.identity.version)) is_row
 
-          module _ (old : Session) (image : List ℕ) (shows : Shows blocks tables image old.store) where
+          module _ (old : Session) (image : List ℕ) (shows : Shows room tables image old.store) where
             minimum_left : minimum_of key (left old).store.apps ≡ raised_by d.minimum app.minimum
             minimum_left =
                 minimum_raised key (heard_of offered) keeps d.minimum (λ x. refl) old.store.apps
@@ -355,7 +357,7 @@ module _ (blocks : ℕ) (tables : Tables) (key : Key) (now : ℕ)
           served = record { hearing = hearing_one; accounts = asks }
 
           heard_ready : heard_of offered app ≢ app
-              → IsCheckReady blocks tables key (text ∷ []) a b now note (checked_of offered app)
+              → IsCheckReady room tables key (text ∷ []) a b now note (checked_of offered app)
           heard_ready other = record {
             hears = some_current;
             kept = both;
@@ -373,15 +375,15 @@ module _ (blocks : ℕ) (tables : Tables) (key : Key) (now : ℕ)
                   (done old image shows);
               served = served_by old image shows (text ∷ []) (checked_of offered app) served;
               leaves = record {
-                shows = λ later. shows_heard blocks tables key have d.identity.version d.minimum now
-                    image later old.store shows version_is;
+                leads = λ first later had same new. shows_heard room tables key have
+                    d.identity.version d.minimum now first later old.store had same version_is;
                 other = differs old image shows (text ∷ []) (heard_of offered) keeps other;
               };
             };
           }
 
           heard_over : heard_of offered app ≡ app
-              → IsCheckOver blocks tables key (text ∷ []) a b now (checked_of offered app)
+              → IsCheckOver room tables key (text ∷ []) a b now (checked_of offered app)
           heard_over same = record {
             hears = some_current;
             kept = both;
@@ -402,20 +404,20 @@ module _ (blocks : ℕ) (tables : Tables) (key : Key) (now : ℕ)
     noted_is text is = is ∙ ap (λ (ts : List (List ℕ)). ts ++ text ∷ []) empty
 
     over_on : (heard : List (List ℕ)) (reply result : Reply) → texts ≡ heard → result ≡ reply
-        → IsCheckOver blocks tables key heard a b now reply
-        → IsCheckOver blocks tables key texts a b now result
+        → IsCheckOver room tables key heard a b now reply
+        → IsCheckOver room tables key texts a b now result
     over_on heard reply result noted is over =
-        subst (IsCheckOver blocks tables key texts a b now) (sym is)
-        (subst (λ (ts : List (List ℕ)). IsCheckOver blocks tables key ts a b now reply) (sym noted) over)
+        subst (IsCheckOver room tables key texts a b now) (sym is)
+        (subst (λ (ts : List (List ℕ)). IsCheckOver room tables key ts a b now reply) (sym noted) over)
 
     ready_on : (heard : List (List ℕ)) (note : Change) (reply : Reply) (made : Change × Reply)
         → texts ≡ heard → made.0 ≡ note → made.1 ≡ reply
-        → IsCheckReady blocks tables key heard a b now note reply
-        → IsCheckReady blocks tables key texts a b now made.0 made.1
+        → IsCheckReady room tables key heard a b now note reply
+        → IsCheckReady room tables key texts a b now made.0 made.1
     ready_on heard note reply made noted first second ready =
-        subst (λ (c : Change). IsCheckReady blocks tables key texts a b now c made.1) (sym first)
-        (subst (IsCheckReady blocks tables key texts a b now note) (sym second)
-        (subst (λ (ts : List (List ℕ)). IsCheckReady blocks tables key ts a b now note reply)
+        subst (λ (c : Change). IsCheckReady room tables key texts a b now c made.1) (sym first)
+        (subst (IsCheckReady room tables key texts a b now note) (sym second)
+        (subst (λ (ts : List (List ℕ)). IsCheckReady room tables key ts a b now note reply)
         (sym noted) ready))
 
     module _ (d : Deployment) (offer : IsOffer key provider none texts a b d)
@@ -434,7 +436,7 @@ module _ (blocks : ℕ) (tables : Tables) (key : Key) (now : ℕ)
       ready_heard : (made : Change × Reply)
           → IsNoted (heard_of heard_then) app (change.Heard key d.identity.version d.minimum now)
           (checked_of heard_then app) made
-          → IsCheckReady blocks tables key texts a b now made.0 made.1
+          → IsCheckReady room tables key texts a b now made.0 made.1
       ready_heard made noted =
           ready_on (offer.heard.text ∷ []) (change.Heard key d.identity.version d.minimum now)
           (checked_of heard_then app) made (noted_is offer.heard.text offer.heard.noted)
@@ -444,7 +446,7 @@ module _ (blocks : ℕ) (tables : Tables) (key : Key) (now : ℕ)
 
       over_heard : (reply : Reply)
           → IsUnnoted (heard_of heard_then) app (checked_of heard_then app) reply
-          → IsCheckOver blocks tables key texts a b now reply
+          → IsCheckOver room tables key texts a b now reply
       unfolding hearing_one
       over_heard reply (inl memory) =
           over_on (offer.heard.text ∷ []) says.Memory reply
@@ -461,13 +463,13 @@ module _ (blocks : ℕ) (tables : Tables) (key : Key) (now : ℕ)
       pub readies_heard : (result : Result (Change × Reply) Reply)
           → IfOk result (IsNoted (heard_of heard_then) app
           (change.Heard key d.identity.version d.minimum now) (checked_of heard_then app))
-          → IfOk result (λ made. IsCheckReady blocks tables key texts a b now made.0 made.1)
+          → IfOk result (λ made. IsCheckReady room tables key texts a b now made.0 made.1)
       readies_heard (Ok made) noted = ready_heard made noted
       readies_heard (Err reply) noted = tt
 
       pub overs_heard : (result : Result (Change × Reply) Reply)
           → IfErr result (IsUnnoted (heard_of heard_then) app (checked_of heard_then app))
-          → IfErr result (IsCheckOver blocks tables key texts a b now)
+          → IfErr result (IsCheckOver room tables key texts a b now)
       overs_heard (Ok made) unnoted = tt
       overs_heard (Err reply) unnoted = over_heard reply unnoted
 
@@ -485,7 +487,7 @@ module _ (blocks : ℕ) (tables : Tables) (key : Key) (now : ℕ)
       unlike_missing other is missing = subst (λ (r : Reply). is_missing r ≡ true) is missing
 
       ready_by : (made : Change × Reply) → IsMissed key app reply made → Why
-          → IsCheckReady blocks tables key texts a b now made.0 made.1
+          → IsCheckReady room tables key texts a b now made.0 made.1
       ready_by made missed (inl (inl given)) =
           ready_on [] (change.Unheard key) (says.AllLinks provider given.reasons) made
           (given.noted ∙ empty) missed.noted.change_is
@@ -500,7 +502,7 @@ module _ (blocks : ℕ) (tables : Tables) (key : Key) (now : ℕ)
       ready_by made missed (inr other) = by other.replied
         where
           by : (reply ≡ says.Memory) ⊎ (reply ≡ says.IdentityDiffers other.deployment.identity.key)
-              → IsCheckReady blocks tables key texts a b now made.0 made.1
+              → IsCheckReady room tables key texts a b now made.0 made.1
           by (inl memory) =
               absurd (let no : is_missing says.Memory ≡ true =
               unlike_missing says.Memory memory missed.missing in cc)
@@ -511,7 +513,7 @@ module _ (blocks : ℕ) (tables : Tables) (key : Key) (now : ℕ)
 
       pub readies_missed : (result : Result (Change × Reply) Reply)
           → IfOk result (IsMissed key app reply)
-          → IfOk result (λ made. IsCheckReady blocks tables key texts a b now made.0 made.1)
+          → IfOk result (λ made. IsCheckReady room tables key texts a b now made.0 made.1)
       readies_missed (Ok made) missed = ready_by made missed no.why
       readies_missed (Err other) missed = tt
 
@@ -519,13 +521,13 @@ module _ (blocks : ℕ) (tables : Tables) (key : Key) (now : ℕ)
 
       memory_one : (text : List ℕ) (result : Reply) → texts ≡ none ++ text ∷ []
           → IsGot (FitsText MANIFEST_LIMIT) provider a b text → result ≡ says.Memory
-          → IsCheckOver blocks tables key texts a b now result
+          → IsCheckOver room tables key texts a b now result
       memory_one text result noted got memory =
           over_on (text ∷ []) says.Memory result (noted_is text noted) memory
           (memory_over (text ∷ []) some_current (hearing_one text got))
 
       memory_none : (result : Reply) → texts ≡ none → MayAsk provider a b → result ≡ says.Memory
-          → IsCheckOver blocks tables key texts a b now result
+          → IsCheckOver room tables key texts a b now result
       memory_none result noted (inl same) memory =
           over_on [] says.Memory result (noted ∙ empty) memory
           (memory_over [] tt (hearing_none [] (same ∙ sym (append-nil a.asked)) front_none))
@@ -534,7 +536,7 @@ module _ (blocks : ℕ) (tables : Tables) (key : Key) (now : ℕ)
           (memory_over [] tt (hearing_none (provider ∷ []) asked front_one))
 
       over_by : (result : Reply) → IsUnmissed app reply result → Why
-          → IsCheckOver blocks tables key texts a b now result
+          → IsCheckOver room tables key texts a b now result
       over_by result (inl memory) (inl (inl given)) =
           memory_none result given.noted (inr given.gave.asked) memory
       over_by result (inr same) (inl (inl given)) =
@@ -565,14 +567,14 @@ module _ (blocks : ℕ) (tables : Tables) (key : Key) (now : ℕ)
               → ((texts ≡ none) × MayAsk provider a b)
               ⊎ ((text : List ℕ) × (texts ≡ none ++ text ∷ [])
               × IsGot (FitsText MANIFEST_LIMIT) provider a b text)
-              → IsCheckOver blocks tables key texts a b now result
+              → IsCheckOver room tables key texts a b now result
           at memory (inl before) = memory_none result before.0 before.1 memory
           at memory (inr behind) = memory_one behind.0 result behind.1 behind.2 memory
       over_by result unmissed (inr other) = at unmissed other.replied
         where
           at : IsUnmissed app reply result
               → (reply ≡ says.Memory) ⊎ (reply ≡ says.IdentityDiffers other.deployment.identity.key)
-              → IsCheckOver blocks tables key texts a b now result
+              → IsCheckOver room tables key texts a b now result
           at (inl memory) replied = memory_one other.heard.text result other.heard.noted other.heard.got memory
           at (inr same) (inl memory) =
               memory_one other.heard.text result other.heard.noted other.heard.got (same.0 ∙ memory)
@@ -584,6 +586,6 @@ module _ (blocks : ℕ) (tables : Tables) (key : Key) (now : ℕ)
 
       pub overs_missed : (result : Result (Change × Reply) Reply)
           → IfErr result (IsUnmissed app reply)
-          → IfErr result (IsCheckOver blocks tables key texts a b now)
+          → IfErr result (IsCheckOver room tables key texts a b now)
       overs_missed (Ok made) unmissed = tt
       overs_missed (Err other) unmissed = over_by other unmissed no.why

@@ -2,6 +2,7 @@
 use Rattle.std.proofs.Common.{◌≡◌, ◌∙◌, ℕ, ◌==◌, List, map, Option, Some, None, IsSome, refl, sym, ap}
 use Rattle.std.specs.Prelude.{option_and_then, option_map}
 use Rattle.std.proofs.lemmas.Option.{none-some}
+use Rattle.small_types.specs.declared.room.Room.{Room}
 use Rattle.identity.specs.declared.key.Key.{Key}
 use Rattle.machine.specs.declared.app.AppState.{AppState}
 use Rattle.machine.specs.Current.{current_of, current_view, view_at}
@@ -18,12 +19,14 @@ use Rattle.store_state.specs.Rows.{current_row, row_at}
 use Rattle.store_state.specs.Shows.{Shows, shown_view}
 use Rattle.store_state.specs.Tables.{Tables}
 
-shown_by : (contents : List Content) (views : List View) (number : Option ℕ)
-    → option_and_then (λ (n : ℕ). view_at n (map (shown_view contents) views)) number
-    ≡ option_map (shown_view contents) (option_and_then (λ (n : ℕ). row_at n views) number)
-shown_by contents views None = refl
-shown_by contents views (Some number) =
-    find-map (shown_view contents) (λ (view : KeptView). view.number == number) views
+shown_by : (room : Room) (image : List ℕ) (contents : List Content) (views : List View)
+    (number : Option ℕ)
+    → option_and_then (λ (n : ℕ). view_at n (map (shown_view room image contents) views)) number
+    ≡ option_map (shown_view room image contents)
+    (option_and_then (λ (n : ℕ). row_at n views) number)
+shown_by room image contents views None = refl
+shown_by room image contents views (Some number) =
+    find-map (shown_view room image contents) (λ (view : KeptView). view.number == number) views
 
 pub map_there : {X Y : Type 0} (f : X → Y) (o : Option X) (y : Y) → option_map f o ≡ Some y → IsSome o
 map_there f None y is = absurd (none-some y is)
@@ -33,13 +36,14 @@ none_there : {X : Type 0} (o : Option X) → o ≡ None → IsSome o → ⊥
 none_there {X} None is some = absurd (let there : IsSome {T = X} None = some in cc)
 none_there (Some x) is some = cc
 
-module _ {blocks : ℕ} {tables : Tables} {image : List ℕ} {store : Store}
-    (shows : Shows blocks tables image store) where
+module _ {room : Room} {tables : Tables} {image : List ℕ} {store : Store}
+    (shows : Shows room tables image store) where
   pub current_shown : (key : Key)
-      → current_view key store ≡ option_map (shown_view tables.contents) (current_row key tables)
+      → current_view key store ≡ option_map (shown_view room image tables.contents)
+      (current_row key tables)
   current_shown key =
       ap (current_view key) shows.is
-      ∙ shown_by tables.contents tables.views (current_of key tables.apps)
+      ∙ shown_by room image tables.contents tables.views (current_of key tables.apps)
 
   module _ (key : Key) (was : Ordered store) where
     -- in a store in its order it is among the views
@@ -48,7 +52,7 @@ module _ {blocks : ℕ} {tables : Tables} {image : List ℕ} {store : Store}
         let number = value_of (current_of key tables.apps) some in
         let kept = current_kept key number.0 store was
         (ap (λ (s : Store). current_of key s.apps) shows.is ∙ number.1) in
-        map_there (shown_view tables.contents) (current_row key tables) kept.0
+        map_there (shown_view room image tables.contents) (current_row key tables) kept.0
         (sym (current_shown key) ∙ kept.1)
 
     -- none is current where no view is found
@@ -61,7 +65,7 @@ module _ {blocks : ℕ} {tables : Tables} {image : List ℕ} {store : Store}
         by (Some number) is =
             let kept = current_kept key number store was is in
             absurd (none-some kept.0
-            (sym (ap (option_map (shown_view tables.contents)) none)
+            (sym (ap (option_map (shown_view room image tables.contents)) none)
             ∙ sym (current_shown key) ∙ kept.1))
 
     -- or where the application has no provider

@@ -1,6 +1,7 @@
 -- The program files of the new view: a kept view has their contents, or they were fetched.
 use Rattle.std.proofs.Common.{◌≡◌, ◌∙◌, ◌⊎◌, ◌++◌, inl, inr, refl, sym, ap, subst, ℕ, true, List, [], ◌∷◌, map, All, Option, Some, None, IsSome, Result, Ok}
 use Rattle.std.specs.Prelude.{Any}
+use Rattle.small_types.specs.declared.room.Room.{Room}
 use Rattle.small_types.specs.declared.target.Target.{Target}
 use Rattle.addresses.specs.declared.fault.UrlFault.{UrlFault}
 use Rattle.addresses.specs.Join.{file_target_of}
@@ -25,6 +26,7 @@ use Rattle.links.specs.Links.{LinksState}
 use Rattle.install_plan.specs.declared.plan.Plan.{Plan}
 use Rattle.install_plan.specs.Brought.{AreContentsFor, IsBrought, IsCarriedOrFetched, IsHeldOrFetched}
 use Rattle.install_plan.specs.Given.{IsFrom}
+use Rattle.install_plan.specs.Held.{given_bytes}
 use Rattle.install_plan.specs.Plans.{IsPlan, targets_of}
 use Rattle.install_plan.proofs.Aligning.{for_one, rest_is}
 use Rattle.install_plan.proofs.Fetched.{IsOriginal}
@@ -36,7 +38,7 @@ last_is : {X : Type 0} (xs : List X) (x y : X) → xs ++ x ∷ [] ≡ xs ++ y �
 last_is [] x y e = cc
 last_is (z ∷ xs) x y e = last_is xs x y (rest_is z z (xs ++ x ∷ []) (xs ++ y ∷ []) e)
 
-module _ (blocks : ℕ) (tables : Tables) (url : List ℕ) (texts : List (List ℕ)) (plan : Plan) (is : IsPlan (table_shape blocks tables) url texts plan) (a c : LinksState) (contents new : List Content) (within : (content : Content) → In content new → In content contents)
+module _ (room : Room) (tables : Tables) (image : List ℕ) (url : List ℕ) (texts : List (List ℕ)) (plan : Plan) (is : IsPlan (table_shape room tables) url texts plan) (a c : LinksState) (contents new : List Content) (within : (content : Content) → In content new → In content contents)
     (are : AreContentsOf (standing_files (map bare_row tables.views)) tables.contents)
     (fetched : AreContentsFor a c (wanted (map bare_row tables.views) plan.application) (targets_of plan) contents)
     (brings : Brings tables.contents (standing_entries [] plan.application) new) where
@@ -57,7 +59,7 @@ module _ (blocks : ℕ) (tables : Tables) (url : List ℕ) (texts : List (List �
   IsFetchedFor entry = Any (λ (wish : FileEntry). (target : Target)
       × (place_of wish ≡ Ok target)
       × (same_content wish entry ≡ true)
-      × IsFrom (Matches wish.list wish.size) target a c (shown_file after entry).bytes)
+      × IsFrom (Matches wish.list wish.size) target a c (shown_file room image after entry).bytes)
       wants
 
   kept_one : (entry : FileEntry) → IsSome (content_of tables.contents entry) → is_held held entry ≡ true
@@ -73,7 +75,7 @@ module _ (blocks : ℕ) (tables : Tables) (url : List ℕ) (texts : List (List �
       let right = find_right (is_content_of entry) tables.contents new none in
       let first = found (is_content_of entry) new (subst (λ (o : Option Content). IsSome o) right some) in
       let one = for_one a c place_of wants (targets_of plan) contents first.item fetched is.targets (within first.item first.there) in
-      let bytes : (shown_file after entry).bytes ≡ first.item.bytes = ap bytes_in (right ∙ first.is) in
+      let bytes : (shown_file room image after entry).bytes ≡ given_bytes first.item.held = ap (bytes_in room image) (right ∙ first.is) in
       let key : kept_key first.item ≡ content_key one.entry =
       ap (λ (n : ℕ). record (kept_key first.item) { size = n }) one.is.size ∙ ap (λ l. record (content_key one.entry) { list = l }) one.is.list in
       let at = contains_in wants one.entry one.there in (
@@ -97,14 +99,14 @@ module _ (blocks : ℕ) (tables : Tables) (url : List ℕ) (texts : List (List �
       by (Some content) e = inl (kept_one entry (subst (λ (o : Option Content). IsSome o) (sym e) refl))
 
   abbrev view : ℕ → List DataFile → KeptView
-  view number others = new_view number plan.base plan.deployment plan.application (map (shown_file after) (standing_entries [] plan.application)) others
+  view number others = new_view number plan.base plan.deployment plan.application (map (shown_file room image after) (standing_entries [] plan.application)) others
 
-  files_brought : (number : ℕ) (others : List DataFile) → All (IsHeldOrFetched (table_shape blocks tables) a c (view number others)) (view number others).program_files
+  files_brought : (number : ℕ) (others : List DataFile) → All (IsHeldOrFetched (table_shape room tables) a c (view number others)) (view number others).program_files
   unfolding IsFetchedFor
-  files_brought number others = in_all (IsHeldOrFetched (table_shape blocks tables) a c (view number others)) (view number others).program_files (λ file there.
-      let of = map_in (shown_file after) (standing_entries [] plan.application) file there in
+  files_brought number others = in_all (IsHeldOrFetched (table_shape room tables) a c (view number others)) (view number others).program_files (λ file there.
+      let of = map_in (shown_file room image after) (standing_entries [] plan.application) file there in
       let some = all_in (λ (e : FileEntry). IsSome (content_of after e)) (standing_entries [] plan.application) of.0 brings.each of.1 in
-      subst (IsHeldOrFetched (table_shape blocks tables) a c (view number others)) of.2 (either of.0 some))
+      subst (IsHeldOrFetched (table_shape room tables) a c (view number others)) of.2 (either of.0 some))
 
   module _ (old : Store) (number : ℕ) (others : List DataFile) (originals : List ListedFile)
       (migrated : Migrated (data_of (current_view plan.deployment.identity.key old)) (listed_by (current_view plan.deployment.identity.key old)) plan.application.files originals others)
@@ -139,11 +141,11 @@ module _ (blocks : ℕ) (tables : Tables) (url : List ℕ) (texts : List (List �
           ),
         ))
 
-    brought_view : shape_of old ≡ table_shape blocks tables → IsBrought old a c (view number others)
+    brought_view : shape_of old ≡ table_shape room tables → IsBrought old a c (view number others)
     brought_view same = record {
       files = subst (λ (s : Shape). All (IsHeldOrFetched s a c (view number others)) (view number others).program_files) (sym same) (files_brought number others);
       data_files = in_all (IsCarriedOrFetched old a c (view number others)) others (λ file there. carried file ((migrated.files file).0 (contains_in others file there)));
     }
 
-    pub brought_last : shape_of old ≡ table_shape blocks tables → (views : List KeptView) (last : KeptView) → views ++ view number others ∷ [] ≡ views ++ last ∷ [] → IsBrought old a c last
+    pub brought_last : shape_of old ≡ table_shape room tables → (views : List KeptView) (last : KeptView) → views ++ view number others ∷ [] ≡ views ++ last ∷ [] → IsBrought old a c last
     brought_last same views last is = subst (IsBrought old a c) (last_is views (view number others) last is) (brought_view same)

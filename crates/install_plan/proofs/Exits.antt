@@ -13,7 +13,7 @@ use Rattle.machine.specs.InstallReplies.{install_replies}
 use Rattle.machine.specs.InstallRow.{address_refusals, deployment_refusals, file_refusals, install_refusals, release_refusals}
 use Rattle.machine.specs.Rows.{PassesAll, Refusal, Refuses}
 use Rattle.machine.specs.Shape.{Shape}
-use Rattle.machine.specs.Store.{Session, empty, session_over}
+use Rattle.machine.specs.Store.{Session, empty, plain_room, session_over}
 use Rattle.links.specs.Links.{LinksState}
 use Rattle.install_plan.specs.Hearing.{Accounts}
 use Rattle.install_plan.specs.Judging.{Refused, address_checks}
@@ -46,7 +46,7 @@ module _ (shape : Shape) (url : List ℕ) (texts : List (List ℕ)) (a c : Links
 
 -- some session
 pub some_session : Session
-some_session = session_over (empty 1)
+some_session = session_over (empty (plain_room 1))
 
 -- ---- the row
 

@@ -1,5 +1,5 @@
 -- What was fetched of the wanted files: the contents of program files, and the data files.
-use Rattle.std.proofs.Common.{◌≡◌, ◌∙◌, ◌⊎◌, ◌&&◌, ◌++◌, ◌≤◌, inl, inr, refl, sym, ap, subst, ℕ, Bool, true, false, cond, not, List, [], ◌∷◌, length, map, All, Option, Some, None, Result, Ok, arith}
+use Rattle.std.proofs.Common.{◌≡◌, ◌∙◌, ◌&&◌, ◌++◌, ◌≤◌, inl, inr, refl, sym, ap, subst, ℕ, Bool, true, false, cond, not, List, [], ◌∷◌, length, map, All, Option, Result, Ok, arith}
 use Rattle.std.specs.Prelude.{filter, is_none}
 use Rattle.small_types.specs.declared.target.Target.{Target}
 use Rattle.addresses.specs.declared.fault.UrlFault.{UrlFault}
@@ -12,15 +12,15 @@ use Rattle.machine.specs.Shape.{BareView}
 use Rattle.machine.specs.Sound.{IsWhole}
 use Rattle.machine.specs.Views.{ContentKey, ListedFile, content_key, is_required}
 use Rattle.machine.specs.Wanted.{is_held, wanted, wanted_beside}
-use Rattle.machine.proofs.Members.{In, all_in, in_all, in_either}
+use Rattle.machine.proofs.Members.{In, all_in, in_all}
 use Rattle.store_state.specs.declared.view.Content.{Content}
 use Rattle.links.specs.Links.{LinksState}
 use Rattle.install_plan.specs.Brought.{AreContentsFor, IsContentFor}
-use Rattle.install_plan.specs.Changes.{data_part, is_data, original_of, program_part}
+use Rattle.install_plan.specs.Changes.{data_part, is_data, program_part}
 use Rattle.install_plan.specs.Given.{IsFrom}
+use Rattle.install_plan.specs.Held.{given_bytes}
 use Rattle.install_plan.proofs.Aligning.{oks, rest_is, somes, whole_for}
-use Rattle.install_plan.proofs.Keyed.{both, kept_key}
-use Rattle.install_plan.proofs.Parting.{program_none}
+use Rattle.install_plan.proofs.Keyed.{kept_key}
 use Rattle.install_plan.proofs.Sufficing.{IsWholeContent, wanted_required}
 
 -- ---- program files
@@ -72,7 +72,7 @@ each_either es held e there = by e.local refl
 -- ---- the parts
 
 abbrev one_of : FileEntry → Content → ListedFile
-one_of entry content = record { entry = entry; bytes = content.bytes }
+one_of entry content = record { entry = entry; bytes = given_bytes content.held }
 
 abbrev entries_of : List ListedFile → List FileEntry
 entries_of files = map (λ (file : ListedFile). file.entry) files

@@ -18,6 +18,7 @@ use Rattle.fetcher.proofs.Sequence.{given_before, kept_same, kept_then, quiet_se
 use Rattle.install_plan.specs.declared.plan.WantedFile.{WantedFile}
 use Rattle.install_plan.specs.Brought.{IsContentFor}
 use Rattle.install_plan.specs.Fetching.{ArePlaces, HasFetched, IsContentAt, IsFetched, IsFileUngiven, IsLack, IsStopped, Stops, addresses}
+use Rattle.install_plan.specs.Held.{given_bytes}
 use Rattle.install_plan.proofs.Causes.{causes_from, file_follows}
 use Rattle.install_plan.proofs.Extends.{from_on, got_from}
 
@@ -44,14 +45,14 @@ module _ (a b c : LinksState) (one : Kept a b) (two : Kept b c) where
   content_from entry target content is = record {
     size = is.size;
     list = is.list;
-    from = got_from a b c one two (Matches entry.list entry.size) target content.bytes is.from;
+    from = got_from a b c one two (Matches entry.list entry.size) target (given_bytes content.held) is.from;
   }
 
   content_on : (entry : FileEntry) (target : Target) (content : Content) → IsContentFor a b entry target content → IsContentFor a c entry target content
   content_on entry target content is = record {
     size = is.size;
     list = is.list;
-    from = from_on a b c one two (Matches entry.list entry.size) target content.bytes is.from;
+    from = from_on a b c one two (Matches entry.list entry.size) target (given_bytes content.held) is.from;
   }
 
   at_on : (files : List FileEntry) (file : WantedFile) (content : Content) → IsContentAt a b files file content → IsContentAt a c files file content

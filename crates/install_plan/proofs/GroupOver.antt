@@ -4,6 +4,7 @@ use Rattle.std.specs.Prelude.{Any, min, sum_by}
 use Rattle.std.proofs.lemmas.Bool.{false≢true}
 use Rattle.std.proofs.lemmas.List.{append-nil}
 use Rattle.std.proofs.lemmas.Option.{same_Some}
+use Rattle.small_types.specs.declared.room.Room.{Room}
 use Rattle.addresses.specs.declared.fault.UrlFault.TheVariants.{BadUrl}
 use Rattle.manifests.specs.declared.facts.FileEntry.{FileEntry}
 use Rattle.manifests.specs.Facts.{IsFile}
@@ -41,13 +42,13 @@ use Rattle.install_plan.proofs.Wants.{sum_most}
 
 -- ---- answers
 
-module _ (blocks : ℕ) (tables : Tables) (lease : ℕ) (group : List ℕ) where
+module _ (room : Room) (tables : Tables) (lease : ℕ) (group : List ℕ) where
   abbrev pub shape : Shape
-  shape = table_shape blocks tables
+  shape = table_shape room tables
 
   pub by_refusal : (now : ℕ) (image : List ℕ) (old : Session) (reply : Reply)
-      → Shows blocks tables image old.store
-      → Refuses (group_refusals lease group (table_shape blocks tables)) old reply old
+      → Shows room tables image old.store
+      → Refuses (group_refusals lease group (table_shape room tables)) old reply old
       → Answers now [] old (command.Group lease group) reply old
   by_refusal now image old reply shows refuses =
       inl (inr (
@@ -57,8 +58,8 @@ module _ (blocks : ℕ) (tables : Tables) (lease : ℕ) (group : List ℕ) where
       ))
 
   pub by_effect : (now : ℕ) (image : List ℕ) (old : Session) (reply : Reply) (new : Session)
-      → Shows blocks tables image old.store
-      → PassesAll (group_refusals lease group (table_shape blocks tables))
+      → Shows room tables image old.store
+      → PassesAll (group_refusals lease group (table_shape room tables))
       → GroupEffect lease group old reply new
       → Answers now [] old (command.Group lease group) reply new
   by_effect now image old reply new shows passes done =
@@ -76,13 +77,13 @@ module _ (blocks : ℕ) (tables : Tables) (lease : ℕ) (group : List ℕ) where
   -- what it says of each session over a sound store that the tables show
   pub record IsDue (a c : LinksState) (reply : Reply) (now : ℕ) (old : Session) : Type 0 where
     pub answers : Answers now [] old (command.Group lease group) reply old
-    pub served : GroupServed lease group (table_shape blocks tables) a c reply
+    pub served : GroupServed lease group (table_shape room tables) a c reply
 
   pub over_by : (a c : LinksState) (reply : Reply) → Kept a c
       → ((now : ℕ) → moment_after now (Some reply) ≡ now)
-      → ((now : ℕ) (image : List ℕ) (old : Session) → Shows blocks tables image old.store
+      → ((now : ℕ) (image : List ℕ) (old : Session) → Shows room tables image old.store
       → Sound old.store → IsDue a c reply now old)
-      → IsGroupOver blocks tables lease group a c reply
+      → IsGroupOver room tables lease group a c reply
   over_by a c reply kept still due = record {
     kept = kept;
     still = still;
@@ -102,8 +103,8 @@ module _ (blocks : ℕ) (tables : Tables) (lease : ℕ) (group : List ℕ) where
   -- ---- nothing was asked
 
   served_none : (a c : LinksState) (reply : Reply) → AreUnasked a c
-      → AccountsGroup lease group (table_shape blocks tables) a c [] reply
-      → GroupServed lease group (table_shape blocks tables) a c reply
+      → AccountsGroup lease group (table_shape room tables) a c [] reply
+      → GroupServed lease group (table_shape room tables) a c reply
   served_none a c reply none accounts = record {
     kept = none.kept;
     asked = [];
@@ -113,13 +114,13 @@ module _ (blocks : ℕ) (tables : Tables) (lease : ℕ) (group : List ℕ) where
   }
 
   pub memory_over : (a c : LinksState) → AreUnasked a c
-      → IsGroupOver blocks tables lease group a c says.Memory
+      → IsGroupOver room tables lease group a c says.Memory
   memory_over a c unasked = over_by a c says.Memory unasked.kept (λ now. refl)
       (λ now image old shows sound.
       record { answers = inl (inl (refl, refl)); served = served_none a c says.Memory unasked tt })
 
   pub no_lease_over : (a c : LinksState) → AreUnasked a c → leased_row lease tables ≡ None
-      → IsGroupOver blocks tables lease group a c says.NoLease
+      → IsGroupOver room tables lease group a c says.NoLease
   no_lease_over a c unasked none = over_by a c says.NoLease unasked.kept (λ now. refl)
       (λ now image old shows sound. (
       let gone = no_lease shows lease sound.valid.ordered none in
@@ -129,17 +130,17 @@ module _ (blocks : ℕ) (tables : Tables) (lease : ℕ) (group : List ℕ) where
       }
       ))
 
-  module _ (view : View) (leased : IsLeased blocks tables lease view) where
+  module _ (view : View) (leased : IsLeased room tables lease view) where
     lives : lease_of lease tables.leases ≡ None → ⊥
     lives = lease_lives leased
 
-    one_view : (v : BareView) → leased_bare lease (table_shape blocks tables) ≡ Some v
+    one_view : (v : BareView) → leased_bare lease (table_shape room tables) ≡ Some v
         → v ≡ bare_row view
     one_view v is = same_Some v (bare_row view) (sym is ∙ leased.bare)
 
     pub no_group_over : (a c : LinksState) → AreUnasked a c
         → group_files group view.application ≡ []
-        → IsGroupOver blocks tables lease group a c says.NoGroup
+        → IsGroupOver room tables lease group a c says.NoGroup
     no_group_over a c unasked none = over_by a c says.NoGroup unasked.kept (λ now. refl)
         (λ now image old shows sound. record {
           answers = by_refusal now image old says.NoGroup shows
@@ -149,29 +150,29 @@ module _ (blocks : ℕ) (tables : Tables) (lease : ℕ) (group : List ℕ) where
         })
 
     pub no_files_over : (a c : LinksState) (reply : Reply) → AreUnasked a c
-        → IsNoFiles group view.application reply → IsGroupOver blocks tables lease group a c reply
+        → IsNoFiles group view.application reply → IsGroupOver room tables lease group a c reply
     no_files_over a c reply unasked (inl memory) =
-        subst (IsGroupOver blocks tables lease group a c) (sym memory) (memory_over a c unasked)
+        subst (IsGroupOver room tables lease group a c) (sym memory) (memory_over a c unasked)
     no_files_over a c reply unasked (inr none) =
-        subst (IsGroupOver blocks tables lease group a c) (sym none.0)
+        subst (IsGroupOver room tables lease group a c) (sym none.0)
         (no_group_over a c unasked none.1)
 
     module _ (some : ◌≢◌ {A = List FileEntry} (group_files group view.application) []) where
-      pub has_group : LacksGroup lease group (table_shape blocks tables) → ⊥
+      pub has_group : LacksGroup lease group (table_shape room tables) → ⊥
       has_group lacks =
           some (subst (λ (v : BareView). group_files group v.application ≡ [])
           (one_view lacks.0 lacks.1) lacks.2)
 
       -- what stands does not come
       no_coming : group_stands group view.groups ≡ true → (holds : BareView → Type 0)
-          → OfComing lease group (table_shape blocks tables) holds → ⊥
+          → OfComing lease group (table_shape room tables) holds → ⊥
       no_coming stands holds coming =
           absurd (false≢true (sym coming.2
           ∙ ap (λ (v : BareView). group_stands group v.groups) (one_view coming.0 coming.1)
           ∙ stands))
 
       pub stands_over : (a c : LinksState) → AreUnasked a c → group_stands group view.groups ≡ true
-          → IsGroupOver blocks tables lease group a c
+          → IsGroupOver room tables lease group a c
           (says.Group (length (group_files group view.application)))
       stands_over a c unasked stands =
           let reply = says.Group (length (group_files group view.application)) in
@@ -184,7 +185,7 @@ module _ (blocks : ℕ) (tables : Tables) (lease : ℕ) (group : List ℕ) where
               ),
             )
                 (record {
-                  view = shown_view tables.contents view;
+                  view = shown_view room image tables.contents view;
                   leased = view_shown shows leased;
                   replied = refl;
                   store = old.store;
@@ -207,13 +208,13 @@ module _ (blocks : ℕ) (tables : Tables) (lease : ℕ) (group : List ℕ) where
         abbrev files : List FileEntry
         files = map ungrouped (group_files group view.application)
 
-        pub of_view : {P : BareView → Type 0} → OfComing lease group (table_shape blocks tables) P
+        pub of_view : {P : BareView → Type 0} → OfComing lease group (table_shape room tables) P
             → P (bare_row view)
         of_view {P} coming = subst P (one_view coming.0 coming.1) coming.3
 
         pub bad_url_over : (a c : LinksState) → AreUnasked a c
             → Any (λ (entry : FileEntry). address_in view entry ≡ Err BadUrl) (lacking tables files)
-            → IsGroupOver blocks tables lease group a c says.BadUrl
+            → IsGroupOver room tables lease group a c says.BadUrl
         bad_url_over a c unasked any =
             let bad = bad_wanted tables view group any in
             over_by a c says.BadUrl unasked.kept (λ now. refl)
@@ -238,7 +239,7 @@ module _ (blocks : ℕ) (tables : Tables) (lease : ℕ) (group : List ℕ) where
         AreReached = Any (λ (entry : FileEntry). address_in view entry ≡ Err BadUrl) wanted → ⊥
 
         pub reached : AreReached
-            → OfMissing lease group (table_shape blocks tables) (λ target. target ≡ Err BadUrl) → ⊥
+            → OfMissing lease group (table_shape room tables) (λ target. target ≡ Err BadUrl) → ⊥
         reached each coming = each (of_view coming)
 
         -- ---- room
@@ -272,17 +273,17 @@ module _ (blocks : ℕ) (tables : Tables) (lease : ℕ) (group : List ℕ) where
             → needed
             ≡ min (sum_by (λ (entry : FileEntry). blocks_of entry.size) (lacking tables files))
             (2 ^ 64 - 1)
-            → Refused (room_checks needed (free_blocks (table_shape blocks tables))) reply
-            → IsGroupOver blocks tables lease group a c reply
+            → Refused (room_checks needed (free_blocks (table_shape room tables))) reply
+            → IsGroupOver room tables lease group a c reply
         full_over a c needed reply unasked each is (inl memory) =
-            subst (IsGroupOver blocks tables lease group a c) (sym memory) (memory_over a c unasked)
+            subst (IsGroupOver room tables lease group a c) (sym memory) (memory_over a c unasked)
         full_over a c needed reply unasked each is (inr refuses) = by (refuses some_session)
           where
-            full : (need : ℕ) → need ≡ needed → free_blocks (table_shape blocks tables) < need
-                → IsGroupOver blocks tables lease group a c
-                (says.Full need (free_blocks (table_shape blocks tables)))
+            full : (need : ℕ) → need ≡ needed → free_blocks (table_shape room tables) < need
+                → IsGroupOver room tables lease group a c
+                (says.Full need (free_blocks (table_shape room tables)))
             full need own less =
-                let reply = says.Full need (free_blocks (table_shape blocks tables)) in
+                let reply = says.Full need (free_blocks (table_shape room tables)) in
                 over_by a c reply unasked.kept (λ now. refl) (λ now image old shows sound. (
                 let same = need_is need (view_valid shows leased sound) (own ∙ is) in
                 record {
@@ -313,10 +314,10 @@ module _ (blocks : ℕ) (tables : Tables) (lease : ℕ) (group : List ℕ) where
                 }
                 ))
 
-            by : Refuses (room_checks needed (free_blocks (table_shape blocks tables)))
+            by : Refuses (room_checks needed (free_blocks (table_shape room tables)))
                 some_session reply some_session
-                → IsGroupOver blocks tables lease group a c reply
+                → IsGroupOver room tables lease group a c reply
             by (inl given) =
-                subst (IsGroupOver blocks tables lease group a c) (sym given.0.2)
+                subst (IsGroupOver room tables lease group a c) (sym given.0.2)
                 (full given.0.0 given.0.1.0 given.0.1.1)
             by (inr none) = absurd none.1

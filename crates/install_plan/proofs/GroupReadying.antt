@@ -1,6 +1,7 @@
 -- All that is ready once the files of a group are fetched.
 use Rattle.std.proofs.Common.{◌≡◌, ◌≢◌, ◌∙◌, ◌≤◌, inr, refl, sym, subst, ℕ, false, List, [], length, map, All, Ok, Option, IsSomeAnd, arith}
 use Rattle.std.proofs.lemmas.List.{append-nil, length-map}
+use Rattle.small_types.specs.declared.room.Room.{Room}
 use Rattle.small_types.specs.declared.limits.TheConstants.{FILE_COUNT_LIMIT}
 use Rattle.manifests.specs.declared.facts.FileEntry.{FileEntry}
 use Rattle.machine.specs.declared.reply.Reply.{Reply}
@@ -14,16 +15,18 @@ use Rattle.machine.specs.Shape.{Shape}
 use Rattle.machine.specs.Sound.{Sound}
 use Rattle.machine.specs.Store.{Session, Store}
 use Rattle.machine.proofs.Members.{all_in}
+use Rattle.store_state.specs.declared.change.Change.{Change}
 use Rattle.store_state.specs.declared.change.Change.TheVariants as change
 use Rattle.store_state.specs.declared.view.Content.{Content}
 use Rattle.store_state.specs.declared.view.View.{View}
-use Rattle.store_state.specs.Change.{Fits, IsRow, MayGrow}
+use Rattle.store_state.specs.Change.{Fits, IsRow, MayGrow, effect}
 use Rattle.store_state.specs.Contents.{Brings}
 use Rattle.store_state.specs.Kept.{AreTables}
 use Rattle.store_state.specs.Laws.{GroupsShowTheFiles, ShowsGroup, stand_files}
 use Rattle.store_state.specs.Shows.{Shows, shown_view}
 use Rattle.store_state.specs.Tables.{Tables, bare_row, table_shape}
-use Rattle.store_state.proofs.Showing.{shape_shown}
+use Rattle.store_state.proofs.Images.{images_have, images_hold, same_image}
+use Rattle.store_state.proofs.Showing.{shape_shown, shows_same}
 use Rattle.links.specs.Links.{LinksState}
 use Rattle.install_plan.specs.Brought.{AreContentsFor}
 use Rattle.install_plan.specs.Checks.{LedBy}
@@ -40,24 +43,24 @@ use Rattle.install_plan.proofs.Sufficing.{IsWholeContent}
 use Rattle.install_plan.proofs.Ungrouping.{few_of_group, same_contents}
 
 -- the applications of tables could be read
-pub leased_held : (blocks : ℕ) (tables : Tables) (lease : ℕ) (view : View) → AreTables tables
-    → IsLeased blocks tables lease view → IsApplication view.application
-leased_held blocks tables lease view are leased =
+pub leased_held : (room : Room) (tables : Tables) (lease : ℕ) (view : View) → AreTables tables
+    → IsLeased room tables lease view → IsApplication view.application
+leased_held room tables lease view are leased =
     (all_in IsRow tables.views view are.rows (row_there leased)).application
 
-module _ (blocks : ℕ) (tables : Tables) (lease : ℕ) (group : List ℕ) (view : View)
-    (leased : IsLeased blocks tables lease view)
+module _ (room : Room) (tables : Tables) (lease : ℕ) (group : List ℕ) (view : View)
+    (leased : IsLeased room tables lease view)
     (some : ◌≢◌ {A = List FileEntry} (group_files group view.application) [])
     (absent : group_stands group view.groups ≡ false) (a c : LinksState) (contents : List Content)
-    (got : HasBrought blocks tables view (map ungrouped (group_files group view.application)) a c
+    (got : HasBrought room tables view (map ungrouped (group_files group view.application)) a c
     contents) where
   abbrev wants : List FileEntry
-  wants = entries blocks tables lease group view leased some absent
+  wants = entries room tables lease group view leased some absent
 
   -- want of memory behind the files
-  pub memory_last : IsGroupOver blocks tables lease group a c says.Memory
+  pub memory_last : IsGroupOver room tables lease group a c says.Memory
   memory_last =
-      memory_behind blocks tables lease group view leased some absent got.wanted got.are a c
+      memory_behind room tables lease group view leased some absent got.wanted got.are a c
       got.fetched.kept (addresses got.wanted) [] got.fetched.grown
       (sym (append-nil (addresses got.wanted)))
 
@@ -66,7 +69,7 @@ module _ (blocks : ℕ) (tables : Tables) (lease : ℕ) (group : List ℕ) (view
       same_contents a c wants (addresses got.wanted) contents
       (contents_for (map ungrouped (group_files group view.application)) a c got.wanted
       (map ungrouped wants) contents
-      (at_places blocks tables lease group view leased some absent got.wanted got.are)
+      (at_places room tables lease group view leased some absent got.wanted got.are)
       got.fetched.each)
 
   whole : All IsWholeContent contents
@@ -76,7 +79,7 @@ module _ (blocks : ℕ) (tables : Tables) (lease : ℕ) (group : List ℕ) (view
     few_contents : length contents ≤ FILE_COUNT_LIMIT
     few_contents =
         let few = few_of_group group view.application (standing_files (map bare_row tables.views))
-        (leased_held blocks tables lease view are leased) in
+        (leased_held room tables lease view are leased) in
         omega (arith, few, count_for a c wants (addresses got.wanted) contents contents_are)
 
     brings : Brings tables.contents (group_files group view.application) contents
@@ -91,73 +94,79 @@ module _ (blocks : ℕ) (tables : Tables) (lease : ℕ) (group : List ℕ) (view
         (record { listed = some; absent = absent; brings = brings })
 
     named : map (address_in view) wants ≡ map Ok (addresses got.wanted)
-    named = at_addresses blocks tables lease group view leased some absent got.wanted got.are
+    named = at_addresses room tables lease group view leased some absent got.wanted got.are
+
+    abbrev grows : Change
+    grows = change.Group view.number group contents
 
     abbrev reply : Reply
     reply = says.Group (length (group_files group view.application))
 
-    module _ (image : List ℕ) (old : Session) (shows : Shows blocks tables image old.store)
+    module _ (image : List ℕ) (old : Session) (shows : Shows room tables image old.store)
         (sound : Sound old.store) where
       abbrev led_store : Store
-      led_store = grouped view.number group (stand_files tables contents group view) old.store
+      led_store = grouped view.number group (stand_files room image tables contents group view)
+          old.store
 
       abbrev led : Session
       led = record old {
-        store = grouped view.number group (stand_files tables contents group view) old.store;
+        store = grouped view.number group (stand_files room image tables contents group view)
+            old.store;
       }
 
       is : IsApplication view.application
       is = view_valid shows leased sound
 
-      showing : (later : List ℕ)
-          → ShowsGroup blocks tables view.number group contents view later old.store
-      showing later =
-          law blocks tables view.number group contents view image later old.store shows are
+      showing : ShowsGroup room tables view.number group contents view image old.store
+      showing =
+          law room tables view.number group contents view image image old.store shows
+          (same_image room tables image) (images_hold room tables grows image fits) are
           (row_is leased) fits
 
       done : GroupEffect lease group old reply led
       done = record {
-        view = shown_view tables.contents view;
+        view = shown_view room image tables.contents view;
         leased = view_shown shows leased;
         replied = refl;
         store = led_store;
         comes = inr (
           absent,
-          led_grouped blocks tables lease group view leased contents are.contents brings a c
-              (addresses got.wanted) contents_are named image old.store shows [] sound whole
-              (showing []),
+          led_grouped room tables image lease group view leased contents are.contents brings a c
+              (addresses got.wanted) contents_are named old.store shows sound whole showing,
         );
         is = refl;
       }
 
-      served : GroupServed lease group (table_shape blocks tables) a c reply
+      served : GroupServed lease group (table_shape room tables) a c reply
       served =
-          served_of blocks tables lease group view leased some absent got.wanted got.are a c reply
+          served_of room tables lease group view leased some absent got.wanted got.are a c reply
           (addresses got.wanted) [] got.fetched.kept is got.fetched.grown
           (sym (append-nil (addresses got.wanted)))
-          (asks blocks tables lease group view leased some absent got.wanted got.are is)
+          (asks room tables lease group view leased some absent got.wanted got.are is)
 
       step : (now : ℕ) → GroupStep lease group a c now reply old
-          (LedBy blocks tables (change.Group view.number group contents) old.store)
+          (LedBy room tables (change.Group view.number group contents) old.store)
       step now = record {
         new = led;
-        step = by_effect blocks tables lease group now image old reply led shows
-            (passes_all blocks tables lease group view leased some absent got.wanted got.are is)
+        step = by_effect room tables lease group now image old reply led shows
+            (passes_all room tables lease group view leased some absent got.wanted got.are is)
             done;
         served = subst (λ (s : Shape). GroupServed lease group s a c reply)
             (sym (shape_shown shows)) served;
         brought = subst (λ (s : Shape). AreBrought lease group s a c led_store)
             (sym (shape_shown shows))
-            (led_brought blocks tables lease group view leased contents are.contents brings a c
-            (addresses got.wanted) contents_are named image old.store shows);
+            (led_brought room tables image lease group view leased contents are.contents brings a c
+            (addresses got.wanted) contents_are named old.store shows);
         leaves = record {
-          shows = λ later. (showing later).shows;
-          other = led_other blocks tables lease group view leased contents are.contents brings a c
-              (addresses got.wanted) contents_are named image old.store shows absent;
+          leads = λ first later had same new.
+              shows_same later (images_have room (effect grows tables) image later) showing.shows;
+          other = led_other room tables image lease group view leased contents are.contents brings a
+              c
+              (addresses got.wanted) contents_are named old.store shows absent;
         };
       }
 
-    ready : IsGroupReady blocks tables lease group a c
+    ready : IsGroupReady room tables lease group a c
         (change.Group view.number group contents) reply
     ready = record {
       kept = got.fetched.kept;
@@ -170,11 +179,11 @@ module _ (blocks : ℕ) (tables : Tables) (lease : ℕ) (group : List ℕ) (view
     -- the change and the reply as they are made
     pub ready_with : (made : List ℕ) (count : ℕ) → made ≡ group
         → count ≡ length (map ungrouped (group_files group view.application))
-        → IsGroupReady blocks tables lease group a c (change.Group view.number made contents)
+        → IsGroupReady room tables lease group a c (change.Group view.number made contents)
         (says.Group count)
     ready_with made count same counted =
-        subst (λ (g : List ℕ). IsGroupReady blocks tables lease group a c
+        subst (λ (g : List ℕ). IsGroupReady room tables lease group a c
         (change.Group view.number g contents) (says.Group count)) (sym same)
-        (subst (λ (n : ℕ). IsGroupReady blocks tables lease group a c
+        (subst (λ (n : ℕ). IsGroupReady room tables lease group a c
         (change.Group view.number group contents) (says.Group n))
         (sym (counted ∙ length-map (group_files group view.application) ungrouped)) ready)

@@ -1,9 +1,10 @@
 -- What a group asked of its links, where files are wanted.
-use Rattle.std.proofs.Common.{◌≡◌, ◌≢◌, ◌∙◌, ◌++◌, ◌<◌, inl, inr, refl, sym, ap, subst, ℕ, true, false, List, [], ◌∷◌, map, Option, Some, Result, Ok, Err, append_assoc}
+use Rattle.std.proofs.Common.{◌≡◌, ◌≢◌, ◌∙◌, ◌++◌, ◌<◌, inl, inr, refl, sym, ap, subst, ℕ, false, List, [], ◌∷◌, map, Option, Some, Result, Ok, Err, append_assoc}
 use Rattle.std.specs.Prelude.{Any, IfSome, slice_get}
 use Rattle.std.proofs.lemmas.Bool.{false≢true}
 use Rattle.std.proofs.lemmas.List.{map-append}
 use Rattle.std.proofs.lemmas.Option.{same_Some}
+use Rattle.small_types.specs.declared.room.Room.{Room}
 use Rattle.small_types.specs.declared.target.Target.{Target}
 use Rattle.addresses.specs.declared.fault.UrlFault.{UrlFault}
 use Rattle.addresses.specs.declared.fault.UrlFault.TheVariants.{BadUrl}
@@ -49,8 +50,8 @@ oks_of [] = refl
 oks_of (file ∷ wanted) =
     ap (λ (rs : List (Result Target UrlFault)). Ok file.target ∷ rs) (oks_of wanted)
 
-module _ (blocks : ℕ) (tables : Tables) (lease : ℕ) (group : List ℕ) (view : View)
-    (leased : IsLeased blocks tables lease view)
+module _ (room : Room) (tables : Tables) (lease : ℕ) (group : List ℕ) (view : View)
+    (leased : IsLeased room tables lease view)
     (some : ◌≢◌ {A = List FileEntry} (group_files group view.application) [])
     (absent : group_stands group view.groups ≡ false) where
   abbrev views : List BareView
@@ -68,7 +69,7 @@ module _ (blocks : ℕ) (tables : Tables) (lease : ℕ) (group : List ℕ) (view
   are_lacking = group_ungrouped views group view.application
 
   -- there is no refusal but one at a file
-  module _ (wanted : List WantedFile) (are : AreLacking blocks tables view files wanted) where
+  module _ (wanted : List WantedFile) (are : AreLacking room tables view files wanted) where
     pub at_places : map (λ (file : WantedFile). slice_get files file.place) wanted
         ≡ map Some (map ungrouped entries)
     at_places = are.places ∙ ap (map Some) are_lacking
@@ -85,44 +86,44 @@ module _ (blocks : ℕ) (tables : Tables) (lease : ℕ) (group : List ℕ) (view
         (at_addresses ∙ sym (oks_of wanted))
 
     pub passes_room : IsApplication view.application
-        → PassesAll (room_refusals lease group (table_shape blocks tables))
+        → PassesAll (room_refusals lease group (table_shape room tables))
     passes_room is = (
       lease_lives leased,
       (
-        has_group blocks tables lease group view leased some,
+        has_group room tables lease group view leased some,
         (
-          reached blocks tables lease group view leased some absent each_reached,
+          reached room tables lease group view leased some absent each_reached,
           (no_full, tt),
         ),
       ),
     )
       where
-        no_full : (need : ℕ) → OfComing lease group (table_shape blocks tables) (λ v.
+        no_full : (need : ℕ) → OfComing lease group (table_shape room tables) (λ v.
             (need ≡ group_need views group v.application)
-            × (free_blocks (table_shape blocks tables) < need)) → ⊥
+            × (free_blocks (table_shape room tables) < need)) → ⊥
         no_full need coming =
-            let of = of_view blocks tables lease group view leased some absent
+            let of = of_view room tables lease group view leased some absent
             {P = λ (v : BareView). (need ≡ group_need views group v.application)
-            × (free_blocks (table_shape blocks tables) < need)} coming in
-            are.room.0 need (
-              of.0 ∙ sym (need_is blocks tables lease group view leased some absent are.need is
+            × (free_blocks (table_shape room tables) < need)} coming in
+            are.enough.0 need (
+              of.0 ∙ sym (need_is room tables lease group view leased some absent are.need is
                   are.needed),
               of.1,
             )
 
     pub passes_all : IsApplication view.application
-        → PassesAll (group_refusals lease group (table_shape blocks tables))
+        → PassesAll (group_refusals lease group (table_shape room tables))
     passes_all is =
-        let room = passes_room is in (room.0, (room.1.0, (room.1.1.0, (room.1.1.1.0, (tt, tt)))))
+        let passed = passes_room is in (passed.0, (passed.1.0, (passed.1.1.0, (passed.1.1.1.0, (tt, tt)))))
 
     -- ---- what was asked
 
     pub asks : IsApplication view.application
-        → AsksGroup lease group (table_shape blocks tables) (addresses wanted)
+        → AsksGroup lease group (table_shape room tables) (addresses wanted)
     asks is = inr (inr (passes_room is, (bare_row view, leased.bare, absent, at_addresses)))
 
     asks_only : IsApplication view.application → (all : List Target)
-        → AsksGroup lease group (table_shape blocks tables) all → all ≡ addresses wanted
+        → AsksGroup lease group (table_shape room tables) all → all ≡ addresses wanted
     asks_only is all (inl refused) = absurd (refused.0 (passes_room is))
     asks_only is all (inr (inl stands)) =
         let same : stands.0.0 ≡ bare_row view =
@@ -131,7 +132,7 @@ module _ (blocks : ℕ) (tables : Tables) (lease : ℕ) (group : List ℕ) (view
         ∙ ap (λ (v : BareView). group_stands group v.groups) (sym same) ∙ stands.0.2))
     asks_only is all (inr (inr asked)) =
         same_oks all (addresses wanted)
-        (sym (of_view blocks tables lease group view leased some absent
+        (sym (of_view room tables lease group view leased some absent
         {P = λ (v : BareView).
         map (λ entry. file_target_of v.base v.deployment.mapped entry.name)
         (group_wanted views group v.application) ≡ map Ok all} asked.1) ∙ at_addresses)
@@ -139,8 +140,8 @@ module _ (blocks : ℕ) (tables : Tables) (lease : ℕ) (group : List ℕ) (view
     pub served_of : (a c : LinksState) (reply : Reply) (asked rest : List Target) → Kept a c
         → IsApplication view.application → c.asked ≡ a.asked ++ asked
         → addresses wanted ≡ asked ++ rest
-        → AccountsGroup lease group (table_shape blocks tables) a c asked reply
-        → GroupServed lease group (table_shape blocks tables) a c reply
+        → AccountsGroup lease group (table_shape room tables) a c asked reply
+        → GroupServed lease group (table_shape room tables) a c reply
     served_of a c reply asked rest kept is grown front accounts = record {
       kept = kept;
       asked = asked;
@@ -155,9 +156,9 @@ module _ (blocks : ℕ) (tables : Tables) (lease : ℕ) (group : List ℕ) (view
       -- there was no memory
       pub memory_behind : (asked rest : List Target) → c.asked ≡ a.asked ++ asked
           → addresses wanted ≡ asked ++ rest
-          → IsGroupOver blocks tables lease group a c says.Memory
+          → IsGroupOver room tables lease group a c says.Memory
       memory_behind asked rest grown front =
-          over_by blocks tables lease group a c says.Memory kept (λ now. refl)
+          over_by room tables lease group a c says.Memory kept (λ now. refl)
           (λ now image old shows sound. record {
             answers = inl (inl (refl, refl));
             served = served_of a c says.Memory asked rest kept (view_valid shows leased sound) grown
@@ -210,7 +211,7 @@ module _ (blocks : ℕ) (tables : Tables) (lease : ℕ) (group : List ℕ) (view
             (subst (λ (o : Option FileEntry). IfSome o (λ e. IsFileUngiven e named a c reasons))
             part.place stop.ungiven)
 
-        lacks : LacksOfGroup (table_shape blocks tables) group a c asked named reasons
+        lacks : LacksOfGroup (table_shape room tables) group a c asked named reasons
             (bare_row view)
         lacks = record {
           earlier = parts.earlier;
@@ -236,23 +237,23 @@ module _ (blocks : ℕ) (tables : Tables) (lease : ℕ) (group : List ℕ) (view
             (in_right parts.earlier (parts.entry ∷ parts.later) parts.entry (inl refl)))
             at_named
 
-        pub links_over : IsGroupOver blocks tables lease group a c (says.AllLinks named reasons)
+        pub links_over : IsGroupOver room tables lease group a c (says.AllLinks named reasons)
         links_over =
-            over_by blocks tables lease group a c (says.AllLinks named reasons) kept (λ now. refl)
+            over_by room tables lease group a c (says.AllLinks named reasons) kept (λ now. refl)
             (λ now image old shows sound. (
             let is = view_valid shows leased sound in
-            let room = passes_room is in
+            let passed = passes_room is in
             record {
-              answers = by_refusal blocks tables lease group now image old
+              answers = by_refusal room tables lease group now image old
                   (says.AllLinks named reasons) shows
                   (inr (
-                    room.0,
+                    passed.0,
                     inr (
-                      room.1.0,
+                      passed.1.0,
                       inr (
-                        room.1.1.0,
+                        passed.1.1.0,
                         inr (
-                          room.1.1.1.0,
+                          passed.1.1.1.0,
                           inl (
                             (
                               (named, reasons),
@@ -271,7 +272,7 @@ module _ (blocks : ℕ) (tables : Tables) (lease : ℕ) (group : List ℕ) (view
             ))
 
       by_stop : (reply : Reply) → Stops files wanted a c reply
-          → IsGroupOver blocks tables lease group a c reply
+          → IsGroupOver room tables lease group a c reply
       by_stop (says.AllLinks named reasons) stop = links_over named reasons stop
       by_stop says.Memory stop =
           memory_behind (addresses stop.asked) (addresses stop.others) stop.grown
@@ -280,29 +281,29 @@ module _ (blocks : ℕ) (tables : Tables) (lease : ℕ) (group : List ℕ) (view
       by_stop _ stop = absurd stop
 
       pub stopped_over : (reply : Reply) → IsStopped files wanted a c reply
-          → IsGroupOver blocks tables lease group a c reply
+          → IsGroupOver room tables lease group a c reply
       stopped_over reply stop = by_stop reply stop.stops
 
   -- ---- where the files do not come
 
   unasked_over : (a c : LinksState) (reply : Reply) → AreUnasked a c
-      → IsUnasked blocks tables view files reply
-      → IsGroupOver blocks tables lease group a c reply
+      → IsUnasked room tables view files reply
+      → IsGroupOver room tables lease group a c reply
   unasked_over a c reply none (inl memory) =
-      subst (IsGroupOver blocks tables lease group a c) (sym memory)
-      (memory_over blocks tables lease group a c none)
+      subst (IsGroupOver room tables lease group a c) (sym memory)
+      (memory_over room tables lease group a c none)
   unasked_over a c reply none (inr (inl bad)) =
-      subst (IsGroupOver blocks tables lease group a c) (sym bad.0)
-      (bad_url_over blocks tables lease group view leased some absent a c none bad.1)
+      subst (IsGroupOver room tables lease group a c) (sym bad.0)
+      (bad_url_over room tables lease group view leased some absent a c none bad.1)
   unasked_over a c reply none (inr (inr full)) =
-      full_over blocks tables lease group view leased some absent a c _ reply none
+      full_over room tables lease group view leased some absent a c _ reply none
       (none_refused view.base view.deployment.mapped entries full.0
       (sym (same_addresses view entries) ∙ ap (map (address_in view)) (sym are_lacking) ∙ full.1))
       refl full.2
 
   pub not_brought_over : (a c : LinksState) (reply : Reply)
-      → IsNotBrought blocks tables view files a c reply
-      → IsGroupOver blocks tables lease group a c reply
+      → IsNotBrought room tables view files a c reply
+      → IsGroupOver room tables lease group a c reply
   not_brought_over a c reply (inl unasked) = unasked_over a c reply unasked.1 unasked.0
   not_brought_over a c reply (inr stopped) =
       stopped_over stopped.0 stopped.1 a c stopped.2.kept reply stopped.2

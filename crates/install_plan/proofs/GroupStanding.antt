@@ -5,6 +5,7 @@ use Rattle.std.specs.Prelude.{Any, option_and_then}
 use Rattle.std.proofs.lemmas.Bool.{false≢true}
 use Rattle.std.proofs.lemmas.List.Elements.{All-append}
 use Rattle.std.proofs.lemmas.Option.{same_Some}
+use Rattle.small_types.specs.declared.room.Room.{Room}
 use Rattle.small_types.specs.declared.target.Target.{Target}
 use Rattle.digest_list.specs.declared.digest.Digest.{Digest}
 use Rattle.digest_list.specs.Matches.{Matches}
@@ -37,6 +38,7 @@ use Rattle.install_plan.specs.Brought.{AreContentsFor}
 use Rattle.install_plan.specs.Given.{IsFrom}
 use Rattle.install_plan.specs.GroupAsked.{AreBrought, IsHeldOrCame}
 use Rattle.install_plan.specs.GroupReady.{address_in}
+use Rattle.install_plan.specs.Held.{given_bytes}
 use Rattle.install_plan.proofs.Aligning.{for_one}
 use Rattle.install_plan.proofs.Keyed.{content_is, find_right, found, kept_key}
 use Rattle.install_plan.proofs.LeasedRows.{IsLeased, row_there, view_shown}
@@ -44,8 +46,8 @@ use Rattle.install_plan.proofs.Showing.{HasBytesIn, files_row, kept_bytes, share
 use Rattle.install_plan.proofs.Sufficing.{IsWholeContent}
 use Rattle.install_plan.proofs.Wants.{in_any}
 
-module _ (blocks : ℕ) (tables : Tables) (lease : ℕ) (group : List ℕ) (view : View)
-    (leased : IsLeased blocks tables lease view) (contents : List Content)
+module _ (room : Room) (tables : Tables) (image : List ℕ) (lease : ℕ) (group : List ℕ)
+    (view : View) (leased : IsLeased room tables lease view) (contents : List Content)
     (are : AreContentsOf (standing_files (map bare_row tables.views)) tables.contents)
     (brings : Brings tables.contents (group_files group view.application) contents) where
   abbrev held : List FileEntry
@@ -56,10 +58,10 @@ module _ (blocks : ℕ) (tables : Tables) (lease : ℕ) (group : List ℕ) (view
 
   -- the view before and after, as it is shown
   abbrev before_view : KeptView
-  before_view = shown_view tables.contents view
+  before_view = shown_view room image tables.contents view
 
   abbrev files : List ListedFile
-  files = stand_files tables contents group view
+  files = stand_files room image tables contents group view
 
   abbrev grown_view : KeptView
   grown_view = with_group group files before_view
@@ -79,7 +81,7 @@ module _ (blocks : ℕ) (tables : Tables) (lease : ℕ) (group : List ℕ) (view
     IsFor entry wish = (target : Target)
         × (address_in view wish ≡ Ok target)
         × (same_content wish entry ≡ true)
-        × IsFrom (Matches wish.list wish.size) target a c (shown_file after entry).bytes
+        × IsFrom (Matches wish.list wish.size) target a c (shown_file room image after entry).bytes
 
     kept_one : (entry : FileEntry) → IsSome (content_of tables.contents entry)
         → is_held held entry ≡ true
@@ -101,8 +103,8 @@ module _ (blocks : ℕ) (tables : Tables) (lease : ℕ) (group : List ℕ) (view
         (subst (λ (o : Option Content). IsSome o) right some) in
         let one = for_one a c (address_in view) wants targets contents first.item fetched named
         first.there in
-        let bytes : (shown_file after entry).bytes ≡ first.item.bytes =
-        ap bytes_in (right ∙ first.is) in
+        let bytes : (shown_file room image after entry).bytes ≡ given_bytes first.item.held =
+        ap (bytes_in room image) (right ∙ first.is) in
         let key : kept_key first.item ≡ content_key one.entry =
         ap (λ (n : ℕ). record (kept_key first.item) { size = n }) one.is.size
         ∙ ap (λ (l : List Digest). record (content_key one.entry) { list = l }) one.is.list in
@@ -136,20 +138,20 @@ module _ (blocks : ℕ) (tables : Tables) (lease : ℕ) (group : List ℕ) (view
         either entry (all_in (λ (e : FileEntry). IsSome (content_of after e))
         (group_files group view.application) entry brings.each of)
 
-    grown_files : All (IsHeldOrCame group (table_shape blocks tables) a c grown_view) files
+    grown_files : All (IsHeldOrCame group (table_shape room tables) a c grown_view) files
     unfolding IsFor
     grown_files =
-        in_all (IsHeldOrCame group (table_shape blocks tables) a c grown_view) files
+        in_all (IsHeldOrCame group (table_shape room tables) a c grown_view) files
         (λ file there. (
         let stand = standing_entries (view.groups ++ group ∷ []) view.application in
-        let from = map_in (shown_file after) stand file there in
-        subst (IsHeldOrCame group (table_shape blocks tables) a c grown_view) from.2
+        let from = map_in (shown_file room image after) stand file there in
+        subst (IsHeldOrCame group (table_shape room tables) a c grown_view) from.2
         (standing from.0 (standing_more view.groups group view.application from.0 from.1))
         ))
 
     -- ---- the leased view of the new store
 
-    module _ (image : List ℕ) (store : Store) (shows : Shows blocks tables image store) where
+    module _ (store : Store) (shows : Shows room tables image store) where
       abbrev led_store : Store
       led_store = grouped view.number group files store
 
@@ -162,11 +164,11 @@ module _ (blocks : ℕ) (tables : Tables) (lease : ℕ) (group : List ℕ) (view
           ∙ ap (λ (b : Bool). Some (cond b grown_view before_view))
           (eq-eqb view.number view.number refl)
 
-      pub led_brought : AreBrought lease group (table_shape blocks tables) a c led_store
+      pub led_brought : AreBrought lease group (table_shape room tables) a c led_store
       led_brought = record {
         files = λ one is.
             subst (λ (v : KeptView).
-            All (IsHeldOrCame group (table_shape blocks tables) a c v) v.program_files)
+            All (IsHeldOrCame group (table_shape room tables) a c v) v.program_files)
             (same_Some grown_view one (sym led_view ∙ is)) grown_files;
       }
 
@@ -182,7 +184,7 @@ module _ (blocks : ℕ) (tables : Tables) (lease : ℕ) (group : List ℕ) (view
       -- ---- they are those of the group
 
       abbrev came : List ListedFile
-      came = came_files tables contents group view
+      came = came_files room image tables contents group view
 
       came_group : Sound store → All IsWholeContent contents
           → map (λ (file : ListedFile). file.entry) came ≡ group_files group view.application
@@ -190,26 +192,28 @@ module _ (blocks : ℕ) (tables : Tables) (lease : ℕ) (group : List ℕ) (view
       came_group sound whole listed = record {
         listed = listed;
         whole = in_all IsWhole came (λ file there. (
-            let from = map_in (shown_file after) (group_files group view.application) file there in
+            let from = map_in (shown_file room image after) (group_files group view.application)
+            file there in
             subst IsWhole from.2
-            (whole_after blocks tables image store contents shows are sound whole from.0
+            (whole_after room tables image store contents shows are sound whole from.0
             (all_in (λ (e : FileEntry). IsSome (content_of after e))
             (group_files group view.application) from.0 brings.each from.1))
             ));
-        shared = share_in after (program_files_of store ++ came)
-            (All-append (HasBytesIn after) (program_files_of store) came
-            (in_all (HasBytesIn after) (program_files_of store)
-            (kept_bytes blocks tables image store contents shows are))
-            (in_all (HasBytesIn after) came (λ file there. (
-            let from = map_in (shown_file after) (group_files group view.application) file there in
-            subst (HasBytesIn after) from.2 refl
+        shared = share_in room image after (program_files_of store ++ came)
+            (All-append (HasBytesIn room image after) (program_files_of store) came
+            (in_all (HasBytesIn room image after) (program_files_of store)
+            (kept_bytes room tables image store contents shows are))
+            (in_all (HasBytesIn room image after) came (λ file there. (
+            let from = map_in (shown_file room image after) (group_files group view.application)
+            file there in
+            subst (HasBytesIn room image after) from.2 refl
             ))));
       }
 
-      pub led_grouped : (later : List ℕ) → Sound store → All IsWholeContent contents
-          → ShowsGroup blocks tables view.number group contents view later store
+      pub led_grouped : Sound store → All IsWholeContent contents
+          → ShowsGroup room tables view.number group contents view image store
           → Grouped group before_view store led_store
-      led_grouped later sound whole law = record {
+      led_grouped sound whole law = record {
         files = came;
         fetched = came_group sound whole law.listed;
         program_files = files;

@@ -2,6 +2,7 @@
 use Rattle.std.proofs.Common.{◌≡◌, ◌∙◌, ℕ, true, inl, eqb, eqb-true, List, map, Option, Some, None, IsSome, refl, sym, ap, subst}
 use Rattle.std.specs.Prelude.{option_and_then, option_map}
 use Rattle.std.proofs.lemmas.Option.{none-some}
+use Rattle.small_types.specs.declared.room.Room.{Room}
 use Rattle.manifests.specs.declared.facts.FileEntry.{FileEntry}
 use Rattle.machine.specs.declared.lease.Lease.{Lease}
 use Rattle.machine.specs.Blocks.{standing_files}
@@ -27,14 +28,14 @@ use Rattle.links.specs.Links.{LinksState}
 use Rattle.install_plan.specs.GroupAsked.{AreBrought, IsHeldOrCame}
 
 -- it is a view of the tables, that of its own number
-pub record IsLeased (blocks : ℕ) (tables : Tables) (lease : ℕ) (view : View) : Type 0 where
+pub record IsLeased (room : Room) (tables : Tables) (lease : ℕ) (view : View) : Type 0 where
   pub row : leased_row lease tables ≡ Some view
-  pub bare : leased_bare lease (table_shape blocks tables) ≡ Some (bare_row view)
+  pub bare : leased_bare lease (table_shape room tables) ≡ Some (bare_row view)
 
 -- ---- in tables
 
-module _ {blocks : ℕ} {tables : Tables} {lease : ℕ} {view : View}
-    (leased : IsLeased blocks tables lease view) where
+module _ {room : Room} {tables : Tables} {lease : ℕ} {view : View}
+    (leased : IsLeased room tables lease view) where
   named : (one : Lease) × (lease_of lease tables.leases ≡ Some one)
       × (row_at one.view tables.views ≡ Some view)
   named =
@@ -56,30 +57,34 @@ module _ {blocks : ℕ} {tables : Tables} {lease : ℕ} {view : View}
 
 -- ---- in the store
 
-leased_by : (contents : List Content) (views : List View) (lease : Option Lease)
-    → option_and_then (λ (l : Lease). view_at l.view (map (shown_view contents) views)) lease
-    ≡ option_map (shown_view contents) (option_and_then (λ (l : Lease). row_at l.view views) lease)
-leased_by contents views None = refl
-leased_by contents views (Some lease) =
-    find-map (shown_view contents) (λ (view : KeptView). eqb view.number lease.view) views
+leased_by : (room : Room) (image : List ℕ) (contents : List Content) (views : List View)
+    (lease : Option Lease)
+    → option_and_then (λ (l : Lease). view_at l.view (map (shown_view room image contents) views))
+    lease
+    ≡ option_map (shown_view room image contents)
+    (option_and_then (λ (l : Lease). row_at l.view views) lease)
+leased_by room image contents views None = refl
+leased_by room image contents views (Some lease) =
+    find-map (shown_view room image contents) (λ (view : KeptView). eqb view.number lease.view)
+    views
 
-module _ {blocks : ℕ} {tables : Tables} {image : List ℕ} {store : Store}
-    (shows : Shows blocks tables image store) where
+module _ {room : Room} {tables : Tables} {image : List ℕ} {store : Store}
+    (shows : Shows room tables image store) where
   leased_shown : (lease : ℕ) → leased_view lease store
-      ≡ option_map (shown_view tables.contents) (leased_row lease tables)
+      ≡ option_map (shown_view room image tables.contents) (leased_row lease tables)
   leased_shown lease =
       ap (leased_view lease) shows.is
-      ∙ leased_by tables.contents tables.views (lease_of lease tables.leases)
+      ∙ leased_by room image tables.contents tables.views (lease_of lease tables.leases)
 
-  pub view_shown : {lease : ℕ} {view : View} → IsLeased blocks tables lease view
-      → leased_view lease store ≡ Some (shown_view tables.contents view)
+  pub view_shown : {lease : ℕ} {view : View} → IsLeased room tables lease view
+      → leased_view lease store ≡ Some (shown_view room image tables.contents view)
   view_shown {lease = lease} leased =
-      leased_shown lease ∙ ap (option_map (shown_view tables.contents)) leased.row
+      leased_shown lease ∙ ap (option_map (shown_view room image tables.contents)) leased.row
 
-  pub view_valid : {lease : ℕ} {view : View} → IsLeased blocks tables lease view → Sound store
+  pub view_valid : {lease : ℕ} {view : View} → IsLeased room tables lease view → Sound store
       → IsApplication view.application
   view_valid {lease = lease} {view = view} leased sound =
-      (leased_valid lease store (shown_view tables.contents view) sound.valid.ordered
+      (leased_valid lease store (shown_view room image tables.contents view) sound.valid.ordered
       (view_shown leased)).application
 
   -- where no view is leased there is no such lease
@@ -96,7 +101,8 @@ module _ {blocks : ℕ} {tables : Tables} {image : List ℕ} {store : Store}
           (subst (λ (o : Option Lease). IsSome o) (sym is) refl) in
           let kept = leased_kept lease store was lives in
           absurd (none-some kept.0
-          (sym (leased_shown lease ∙ ap (option_map (shown_view tables.contents)) none) ∙ kept.1))
+          (sym (leased_shown lease ∙ ap (option_map (shown_view room image tables.contents)) none) ∙
+          kept.1))
 
 -- ---- the files of a leased view
 

@@ -1,8 +1,9 @@
 -- The change that a plan comes to fits the tables, and leads to the store in which the release is installed.
-use Rattle.std.proofs.Common.{◌≡◌, ◌∙◌, ◌⊎◌, ◌++◌, ◌+◌, ◌<◌, ◌≤◌, inl, inr, refl, sym, ap, subst, ℕ, true, List, [], ◌∷◌, length, map, None, Option, Some, Result, arith}
+use Rattle.std.proofs.Common.{◌≡◌, ◌∙◌, ◌⊎◌, ◌++◌, ◌+◌, ◌<◌, ◌≤◌, inl, inr, refl, sym, ap, subst, ℕ, List, [], ◌∷◌, length, map, None, Option, Some, Result, arith}
 use Rattle.std.specs.Prelude.{sum_by}
 use Rattle.std.proofs.lemmas.Bool.{cases_lt}
 use Rattle.std.proofs.lemmas.List.{length-map}
+use Rattle.small_types.specs.declared.room.Room.{Room}
 use Rattle.small_types.specs.declared.limits.TheConstants.{APPLICATION_LIMIT, FILE_COUNT_LIMIT, LOCAL_COUNT_LIMIT, NUMBER_LIMIT, VIEW_LIMIT}
 use Rattle.small_types.specs.declared.target.Target.{Target}
 use Rattle.addresses.specs.declared.fault.UrlFault.{UrlFault}
@@ -39,6 +40,8 @@ use Rattle.store_state.specs.Locals.{outside_locals}
 use Rattle.store_state.specs.Rows.{current_row}
 use Rattle.store_state.specs.Shows.{Shows, shown_data, shown_file}
 use Rattle.store_state.specs.Tables.{Tables, bare_row, table_shape}
+use Rattle.store_state.proofs.Images.{images_have, images_hold, same_image}
+use Rattle.store_state.proofs.Showing.{shows_same}
 use Rattle.install_plan.specs.declared.plan.Plan.{Plan}
 use Rattle.install_plan.specs.Carried.{row_files, row_locals}
 use Rattle.install_plan.specs.Changes.{change_of_plan, listed_at, made_locals, plan_contents, plan_locals, plan_originals, view_of}
@@ -70,9 +73,9 @@ joined_passes (x ∷ xs) ys first second = (first.0, joined_passes xs ys first.1
 
 -- ---- what a plan says
 
-module _ (blocks : ℕ) (tables : Tables) (url : List ℕ) (texts : List (List ℕ)) (plan : Plan) (is : IsPlan (table_shape blocks tables) url texts plan) where
+module _ (room : Room) (tables : Tables) (url : List ℕ) (texts : List (List ℕ)) (plan : Plan) (is : IsPlan (table_shape room tables) url texts plan) where
   abbrev shape : Shape
-  shape = table_shape blocks tables
+  shape = table_shape room tables
 
   abbrev d : Deployment
   d = plan.deployment
@@ -114,7 +117,7 @@ module _ (blocks : ℕ) (tables : Tables) (url : List ℕ) (texts : List (List �
   row = current_row d.identity.key tables
 
   outside_are : (originals : List ListedFile) → IsInOrder tables plan → outside_locals (made_locals (row_locals row) originals plan.locals) ≡ locals_after shape d a
-  outside_are originals has = made_outside (row_locals row) originals plan.locals ∙ counted d.identity.key tables blocks a.files plan.locals has.are
+  outside_are originals has = made_outside (row_locals row) originals plan.locals ∙ counted d.identity.key tables room a.files plan.locals has.are
 
   pub plan_fits : (before behind : LinksState) (contents : List Content) (now : ℕ) → AreTables tables → now ≤ NUMBER_LIMIT → IsInOrder tables plan → ArePartsOf before behind place_of (map bare_row tables.views) a contents (listed_at a.files plan.wanted) → Fits tables (change_of_plan tables plan contents now)
   plan_fits before behind contents now are moment has parts = record {
@@ -149,26 +152,26 @@ module _ (blocks : ℕ) (tables : Tables) (url : List ℕ) (texts : List (List �
 
   -- ---- what it leads to
 
-  module _ (shapes : ShapesAreShown) (image : List ℕ) (old : Session) (before behind : LinksState) (contents : List Content) (now : ℕ) (shows : Shows blocks tables image old.store) (are : AreTables tables) (has : IsInOrder tables plan)
+  module _ (shapes : ShapesAreShown) (image : List ℕ) (old : Session) (before behind : LinksState) (contents : List Content) (now : ℕ) (shows : Shows room tables image old.store) (are : AreTables tables) (has : IsInOrder tables plan)
       (parts : ArePartsOf before behind place_of (map bare_row tables.views) a contents (listed_at a.files plan.wanted)) (fits : Fits tables (change_of_plan tables plan contents now)) where
     abbrev after : List Content
     after = tables.contents ++ plan_contents plan contents
 
     abbrev pub led_data : List DataFile
-    led_data = map shown_data (plan_locals tables plan contents)
+    led_data = map (shown_data room image) (plan_locals tables plan contents)
 
     -- the store with the new view
     abbrev pub led_store : Store
-    led_store = with_view plan.provider plan.base d a (map (shown_file after) (standing_entries [] a)) led_data now old.store
+    led_store = with_view plan.provider plan.base d a (map (shown_file room image after) (standing_entries [] a)) led_data now old.store
 
     abbrev pub led : Session
     led = record old { store = led_store }
 
     pub same_shape : shape_of old.store ≡ shape
-    same_shape = shapes blocks tables image old.store shows
+    same_shape = shapes room tables image old.store shows
 
     pub led_migrated : Sound old.store → Migrated (data_of (current_view d.identity.key old.store)) (listed_by (current_view d.identity.key old.store)) a.files (plan_originals plan contents) led_data
-    led_migrated sound = migrated blocks tables image old.store shows d.identity.key a held_application sound plan.locals has.are (plan_originals plan contents) parts.deployed
+    led_migrated sound = migrated room tables image old.store shows d.identity.key a held_application sound plan.locals has.are (plan_originals plan contents) parts.deployed
 
     next_is : old.store.next_view ≡ tables.next_view
     next_is = ap (λ (s : Store). s.next_view) shows.is
@@ -182,9 +185,9 @@ module _ (blocks : ℕ) (tables : Tables) (url : List ℕ) (texts : List (List �
       told = is.told;
       base = plan.base;
       joined = is.joined;
-      files = map (shown_file after) (standing_entries [] a);
+      files = map (shown_file room image after) (standing_entries [] a);
       originals = plan_originals plan contents;
-      fetched = fetched blocks tables image old.store (plan_contents plan contents) shows are.contents sound parts.whole a (plan_originals plan contents) parts.deployed
+      fetched = fetched room tables image old.store (plan_contents plan contents) shows are.contents sound parts.whole a (plan_originals plan contents) parts.deployed
           (whole_originals before behind place_of (wanted (map bare_row tables.views) a) (plan_originals plan contents) parts.originals) fits.brings;
       store = led_store;
       installed = record {
@@ -201,5 +204,8 @@ module _ (blocks : ℕ) (tables : Tables) (url : List ℕ) (texts : List (List �
     pub plan_step : Sound old.store → Answers now texts old (InstallCommand url) (IsInstalled d.identity.key d.identity.version tables.next_view) led
     plan_step sound = inr ((tt, subst (λ (s : Shape). PassesAll (install_refusals install_replies LOCAL_COUNT_LIMIT url texts s)) (sym same_shape) plan_passes), plan_effect sound)
 
-    pub plan_shows : InstallsShowTheView → (later : List ℕ) → Shows blocks (effect (change_of_plan tables plan contents now) tables) later led_store
-    plan_shows law later = law blocks tables (view_of tables plan (plan_locals tables plan contents)) (plan_contents plan contents) plan.provider now image later old.store shows fits
+    pub plan_shows : InstallsShowTheView → (later : List ℕ) → Shows room (effect (change_of_plan tables plan contents now) tables) later led_store
+    plan_shows law later =
+        let change = change_of_plan tables plan contents now in
+        shows_same later (images_have room (effect change tables) image later)
+        (law room tables (view_of tables plan (plan_locals tables plan contents)) (plan_contents plan contents) plan.provider now image image old.store shows (same_image room tables image) (images_hold room tables change image fits) fits)

@@ -1,13 +1,12 @@
 -- What was fetched, and the data files that plans make of it.
-use Rattle.std.proofs.Common.{◌≡◌, ◌∙◌, ◌+◌, ◌++◌, refl, sym, ap, ℕ, Bool, true, false, cond, List, [], ◌∷◌, length, map, Option, Some, None, bytes_eq, append_assoc}
-use Rattle.std.specs.Prelude.{find, option_map, slice_get}
+use Rattle.std.proofs.Common.{◌≡◌, ◌∙◌, ◌+◌, ◌++◌, refl, sym, ap, ℕ, Bool, true, false, cond, List, [], ◌∷◌, length, map, Option, Some, bytes_eq, append_assoc}
+use Rattle.std.specs.Prelude.{find, slice_get}
 use Rattle.std.proofs.lemmas.List.{append-nil, length-append, map-append}
 use Rattle.manifests.specs.declared.facts.FileEntry.{FileEntry}
 use Rattle.machine.specs.Views.{DataFile, ListedFile}
 use Rattle.store_state.specs.declared.view.Content.{Content}
 use Rattle.store_state.specs.declared.view.LocalFile.{LocalFile}
 use Rattle.store_state.specs.Locals.{local_named}
-use Rattle.store_state.specs.Shows.{shown_data}
 use Rattle.data_migration.specs.declared.plan.LocalPlan.{LocalPlan}
 use Rattle.data_migration.specs.declared.plan.LocalPlan.TheVariants.{Copy, Fresh}
 use Rattle.data_migration.specs.Migration.{bytes_in, data_bytes, listed_bytes, listed_in, made}
@@ -16,6 +15,7 @@ use Rattle.store_state.specs.declared.change.Change.TheVariants.{Install}
 use Rattle.store_state.specs.Tables.{Tables}
 use Rattle.install_plan.specs.declared.plan.Plan.{Plan}
 use Rattle.install_plan.specs.Changes.{change_of_plan, plan_contents, plan_locals, view_of, data_part, deployed_local, is_data, listed_at, local_of, made_locals, original_of, program_part}
+use Rattle.install_plan.specs.Held.{given_data}
 use Rattle.install_plan.specs.Parts.{entry_for, local_bytes, local_in, moved_local}
 
 -- ---- what was fetched
@@ -52,13 +52,13 @@ module _ (files : List FileEntry) where
 -- ---- the data files that plans make
 
 module _ (name : List ℕ) where
-  old_at : (b : Bool) (file : LocalFile) (o : Option LocalFile) (p : Option DataFile) → local_in o ≡ bytes_in p → local_in (cond b (Some file) o) ≡ bytes_in (cond b (Some (shown_data file)) p)
+  old_at : (b : Bool) (file : LocalFile) (o : Option LocalFile) (p : Option DataFile) → local_in o ≡ bytes_in p → local_in (cond b (Some file) o) ≡ bytes_in (cond b (Some (given_data file)) p)
   old_at true file o p rest = refl
   old_at false file o p rest = rest
 
-  pub old_bytes : (old : List LocalFile) → local_bytes old name ≡ data_bytes (map shown_data old) name
+  pub old_bytes : (old : List LocalFile) → local_bytes old name ≡ data_bytes (map given_data old) name
   old_bytes [] = refl
-  old_bytes (file ∷ files) = old_at (bytes_eq file.name name) file (local_named name files) (find (λ (f : DataFile). bytes_eq f.name name) (map shown_data files)) (old_bytes files)
+  old_bytes (file ∷ files) = old_at (bytes_eq file.name name) file (local_named name files) (find (λ (f : DataFile). bytes_eq f.name name) (map given_data files)) (old_bytes files)
 
   new_at : (b : Bool) (file : ListedFile) (o : Option LocalFile) (p : Option ListedFile) → local_in o ≡ listed_in p → local_in (cond b (Some (deployed_local file)) o) ≡ listed_in (cond b (Some file) p)
   new_at true file o p rest = refl
@@ -71,7 +71,7 @@ module _ (name : List ℕ) where
 abbrev named : List ℕ → List ℕ → LocalFile
 named name bytes = local_of (record { name = name; bytes = bytes })
 
-pub moved_is : (old : List LocalFile) (originals : List ListedFile) (plan : LocalPlan) → moved_local old (map deployed_local originals) plan ≡ local_of (made (map shown_data old) originals plan)
+pub moved_is : (old : List LocalFile) (originals : List ListedFile) (plan : LocalPlan) → moved_local old (map deployed_local originals) plan ≡ local_of (made (map given_data old) originals plan)
 moved_is old originals (Copy from to) = ap (named to) (old_bytes from old)
 moved_is old originals (Fresh name) = ap (named name) (new_bytes name originals)
 
@@ -79,7 +79,7 @@ pub all_moved : (old : List LocalFile) (originals : List ListedFile) (plans : Li
 all_moved old originals [] = refl
 all_moved old originals (plan ∷ plans) =
     ap (λ (file : LocalFile). file ∷ map (moved_local old (map deployed_local originals)) plans) (moved_is old originals plan)
-    ∙ ap (λ (files : List LocalFile). local_of (made (map shown_data old) originals plan) ∷ files) (all_moved old originals plans)
+    ∙ ap (λ (files : List LocalFile). local_of (made (map given_data old) originals plan) ∷ files) (all_moved old originals plans)
 
 -- ---- one after the other
 

@@ -8,6 +8,7 @@ use Rattle.std.proofs.lemmas.List.Kept.{AllPairs-filter}
 use Rattle.std.proofs.lemmas.List.Sorted.{length_permutation, sum_by-IsPermutation}
 use Rattle.std.proofs.lemmas.List.Sums.{count_by-le-length, length-filter, sum_by-cons}
 use Rattle.std.proofs.lemmas.Option.{none-some, same_Some}
+use Rattle.small_types.specs.declared.room.Room.{Room}
 use Rattle.small_types.specs.declared.limits.TheConstants.{FILE_COUNT_LIMIT, LOCAL_COUNT_LIMIT}
 use Rattle.small_types.specs.Name.{IsBelowPre}
 use Rattle.identity.specs.declared.key.Key.{Key}
@@ -32,13 +33,13 @@ use Rattle.store_state.specs.Change.{IsLocal, IsRow}
 use Rattle.store_state.specs.Kept.{AreTables}
 use Rattle.store_state.specs.Locals.{outside_locals}
 use Rattle.store_state.specs.Rows.{current_row, row_at}
-use Rattle.store_state.specs.Shows.{shown_data}
 use Rattle.store_state.specs.Tables.{Tables, bare_local, bare_row, table_shape}
 use Rattle.store_state.proofs.Current.{bare_current}
 use Rattle.data_migration.specs.declared.plan.LocalPlan.{LocalPlan}
 use Rattle.data_migration.specs.Migration.{AreApart, IsMigration, IsMovable, deployed_files}
 use Rattle.data_migration.specs.Plans.{local_names, plan_name}
 use Rattle.install_plan.specs.declared.plan.Plan.{Plan}
+use Rattle.install_plan.specs.Held.{given_data}
 use Rattle.install_plan.specs.Carried.{ArePlans, Rise, copied_blocks_of, copied_in, row_files, row_locals}
 use Rattle.install_plan.proofs.Keyed.{found}
 
@@ -75,7 +76,7 @@ names_of (file ∷ files) = ap (λ (ns : List (List ℕ)). file.name ∷ ns) (na
 abbrev pub one_outside : List ℕ → ℕ
 one_outside name = cond (not (is_below_pre name)) 1 0
 
-module _ (key : Key) (tables : Tables) (blocks : ℕ) (files : List FileEntry) where
+module _ (key : Key) (tables : Tables) (room : Room) (files : List FileEntry) where
   abbrev after : Option BareView → ℕ
   after old = count_by (λ name. not (is_below_pre name)) (migrated_names (map (λ (file : BareData). file.name) (bare_data_of old)) (bare_listed_by old) files)
 
@@ -84,13 +85,13 @@ module _ (key : Key) (tables : Tables) (blocks : ℕ) (files : List FileEntry) w
   after_row (Some view) = ap (λ (ns : List (List ℕ)). count_by (λ name. not (is_below_pre name)) (migrated_names ns view.application.files files)) (names_of view.locals)
 
   -- as many as the new view has
-  pub counted : (plans : List LocalPlan) → ArePlans (current_row key tables) files plans → count_by (λ plan. not (is_below_pre (plan_name plan))) plans ≡ after (current_bare key (table_shape blocks tables))
+  pub counted : (plans : List LocalPlan) → ArePlans (current_row key tables) files plans → count_by (λ plan. not (is_below_pre (plan_name plan))) plans ≡ after (current_bare key (table_shape room tables))
   counted plans are =
       sym (sum_map plan_name one_outside plans)
       ∙ sum_by-IsPermutation one_outside (migrated_names (local_names (row_locals (current_row key tables))) (row_files (current_row key tables)) files) (map plan_name plans) are.names
-      ∙ sym (after_row (current_row key tables)) ∙ ap after (bare_current key tables blocks)
+      ∙ sym (after_row (current_row key tables)) ∙ ap after (bare_current key tables room)
 
-  pub counted_as : (plans : List LocalPlan) → ArePlans (current_row key tables) files plans → (list : List LocalPlan) → list ≡ plans → (count : ℕ) → count ≡ count_by (λ plan. not (is_below_pre (plan_name plan))) list → count ≡ after (current_bare key (table_shape blocks tables))
+  pub counted_as : (plans : List LocalPlan) → ArePlans (current_row key tables) files plans → (list : List LocalPlan) → list ≡ plans → (count : ℕ) → count ≡ count_by (λ plan. not (is_below_pre (plan_name plan))) list → count ≡ after (current_bare key (table_shape room tables))
   counted_as plans are list is count same = same ∙ ap (λ (ps : List LocalPlan). count_by (λ plan. not (is_below_pre (plan_name plan))) ps) is ∙ counted plans are
 
 -- ---- order
@@ -107,8 +108,8 @@ IsInOrder tables plan = AreLocals (current_row plan.deployment.identity.key tabl
 -- names in order differ
 old_apart : (files : List LocalFile) → AllPairs (λ (f g : LocalFile). text_cmp f.name g.name ≡ Less) files → AllPairs (λ (f g : LocalFile). ◌≢◌ {A = List ℕ} f.name g.name) files
 old_apart files ordered =
-    pairs_unmap shown_data (λ (f g : DataFile). ◌≢◌ {A = List ℕ} f.name g.name) files
-    (names_differ (map shown_data files) (pairs_map shown_data (λ (f g : LocalFile). text_cmp f.name g.name ≡ Less) (λ (f g : DataFile). text_cmp f.name g.name ≡ Less) files (λ f g less. less) ordered))
+    pairs_unmap given_data (λ (f g : DataFile). ◌≢◌ {A = List ℕ} f.name g.name) files
+    (names_differ (map given_data files) (pairs_map given_data (λ (f g : LocalFile). text_cmp f.name g.name ≡ Less) (λ (f g : DataFile). text_cmp f.name g.name ≡ Less) files (λ f g less. less) ordered))
 
 -- each old data file comes to one new one at most
 one_few : (old_files new_files : List FileEntry) (name : List ℕ) → length (moved old_files new_files name) ≤ one_outside name
@@ -192,5 +193,5 @@ copied_row : (row : Option View) → copied_in (row_locals row) ≡ copied_need 
 copied_row None = refl
 copied_row (Some view) = copied_is view.locals
 
-pub copied_at : (key : Key) (tables : Tables) (blocks : ℕ) (row : Option View) → row ≡ current_row key tables → copied_in (row_locals row) ≡ copied_need (bare_data_of (current_bare key (table_shape blocks tables)))
-copied_at key tables blocks row is = copied_row row ∙ ap (λ (r : Option View). copied_need (bare_data_of (option_map bare_row r))) is ∙ ap (λ (b : Option BareView). copied_need (bare_data_of b)) (bare_current key tables blocks)
+pub copied_at : (key : Key) (tables : Tables) (room : Room) (row : Option View) → row ≡ current_row key tables → copied_in (row_locals row) ≡ copied_need (bare_data_of (current_bare key (table_shape room tables)))
+copied_at key tables room row is = copied_row row ∙ ap (λ (r : Option View). copied_need (bare_data_of (option_map bare_row r))) is ∙ ap (λ (b : Option BareView). copied_need (bare_data_of b)) (bare_current key tables room)

@@ -1,6 +1,7 @@
 -- All that is ready once the files of a plan are fetched.
 use Rattle.std.proofs.Common.{◌≡◌, ◌≤◌, refl, sym, subst, ℕ, Bool, true, false, cond, not, ◌&&◌, List, [], ◌∷◌, length, map, Option, Result, arith}
 use Rattle.std.proofs.lemmas.List.{append-nil, length-map}
+use Rattle.small_types.specs.declared.room.Room.{Room}
 use Rattle.small_types.specs.declared.limits.TheConstants.{FILE_COUNT_LIMIT, NUMBER_LIMIT}
 use Rattle.small_types.specs.declared.target.Target.{Target}
 use Rattle.addresses.specs.declared.fault.UrlFault.{UrlFault}
@@ -19,7 +20,7 @@ use Rattle.store_state.specs.Change.{Fits}
 use Rattle.store_state.specs.Kept.{AreTables}
 use Rattle.store_state.specs.Laws.{InstallsShowTheView, ShapesAreShown}
 use Rattle.store_state.specs.Rows.{current_row}
-use Rattle.store_state.specs.Shows.{Shows, shown_data}
+use Rattle.store_state.specs.Shows.{Shows}
 use Rattle.store_state.specs.Tables.{Tables, bare_row, table_shape}
 use Rattle.data_migration.specs.declared.plan.LocalPlan.{LocalPlan}
 use Rattle.data_migration.specs.Migration.{made}
@@ -29,6 +30,7 @@ use Rattle.install_plan.specs.Brought.{AreContentsFor}
 use Rattle.install_plan.specs.Carried.{HasLocals, row_locals}
 use Rattle.install_plan.specs.Changes.{AreShort, change_of_plan, installed_of, listed_at, local_of, plan_contents, plan_locals, plan_originals}
 use Rattle.install_plan.specs.Fetching.{ArePlaces, HasFetched}
+use Rattle.install_plan.specs.Held.{given_data}
 use Rattle.install_plan.specs.Plans.{IsPlan, IsPlanned, IsRefused, targets_of}
 use Rattle.install_plan.specs.Ready.{IsReady, IsStep}
 use Rattle.install_plan.proofs.Aligning.{are_places, contents_for, count_for}
@@ -50,14 +52,14 @@ few_wanted (e ∷ es) held = by e.local (is_required e && not (is_held held e)) 
     by false false same more = omega arith
 
 -- the places of a plan are those of files
-pub plan_places : (blocks : ℕ) (tables : Tables) (url : List ℕ) (texts : List (List ℕ)) (plan : Plan) → IsPlan (table_shape blocks tables) url texts plan → ArePlaces plan.application.files plan.wanted
-plan_places blocks tables url texts plan is = are_places plan.application.files plan.wanted (wanted (map bare_row tables.views) plan.application) (held_application blocks tables url texts plan is).facts.each is.places
+pub plan_places : (room : Room) (tables : Tables) (url : List ℕ) (texts : List (List ℕ)) (plan : Plan) → IsPlan (table_shape room tables) url texts plan → ArePlaces plan.application.files plan.wanted
+plan_places room tables url texts plan is = are_places plan.application.files plan.wanted (wanted (map bare_row tables.views) plan.application) (held_application room tables url texts plan is).facts.each is.places
 
-module _ (blocks : ℕ) (tables : Tables) (url : List ℕ) (texts : List (List ℕ)) (a b c : LinksState) (plan : Plan) (planned : IsPlanned (table_shape blocks tables) url texts a b plan) (contents : List Content)
+module _ (room : Room) (tables : Tables) (url : List ℕ) (texts : List (List ℕ)) (a b c : LinksState) (plan : Plan) (planned : IsPlanned (table_shape room tables) url texts a b plan) (contents : List Content)
     (got : HasFetched plan.application.files plan.wanted b c contents) where
   -- want of memory behind the files
-  pub refused_behind : (reply : Reply) → reply ≡ Memory → IsRefused (table_shape blocks tables) url texts a c reply
-  refused_behind reply none = subst (λ (r : Reply). IsRefused (table_shape blocks tables) url texts a c r) (sym none) (no_memory (table_shape blocks tables) url texts a b c plan planned got.kept (targets_of plan) [] got.grown (sym (append-nil (targets_of plan))))
+  pub refused_behind : (reply : Reply) → reply ≡ Memory → IsRefused (table_shape room tables) url texts a c reply
+  refused_behind reply none = subst (λ (r : Reply). IsRefused (table_shape room tables) url texts a c r) (sym none) (no_memory (table_shape room tables) url texts a b c plan planned got.kept (targets_of plan) [] got.grown (sym (append-nil (targets_of plan))))
 
   abbrev entries : List FileEntry
   entries = wanted (map bare_row tables.views) plan.application
@@ -67,7 +69,7 @@ module _ (blocks : ℕ) (tables : Tables) (url : List ℕ) (texts : List (List �
 
   few_contents : length contents ≤ FILE_COUNT_LIMIT
   few_contents =
-      let few = (held_application blocks tables url texts plan planned.is).facts.files.few in
+      let few = (held_application room tables url texts plan planned.is).facts.files.few in
       omega (arith, few, few_wanted plan.application.files (standing_files (map bare_row tables.views)), count_for a c entries (targets_of plan) contents contents_are)
 
   abbrev place_of : FileEntry → Result Target UrlFault
@@ -81,40 +83,40 @@ module _ (blocks : ℕ) (tables : Tables) (url : List ℕ) (texts : List (List �
 
   module _ (now : ℕ) (are : AreTables tables) (moment : now ≤ NUMBER_LIMIT) (shapes : ShapesAreShown) (law : InstallsShowTheView) (known : HasLocals tables plan) (short : AreShort (plan_locals tables plan contents)) where
     has : IsInOrder tables plan
-    has = in_order plan.deployment.identity.key tables are plan.application (held_application blocks tables url texts plan planned.is) plan.locals known
+    has = in_order plan.deployment.identity.key tables are plan.application (held_application room tables url texts plan planned.is) plan.locals known
 
     fits : Fits tables (change_of_plan tables plan contents now)
-    fits = plan_fits blocks tables url texts plan planned.is a c contents now are moment has parts
+    fits = plan_fits room tables url texts plan planned.is a c contents now are moment has parts
 
-    step : (image : List ℕ) (old : Session) → Shows blocks tables image old.store → Sound old.store → IsStep blocks tables url texts a c now (change_of_plan tables plan contents now) (installed_of tables plan) old
+    step : (image : List ℕ) (old : Session) → Shows room tables image old.store → Sound old.store → IsStep room tables url texts a c now (change_of_plan tables plan contents now) (installed_of tables plan) old
     step image old shows sound = record {
-      new = led blocks tables url texts plan planned.is shapes image old a c contents now shows are has parts fits;
-      installs = plan_effect blocks tables url texts plan planned.is shapes image old a c contents now shows are has parts fits sound;
-      shows = λ later. plan_shows blocks tables url texts plan planned.is shapes image old a c contents now shows are has parts fits law later;
-      brought = λ view same. brought_last blocks tables url texts plan planned.is a c contents (plan_contents plan contents) parts.within are.contents contents_are fits.brings
-          old.store old.store.next_view (led_data blocks tables url texts plan planned.is shapes image old a c contents now shows are has parts fits) (plan_originals plan contents)
-          (led_migrated blocks tables url texts plan planned.is shapes image old a c contents now shows are has parts fits sound) parts.originals
-          (shapes blocks tables image old.store shows) old.store.views view same;
+      new = led room tables url texts plan planned.is shapes image old a c contents now shows are has parts fits;
+      installs = plan_effect room tables url texts plan planned.is shapes image old a c contents now shows are has parts fits sound;
+      leads = λ first later had same new. plan_shows room tables url texts plan planned.is shapes image old a c contents now shows are has parts fits law later;
+      brought = λ view same. brought_last room tables image url texts plan planned.is a c contents (plan_contents plan contents) parts.within are.contents contents_are fits.brings
+          old.store old.store.next_view (led_data room tables url texts plan planned.is shapes image old a c contents now shows are has parts fits) (plan_originals plan contents)
+          (led_migrated room tables url texts plan planned.is shapes image old a c contents now shows are has parts fits sound) parts.originals
+          (shapes room tables image old.store shows) old.store.views view same;
     }
 
     few_locals : length (plan_locals tables plan contents) ≤ FILE_COUNT_LIMIT
-    few_locals = subst (λ (n : ℕ). n ≤ FILE_COUNT_LIMIT) (sym (length-map plan.locals (λ (p : LocalPlan). local_of (made (map shown_data (row_locals (current_row plan.deployment.identity.key tables))) (plan_originals plan contents) p)))) has.few
+    few_locals = subst (λ (n : ℕ). n ≤ FILE_COUNT_LIMIT) (sym (length-map plan.locals (λ (p : LocalPlan). local_of (made (map given_data (row_locals (current_row plan.deployment.identity.key tables))) (plan_originals plan contents) p)))) has.few
 
     few_programs : length (plan_contents plan contents) ≤ FILE_COUNT_LIMIT
     few_programs = (let few = parts.few in omega (arith, few, few_contents))
 
-    ready : IsReady blocks tables url texts a c now (change_of_plan tables plan contents now) (installed_of tables plan)
+    ready : IsReady room tables url texts a c now (change_of_plan tables plan contents now) (installed_of tables plan)
     ready = record {
       hears = planned.hears;
-      passes = plan_passes blocks tables url texts plan planned.is;
+      passes = plan_passes room tables url texts plan planned.is;
       replied = (plan.deployment.identity.key, plan.deployment.identity.version, tables.next_view, refl);
-      served = served_all (table_shape blocks tables) url texts a b c plan planned got.kept plan.deployment.identity.key plan.deployment.identity.version tables.next_view got.grown;
+      served = served_all (table_shape room tables) url texts a b c plan planned got.kept plan.deployment.identity.key plan.deployment.identity.version tables.next_view got.grown;
       fits = fits;
       few = (few_programs, few_locals, short);
       step = step;
     }
 
-    pub ready_with : (change : Change) (reply : Reply) → change ≡ change_of_plan tables plan contents now → reply ≡ installed_of tables plan → IsReady blocks tables url texts a c now change reply
+    pub ready_with : (change : Change) (reply : Reply) → change ≡ change_of_plan tables plan contents now → reply ≡ installed_of tables plan → IsReady room tables url texts a c now change reply
     ready_with change reply made due =
-        subst (λ (x : Change). IsReady blocks tables url texts a c now x reply) (sym made)
-        (subst (λ (r : Reply). IsReady blocks tables url texts a c now (change_of_plan tables plan contents now) r) (sym due) ready)
+        subst (λ (x : Change). IsReady room tables url texts a c now x reply) (sym made)
+        (subst (λ (r : Reply). IsReady room tables url texts a c now (change_of_plan tables plan contents now) r) (sym due) ready)

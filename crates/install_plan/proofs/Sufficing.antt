@@ -17,7 +17,8 @@ use Rattle.machine.proofs.Wanting.{are_wanted}
 use Rattle.store_state.specs.declared.view.Content.{Content}
 use Rattle.store_state.specs.Contents.{AreContentsOf, Brings, IsMeasured, content_of, is_content_of}
 use Rattle.store_state.specs.Contents.{is_same as same_contents}
-use Rattle.install_plan.proofs.Keyed.{both, content_is, filter_all, found, is_content, kept_key, pairs_before, same_kept, some_found}
+use Rattle.install_plan.specs.Held.{given_bytes}
+use Rattle.install_plan.proofs.Keyed.{both, content_is, found, is_content, kept_key, pairs_before, same_kept, some_found}
 
 -- ---- wanted files
 
@@ -52,7 +53,7 @@ wanted_required (e ∷ es) held x there program = by e.local (is_required e && n
 
 -- the bytes of a content match what is said of it
 abbrev pub IsWholeContent : Content → Type 0
-IsWholeContent content = Matches content.list content.size content.bytes
+IsWholeContent content = Matches content.list content.size (given_bytes content.held)
 
 module _ (views : List BareView) (a : Application) (contents new : List Content) (are : AreContentsOf (standing_files views) contents) (keys : map kept_key new ≡ map content_key (filter is_required (wanted views a))) (whole : All IsWholeContent new) where
   abbrev held : List FileEntry

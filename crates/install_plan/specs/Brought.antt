@@ -14,6 +14,7 @@ use Rattle.machine.specs.Wanted.{is_held, wanted}
 use Rattle.store_state.specs.declared.view.Content.{Content}
 use Rattle.links.specs.Links.{LinksState}
 use Rattle.install_plan.specs.Given.{IsFrom}
+use Rattle.install_plan.specs.Held.{given_bytes}
 
 -- ---- contents
 
@@ -22,7 +23,8 @@ pub record IsContentFor (before after : LinksState) (entry : FileEntry) (target 
     (content : Content) : Type 0 where
   pub size : content.size ≡ entry.size
   pub list : content.list ≡ entry.list
-  pub from : IsFrom (Matches entry.list entry.size) target before after content.bytes
+  pub from : IsFrom (Matches entry.list entry.size) target before after
+      (given_bytes content.held)
 
 -- one for each file, in order
 abbrev pub AreContentsFor :

@@ -1,5 +1,5 @@
 -- The change that a plan comes to.
-use Rattle.std.specs.Prelude.{◌≡◌, ◌<◌, ◌^◌, ℕ, Bool, true, false, List, [], ◌∷◌, ◌++◌, All, length, map, Option, Some, None, slice_get, if◌then◌else◌}
+use Rattle.std.specs.Prelude.{◌<◌, ◌^◌, ℕ, Bool, false, List, [], ◌∷◌, ◌++◌, All, length, map, Option, Some, None, slice_get, if◌then◌else◌}
 use Rattle.manifests.specs.declared.facts.FileEntry.{FileEntry}
 use Rattle.machine.specs.declared.reply.Reply.{Reply}
 use Rattle.machine.specs.declared.reply.Reply.TheVariants.{Installed}
@@ -10,13 +10,13 @@ use Rattle.store_state.specs.declared.view.Content.{Content}
 use Rattle.store_state.specs.declared.view.LocalFile.{LocalFile}
 use Rattle.store_state.specs.declared.view.View.{View}
 use Rattle.store_state.specs.Rows.{current_row}
-use Rattle.store_state.specs.Shows.{shown_data}
 use Rattle.store_state.specs.Tables.{Tables}
 use Rattle.data_migration.specs.declared.plan.LocalPlan.{LocalPlan}
 use Rattle.data_migration.specs.Migration.{made}
 use Rattle.install_plan.specs.declared.plan.Plan.{Plan}
 use Rattle.install_plan.specs.declared.plan.WantedFile.{WantedFile}
 use Rattle.install_plan.specs.Carried.{row_locals}
+use Rattle.install_plan.specs.Held.{given_bytes, given_data, held_of}
 
 -- ---- what was fetched, by the files that the application lists
 
@@ -39,7 +39,7 @@ program_part (place ∷ places) (content ∷ contents) =
 abbrev pub original_of : Option FileEntry → Content → List ListedFile
 original_of None content = []
 original_of (Some entry) content =
-    if entry.local then record { entry = entry; bytes = content.bytes } ∷ [] else []
+    if entry.local then record { entry = entry; bytes = given_bytes content.held } ∷ [] else []
 
 -- the data files
 abbrev pub data_part : List (Option FileEntry) → List Content → List ListedFile
@@ -52,7 +52,11 @@ data_part (place ∷ places) (content ∷ contents) =
 
 -- of these bytes under the name
 abbrev pub local_of : DataFile → LocalFile
-local_of file = record { name = file.name; length = length file.bytes; bytes = file.bytes }
+local_of file = record {
+  name = file.name;
+  length = length file.bytes;
+  held = held_of file.bytes;
+}
 
 -- a deployed one
 abbrev pub deployed_local : ListedFile → LocalFile
@@ -62,11 +66,11 @@ deployed_local file = local_of (record { name = file.entry.name; bytes = file.by
 abbrev pub made_locals :
     List LocalFile → List ListedFile → List LocalPlan → List LocalFile
 made_locals old originals plans =
-    map (λ plan. local_of (made (map shown_data old) originals plan)) plans
+    map (λ plan. local_of (made (map given_data old) originals plan)) plans
 
--- each has fewer bytes than a journal's number tells
+-- what each holds is shorter than a journal's number tells
 abbrev pub AreShort : List LocalFile → Type 0
-AreShort files = All (λ (file : LocalFile). length file.bytes < 2 ^ 32) files
+AreShort files = All (λ (file : LocalFile). length file.held < 2 ^ 32) files
 
 -- ---- the change
 

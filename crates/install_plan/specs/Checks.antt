@@ -1,5 +1,6 @@
 -- What a check comes to: a change of the tables and a reply, or a reply alone.
 use Rattle.std.specs.Prelude.{◌≡◌, ◌≢◌, ◌⊎◌, ℕ, Bool, true, false, List, Some}
+use Rattle.small_types.specs.declared.room.Room.{Room}
 use Rattle.identity.specs.declared.key.Key.{Key}
 use Rattle.machine.specs.declared.app.AppState.{AppState}
 use Rattle.machine.specs.declared.command.Command.TheVariants.{Check}
@@ -13,12 +14,13 @@ use Rattle.machine.specs.Store.{Session, Store}
 use Rattle.machine.specs.Valid.{Valid}
 use Rattle.store_state.specs.declared.change.Change.{Change}
 use Rattle.store_state.specs.declared.change.Change.TheVariants.{Heard, Unheard}
-use Rattle.store_state.specs.Change.{Fits, effect}
+use Rattle.store_state.specs.Change.{Fits}
 use Rattle.store_state.specs.Shows.{Shows}
 use Rattle.store_state.specs.Tables.{Tables, table_shape}
 use Rattle.links.specs.Links.{LinksState}
 use Rattle.fetcher.specs.Fetched.{Kept}
 use Rattle.install_plan.specs.declared.checking.Offered.{Offered}
+use Rattle.install_plan.specs.Leading.{LeadsIn}
 use Rattle.install_plan.specs.Offers.{OfferServed}
 
 -- ---- what is noted of an application
@@ -68,15 +70,15 @@ pub record CheckStep (key : Key) (texts : List (List ℕ)) (before after : Links
   pub leaves : Leaves new.store
 
 -- for each session over a valid store that the tables show there is one
-abbrev pub ChecksTo : ℕ → Tables → Key → List (List ℕ) → LinksState → LinksState → ℕ → Reply
+abbrev pub ChecksTo : Room → Tables → Key → List (List ℕ) → LinksState → LinksState → ℕ → Reply
     → (Store → Store → Type 0) → Type 0
-ChecksTo blocks tables key texts before after now reply Leaves =
-    (image : List ℕ) (old : Session) → Shows blocks tables image old.store → Valid old.store
+ChecksTo room tables key texts before after now reply Leaves =
+    (image : List ℕ) (old : Session) → Shows room tables image old.store → Valid old.store
     → CheckStep key texts before after now reply old (Leaves old.store)
 
 -- another store, to which the change leads
-pub record LedBy (blocks : ℕ) (tables : Tables) (change : Change) (old new : Store) : Type 0 where
-  pub shows : (later : List ℕ) → Shows blocks (effect change tables) later new
+pub record LedBy (room : Room) (tables : Tables) (change : Change) (old new : Store) : Type 0 where
+  pub leads : LeadsIn room change tables old new
   pub other : new ≢ old
 
 -- what is heard or not of that application
@@ -86,19 +88,19 @@ IsOfCheck key (Unheard other) = other ≡ key
 IsOfCheck key _ = ⊥
 
 -- A change is to be made, which fits.
-pub record IsCheckReady (blocks : ℕ) (tables : Tables) (key : Key) (texts : List (List ℕ))
+pub record IsCheckReady (room : Room) (tables : Tables) (key : Key) (texts : List (List ℕ))
     (before after : LinksState) (now : ℕ) (change : Change) (reply : Reply) : Type 0 where
-  pub hears : HearsOffer key (table_shape blocks tables) texts
+  pub hears : HearsOffer key (table_shape room tables) texts
   pub kept : Kept before after
   pub still : moment_after now (Some reply) ≡ now
   pub of : IsOfCheck key change
   pub fits : Fits tables change
-  pub step : ChecksTo blocks tables key texts before after now reply (LedBy blocks tables change)
+  pub step : ChecksTo room tables key texts before after now reply (LedBy room tables change)
 
 -- Nothing is to be changed.
-pub record IsCheckOver (blocks : ℕ) (tables : Tables) (key : Key) (texts : List (List ℕ))
+pub record IsCheckOver (room : Room) (tables : Tables) (key : Key) (texts : List (List ℕ))
     (before after : LinksState) (now : ℕ) (reply : Reply) : Type 0 where
-  pub hears : HearsOffer key (table_shape blocks tables) texts
+  pub hears : HearsOffer key (table_shape room tables) texts
   pub kept : Kept before after
   pub still : moment_after now (Some reply) ≡ now
-  pub step : ChecksTo blocks tables key texts before after now reply (λ old new. new ≡ old)
+  pub step : ChecksTo room tables key texts before after now reply (λ old new. new ≡ old)

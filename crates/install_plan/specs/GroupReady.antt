@@ -1,5 +1,6 @@
 -- What a group comes to: a change of the tables and a reply, or a reply alone.
 use Rattle.std.specs.Prelude.{◌≡◌, ◌⊎◌, ◌≤◌, ◌-◌, ◌^◌, ℕ, List, [], Any, length, map, min, slice_get, sum_by, Some, None, Result, Ok, Err}
+use Rattle.small_types.specs.declared.room.Room.{Room}
 use Rattle.small_types.specs.declared.limits.TheConstants.{FILE_COUNT_LIMIT}
 use Rattle.small_types.specs.declared.target.Target.{Target}
 use Rattle.addresses.specs.declared.fault.UrlFault.{UrlFault}
@@ -61,25 +62,25 @@ abbrev pub address_in : View → FileEntry → Result Target UrlFault
 address_in view entry = file_target_of view.base view.deployment.mapped entry.name
 
 -- Each of them has an address, and there is room. They are those at the places.
-pub record AreLacking (blocks : ℕ) (tables : Tables) (view : View) (files : List FileEntry)
+pub record AreLacking (room : Room) (tables : Tables) (view : View) (files : List FileEntry)
     (wanted : List WantedFile) : Type 0 where
   pub places : map (λ file. slice_get files file.place) wanted ≡ map Some (lacking tables files)
   pub targets : map (address_in view) (lacking tables files) ≡ map (λ file. Ok file.target) wanted
   pub need : ℕ
   pub needed : need
       ≡ min (sum_by (λ entry. blocks_of entry.size) (lacking tables files)) (2 ^ 64 - 1)
-  pub room : PassesAll (room_checks need (free_blocks (table_shape blocks tables)))
+  pub enough : PassesAll (room_checks need (free_blocks (table_shape room tables)))
 
 -- their contents were fetched
-pub record HasBrought (blocks : ℕ) (tables : Tables) (view : View) (files : List FileEntry)
+pub record HasBrought (room : Room) (tables : Tables) (view : View) (files : List FileEntry)
     (before after : LinksState) (contents : List Content) : Type 0 where
   pub wanted : List WantedFile
-  pub are : AreLacking blocks tables view files wanted
+  pub are : AreLacking room tables view files wanted
   pub fetched : HasFetched files wanted before after contents
 
 -- nothing was asked: there was no memory, one has no address, or there is no room
-abbrev pub IsUnasked : ℕ → Tables → View → List FileEntry → Reply → Type 0
-IsUnasked blocks tables view files reply =
+abbrev pub IsUnasked : Room → Tables → View → List FileEntry → Reply → Type 0
+IsUnasked room tables view files reply =
     (reply ≡ says.Memory)
     ⊎ ((reply ≡ says.BadUrl)
     × Any (λ entry. address_in view entry ≡ Err no_address.BadUrl) (lacking tables files))
@@ -87,7 +88,7 @@ IsUnasked blocks tables view files reply =
     × (map (address_in view) (lacking tables files) ≡ map (λ file. Ok file.target) wanted)
     × Refused (room_checks
     (min (sum_by (λ entry. blocks_of entry.size) (lacking tables files)) (2 ^ 64 - 1))
-    (free_blocks (table_shape blocks tables))) reply)
+    (free_blocks (table_shape room tables))) reply)
 
 -- no link was asked
 pub record AreUnasked (before after : LinksState) : Type 0 where
@@ -96,10 +97,10 @@ pub record AreUnasked (before after : LinksState) : Type 0 where
 
 -- or not all were fetched
 abbrev pub IsNotBrought :
-    ℕ → Tables → View → List FileEntry → LinksState → LinksState → Reply → Type 0
-IsNotBrought blocks tables view files before after reply =
-    (IsUnasked blocks tables view files reply × AreUnasked before after)
-    ⊎ ((wanted : List WantedFile) × AreLacking blocks tables view files wanted
+    Room → Tables → View → List FileEntry → LinksState → LinksState → Reply → Type 0
+IsNotBrought room tables view files before after reply =
+    (IsUnasked room tables view files reply × AreUnasked before after)
+    ⊎ ((wanted : List WantedFile) × AreLacking room tables view files wanted
     × IsStopped files wanted before after reply)
 
 -- ---- steps
@@ -114,10 +115,10 @@ pub record GroupStep (lease : ℕ) (group : List ℕ) (before after : LinksState
   pub leaves : Leaves new.store
 
 -- for each session over a sound store that the tables show there is one
-abbrev pub GroupsTo : ℕ → Tables → ℕ → List ℕ → LinksState → LinksState → Reply
+abbrev pub GroupsTo : Room → Tables → ℕ → List ℕ → LinksState → LinksState → Reply
     → (Store → Store → Type 0) → Type 0
-GroupsTo blocks tables lease group before after reply Leaves =
-    (now : ℕ) (image : List ℕ) (old : Session) → Shows blocks tables image old.store
+GroupsTo room tables lease group before after reply Leaves =
+    (now : ℕ) (image : List ℕ) (old : Session) → Shows room tables image old.store
     → Sound old.store → GroupStep lease group before after now reply old (Leaves old.store)
 
 -- it brings this group, with as many contents as a release may have files
@@ -127,17 +128,17 @@ IsOfGroup group (change.Group view other contents) =
 IsOfGroup group _ = ⊥
 
 -- A change is to be made, which fits.
-pub record IsGroupReady (blocks : ℕ) (tables : Tables) (lease : ℕ) (group : List ℕ)
+pub record IsGroupReady (room : Room) (tables : Tables) (lease : ℕ) (group : List ℕ)
     (before after : LinksState) (change : Change) (reply : Reply) : Type 0 where
   pub kept : Kept before after
   pub still : (now : ℕ) → moment_after now (Some reply) ≡ now
   pub of : IsOfGroup group change
   pub fits : Fits tables change
-  pub step : GroupsTo blocks tables lease group before after reply (LedBy blocks tables change)
+  pub step : GroupsTo room tables lease group before after reply (LedBy room tables change)
 
 -- Nothing is to be changed.
-pub record IsGroupOver (blocks : ℕ) (tables : Tables) (lease : ℕ) (group : List ℕ)
+pub record IsGroupOver (room : Room) (tables : Tables) (lease : ℕ) (group : List ℕ)
     (before after : LinksState) (reply : Reply) : Type 0 where
   pub kept : Kept before after
   pub still : (now : ℕ) → moment_after now (Some reply) ≡ now
-  pub step : GroupsTo blocks tables lease group before after reply (λ old new. new ≡ old)
+  pub step : GroupsTo room tables lease group before after reply (λ old new. new ≡ old)

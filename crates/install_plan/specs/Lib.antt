@@ -7,7 +7,9 @@ pub mod Given
 pub mod GroupAsked
 pub mod GroupReady
 pub mod Hearing
+pub mod Held
 pub mod Judging
+pub mod Leading
 pub mod Offers
 pub mod Parts
 pub mod Plans

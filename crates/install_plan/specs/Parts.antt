@@ -7,6 +7,7 @@ use Rattle.data_migration.specs.declared.plan.LocalPlan.{LocalPlan}
 use Rattle.data_migration.specs.declared.plan.LocalPlan.TheVariants.{Copy, Fresh}
 use Rattle.install_plan.specs.declared.plan.WantedFile.{WantedFile}
 use Rattle.install_plan.specs.Changes.{local_of}
+use Rattle.install_plan.specs.Held.{given_bytes}
 
 -- the listed file that the content at that place was fetched for
 abbrev pub entry_for : List FileEntry → List WantedFile → ℕ → Option FileEntry
@@ -16,7 +17,7 @@ entry_for files wanted place =
 -- the bytes of the data file of the name
 abbrev pub local_in : Option LocalFile → List ℕ
 local_in None = []
-local_in (Some file) = file.bytes
+local_in (Some file) = given_bytes file.held
 
 abbrev pub local_bytes : List LocalFile → List ℕ → List ℕ
 local_bytes files name = local_in (local_named name files)

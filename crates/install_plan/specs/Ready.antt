@@ -1,5 +1,6 @@
 -- What an install comes to once all that it wants is fetched: a change of the tables, and a reply.
 use Rattle.std.specs.Prelude.{◌≡◌, ◌<◌, ◌≤◌, ◌^◌, ℕ, List, [], ◌∷◌, ◌++◌, All, length}
+use Rattle.small_types.specs.declared.room.Room.{Room}
 use Rattle.small_types.specs.declared.limits.TheConstants.{FILE_COUNT_LIMIT, LOCAL_COUNT_LIMIT}
 use Rattle.identity.specs.declared.key.Key.{Key}
 use Rattle.identity.specs.declared.version.Version.{Version}
@@ -14,41 +15,42 @@ use Rattle.machine.specs.Views.{View}
 use Rattle.store_state.specs.declared.change.Change.{Change}
 use Rattle.store_state.specs.declared.change.Change.TheVariants.{Install}
 use Rattle.store_state.specs.declared.view.LocalFile.{LocalFile}
-use Rattle.store_state.specs.Change.{Fits, effect}
+use Rattle.store_state.specs.Change.{Fits}
 use Rattle.store_state.specs.Shows.{Shows}
 use Rattle.store_state.specs.Tables.{Tables, table_shape}
 use Rattle.links.specs.Links.{LinksState}
 use Rattle.install_plan.specs.Brought.{IsBrought}
 use Rattle.install_plan.specs.Hearing.{Served}
+use Rattle.install_plan.specs.Leading.{LeadsIn}
 
--- It is an install of as many contents as a release may have files, and of no more data files. Each
--- of these has fewer bytes than a journal's number tells.
+-- It is an install of as many contents as a release may have files, and of no more data files. What
+-- each of these holds is shorter than a journal's number tells.
 abbrev pub HasFew : Change → Type 0
 HasFew (Install view contents provider now) =
     (length contents ≤ FILE_COUNT_LIMIT) × (length view.locals ≤ FILE_COUNT_LIMIT)
-    × All (λ (file : LocalFile). length file.bytes < 2 ^ 32) view.locals
+    × All (λ (file : LocalFile). length file.held < 2 ^ 32) view.locals
 HasFew _ = ⊥
 
 -- the step of a session over the store that the tables show
-pub record IsStep (blocks : ℕ) (tables : Tables) (url : List ℕ) (texts : List (List ℕ))
+pub record IsStep (room : Room) (tables : Tables) (url : List ℕ) (texts : List (List ℕ))
     (before after : LinksState) (now : ℕ) (change : Change) (reply : Reply) (old : Session)
     : Type 0 where
   pub new : Session
   pub installs : InstallEffect install_replies url texts now old reply new
-  pub shows : (image : List ℕ) → Shows blocks (effect change tables) image new.store
+  pub leads : LeadsIn room change tables old.store new.store
   pub brought : (view : View) → new.store.views ≡ old.store.views ++ view ∷ []
       → IsBrought old.store before after view
 
-pub record IsReady (blocks : ℕ) (tables : Tables) (url : List ℕ) (texts : List (List ℕ))
+pub record IsReady (room : Room) (tables : Tables) (url : List ℕ) (texts : List (List ℕ))
     (before after : LinksState) (now : ℕ) (change : Change) (reply : Reply) : Type 0 where
-  pub hears : HearsRelease install_replies url (table_shape blocks tables) texts
+  pub hears : HearsRelease install_replies url (table_shape room tables) texts
   pub passes : PassesAll (install_refusals install_replies LOCAL_COUNT_LIMIT url texts
-      (table_shape blocks tables))
+      (table_shape room tables))
   pub replied : (key : Key) × (version : Version) × (view : ℕ)
       × (reply ≡ Installed key version view)
-  pub served : Served (table_shape blocks tables) url texts before after reply
+  pub served : Served (table_shape room tables) url texts before after reply
   pub fits : Fits tables change
   pub few : HasFew change
-  pub step : (image : List ℕ) (old : Session) → Shows blocks tables image old.store
+  pub step : (image : List ℕ) (old : Session) → Shows room tables image old.store
       → Sound old.store
-      → IsStep blocks tables url texts before after now change reply old
+      → IsStep room tables url texts before after now change reply old

@@ -2,22 +2,24 @@
 ghost use Rattle.std.specs.Prelude.{◌≡◌, []};
 
 use links::{Basket, BasketFault};
-use small_types::Bytes;
 use std::alloc::Global;
 
-/// A basket that keeps what it takes, and fails only for want of memory.
+/// A basket for a file of so many bytes. It keeps what it takes, makes the room for all of it with the first bytes, and
+/// fails only for want of memory.
 #[derive(Drop, Debug)]
 pub(crate) struct ByteBasket {
-    pub(crate) bytes: Bytes,
+    pub(crate) bytes: Vec<u8>,
+    size: u64,
 }
 
 impl ByteBasket {
     /// An empty one. It takes no memory.
-    pub(crate) fn new(alloc: Global) -> ByteBasket
-        ensures { result.bytes ≡ [] }
+    pub(crate) fn new(alloc: Global, size: u64) -> ByteBasket
+        ensures { result.bytes.items ≡ [] }
     {
         ByteBasket {
-            bytes: Bytes::from_vec(Vec::new(alloc)),
+            bytes: Vec::new(alloc),
+            size,
         }
     }
 }
@@ -25,19 +27,25 @@ impl ByteBasket {
 impl Basket for ByteBasket {
     ghost tells = { Unit {0} };
 
-    ghost taken = { λ b. b.bytes };
+    ghost taken = { λ b. b.bytes.items };
 
     ghost count = { λ b. 0 };
 
+    ghost turns_to = { λ a b. Unit {0} };
+
+    ghost turns_same = { λ a. tt };
+
+    ghost turns_on = { λ a b c one two. tt };
+
     fn restart(&mut self) {
-        self.bytes.shorten(0);
+        self.bytes.clear();
     }
 
     fn take(&mut self, bytes: &[u8]) -> Result<(), BasketFault> {
-        match self.bytes.extend(bytes) {
-            Ok(()) => Ok(()),
-            Err(_) => Err(BasketFault::Memory),
-        }
+        let left = self.size.saturating_sub(self.bytes.len() as u64);
+        self.bytes.reserve_exact(left as usize)?;
+        self.bytes.extend_from_slice(bytes)?;
+        Ok(())
     }
 
     fn faults(&self) -> u64 {

@@ -10,7 +10,7 @@ use fetcher::fetch_file;
 use links::Links;
 use machine::Reply;
 use manifests::FileEntry;
-use small_types::{Duplicate, List, Target};
+use small_types::{Bytes, Duplicate, List, Target};
 use std::alloc::Global;
 use store_state::Content;
 
@@ -32,12 +32,12 @@ fn fetch_content<L: Links>(
     let Ok(list) = entry.list.copy(alloc) else {
         return Err(Reply::Memory);
     };
-    let mut basket = ByteBasket::new(alloc);
+    let mut basket = ByteBasket::new(alloc, entry.size);
     match fetch_file(alloc, links, target, entry.size, &entry.list, &mut basket) {
         Ok(()) => Ok(Content {
             size: entry.size,
             list,
-            bytes: basket.bytes,
+            held: Bytes::from_vec(basket.bytes),
         }),
         Err(fault) => Err(fetch_reply(fault)),
     }

@@ -1,5 +1,6 @@
 // Which data files a new view has, and the blocks of those that it carries over.
 ghost use Rattle.std.specs.Prelude.{◌≡◌, ◌↔◌, ◌<◌, ℕ, IfErr, IfOk, IsTrue, None, count_by, not};
+ghost use Rattle.small_types.specs.declared.room.Room.{Room};
 ghost use Rattle.small_types.specs.declared.limits.TheConstants as limits;
 ghost use Rattle.manifests.specs.Applications.{is_below_pre};
 ghost use Rattle.machine.specs.Current.{bare_data_of, current_bare};
@@ -92,8 +93,8 @@ pub(crate) fn judge_locals(
 ) -> Result<List<LocalPlan>, Reply>
     ensures plans { IfOk result
         (ArePlans (current_row d.now.identity.key state.now) a.now.files) }
-    ensures judged { (blocks : ℕ)
-        → Judges (local_checks (table_shape blocks state.now) d.now a.now) result }
+    ensures judged { (room : Room)
+        → Judges (local_checks (table_shape room state.now) d.now a.now) result }
 {
     let plans = match plans_of(alloc, state, &d.identity.key, &a.files) {
         Ok(plans) => plans,
@@ -135,8 +136,8 @@ fn copied_in(files: &[LocalFile]) -> Result<u64, Reply>
 
 // The blocks of the data files that are carried over from the view that is current for the key.
 pub(crate) fn copied_blocks(state: &StoreState, key: &Key) -> Result<u64, Reply>
-    ensures sum { (blocks : ℕ) → IfOk result (λ sum. sum
-        ≡ copied_need (bare_data_of (current_bare key.now (table_shape blocks state.now)))) }
+    ensures sum { (room : Room) → IfOk result (λ sum. sum
+        ≡ copied_need (bare_data_of (current_bare key.now (table_shape room state.now)))) }
     ensures memory { IfErr result (λ reply. reply ≡ Reply.Memory) }
 {
     match state.current(key) {

@@ -17,7 +17,7 @@ use crate::{Plan, hear};
 use identity::Key;
 use links::Links;
 use machine::{Heard, Reply};
-use small_types::{Bytes, Duplicate, List};
+use small_types::{Bytes, Duplicate, List, Room};
 use std::alloc::Global;
 use store_state::{
     Change, Content, LocalFile, StoreState, View, installs_show_the_view, shapes_are_shown,
@@ -126,7 +126,7 @@ fn fetch_planned<L: Links>(
 pub fn prepare<L: Links>(
     alloc: Global,
     state: &StoreState,
-    blocks: u64,
+    room: Room,
     links: &mut L,
     now: u64,
     url: &Bytes,
@@ -134,12 +134,12 @@ pub fn prepare<L: Links>(
 ) -> Result<(Change, Reply), Reply>
     requires empty { heard.old.texts ≡ [] }
     requires moment { now ≤ NUMBER_LIMIT }
-    ensures ready { IfOk result (λ made. IsReady blocks state.now url.now heard.new.texts
+    ensures ready { IfOk result (λ made. IsReady room state.now url.now heard.new.texts
         (L.links links.old) (L.links links.new) now made.0 made.1) }
-    ensures refused { IfErr result (IsRefused (table_shape blocks state.now) url.now heard.new.texts
+    ensures refused { IfErr result (IsRefused (table_shape room state.now) url.now heard.new.texts
         (L.links links.old) (L.links links.new)) }
 {
-    let plan = match hear(alloc, state, blocks, links, url, heard) {
+    let plan = match hear(alloc, state, room, links, url, heard) {
         Ok(plan) => plan,
         Err(reply) => return Err(reply),
     };

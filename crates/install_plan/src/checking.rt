@@ -1,5 +1,6 @@
 // The change that a check makes.
 ghost use Rattle.std.specs.Prelude.{◌≡◌, ◌≤◌, ◌↔◌, ℕ, [], IfErr, IfOk, IsTrue, Some};
+ghost use Rattle.small_types.specs.declared.room.Room.{Room};
 ghost use Rattle.small_types.specs.declared.limits.TheConstants.{NUMBER_LIMIT};
 ghost use Rattle.machine.specs.Installed.{above, raised_by};
 ghost use Rattle.store_state.specs.declared.change.Change.TheVariants as change;
@@ -160,9 +161,9 @@ pub fn prepare_check<L: Links>(
 ) -> Result<(Change, Reply), Reply>
     requires empty { heard.old.texts ≡ [] }
     requires moment { now ≤ NUMBER_LIMIT }
-    ensures ready { (blocks : ℕ) → IfOk result (λ made. IsCheckReady blocks state.now key.now
+    ensures ready { (room : Room) → IfOk result (λ made. IsCheckReady room state.now key.now
         heard.new.texts (L.links links.old) (L.links links.new) now made.0 made.1) }
-    ensures over { (blocks : ℕ) → IfErr result (IsCheckOver blocks state.now key.now
+    ensures over { (room : Room) → IfErr result (IsCheckOver room state.now key.now
         heard.new.texts (L.links links.old) (L.links links.new) now) }
 {
     let Some(view) = state.current(key) else {

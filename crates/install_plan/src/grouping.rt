@@ -11,7 +11,7 @@ use file_groups::{GroupFault, plan};
 use links::Links;
 use machine::Reply;
 use manifests::FileEntry;
-use small_types::{Duplicate, List, Text};
+use small_types::{Duplicate, List, Room, Text};
 use std::alloc::Global;
 use store_state::{Change, Content, StoreState, View, groups_show_the_files};
 
@@ -63,22 +63,22 @@ fn files_of(alloc: Global, view: &View, group: &Text) -> Result<List<FileEntry>,
 fn fetch_lacking<L: Links>(
     alloc: Global,
     state: &StoreState,
-    blocks: u64,
+    room: Room,
     links: &mut L,
     view: &View,
     files: &[FileEntry],
 ) -> Result<List<Content>, Reply>
     requires sized { All (λ entry. entry.size < 2 ^ 61) files.now }
-    ensures brought { IfOk result (HasBrought blocks state.now view.now files.now
+    ensures brought { IfOk result (HasBrought room state.now view.now files.now
         (L.links links.old) (L.links links.new)) }
-    ensures refused { IfErr result (IsNotBrought blocks state.now view.now files.now
+    ensures refused { IfErr result (IsNotBrought room state.now view.now files.now
         (L.links links.old) (L.links links.new)) }
 {
     let wants = match wants(alloc, state, &view.base, view.deployment.mapped, files) {
         Ok(wants) => wants,
         Err(reply) => return Err(reply),
     };
-    if let Err(reply) = judge_room(state, blocks, wants.need) {
+    if let Err(reply) = judge_room(state, room, wants.need) {
         return Err(reply);
     }
     match fetch_wanted(alloc, links, files, wants.files.as_slice()) {
@@ -93,14 +93,14 @@ fn fetch_lacking<L: Links>(
 pub fn prepare_group<L: Links>(
     alloc: Global,
     state: &StoreState,
-    blocks: u64,
+    room: Room,
     links: &mut L,
     lease: u64,
     group: &Text,
 ) -> Result<(Change, Reply), Reply>
-    ensures ready { IfOk result (λ made. IsGroupReady blocks state.now lease group.now
+    ensures ready { IfOk result (λ made. IsGroupReady room state.now lease group.now
         (L.links links.old) (L.links links.new) made.0 made.1) }
-    ensures over { IfErr result (IsGroupOver blocks state.now lease group.now
+    ensures over { IfErr result (IsGroupOver room state.now lease group.now
         (L.links links.old) (L.links links.new)) }
 {
     let Some(view) = state.leased(lease) else {
@@ -115,7 +115,7 @@ pub fn prepare_group<L: Links>(
         return Err(Reply::Group { files: count });
     }
     state.are_tables();
-    let contents = match fetch_lacking(alloc, state, blocks, links, view, files.as_slice()) {
+    let contents = match fetch_lacking(alloc, state, room, links, view, files.as_slice()) {
         Ok(contents) => contents,
         Err(reply) => return Err(reply),
     };

@@ -13,7 +13,7 @@ use addresses::target_of;
 use links::Links;
 use machine::{Heard, Reply};
 use manifests::Deployment;
-use small_types::{Bytes, Duplicate, Target};
+use small_types::{Bytes, Duplicate, Room, Target};
 use std::alloc::Global;
 use store_state::StoreState;
 
@@ -41,16 +41,16 @@ fn provider_of(alloc: Global, target: &Target, d: &Deployment) -> Result<Target,
 pub fn hear<L: Links>(
     alloc: Global,
     state: &StoreState,
-    blocks: u64,
+    room: Room,
     links: &mut L,
     url: &Bytes,
     heard: &mut Heard,
 ) -> Result<Plan, Reply>
     requires empty { heard.old.texts ≡ [] }
-    ensures plan { IfOk result (IsPlanned (table_shape blocks state.now) url.now heard.new.texts
+    ensures plan { IfOk result (IsPlanned (table_shape room state.now) url.now heard.new.texts
         (L.links links.old) (L.links links.new)) }
     ensures locals { IfOk result (HasLocals state.now) }
-    ensures refused { IfErr result (IsRefused (table_shape blocks state.now) url.now heard.new.texts
+    ensures refused { IfErr result (IsRefused (table_shape room state.now) url.now heard.new.texts
         (L.links links.old) (L.links links.new)) }
 {
     let target = match given_address(alloc, url) {
@@ -69,7 +69,7 @@ pub fn hear<L: Links>(
         Ok(application) => application,
         Err(reply) => return Err(reply),
     };
-    let needs = match judge_release(alloc, state, blocks, &base, &deployment, &application) {
+    let needs = match judge_release(alloc, state, room, &base, &deployment, &application) {
         Ok(needs) => needs,
         Err(reply) => return Err(reply),
     };

@@ -1,5 +1,6 @@
 // Whether the version of a deployment may come, and where its application manifest lies.
 ghost use Rattle.std.specs.Prelude.{◌≡◌, ◌↔◌, ℕ, IfOk, IsTrue, Ok};
+ghost use Rattle.small_types.specs.declared.room.Room.{Room};
 ghost use Rattle.addresses.specs.Address.{target_of_text};
 ghost use Rattle.addresses.specs.Join.{app_target_of};
 ghost use Rattle.manifests.specs.declared.facts.Deployment.{Deployment};
@@ -47,7 +48,7 @@ pub(crate) fn application_address(
 
 // The version that is current for the key.
 fn version_of(state: &StoreState, key: &Key) -> Option<Version>
-    ensures { (blocks : ℕ) → result ≡ current_version key.now (table_shape blocks state.now) }
+    ensures { (room : Room) → result ≡ current_version key.now (table_shape room state.now) }
 {
     match state.current(key) {
         Some(view) => Some(view.deployment.identity.version),
@@ -67,7 +68,7 @@ fn minimum_for(state: &StoreState, key: &Key) -> Option<Version>
 
 // Whether the version may come.
 pub(crate) fn judge_version(state: &StoreState, d: &Deployment) -> Result<(), Reply>
-    ensures { (blocks : ℕ) → Judges (version_checks (table_shape blocks state.now) d.now) result }
+    ensures { (room : Room) → Judges (version_checks (table_shape room state.now) d.now) result }
 {
     let version = d.identity.version;
     if let Some(have) = version_of(state, &d.identity.key) {
@@ -85,15 +86,15 @@ pub(crate) fn judge_version(state: &StoreState, d: &Deployment) -> Result<(), Re
 
 // Whether the application lacks an entry, and none can be made.
 fn lacks_entry(state: &StoreState, key: &Key) -> bool
-    ensures { (blocks : ℕ) (d : Deployment) → d.identity.key ≡ key.now
-        → (IsTrue result ↔ LacksEntry (table_shape blocks state.now) d) }
+    ensures { (room : Room) (d : Deployment) → d.identity.key ≡ key.now
+        → (IsTrue result ↔ LacksEntry (table_shape room state.now) d) }
 {
     state.entry(key).is_none() && state.count() >= APPLICATION_LIMIT
 }
 
 // Whether there is a place for the view.
 pub(crate) fn judge_counts(state: &StoreState, d: &Deployment) -> Result<(), Reply>
-    ensures { (blocks : ℕ) → Judges (count_checks (table_shape blocks state.now) d.now) result }
+    ensures { (room : Room) → Judges (count_checks (table_shape room state.now) d.now) result }
 {
     if lacks_entry(state, &d.identity.key) {
         return Err(Reply::TooMany {
@@ -123,7 +124,7 @@ pub(crate) fn judge_deployment(
     d: &Deployment,
 ) -> Result<Target, Reply>
     ensures joined { IfOk result (λ base. app_target_of target.now d.now.codebase ≡ Ok base) }
-    ensures judged { (blocks : ℕ) → Judges (deployment_checks (table_shape blocks state.now) d.now
+    ensures judged { (room : Room) → Judges (deployment_checks (table_shape room state.now) d.now
         (app_target_of target.now d.now.codebase)) result }
 {
     if let Err(reply) = judge_version(state, d) {

@@ -3,15 +3,16 @@ ghost use Rattle.std.specs.Prelude.{◌≡◌, ◌<◌, ◌^◌, [], ◌∷◌, 
 ghost use Rattle.std.specs.Option.{option_copied};
 ghost use Rattle.store_state.specs.Locals.{local_named};
 ghost use Rattle.install_plan.specs.Changes.{AreShort, data_part, deployed_local, listed_at, local_of, original_of, program_part};
+ghost use Rattle.install_plan.specs.Held.{given_bytes};
 ghost use Rattle.install_plan.specs.Parts.{entry_for, local_bytes, moved_local};
 
 use crate::WantedFile;
 use data_migration::LocalPlan;
 use machine::Reply;
 use manifests::FileEntry;
-use small_types::{Bytes, Duplicate, List, Name};
+use small_types::{Duplicate, List, Name};
 use std::alloc::Global;
-use store_state::{Content, LocalFile};
+use store_state::{Content, LocalFile, Stored};
 
 // What was fetched: contents of program files, and data files.
 #[derive(Drop)]
@@ -20,19 +21,15 @@ pub(crate) struct Parts {
     pub(crate) locals: Vec<LocalFile>,
 }
 
-// The data file of that name and these bytes.
-fn data_file(alloc: Global, name: &Name, bytes: Bytes) -> Result<LocalFile, Reply>
+// The data file of that name that holds these bytes.
+fn data_file(alloc: Global, name: &Name, held: Stored) -> Result<LocalFile, Reply>
     ensures made { IfOk result (λ file. file
-        ≡ local_of (record { name = name.now; bytes = bytes })) }
+        ≡ local_of (record { name = name.now; bytes = given_bytes held })) }
     ensures memory { IfErr result (λ reply. reply ≡ Reply.Memory) }
 {
-    let length = bytes.as_slice().len() as u64;
+    let length = held.as_slice().len() as u64;
     match name.copy(alloc) {
-        Ok(name) => Ok(LocalFile {
-            name,
-            length,
-            bytes,
-        }),
+        Ok(name) => Ok(LocalFile { name, length, held }),
         Err(_) => Err(Reply::Memory),
     }
 }
@@ -71,17 +68,17 @@ impl Parts {
         if !entry.local {
             return self.add_program(content);
         }
-        self.add_local(alloc, &entry.name, content.bytes)
+        self.add_local(alloc, &entry.name, content.held)
     }
 
-    // Adds a data file of that name and these bytes.
-    fn add_local(&mut self, alloc: Global, name: &Name, bytes: Bytes) -> Result<(), Reply>
+    // Adds a data file of that name that holds these bytes.
+    fn add_local(&mut self, alloc: Global, name: &Name, held: Stored) -> Result<(), Reply>
         ensures programs { OnOk result (self.new.programs.items ≡ self.old.programs.items) }
         ensures locals { OnOk result (self.new.locals.items ≡ self.old.locals.items
-            ++ local_of (record { name = name.now; bytes = bytes }) ∷ []) }
+            ++ local_of (record { name = name.now; bytes = given_bytes held }) ∷ []) }
         ensures memory { IfErr result (λ reply. reply ≡ Reply.Memory) }
     {
-        let file = match data_file(alloc, name, bytes) {
+        let file = match data_file(alloc, name, held) {
             Ok(file) => file,
             Err(reply) => return Err(reply),
         };
@@ -156,19 +153,19 @@ fn is_named(file: &LocalFile, name: &Name) -> bool
 fn copy_as(alloc: Global, files: &[LocalFile], from: &Name, to: &Name) -> Result<LocalFile, Reply>
     ensures made { IfOk result (λ file. file
         ≡ local_of (record { name = to.now; bytes = local_bytes files.now from.now })) }
-    ensures short { IfOk result (λ file. length file.bytes < 2 ^ 32) }
+    ensures short { IfOk result (λ file. length file.held < 2 ^ 32) }
     ensures memory { IfErr result (λ reply. reply ≡ Reply.Memory) }
 {
     let Some(file) = find(files, from) else {
         return Err(Reply::Memory);
     };
-    if file.bytes.as_slice().len() > u32::MAX as usize {
+    if file.held.as_slice().len() > u32::MAX as usize {
         return Err(Reply::Memory);
     }
-    let Ok(bytes) = file.bytes.copy(alloc) else {
+    let Ok(held) = file.held.copy(alloc) else {
         return Err(Reply::Memory);
     };
-    match data_file(alloc, to, bytes) {
+    match data_file(alloc, to, held) {
         Ok(made) => Ok(made),
         Err(reply) => Err(reply),
     }
@@ -182,7 +179,7 @@ fn moved(
     plan: &LocalPlan,
 ) -> Result<LocalFile, Reply>
     ensures made { IfOk result (λ file. file ≡ moved_local old.now fetched.now plan.now) }
-    ensures short { IfOk result (λ file. length file.bytes < 2 ^ 32) }
+    ensures short { IfOk result (λ file. length file.held < 2 ^ 32) }
     ensures memory { IfErr result (λ reply. reply ≡ Reply.Memory) }
 {
     match plan {

@@ -1,5 +1,6 @@
 // Whether an application is the listed one, and whether there is a place for its files.
 ghost use Rattle.std.specs.Prelude.{◌≡◌, ◌↔◌, ◌<◌, ◌+◌, ◌-◌, ◌^◌, ◌⊎◌, ℕ, Any, Err, IfErr, IfOk, IsTrue, List, Ok, Some, length, map, min, slice_get, sum_by};
+ghost use Rattle.small_types.specs.declared.room.Room.{Room};
 ghost use Rattle.small_types.specs.declared.limits.TheConstants as limits;
 ghost use Rattle.addresses.specs.declared.fault.UrlFault.TheVariants as no_address;
 ghost use Rattle.addresses.specs.Join.{file_target_of};
@@ -20,7 +21,7 @@ use identity::Key;
 use machine::Reply;
 use manifests::{Application, Deployment, FileEntry, ReleaseFault};
 use small_types::limits::FILE_COUNT_LIMIT;
-use small_types::{Duplicate, Limit, List, Target};
+use small_types::{Duplicate, Limit, List, Room, Target};
 use std::alloc::Global;
 use store_state::StoreState;
 
@@ -78,8 +79,8 @@ pub(crate) fn judge_files(
 ) -> Result<List<LocalPlan>, Reply>
     ensures plans { IfOk result
         (ArePlans (current_row d.now.identity.key state.now) a.now.files) }
-    ensures judged { (blocks : ℕ)
-        → Judges (file_checks (table_shape blocks state.now) d.now a.now) result }
+    ensures judged { (room : Room)
+        → Judges (file_checks (table_shape room state.now) d.now a.now) result }
 {
     if lists_too_many(state, a) {
         return Err(Reply::TooMany {
@@ -94,10 +95,10 @@ pub(crate) fn judge_files(
 }
 
 // Whether so many blocks are free.
-pub(crate) fn judge_room(state: &StoreState, blocks: u64, need: u64) -> Result<(), Reply>
-    ensures { Judges (room_checks need (free_blocks (table_shape blocks state.now))) result }
+pub(crate) fn judge_room(state: &StoreState, room: Room, need: u64) -> Result<(), Reply>
+    ensures { Judges (room_checks need (free_blocks (table_shape room state.now))) result }
 {
-    let free = state.free_blocks(blocks);
+    let free = state.free_blocks(room);
     if free < need {
         return Err(Reply::Full { need, free });
     }
@@ -164,7 +165,7 @@ fn sum_needed(wanted: u64, copied: u64) -> Result<u64, Reply>
 pub(crate) fn judge_release(
     alloc: Global,
     state: &StoreState,
-    blocks: u64,
+    room: Room,
     base: &Target,
     d: &Deployment,
     a: &Application,
@@ -177,7 +178,7 @@ pub(crate) fn judge_release(
     ensures locals { IfOk result (λ w.
         ArePlans (current_row d.now.identity.key state.now) a.now.files w.locals) }
     ensures judged { (url : List ℕ) → base_of url d.now ≡ Ok base.now → IsApplication a.now
-        → Judges (release_checks url (table_shape blocks state.now) d.now a.now) result }
+        → Judges (release_checks url (table_shape room state.now) d.now a.now) result }
 {
     if let Err(reply) = judge_identity(alloc, d, a) {
         return Err(reply);
@@ -198,7 +199,7 @@ pub(crate) fn judge_release(
         Ok(need) => need,
         Err(reply) => return Err(reply),
     };
-    match judge_room(state, blocks, need) {
+    match judge_room(state, room, need) {
         Ok(()) => Ok(ReleaseNeeds {
             wanted: wants.files,
             locals,

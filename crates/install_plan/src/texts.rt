@@ -67,9 +67,9 @@ fn fetch_listed<L: Links>(
         texts texts) }
     ensures kept { Kept (L.links links.old) (L.links links.new) }
 {
-    let mut basket = ByteBasket::new(alloc);
+    let mut basket = ByteBasket::new(alloc, d.app_size);
     match fetch_file(alloc, links, base, d.app_size, &d.app_list, &mut basket) {
-        Ok(()) => Ok(basket.bytes),
+        Ok(()) => Ok(Bytes::from_vec(basket.bytes)),
         Err(fault) => Err(fetch_reply(fault)),
     }
 }

@@ -2,6 +2,7 @@
 use Rattle.std.proofs.Common.{◌≡◌, ◌∙◌, ℕ, List, Option, Some, None, IsSome, sym, ap, subst}
 use Rattle.std.specs.Prelude.{IsSomeAnd, option_and_then, option_map, slice_get}
 use Rattle.std.proofs.lemmas.Option.{none-some}
+use Rattle.small_types.specs.declared.room.Room.{Room}
 use Rattle.identity.specs.declared.key.Key.{Key}
 use Rattle.identity.specs.declared.version.Version.{Version}
 use Rattle.identity.specs.Version.{IsBelow}
@@ -21,23 +22,23 @@ use Rattle.updater.specs.GoingBack.{IsGoingBack}
 
 module _ (key : Key) (tables : Tables) (row earlier : View) (place : ℕ)
     (current : Some row ≡ current_row key tables)
-    (bare : (blocks : ℕ) → Some (bare_row row) ≡ current_bare key (table_shape blocks tables))
+    (bare : (room : Room) → Some (bare_row row) ≡ current_bare key (table_shape room tables))
     (previous : Some earlier ≡ previous_row key tables)
-    (bare_previous : (blocks : ℕ) → Some (bare_row earlier)
-    ≡ numbered_bare (previous_of key tables.apps) (table_shape blocks tables))
+    (bare_previous : (room : Room) → Some (bare_row earlier)
+    ≡ numbered_bare (previous_of key tables.apps) (table_shape room tables))
     (placed : slice_get tables.apps place ≡ entry_of key tables.apps)
     (free : (minimum : Version) → minimum_of key tables.apps ≡ Some minimum
     → ¬ IsBelow earlier.deployment.identity.version minimum) where
-  is_current : (blocks : ℕ)
-      → current_version key (table_shape blocks tables) ≡ Some row.deployment.identity.version
-  is_current blocks =
-      ap (option_map (λ (v : BareView). v.deployment.identity.version)) (sym (bare blocks))
+  is_current : (room : Room)
+      → current_version key (table_shape room tables) ≡ Some row.deployment.identity.version
+  is_current room =
+      ap (option_map (λ (v : BareView). v.deployment.identity.version)) (sym (bare room))
 
-  is_previous : (blocks : ℕ)
-      → previous_version key (table_shape blocks tables)
+  is_previous : (room : Room)
+      → previous_version key (table_shape room tables)
       ≡ Some earlier.deployment.identity.version
-  is_previous blocks =
-      ap (option_map (λ (v : BareView). v.deployment.identity.version)) (sym (bare_previous blocks))
+  is_previous room =
+      ap (option_map (λ (v : BareView). v.deployment.identity.version)) (sym (bare_previous room))
 
   installed : ¬ (current_of key tables.apps ≡ None)
   installed none =
@@ -49,11 +50,11 @@ module _ (key : Key) (tables : Tables) (row earlier : View) (place : ℕ)
       none-some earlier (sym (ap (option_and_then (λ (n : ℕ). row_at n tables.views)) none)
       ∙ sym previous)
 
-  not_below : (blocks : ℕ) (minimum : Version)
-      → ¬ IsPreviousBelow key (table_shape blocks tables) minimum
-  not_below blocks minimum below =
+  not_below : (room : Room) (minimum : Version)
+      → ¬ IsPreviousBelow key (table_shape room tables) minimum
+  not_below room minimum below =
       free minimum below.0 (subst (λ (o : Option Version). IsSomeAnd o (λ v. IsBelow v minimum))
-      (is_previous blocks) below.1)
+      (is_previous room) below.1)
 
   fits_back : FitsRollback tables place
   fits_back = record {
@@ -68,7 +69,7 @@ module _ (key : Key) (tables : Tables) (row earlier : View) (place : ℕ)
   pub goes_back : IsGoingBack key tables
       (record { app = place; version = earlier.deployment.identity.version })
   goes_back = record {
-    passes = λ now blocks. (installed, (has_previous, (not_below blocks, tt)));
+    passes = λ now room. (installed, (has_previous, (not_below room, tt)));
     app = placed;
     fits = fits_back;
     have = row.deployment.identity.version;

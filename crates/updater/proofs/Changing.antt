@@ -1,5 +1,6 @@
 -- Changes of the tables lead from one valid store that they show to another.
 use Rattle.std.proofs.Common.{◌≡◌, ◌≤◌, ◌<◌, ◌-◌, ◌^◌, min, ℕ, List, None, length, map, sym, ap, subst, arith}
+use Rattle.small_types.specs.declared.room.Room.{Room}
 use Rattle.small_types.specs.declared.limits.TheConstants.{APPLICATION_LIMIT, BLOCK_LIMIT, NUMBER_LIMIT}
 use Rattle.identity.specs.declared.key.Key.{Key}
 use Rattle.identity.specs.declared.version.Version.{Version}
@@ -18,35 +19,37 @@ use Rattle.store_state.specs.Shows.{Shows}
 use Rattle.store_state.specs.Tables.{Tables, bare_row, empty}
 use Rattle.store_state.proofs.Showing.{shape_shown, shows_booted, shows_required}
 use Rattle.store_state.proofs.Validity.{loaded_ordered}
+use Rattle.install_plan.specs.Leading.{LeadsIn}
 use Rattle.updater.specs.Keeps.{Leads}
 use Rattle.updater.specs.Stands.{Loads}
 use Rattle.updater.proofs.Loading.{changes_in, loads_replays}
 
-module _ {blocks : ℕ} {tables : Tables} {image : List ℕ} {store : Store} (shows : Shows blocks tables image store) where
+module _ {room : Room} {tables : Tables} {image : List ℕ} {store : Store} (shows : Shows room tables image store) where
   pub apps_shown : store.apps ≡ tables.apps
   apps_shown = ap (λ (s : Shape). s.apps) (shape_shown shows)
 
   pub boot_shown : store.boot ≡ tables.boot
   boot_shown = ap (λ (s : Shape). s.boot) (shape_shown shows)
 
-  pub blocks_shown : store.blocks ≡ blocks
-  blocks_shown = ap (λ (s : Shape). s.blocks) (shape_shown shows)
+  pub blocks_shown : store.room ≡ room
+  blocks_shown = ap (λ (s : Shape). s.room) (shape_shown shows)
 
   pub views_shown : map bare_view store.views ≡ map bare_row tables.views
   views_shown = ap (λ (s : Shape). s.views) (shape_shown shows)
 
 -- the blocks in use of a valid store are a number that the code can hold
-pub used_shown : (blocks : ℕ) (tables : Tables) (image : List ℕ) (store : Store) (used : ℕ) → Shows blocks tables image store → Valid store → used ≡ min (used_blocks (map bare_row tables.views)) (2 ^ 64 - 1) → used ≡ used_blocks (map bare_view store.views)
-used_shown blocks tables image store used shows valid is =
+pub used_shown : (room : Room) (tables : Tables) (image : List ℕ) (store : Store) (used : ℕ) → Shows room tables image store → Valid store → used ≡ min (used_blocks (map bare_row tables.views)) (2 ^ 64 - 1) → used ≡ used_blocks (map bare_view store.views)
+used_shown room tables image store used shows valid is =
     let views : used_blocks (map bare_view store.views) ≡ used_blocks (map bare_row tables.views) = ap used_blocks (views_shown shows) in
     let room = valid.room in
     let few = valid.ordered.few_blocks in
     omega arith
 
 -- a boot number leads on from the store that is shown
-pub booted_leads : (blocks : ℕ) (tables : Tables) (image : List ℕ) (store : Store) (boot : ℕ) → Shows blocks tables image store → boot ≤ NUMBER_LIMIT → Valid store → Leads (Boot boot) tables store (booted boot store)
-booted_leads blocks tables image store boot shows few valid = record {
-  shows = λ after. subst (λ (n : ℕ). Shows n (effect (Boot boot) tables) after (booted boot store)) (sym (blocks_shown shows)) (shows_booted after boot shows);
+pub booted_leads : (room : Room) (tables : Tables) (image : List ℕ) (store : Store) (boot : ℕ) → Shows room tables image store → boot ≤ NUMBER_LIMIT → Valid store → Leads (Boot boot) tables store (booted boot store)
+booted_leads room tables image store boot shows few valid = record {
+  shows = subst (λ (n : Room). LeadsIn n (Boot boot) tables store (booted boot store)) (sym (blocks_shown shows))
+      (λ first after had same held. shows_booted after boot same had);
   valid = booted_valid boot store few valid;
 }
 
@@ -54,15 +57,16 @@ room_is : (key : Key) (apps : List AppState) → (entry_of key apps ≡ None →
 room_is key apps room = λ full. (let few = room full.0 in let many = full.1 in absurd (omega arith))
 
 -- so does a requirement that fits
-pub required_leads : (blocks : ℕ) (tables : Tables) (image : List ℕ) (store : Store) (key : Key) (version : Version) → Shows blocks tables image store → Fits tables (Require key version) → Valid store → Leads (Require key version) tables store (record store { apps = required key version store.apps })
-required_leads blocks tables image store key version shows fits valid =
+pub required_leads : (room : Room) (tables : Tables) (image : List ℕ) (store : Store) (key : Key) (version : Version) → Shows room tables image store → Fits tables (Require key version) → Valid store → Leads (Require key version) tables store (record store { apps = required key version store.apps })
+required_leads room tables image store key version shows fits valid =
     let room = subst (λ (apps : List AppState). entry_of key apps ≡ None → length apps < APPLICATION_LIMIT) (sym (apps_shown shows)) fits.2 in
     record {
-      shows = λ after. subst (λ (n : ℕ). Shows n (effect (Require key version) tables) after (record store { apps = required key version store.apps })) (sym (blocks_shown shows)) (shows_required after key version shows);
+      shows = subst (λ (n : Room). LeadsIn n (Require key version) tables store (record store { apps = required key version store.apps })) (sym (blocks_shown shows))
+          (λ first after had same held. shows_required after key version same had);
       valid = required_valid key version store fits.0 fits.1 (room_is key store.apps room) valid;
     }
 
 -- the tables that a journal's changes lead to show a store
-pub journal_shown : (blocks : ℕ) (image : List ℕ) (tables : Tables) (texts : List (List ℕ)) → 1 ≤ blocks → blocks ≤ BLOCK_LIMIT → Loads empty texts tables → ShowsOrdered blocks tables image
-journal_shown blocks image tables texts some few loads =
-    loaded_ordered blocks (changes_in empty tables texts loads) tables image some few (loads_replays empty tables texts loads)
+pub journal_shown : (room : Room) (image : List ℕ) (tables : Tables) (texts : List (List ℕ)) → 1 ≤ room.blocks → room.blocks ≤ BLOCK_LIMIT → Loads empty texts tables → ShowsOrdered room tables image
+journal_shown room image tables texts some few loads =
+    loaded_ordered room (changes_in empty tables texts loads) tables image some few (loads_replays empty tables texts loads)

@@ -1,5 +1,6 @@
 -- How checks end.
 use Rattle.std.proofs.Common.{◌≡◌, ◌≤◌, ℕ, List, Some, Result, Ok, inl, refl, sym, subst}
+use Rattle.small_types.specs.declared.room.Room.{Room}
 use Rattle.small_types.specs.declared.limits.TheConstants.{NUMBER_LIMIT}
 use Rattle.outside.specs.declared.failed.Failed.{Failed}
 use Rattle.disks.specs.declared.disk.Disk.{Ghosts}
@@ -20,6 +21,7 @@ use Rattle.store_state.specs.declared.change.Change.{Change}
 use Rattle.store_state.specs.Change.{effect}
 use Rattle.store_state.specs.Shows.{Shows}
 use Rattle.install_plan.specs.Checks.{CheckStep, IsCheckOver, IsCheckReady, LedBy}
+use Rattle.install_plan.specs.Leading.{LeadsIn}
 use Rattle.updater.specs.declared.fault.StepFault.{StepFault}
 use Rattle.updater.specs.declared.updater.Updater.{Updater}
 use Rattle.updater.specs.Answer.{IsAnswer}
@@ -49,9 +51,9 @@ module _ (now : ℕ) (key : Key) (heard : List (List ℕ)) (before after : Links
     leads_by : (old : Session) (s : Shown image (Check key) updater old)
         → Leads change (tables_of updater) old.store (step_of old s).new.store
     leads_by old s = let step = step_of old s in record {
-      shows = λ later. subst
-          (λ (n : ℕ). Shows n (effect change (tables_of updater)) later step.new.store) s.blocks
-          (step.leaves.shows later);
+      shows = subst
+          (λ (n : Room). LeadsIn n change (tables_of updater) old.store step.new.store) s.room
+          step.leaves.leads;
       valid = step_valid now old (Line (Check key) now (record { texts = heard })) (Some reply)
           step.new (is_key, moment)
           (record {

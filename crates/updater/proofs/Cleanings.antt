@@ -2,6 +2,7 @@
 use Rattle.std.proofs.Common.{◌≡◌, ◌≢◌, ◌≤◌, ◌<◌, ◌+◌, ◌∙◌, ℕ, Bool, true, false, cond, not, List, [], ◌∷◌, length, Some, refl, sym, ap, subst, arith}
 use Rattle.std.specs.Prelude.{filter}
 use Rattle.std.proofs.lemmas.List.Filters.{length-filter_both}
+use Rattle.small_types.specs.declared.room.Room.{Room}
 use Rattle.small_types.specs.declared.limits.TheConstants.{NUMBER_LIMIT}
 use Rattle.machine.specs.declared.command.Command.TheVariants as command
 use Rattle.machine.specs.declared.event.Event.TheVariants.{Line}
@@ -22,6 +23,7 @@ use Rattle.store_state.specs.Tables.{Tables, table_shape}
 use Rattle.store_state.proofs.Cleaning.{cleans_shown}
 use Rattle.store_state.proofs.Showing.{shape_shown}
 use Rattle.links.specs.Links.{LinksState}
+use Rattle.install_plan.specs.Leading.{LeadsIn}
 use Rattle.updater.specs.Keeps.{Leads}
 use Rattle.updater.proofs.Commanding.{Does, Rests, effect_answers}
 
@@ -45,10 +47,10 @@ filter_whole {X} p (x ∷ xs) same = by (p x) refl (filter_whole p xs)
         let gone = ap (λ (c : Bool). cond c (x ∷ filter p xs) (filter p xs)) is in
         absurd (omega (arith, ap length gone, same, within))
 
-module _ (now blocks : ℕ) (tables : Tables) (image : List ℕ) (before after : LinksState)
-    (old : Session) (shows : Shows blocks tables image old.store) (valid : Valid old.store)
+module _ (now : ℕ) (room : Room) (tables : Tables) (image : List ℕ) (before after : LinksState)
+    (old : Session) (shows : Shows room tables image old.store) (valid : Valid old.store)
     (moment : now ≤ NUMBER_LIMIT) (views : ℕ)
-    (is : views ≡ length (removable (table_shape blocks tables))) where
+    (is : views ≡ length (removable (table_shape room tables))) where
   abbrev new : Session
   new = record old { store = cleaned old.store }
 
@@ -56,7 +58,7 @@ module _ (now blocks : ℕ) (tables : Tables) (image : List ℕ) (before after :
   gone = is ∙ sym (ap (λ (s : Shape). length (removable s)) (shape_shown shows))
 
   step : Answers now [] old command.Clean (says.Cleaned views) new
-  step = effect_answers now [] blocks tables old (shape_shown shows) command.Clean
+  step = effect_answers now [] room tables old (shape_shown shows) command.Clean
       (says.Cleaned views) new tt (ap says.Cleaned gone, refl)
 
   -- where no view goes the store stays as it was
@@ -73,9 +75,9 @@ module _ (now blocks : ℕ) (tables : Tables) (image : List ℕ) (before after :
 
   leads : Leads change.Clean tables old.store new.store
   leads = record {
-    shows = λ later. subst (λ (n : ℕ). Shows n (effect change.Clean tables) later new.store)
-        (sym (ap (λ (s : Store). s.blocks) shows.is))
-        (cleans_shown blocks tables image later old.store shows);
+    shows = subst (λ (n : Room). LeadsIn n change.Clean tables old.store new.store)
+        (sym (ap (λ (s : Store). s.room) shows.is))
+        (λ first later had same held. cleans_shown room tables first later old.store had same);
     valid = step_valid now old (Line command.Clean now (record { texts = [] }))
         (Some (says.Cleaned views)) new (tt, moment)
         (record {

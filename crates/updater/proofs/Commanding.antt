@@ -1,5 +1,6 @@
 -- How commands end.
 use Rattle.std.proofs.Common.{◌≡◌, ◌≢◌, ◌≤◌, ℕ, List, [], Some, Result, Ok, Err, inl, inr, refl, sym, subst, arith}
+use Rattle.small_types.specs.declared.room.Room.{Room}
 use Rattle.small_types.specs.declared.limits.TheConstants.{NUMBER_LIMIT}
 use Rattle.outside.specs.declared.failed.Failed.{Failed}
 use Rattle.disks.specs.declared.disk.Disk.{Ghosts}
@@ -91,19 +92,19 @@ unlinked net command updater links = record {
 pub record Shown (image : List ℕ) (command : Command) (updater : Updater) (old : Session) : Type 0 where
   pub shape : shape_of old.store ≡ table_shape (room_of updater) (tables_of updater)
   pub shows : Shows (room_of updater) (tables_of updater) image old.store
-  pub blocks : room_of updater ≡ old.store.blocks
+  pub room : room_of updater ≡ old.store.room
   pub valid : Valid old.store
   pub sound : SoundFor command old.store
 
 -- ---- answers
 
-module _ (now : ℕ) (heard : List (List ℕ)) (blocks : ℕ) (tables : Tables) (old : Session) (shape : shape_of old.store ≡ table_shape blocks tables) (command : Command) where
+module _ (now : ℕ) (heard : List (List ℕ)) (room : Room) (tables : Tables) (old : Session) (shape : shape_of old.store ≡ table_shape room tables) (command : Command) where
   -- a refusal that the tables give is one of the session
-  pub refused_answers : (reply : Reply) (new : Session) → Refuses (refusals now heard (table_shape blocks tables) command) old reply new → Answers now heard old command reply new
+  pub refused_answers : (reply : Reply) (new : Session) → Refuses (refusals now heard (table_shape room tables) command) old reply new → Answers now heard old command reply new
   refused_answers reply new refuses = inl (inr (tt, subst (λ (s : Shape). Refuses (refusals now heard s command) old reply new) (sym shape) refuses))
 
   -- the effect, once the tables pass all refusals
-  pub effect_answers : (reply : Reply) (new : Session) → PassesAll (refusals now heard (table_shape blocks tables) command) → effect now heard command old reply new → Answers now heard old command reply new
+  pub effect_answers : (reply : Reply) (new : Session) → PassesAll (refusals now heard (table_shape room tables) command) → effect now heard command old reply new → Answers now heard old command reply new
   effect_answers reply new passes done = inr ((tt, subst (λ (s : Shape). PassesAll (refusals now heard s command)) (sym shape) passes), done)
 
 ok_no_fault : {T : Type 0} (done : T) → ◌≢◌ {A = Result T StepFault} (Ok done) (Err DiskFault)
@@ -113,8 +114,8 @@ module _ {D L : Type 0} (on : Ghosts D) (net : LinksGhosts L) (now : ℕ) (heard
     (seen_left : on.left_at disk (on.moment disk) (on.seen disk)) (moment : now ≤ NUMBER_LIMIT) (linked : Linked net heard command updater links_old links_new) where
   shown : (old : Session) → Holds on updater disk old.store → SoundFor command old.store → Shown (on.seen disk) command updater old
   shown old holds sound =
-      let shows = subst (λ (n : ℕ). Shows n (tables_of updater) (on.seen disk) old.store) (sym holds.blocks) (holds.shows (on.seen disk) seen_left) in
-      record { shape = shape_shown shows; shows = shows; blocks = holds.blocks; valid = holds.valid; sound = sound }
+      let shows = subst (λ (n : Room). Shows n (tables_of updater) (on.seen disk) old.store) (sym holds.room) (holds.shows (on.seen disk) seen_left) in
+      record { shape = shape_shown shows; shows = shows; room = holds.room; valid = holds.valid; sound = sound }
 
   heard_by : (old : Session) → Shown (on.seen disk) command updater old → Hears (shape_of old.store) command heard
   heard_by old s = subst (λ (shape : Shape). Hears shape command heard) (sym s.shape) linked.hears

@@ -8,6 +8,7 @@ use Rattle.std.proofs.lemmas.Bool.{cond-false}
 use Rattle.std.proofs.lemmas.Cmp.{tied_itself}
 use Rattle.std.proofs.lemmas.Option.{none-some, same_Some}
 use Rattle.std.proofs.lemmas.Slice.Eq.{bytes_eq-Decides}
+use Rattle.small_types.specs.declared.room.Room.{Room}
 use Rattle.small_types.specs.declared.limits.TheConstants.{NUMBER_LIMIT, PIECE_LIMIT}
 use Rattle.small_types.specs.Name.{IsName}
 use Rattle.identity.specs.Printed.{text_cmp}
@@ -37,10 +38,12 @@ use Rattle.store_state.specs.Change.{effect}
 use Rattle.store_state.specs.Laws.{PutsShowTheFile}
 use Rattle.store_state.specs.Locals.{local_named}
 use Rattle.store_state.specs.Shows.{Shows, shown_data, shown_view}
+use Rattle.store_state.specs.Stored.{data_bytes}
 use Rattle.store_state.specs.Tables.{Tables}
 use Rattle.store_state.proofs.Showing.{shape_shown}
 use Rattle.record_codec.specs.Values.{IsLocal}
 use Rattle.links.specs.Links.{LinksState}
+use Rattle.install_plan.specs.Leading.{LeadsIn}
 use Rattle.updater.specs.declared.putting.Putting.{Putting}
 use Rattle.updater.specs.DataFiles.{bytes_named}
 use Rattle.updater.specs.Keeps.{Leads}
@@ -132,23 +135,24 @@ view_stays number f (view ∷ views) same =
 
 -- ---- bytes in the tables and in the store
 
-bytes_shown : (name bytes : List ℕ) (o : Option LocalFile)
-    → option_map shown_data o ≡ Some (record { name = name; bytes = bytes })
-    → option_map (λ (file : LocalFile). file.bytes) o ≡ Some bytes
-bytes_shown name bytes None is = absurd (none-some _ is)
-bytes_shown name bytes (Some file) is =
+bytes_shown : (room : Room) (image name bytes : List ℕ) (o : Option LocalFile)
+    → option_map (shown_data room image) o ≡ Some (record { name = name; bytes = bytes })
+    → option_map (data_bytes room image) o ≡ Some bytes
+bytes_shown room image name bytes None is = absurd (none-some _ is)
+bytes_shown room image name bytes (Some file) is =
     ap (λ (p : Option DataFile). option_map (λ (d : DataFile). d.bytes) p) is
 
-shown_bytes : (name bytes : List ℕ) (files : List LocalFile) (o : Option LocalFile)
-    → local_named name files ≡ o → option_map (λ (file : LocalFile). file.bytes) o ≡ Some bytes
-    → option_map shown_data o
+shown_bytes : (room : Room) (image name bytes : List ℕ) (files : List LocalFile)
+    (o : Option LocalFile) → local_named name files ≡ o
+    → option_map (data_bytes room image) o ≡ Some bytes
+    → option_map (shown_data room image) o
     ≡ Some (record { name = name; bytes = bytes })
-shown_bytes name bytes files None at is = absurd (none-some _ is)
-shown_bytes name bytes files (Some file) at is =
+shown_bytes room image name bytes files None at is = absurd (none-some _ is)
+shown_bytes room image name bytes files (Some file) at is =
     let there = find_in (λ (f : LocalFile). bytes_eq f.name name) files file at in
     let same = (bytes_eq-Decides file.name name).0 there.1 in
-    let own = same_Some file.bytes bytes is in
-    ap (λ (n : List ℕ). Some (record { name = n; bytes = file.bytes })) same
+    let own = same_Some (data_bytes room image file) bytes is in
+    ap (λ (n : List ℕ). Some (record { name = n; bytes = data_bytes room image file })) same
     ∙ ap (λ (b : List ℕ). Some (record { name = name; bytes = b })) own
 
 -- such a file has an encoding
@@ -159,26 +163,27 @@ file_encodes name bytes file named few is =
 
 -- ---- steps
 
-module _ (now lease blocks : ℕ) (name bytes : List ℕ) (tables : Tables) (image : List ℕ)
-    (before after : LinksState) (old : Session) (shows : Shows blocks tables image old.store)
+module _ (now lease : ℕ) (room : Room) (name bytes : List ℕ) (tables : Tables) (image : List ℕ)
+    (before after : LinksState) (old : Session) (shows : Shows room tables image old.store)
     (valid : Valid old.store)
     (words : (lease ≤ NUMBER_LIMIT) × IsName name × (length bytes ≤ PIECE_LIMIT))
     (moment : now ≤ NUMBER_LIMIT) (putting : Putting)
-    (of : IsPutting blocks lease name bytes tables putting) where
+    (of : IsPutting room image lease name bytes tables putting) where
   abbrev file : DataFile
   file = record { name = name; bytes = bytes }
 
   abbrev shown : KeptView
-  shown = shown_view tables.contents of.row
+  shown = shown_view room image tables.contents of.row
 
   abbrev new : Session
   new = record old { store = put_in of.row.number file old.store }
 
   found : leased_view lease old.store ≡ Some shown
-  found = leased_shown shows lease ∙ ap (option_map (shown_view tables.contents)) of.leased
+  found = leased_shown shows lease
+      ∙ ap (option_map (shown_view room image tables.contents)) of.leased
 
   step : Answers now [] old (command.Put lease name bytes) says.Put new
-  step = effect_answers now [] blocks tables old (shape_shown shows) (command.Put lease name bytes)
+  step = effect_answers now [] room tables old (shape_shown shows) (command.Put lease name bytes)
       says.Put new of.passes
       (record { view = shown; leased = found; replied = refl; is = refl })
 
@@ -188,8 +193,8 @@ module _ (now lease blocks : ℕ) (name bytes : List ℕ) (tables : Tables) (ima
       let view = leased_valid lease old.store shown valid.ordered found in
       ap (λ (files : List DataFile). record shown { data_files = files })
       (file_stays file shown.data_files view.data_order
-      (shown_named name of.row.locals
-      ∙ shown_bytes name bytes of.row.locals (local_named name of.row.locals) refl
+      (shown_named room image name of.row.locals
+      ∙ shown_bytes room image name bytes of.row.locals (local_named name of.row.locals) refl
       (of.stands stands)))
 
   same_views : putting.stands ≡ true
@@ -214,21 +219,20 @@ module _ (now lease blocks : ℕ) (name bytes : List ℕ) (tables : Tables) (ima
 
   module _ (made : LocalFile) (is : made ≡ file_of name bytes) (puts : PutsShowTheFile)
       (there : PutsAreThere) where
-    shows_put : (later : List ℕ)
-        → Shows blocks (effect (change.Put of.row.number (file_of name bytes)) tables) later
+    shows_put : LeadsIn room (change.Put of.row.number (file_of name bytes)) tables old.store
         new.store
-    shows_put later =
-        puts blocks tables of.row.number (file_of name bytes) image later old.store shows refl
+    shows_put first later had same held =
+        puts room tables of.row.number (file_of name bytes) first later old.store had same held
 
     leads : Leads (change.Put putting.view made) tables old.store new.store
     leads = record {
-      shows = λ later. subst
-          (λ (n : ℕ). Shows n (effect (change.Put putting.view made) tables) later new.store)
-          (sym (ap (λ (s : Store). s.blocks) shows.is))
-          (subst (λ (f : LocalFile). Shows blocks (effect (change.Put putting.view f) tables) later
+      shows = subst
+          (λ (n : Room). LeadsIn n (change.Put putting.view made) tables old.store new.store)
+          (sym (ap (λ (s : Store). s.room) shows.is))
+          (subst (λ (f : LocalFile). LeadsIn room (change.Put putting.view f) tables old.store
           new.store) (sym is)
-          (subst (λ (n : ℕ). Shows blocks (effect (change.Put n (file_of name bytes)) tables) later
-          new.store) (sym of.view) (shows_put later)));
+          (subst (λ (n : ℕ). LeadsIn room (change.Put n (file_of name bytes)) tables old.store
+          new.store) (sym of.view) shows_put));
       valid = step_valid now old (Line (command.Put lease name bytes) now (record { texts = [] }))
           (Some says.Put) new (words, moment)
           (record {
@@ -248,7 +252,7 @@ module _ (now lease blocks : ℕ) (name bytes : List ℕ) (tables : Tables) (ima
       step = step;
       leads = leads;
       other = λ same. of.other differs
-          (bytes_shown name bytes (local_named name of.row.locals)
+          (bytes_shown room image name bytes (local_named name of.row.locals)
           (still_named shows lease name (Some file) of.row of.leased
           (there now [] old lease name bytes new valid step) same));
       served = tt;

@@ -1,6 +1,7 @@
 -- A skip: the step that it is, and the change that it makes.
 use Rattle.std.proofs.Common.{◌≡◌, ◌≢◌, ◌≤◌, ◌∙◌, ℕ, true, false, List, [], Option, Some, refl, sym, ap, subst}
 use Rattle.std.specs.Prelude.{option_and_then}
+use Rattle.small_types.specs.declared.room.Room.{Room}
 use Rattle.small_types.specs.declared.limits.TheConstants.{NUMBER_LIMIT}
 use Rattle.identity.specs.declared.key.Key.{Key}
 use Rattle.identity.specs.Key.{IsKey}
@@ -25,6 +26,7 @@ use Rattle.store_state.proofs.Checking.{shows_skipped}
 use Rattle.store_state.proofs.Showing.{shape_shown}
 use Rattle.links.specs.Links.{LinksState}
 use Rattle.install_plan.proofs.Entry.{entry_same, entry_stays}
+use Rattle.install_plan.specs.Leading.{LeadsIn}
 use Rattle.updater.specs.declared.skipping.Skipping.{Skipping}
 use Rattle.updater.specs.Keeps.{Leads}
 use Rattle.updater.specs.Skipping.{IsSkipping}
@@ -33,8 +35,8 @@ use Rattle.updater.proofs.Commanding.{Does, Rests, effect_answers}
 skipped_same : (app : AppState) → app.skipped ≡ app.offer → skipped_app app ≡ app
 skipped_same app is = ap (λ v. record app { skipped = v }) (sym is)
 
-module _ (now : ℕ) (key : Key) (blocks : ℕ) (tables : Tables) (image : List ℕ)
-    (before after : LinksState) (old : Session) (shows : Shows blocks tables image old.store)
+module _ (now : ℕ) (key : Key) (room : Room) (tables : Tables) (image : List ℕ)
+    (before after : LinksState) (old : Session) (shows : Shows room tables image old.store)
     (valid : Valid old.store) (is_key : IsKey key) (moment : now ≤ NUMBER_LIMIT)
     (skipping : Skipping) (is : IsSkipping key now tables skipping) where
   abbrev reply : Reply
@@ -55,8 +57,8 @@ module _ (now : ℕ) (key : Key) (blocks : ℕ) (tables : Tables) (image : List 
   in_order = subst AreInOrder same_apps valid.ordered.order
 
   step : Answers now [] old (command.Skip key) reply new
-  step = effect_answers now [] blocks tables old (shape_shown shows) (command.Skip key) reply new
-      (is.passes blocks) (record {
+  step = effect_answers now [] room tables old (shape_shown shows) (command.Skip key) reply new
+      (is.passes room) (record {
         offer = skipping.offer;
         offered = ap (offer_of key) same_apps ∙ offered;
         replied = refl;
@@ -78,11 +80,12 @@ module _ (now : ℕ) (key : Key) (blocks : ℕ) (tables : Tables) (image : List 
 
   leads : Leads (change.Skip skipping.app) tables old.store new.store
   leads = record {
-    shows = λ later. subst
-        (λ (n : ℕ). Shows n (effect (change.Skip skipping.app) tables) later new.store)
-        (sym (ap (λ (s : Store). s.blocks) shows.is))
-        (shows_skipped blocks tables key skipping.app skipping.offer image later old.store
-        shows in_order is.app offered);
+    shows = subst
+        (λ (n : Room). LeadsIn n (change.Skip skipping.app) tables old.store new.store)
+        (sym (ap (λ (s : Store). s.room) shows.is))
+        (λ first later had same held. shows_skipped room tables key skipping.app skipping.offer
+        first
+        later old.store had same in_order is.app offered);
     valid = step_valid now old (Line (command.Skip key) now (record { texts = [] })) (Some reply)
         new (is_key, moment)
         (record { moment = refl; hears = refl; answer = reply; replied = refl; answers = step })

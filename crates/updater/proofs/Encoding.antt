@@ -45,7 +45,8 @@ use Rattle.store_state.specs.Kept.{AreTables}
 use Rattle.store_state.specs.Rows.{row_at}
 use Rattle.store_state.specs.Tables.{Tables}
 use Rattle.record_codec.specs.Codec.{IsChange}
-use Rattle.record_codec.specs.Values.{AreDigests, IsApplication, IsContent, IsDeployment, IsEntry, IsGroup, IsIdentity, IsInstall, IsLocal, IsRule}
+use Rattle.record_codec.specs.Values.{IsContent, IsGroup, IsInstall, IsLocal}
+use Rattle.record_fields.specs.Values.{AreDigests, IsApplication, IsDeployment, IsEntry, IsIdentity, IsRule}
 use Rattle.install_plan.specs.Checks.{IsOfCheck}
 use Rattle.install_plan.specs.GroupReady.{IsOfGroup}
 use Rattle.install_plan.specs.Ready.{HasFew}
@@ -146,7 +147,7 @@ few_entry e file has = record { size = few_bytes e.local e.size file.size; list 
 few_entries : (entries : List FileEntry) → All facts.IsFile entries → All HasEntry entries → All IsFew entries
 few_entries entries files has = λ k d within. few_entry _ (files k d within) (has k d within)
 
-content_encodes : (e : FileEntry) (c : Content) → is_content_of e c ≡ true → IsFew e → length c.bytes ≡ c.size → IsContent c
+content_encodes : (e : FileEntry) (c : Content) → is_content_of e c ≡ true → IsFew e → length c.held ≡ c.size → IsContent c
 content_encodes e c is few measured =
     let key : content_key e ≡ content_key (record e { size = c.size; list = c.list }) = (content_decides e (record e { size = c.size; list = c.list })).0 is in
     let size : e.size ≡ c.size = ap (λ (k : ContentKey). k.size) key in
@@ -158,15 +159,15 @@ content_encodes e c is few measured =
       bytes = omega arith;
     }
 
-content_among : (entries : List FileEntry) (c : Content) → All IsFew entries → Any (λ entry. is_content_of entry c ≡ true) entries → length c.bytes ≡ c.size → IsContent c
+content_among : (entries : List FileEntry) (c : Content) → All IsFew entries → Any (λ entry. is_content_of entry c ≡ true) entries → length c.held ≡ c.size → IsContent c
 content_among entries c few any measured = content_encodes any.1 c any.4 (All-contains IsFew entries any.1 few (any.0, any.2, any.3)) measured
 
 -- ---- installs
 
-local_encodes : (f : LocalFile) → kept.IsLocal f → length f.bytes < 2 ^ 32 → IsLocal f
+local_encodes : (f : LocalFile) → kept.IsLocal f → length f.held < 2 ^ 32 → IsLocal f
 local_encodes f is few = record { name = is.name; size = let same = is.measured in omega (arith, same, few); bytes = few }
 
-locals_encode : (locals : List LocalFile) → All kept.IsLocal locals → All (λ (f : LocalFile). length f.bytes < 2 ^ 32) locals → All IsLocal locals
+locals_encode : (locals : List LocalFile) → All kept.IsLocal locals → All (λ (f : LocalFile). length f.held < 2 ^ 32) locals → All IsLocal locals
 locals_encode locals are few = λ k d within. local_encodes _ (are k d within) (few k d within)
 
 no_groups : (groups : List (List ℕ)) → groups ≡ [] → All (IsShort NAME_LIMIT) groups

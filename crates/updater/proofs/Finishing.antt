@@ -1,5 +1,6 @@
 -- A finish: the step that it is, and the change that it makes.
 use Rattle.std.proofs.Common.{◌≡◌, ◌≤◌, ◌∙◌, ℕ, List, [], Option, Some, None, IsSome, refl, sym, ap, subst}
+use Rattle.small_types.specs.declared.room.Room.{Room}
 use Rattle.small_types.specs.declared.limits.TheConstants.{NUMBER_LIMIT}
 use Rattle.machine.specs.declared.command.Command.TheVariants as command
 use Rattle.machine.specs.declared.event.Event.TheVariants.{Line}
@@ -9,7 +10,7 @@ use Rattle.machine.specs.FinishRow.{finished}
 use Rattle.machine.specs.Leases.{lease_of}
 use Rattle.machine.specs.Machine.{Answers, refusals}
 use Rattle.machine.specs.Rows.{PassesAll}
-use Rattle.machine.specs.Store.{Session, Store}
+use Rattle.machine.specs.Store.{Session, Store, plain_room}
 use Rattle.machine.specs.Valid.{Valid}
 use Rattle.machine.proofs.Leasing.{lease_gone}
 use Rattle.machine.proofs.Stepping.{step_valid}
@@ -19,36 +20,38 @@ use Rattle.store_state.specs.Shows.{Shows}
 use Rattle.store_state.specs.Tables.{Tables, table_shape}
 use Rattle.store_state.proofs.Showing.{shape_shown, shows_finished}
 use Rattle.links.specs.Links.{LinksState}
+use Rattle.install_plan.specs.Leading.{LeadsIn}
 use Rattle.updater.specs.Keeps.{Leads}
 use Rattle.updater.proofs.Commanding.{Does, effect_answers}
 
 -- it fits where the row's refusal is passed
 pub finished_fits : (tables : Tables) (lease : ℕ)
-    → ((now blocks : ℕ)
-    → PassesAll (refusals now [] (table_shape blocks tables) (command.Finish lease)))
+    → ((now : ℕ) (room : Room)
+    → PassesAll (refusals now [] (table_shape room tables) (command.Finish lease)))
     → Fits tables (change.Finish lease)
-finished_fits tables lease passes = by (lease_of lease tables.leases) (passes 0 0).0
+finished_fits tables lease passes = by (lease_of lease tables.leases) (passes 0 (plain_room 0)).0
   where
     by : (found : Option Lease) → ¬ (found ≡ None) → IsSome found
     by None some = absurd (some refl)
     by (Some found) some = refl
 
-module _ (now lease blocks : ℕ) (tables : Tables) (image : List ℕ) (before after : LinksState)
-    (old : Session) (shows : Shows blocks tables image old.store) (valid : Valid old.store)
+module _ (now lease : ℕ) (room : Room) (tables : Tables) (image : List ℕ) (before after : LinksState)
+    (old : Session) (shows : Shows room tables image old.store) (valid : Valid old.store)
     (few : lease ≤ NUMBER_LIMIT) (moment : now ≤ NUMBER_LIMIT)
-    (passes : PassesAll (refusals now [] (table_shape blocks tables) (command.Finish lease))) where
+    (passes : PassesAll (refusals now [] (table_shape room tables) (command.Finish lease))) where
   abbrev new : Session
   new = record old { store = finished lease old.store }
 
   step : Answers now [] old (command.Finish lease) (says.Finished lease) new
-  step = effect_answers now [] blocks tables old (shape_shown shows) (command.Finish lease)
+  step = effect_answers now [] room tables old (shape_shown shows) (command.Finish lease)
       (says.Finished lease) new passes (refl, refl)
 
   leads : Leads (change.Finish lease) tables old.store new.store
   leads = record {
-    shows = λ later. subst
-        (λ (n : ℕ). Shows n (effect (change.Finish lease) tables) later new.store)
-        (sym (ap (λ (s : Store). s.blocks) shows.is)) (shows_finished later lease shows);
+    shows = subst
+        (λ (n : Room). LeadsIn n (change.Finish lease) tables old.store new.store)
+        (sym (ap (λ (s : Store). s.room) shows.is))
+        (λ first later had same held. shows_finished later lease same had);
     valid = step_valid now old (Line (command.Finish lease) now (record { texts = [] }))
         (Some (says.Finished lease)) new (few, moment)
         (record {

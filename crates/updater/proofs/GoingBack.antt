@@ -1,6 +1,7 @@
 -- A rollback: the step that it is, and the change that it makes.
 use Rattle.std.proofs.Common.{◌≡◌, ◌≢◌, ◌≤◌, ◌∙◌, ℕ, List, [], Option, Some, None, refl, sym, ap, subst}
 use Rattle.std.proofs.lemmas.Option.{none-some}
+use Rattle.small_types.specs.declared.room.Room.{Room}
 use Rattle.small_types.specs.declared.limits.TheConstants.{NUMBER_LIMIT}
 use Rattle.identity.specs.declared.key.Key.{Key}
 use Rattle.identity.specs.Key.{IsKey}
@@ -27,13 +28,14 @@ use Rattle.store_state.proofs.RollingBack.{shows_rolled_back}
 use Rattle.store_state.proofs.Showing.{shape_shown}
 use Rattle.links.specs.Links.{LinksState}
 use Rattle.install_plan.proofs.Entry.{entry_same}
+use Rattle.install_plan.specs.Leading.{LeadsIn}
 use Rattle.updater.specs.declared.going_back.GoingBack.{GoingBack}
 use Rattle.updater.specs.GoingBack.{IsGoingBack}
 use Rattle.updater.specs.Keeps.{Leads}
 use Rattle.updater.proofs.Commanding.{Does, effect_answers}
 
-module _ (now : ℕ) (key : Key) (blocks : ℕ) (tables : Tables) (image : List ℕ)
-    (before after : LinksState) (old : Session) (shows : Shows blocks tables image old.store)
+module _ (now : ℕ) (key : Key) (room : Room) (tables : Tables) (image : List ℕ)
+    (before after : LinksState) (old : Session) (shows : Shows room tables image old.store)
     (valid : Valid old.store) (is_key : IsKey key) (moment : now ≤ NUMBER_LIMIT)
     (going : GoingBack) (is : IsGoingBack key tables going) where
   abbrev reply : Reply
@@ -49,13 +51,13 @@ module _ (now : ℕ) (key : Key) (blocks : ℕ) (tables : Tables) (image : List 
   in_order = subst AreInOrder same_apps valid.ordered.order
 
   earlier : previous_version key (shape_of old.store) ≡ Some going.version
-  earlier = ap (previous_version key) (shape_shown shows) ∙ is.previous blocks
+  earlier = ap (previous_version key) (shape_shown shows) ∙ is.previous room
 
   step : Answers now [] old (command.Rollback key) reply new
-  step = effect_answers now [] blocks tables old (shape_shown shows) (command.Rollback key) reply new
-      (is.passes now blocks) (record {
+  step = effect_answers now [] room tables old (shape_shown shows) (command.Rollback key) reply new
+      (is.passes now room) (record {
         have = is.have;
-        current = ap (current_version key) (shape_shown shows) ∙ is.current blocks;
+        current = ap (current_version key) (shape_shown shows) ∙ is.current room;
         version = going.version;
         previous = earlier;
         replied = refl;
@@ -64,11 +66,12 @@ module _ (now : ℕ) (key : Key) (blocks : ℕ) (tables : Tables) (image : List 
 
   leads : Leads (change.Rollback going.app) tables old.store new.store
   leads = record {
-    shows = λ later. subst
-        (λ (n : ℕ). Shows n (effect (change.Rollback going.app) tables) later new.store)
-        (sym (ap (λ (s : Store). s.blocks) shows.is))
-        (shows_rolled_back blocks tables key going.app is.have image later old.store
-        shows in_order is.app (is.current blocks));
+    shows = subst
+        (λ (n : Room). LeadsIn n (change.Rollback going.app) tables old.store new.store)
+        (sym (ap (λ (s : Store). s.room) shows.is))
+        (λ first later had same held. shows_rolled_back room tables key going.app is.have first
+        later
+        old.store had same in_order is.app (is.current room));
     valid = step_valid now old (Line (command.Rollback key) now (record { texts = [] }))
         (Some reply) new (is_key, moment)
         (record { moment = refl; hears = refl; answer = reply; replied = refl; answers = step })

@@ -1,5 +1,6 @@
 -- How groups end.
 use Rattle.std.proofs.Common.{◌≡◌, ◌≤◌, ℕ, List, [], Some, Result, Ok, inl, refl, sym, subst}
+use Rattle.small_types.specs.declared.room.Room.{Room}
 use Rattle.small_types.specs.declared.limits.TheConstants.{NUMBER_LIMIT}
 use Rattle.outside.specs.declared.failed.Failed.{Failed}
 use Rattle.disks.specs.declared.disk.Disk.{Ghosts}
@@ -19,6 +20,7 @@ use Rattle.store_state.specs.Shows.{Shows}
 use Rattle.install_plan.specs.Checks.{LedBy}
 use Rattle.install_plan.specs.GroupReady.{GroupStep, IsGroupOver, IsGroupReady}
 use Rattle.install_plan.proofs.LeasedRows.{still_brought}
+use Rattle.install_plan.specs.Leading.{LeadsIn}
 use Rattle.updater.specs.declared.fault.StepFault.{StepFault}
 use Rattle.updater.specs.declared.updater.Updater.{Updater}
 use Rattle.updater.specs.Answer.{IsAnswer}
@@ -54,9 +56,9 @@ module _ (now lease : ℕ) (group : List ℕ) (before after : LinksState) (updat
     leads_by : (old : Session) (s : Shown image (Group lease group) updater old)
         → Leads change (tables_of updater) old.store (step_of old s).new.store
     leads_by old s = let step = step_of old s in record {
-      shows = λ later. subst
-          (λ (n : ℕ). Shows n (effect change (tables_of updater)) later step.new.store) s.blocks
-          (step.leaves.shows later);
+      shows = subst
+          (λ (n : Room). LeadsIn n change (tables_of updater) old.store step.new.store) s.room
+          step.leaves.leads;
       valid = step_valid now old (Line (Group lease group) now (record { texts = [] }))
           (Some reply) step.new (words, moment)
           (record {

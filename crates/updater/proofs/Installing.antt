@@ -1,5 +1,6 @@
 -- How installs end.
 use Rattle.std.proofs.Common.{◌≡◌, ◌≢◌, ◌⊎◌, ◌≤◌, ◌+◌, ◌++◌, ◌∷◌, ℕ, List, [], length, length-append, Some, Result, Ok, inl, inr, refl, sym, ap, subst, ◌∙◌, arith}
+use Rattle.small_types.specs.declared.room.Room.{Room}
 use Rattle.small_types.specs.declared.limits.TheConstants.{LOCAL_COUNT_LIMIT, NUMBER_LIMIT}
 use Rattle.outside.specs.declared.failed.Failed.{Failed}
 use Rattle.disks.specs.declared.disk.Disk.{Ghosts}
@@ -25,6 +26,7 @@ use Rattle.install_plan.specs.Brought.{IsBrought}
 use Rattle.install_plan.specs.Hearing.{Served}
 use Rattle.install_plan.specs.Plans.{IsRefused}
 use Rattle.install_plan.specs.Ready.{IsReady, IsStep}
+use Rattle.install_plan.specs.Leading.{LeadsIn}
 use Rattle.updater.specs.declared.fault.StepFault.{StepFault}
 use Rattle.updater.specs.declared.updater.Updater.{Updater}
 use Rattle.updater.specs.Answer.{IsAnswer}
@@ -47,7 +49,7 @@ refused_moment : (now : ℕ) (url : List ℕ) (heard : List (List ℕ)) (shape :
     → (reply ≡ says.Memory) ⊎ ((old : Session) → Refuses (install_refusals install_replies LOCAL_COUNT_LIMIT url heard shape) old reply old) → moment_after now (Some reply) ≤ NUMBER_LIMIT
 refused_moment now url heard shape reply few (inl memory) = subst (λ (r : Reply). moment_after now (Some r) ≤ NUMBER_LIMIT) (sym memory) few
 refused_moment now url heard shape reply few (inr refuses) =
-    let old = session_over (stores.empty 1) in
+    let old = session_over (stores.empty (stores.plain_room 1)) in
     subst (λ (n : ℕ). n ≤ NUMBER_LIMIT) (sym (refusal_moment now url heard shape old reply old (refuses old))) few
 
 -- an install raises the number of the next view
@@ -90,7 +92,7 @@ module _ (now : ℕ) (url : List ℕ) (heard : List (List ℕ)) (before after : 
 
     leads_by : (old : Session) (s : Shown image (Install url) updater old) → Leads change (tables_of updater) old.store (step_of old s).new.store
     leads_by old s = let step = step_of old s in record {
-      shows = λ later. subst (λ (n : ℕ). Shows n (effect change (tables_of updater)) later step.new.store) s.blocks (step.shows later);
+      shows = subst (λ (n : Room). LeadsIn n change (tables_of updater) old.store step.new.store) s.room step.leads;
       valid = left_valid (record { few = omega arith; moment = moment; passes = passes_by old s; effect = step.installs }) s.valid;
     }
 

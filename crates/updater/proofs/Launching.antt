@@ -1,6 +1,7 @@
 -- A launch: the step that it is, and the change that it makes.
 use Rattle.std.proofs.Common.{◌≡◌, ◌≤◌, ◌+◌, ◌∙◌, ℕ, List, [], Option, Some, refl, sym, ap, subst, arith}
 use Rattle.std.specs.Prelude.{option_and_then, option_map}
+use Rattle.small_types.specs.declared.room.Room.{Room}
 use Rattle.small_types.specs.declared.limits.TheConstants.{NUMBER_LIMIT}
 use Rattle.identity.specs.declared.key.Key.{Key}
 use Rattle.identity.specs.declared.version.Version.{Version}
@@ -29,17 +30,18 @@ use Rattle.store_state.specs.Tables.{Tables}
 use Rattle.store_state.proofs.Showing.{shape_shown, shows_launched}
 use Rattle.links.specs.Links.{LinksState}
 use Rattle.install_plan.proofs.Currents.{current_shown}
+use Rattle.install_plan.specs.Leading.{LeadsIn}
 use Rattle.updater.specs.declared.start.Start.{Start}
 use Rattle.updater.specs.Keeps.{Leads}
 use Rattle.updater.specs.Start.{IsStart}
 use Rattle.updater.proofs.Commanding.{Does, effect_answers}
 
-module _ (now : ℕ) (key : Key) (blocks : ℕ) (tables : Tables) (image : List ℕ)
-    (before after : LinksState) (old : Session) (shows : Shows blocks tables image old.store)
+module _ (now : ℕ) (key : Key) (room : Room) (tables : Tables) (image : List ℕ)
+    (before after : LinksState) (old : Session) (shows : Shows room tables image old.store)
     (valid : Valid old.store) (is_key : IsKey key) (moment : now ≤ NUMBER_LIMIT)
     (start : Start) (is : IsStart key now tables start) where
   abbrev view : KeptView
-  view = shown_view tables.contents is.row
+  view = shown_view room image tables.contents is.row
 
   abbrev reply : Reply
   reply = says.Lease start.lease start.version start.check_due
@@ -48,25 +50,26 @@ module _ (now : ℕ) (key : Key) (blocks : ℕ) (tables : Tables) (image : List 
   new = record old { store = launched key is.row.number old.store }
 
   is_current : current_view key old.store ≡ Some view
-  is_current = current_shown shows key ∙ ap (option_map (shown_view tables.contents)) is.current
+  is_current = current_shown shows key
+      ∙ ap (option_map (shown_view room image tables.contents)) is.current
 
   next_shown : old.store.next_lease ≡ tables.next_lease
   next_shown = ap (λ (s : Store). s.next_lease) shows.is
 
-  blocks_shown : old.store.blocks ≡ blocks
-  blocks_shown = ap (λ (s : Store). s.blocks) shows.is
+  blocks_shown : old.store.room ≡ room
+  blocks_shown = ap (λ (s : Store). s.room) shows.is
 
   in_order : AreInOrder tables.apps
   in_order = subst (λ (s : Store). AreInOrder s.apps) shows.is valid.ordered.order
 
   step : Answers now [] old (command.Launch key) reply new
-  step = effect_answers now [] blocks tables old (shape_shown shows) (command.Launch key) reply new
-      (is.passes blocks) (record {
+  step = effect_answers now [] room tables old (shape_shown shows) (command.Launch key) reply new
+      (is.passes room) (record {
         view = view;
         current = is_current;
         check_due = start.check_due;
         clear = subst (λ (s : Shape). due key s now ≡ Some (Clear start.check_due))
-            (sym (shape_shown shows)) (is.clear blocks);
+            (sym (shape_shown shows)) (is.clear room);
         replied =
             ap (λ (n : ℕ). says.Lease n start.version start.check_due) (is.lease ∙ sym next_shown)
             ∙ ap (λ (v : Version). says.Lease old.store.next_lease v start.check_due) is.version;
@@ -83,11 +86,11 @@ module _ (now : ℕ) (key : Key) (blocks : ℕ) (tables : Tables) (image : List 
 
   leads : Leads (change.Launch start.app) tables old.store new.store
   leads = record {
-    shows = λ later. subst
-        (λ (n : ℕ). Shows n (effect (change.Launch start.app) tables) later new.store)
+    shows = subst
+        (λ (n : Room). LeadsIn n (change.Launch start.app) tables old.store new.store)
         (sym blocks_shown)
-        (shows_launched blocks tables key start.app is.row.number image later old.store
-        shows in_order is.app number_is);
+        (λ first later had same held. shows_launched room tables key start.app is.row.number first
+        later old.store had same in_order is.app number_is);
     valid = step_valid now old (Line (command.Launch key) now (record { texts = [] })) (Some reply)
         new (is_key, moment)
         (record { moment = refl; hears = refl; answer = reply; replied = refl; answers = step })

@@ -1,6 +1,7 @@
 -- The file that is read on a lease.
-use Rattle.std.proofs.Common.{◌≡◌, ◌∙◌, ℕ, List, [], length, map, Option, Some, None, IsSome, inl, inr, refl, sym, ap, subst}
-use Rattle.std.specs.Prelude.{bytes_eq, option_and_then, option_map}
+use Rattle.std.proofs.Common.{◌≡◌, ◌∙◌, ℕ, List, [], length, map, Bool, false, Option, Some, None, IsSome, inl, inr, refl, sym, ap, subst}
+use Rattle.std.specs.Prelude.{bytes_eq, is_some, option_and_then, option_map}
+use Rattle.small_types.specs.declared.room.Room.{Room}
 use Rattle.manifests.specs.declared.facts.FileEntry.{FileEntry}
 use Rattle.machine.specs.declared.command.Command.TheVariants as command
 use Rattle.machine.specs.declared.lease.Lease.{Lease}
@@ -16,21 +17,30 @@ use Rattle.machine.proofs.Finding.{find-map}
 use Rattle.store_state.specs.declared.view.Content.{Content}
 use Rattle.store_state.specs.declared.view.View.{View}
 use Rattle.store_state.specs.Contents.{content_of}
-use Rattle.store_state.specs.Named.{file_at, named_in}
+use Rattle.store_state.specs.Kept.{AreTables}
+use Rattle.store_state.specs.Named.{content_at, named_at, named_in}
 use Rattle.store_state.specs.Rows.{leased_row, row_at}
 use Rattle.store_state.specs.Shows.{Shows, bytes_in, shown_file, shown_view}
+use Rattle.store_state.specs.Stored.{content_bytes}
 use Rattle.store_state.specs.Tables.{Tables, bare_row, table_shape}
+use Rattle.store_state.proofs.ContentsNamed.{contents_named}
 use Rattle.store_state.proofs.Showing.{shape_shown}
 use Rattle.links.specs.Links.{LinksState}
 use Rattle.updater.specs.Leased.{IsLeasedFile, KeepsView}
 use Rattle.updater.proofs.Commanding.{Rests, effect_answers}
 use Rattle.updater.proofs.ShownViews.{leased_bare_row, leased_shown}
 
-file_shown : (contents : List Content) (name : List ℕ) (entries : List FileEntry)
-    → file_named name (map (shown_file contents) entries)
-    ≡ option_map (shown_file contents) (entry_named name entries)
-file_shown contents name entries =
-    find-map (shown_file contents) (λ (file : ListedFile). bytes_eq file.entry.name name) entries
+file_shown : (room : Room) (image : List ℕ) (contents : List Content) (name : List ℕ)
+    (entries : List FileEntry)
+    → file_named name (map (shown_file room image contents) entries)
+    ≡ option_map (shown_file room image contents) (entry_named name entries)
+file_shown room image contents name entries =
+    find-map (shown_file room image contents) (λ (file : ListedFile). bytes_eq file.entry.name name)
+    entries
+
+none_of : {X : Type 0} (o : Option X) → is_some o ≡ false → o ≡ None
+none_of None is = refl
+none_of (Some x) is = absurd cc
 
 module _ (number : ℕ) (name : List ℕ) (tables : Tables) where
   row_of : (lease : Lease) (row : Option View) → Some lease ≡ lease_of number tables.leases
@@ -39,77 +49,77 @@ module _ (number : ℕ) (name : List ℕ) (tables : Tables) where
       ap (λ (o : Option Lease). option_and_then (λ (l : Lease). row_at l.view tables.views) o)
       (sym found) ∙ is
 
-  abbrev bytes_of : Option FileEntry → Option (List ℕ)
-  bytes_of entry = option_map (λ (e : FileEntry). bytes_in (content_of tables.contents e)) entry
-
-  -- a file that is found is one of the leased view
-  pub file_of : (lease : Lease) (bytes : List ℕ) → Some lease ≡ lease_of number tables.leases
-      → Some bytes ≡ file_at lease.view name tables → IsLeasedFile number name tables bytes
-  file_of lease bytes found is = by (row_at lease.view tables.views) refl is
+  -- a content that is found is that of a file of the leased view
+  pub file_of : (lease : Lease) (content : Content) → Some lease ≡ lease_of number tables.leases
+      → Some content ≡ content_at lease.view name tables
+      → IsLeasedFile number name tables content
+  file_of lease content found is = by (row_at lease.view tables.views) refl is
     where
       in_row : (row : View) (entry : Option FileEntry) → row_at lease.view tables.views ≡ Some row
-          → named_in name row ≡ entry → Some bytes ≡ bytes_of entry
-          → IsLeasedFile number name tables bytes
+          → named_in name row ≡ entry
+          → Some content ≡ option_and_then (content_of tables.contents) entry
+          → IsLeasedFile number name tables content
       in_row row None at named is = absurd cc
       in_row row (Some entry) at named is = record {
         row = row;
         leased = row_of lease (Some row) found at;
         entry = entry;
         named = named;
-        is = cc;
+        is = sym is;
       }
 
       by : (row : Option View) → row_at lease.view tables.views ≡ row
-          → Some bytes ≡ bytes_of (option_and_then (named_in name) row)
-          → IsLeasedFile number name tables bytes
+          → Some content
+          ≡ option_and_then (content_of tables.contents) (option_and_then (named_in name) row)
+          → IsLeasedFile number name tables content
       by None at is = absurd cc
       by (Some row) at is = in_row row (named_in name row) at refl is
 
   -- ---- refusals
 
-  module _ (now blocks from count : ℕ) (old : Session) where
+  module _ (now : ℕ) (room : Room) (from count : ℕ) (old : Session) where
     pub no_lease : None ≡ lease_of number tables.leases
-        → Refuses (refusals now [] (table_shape blocks tables)
+        → Refuses (refusals now [] (table_shape room tables)
         (command.Read number name from count)) old says.NoLease old
     no_lease none = inl ((sym none, refl), refl)
 
     -- the view is among those of the tables, and has no such file
-    pub no_file : (lease : Lease) → Some lease ≡ lease_of number tables.leases
-        → None ≡ file_at lease.view name tables → KeepsView number tables
-        → Refuses (refusals now [] (table_shape blocks tables)
+    pub no_file : AreTables tables → (lease : Lease) → Some lease ≡ lease_of number tables.leases
+        → None ≡ content_at lease.view name tables → KeepsView number tables
+        → Refuses (refusals now [] (table_shape room tables)
         (command.Read number name from count)) old says.NoFile old
-    no_file lease found none keeps =
-        inr (is_leased, inl ((by (row_at lease.view tables.views) refl none, refl), refl))
+    no_file are lease found none keeps =
+        inr (is_leased, inl ((by (row_at lease.view tables.views) refl unnamed, refl), refl))
       where
         is_leased : ¬ (lease_of number tables.leases ≡ None)
         is_leased other = let clash : Some lease ≡ None = found ∙ other in cc
 
-        lacks : (row : View) (entry : Option FileEntry) → row_at lease.view tables.views ≡ Some row
-            → named_in name row ≡ entry → None ≡ bytes_of entry
-            → LacksFile number name (table_shape blocks tables)
-        lacks row None at named is = (
-          bare_row row,
-          leased_bare_row number blocks tables
-              ∙ ap (option_map bare_row) (row_of lease (Some row) found at),
-          named,
-        )
-        lacks row (Some entry) at named is = absurd cc
+        -- each file has its content
+        unnamed : named_at lease.view name tables ≡ None
+        unnamed =
+            none_of (named_at lease.view name tables)
+            (sym (contents_named tables lease.view name are) ∙ ap is_some (sym none))
 
         by : (row : Option View) → row_at lease.view tables.views ≡ row
-            → None ≡ bytes_of (option_and_then (named_in name) row)
-            → LacksFile number name (table_shape blocks tables)
+            → option_and_then (named_in name) row ≡ None
+            → LacksFile number name (table_shape room tables)
         by None at is =
             absurd (let some : IsSome {T = View} None =
             subst (λ (o : Option View). IsSome o) (row_of lease None found at)
             (keeps (subst (λ (o : Option Lease). IsSome o) found refl)) in cc)
-        by (Some row) at is = lacks row (named_in name row) at refl is
+        by (Some row) at is = (
+          bare_row row,
+          leased_bare_row number room tables
+              ∙ ap (option_map bare_row) (row_of lease (Some row) found at),
+          is,
+        )
 
   -- a file that is found is passed by both
-  file_passes : (now blocks from count : ℕ) (bytes : List ℕ)
-      → IsLeasedFile number name tables bytes
-      → PassesAll (refusals now [] (table_shape blocks tables)
+  file_passes : (now : ℕ) (room : Room) (from count : ℕ) (content : Content)
+      → IsLeasedFile number name tables content
+      → PassesAll (refusals now [] (table_shape room tables)
       (command.Read number name from count))
-  file_passes now blocks from count bytes file = (is_leased, (has_file, tt))
+  file_passes now room from count content file = (is_leased, (has_file, tt))
     where
       is_leased : ¬ (lease_of number tables.leases ≡ None)
       is_leased none =
@@ -117,10 +127,10 @@ module _ (number : ℕ) (name : List ℕ) (tables : Tables) where
           sym (ap (λ (o : Option Lease).
           option_and_then (λ (l : Lease). row_at l.view tables.views) o) none) ∙ file.leased in cc
 
-      has_file : ¬ (LacksFile number name (table_shape blocks tables))
+      has_file : ¬ (LacksFile number name (table_shape room tables))
       has_file lacks =
           let same : Some lacks.0 ≡ Some (bare_row file.row) =
-          sym lacks.1 ∙ leased_bare_row number blocks tables
+          sym lacks.1 ∙ leased_bare_row number room tables
           ∙ ap (option_map bare_row) file.leased in
           let view : lacks.0 ≡ bare_row file.row = cc in
           let none : named_in name file.row ≡ None =
@@ -131,32 +141,35 @@ module _ (number : ℕ) (name : List ℕ) (tables : Tables) where
 
   -- ---- what is read
 
-  pub read_rests : (now blocks from count : ℕ) (image : List ℕ) (before after : LinksState)
-      (old : Session) → Shows blocks tables image old.store → (bytes shown : List ℕ) (size : ℕ)
-      → IsLeasedFile number name tables bytes → size ≡ length bytes → shown ≡ part from count bytes
+  pub read_rests : (now : ℕ) (room : Room) (from count : ℕ) (image : List ℕ) (before after : LinksState)
+      (old : Session) → Shows room tables image old.store → (content : Content) (shown : List ℕ)
+      (size : ℕ) → IsLeasedFile number name tables content
+      → size ≡ length (content_bytes room image content)
+      → shown ≡ part from count (content_bytes room image content)
       → Rests now [] (command.Read number name from count) before after old (says.Read size shown)
-  read_rests now blocks from count image before after old shows bytes shown size file long is =
+  read_rests now room from count image before after old shows content shown size file long is =
       record { new = old; step = step; same = refl; served = tt }
     where
       replied : says.Read size shown
-          ≡ says.Read (length (bytes_in (content_of tables.contents file.entry)))
-          (part from count (bytes_in (content_of tables.contents file.entry)))
+          ≡ says.Read (length (bytes_in room image (content_of tables.contents file.entry)))
+          (part from count (bytes_in room image (content_of tables.contents file.entry)))
       replied =
-          ap (λ (n : ℕ). says.Read n shown) (long ∙ ap length file.is)
-          ∙ ap (says.Read (length (bytes_in (content_of tables.contents file.entry))))
-          (is ∙ ap (part from count) file.is)
+          ap (λ (n : ℕ). says.Read n shown) long
+          ∙ ap (says.Read (length (content_bytes room image content))) is
+          ∙ ap (λ (o : Option Content). says.Read (length (bytes_in room image o))
+          (part from count (bytes_in room image o))) (sym file.is)
 
       step : Answers now [] old (command.Read number name from count) (says.Read size shown) old
-      step = effect_answers now [] blocks tables old (shape_shown shows)
+      step = effect_answers now [] room tables old (shape_shown shows)
           (command.Read number name from count) (says.Read size shown) old
-          (file_passes now blocks from count bytes file) (record {
-            view = shown_view tables.contents file.row;
+          (file_passes now room from count content file) (record {
+            view = shown_view room image tables.contents file.row;
             leased = leased_shown shows number
-                ∙ ap (option_map (shown_view tables.contents)) file.leased;
-            file = shown_file tables.contents file.entry;
-            found = file_shown tables.contents name
+                ∙ ap (option_map (shown_view room image tables.contents)) file.leased;
+            file = shown_file room image tables.contents file.entry;
+            found = file_shown room image tables.contents name
                 (standing_entries file.row.groups file.row.application)
-                ∙ ap (option_map (shown_file tables.contents)) file.named;
+                ∙ ap (option_map (shown_file room image tables.contents)) file.named;
             replied = replied;
             is = refl;
           })

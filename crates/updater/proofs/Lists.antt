@@ -1,6 +1,7 @@
 -- What is shown of applications: the steps that change nothing.
 use Rattle.std.proofs.Common.{◌≡◌, ◌∙◌, ℕ, List, [], map, Some, None, inl, refl, sym, ap}
 use Rattle.std.proofs.lemmas.Option.{none-some}
+use Rattle.small_types.specs.declared.room.Room.{Room}
 use Rattle.identity.specs.declared.key.Key.{Key}
 use Rattle.machine.specs.declared.app.AppState.{AppState}
 use Rattle.machine.specs.declared.command.Command.TheVariants as command
@@ -12,7 +13,7 @@ use Rattle.machine.specs.ListRow.{list_row}
 use Rattle.machine.specs.Rows.{Refuses}
 use Rattle.machine.specs.Shape.{Shape}
 use Rattle.machine.specs.ShowRow.{show_refusals, show_row}
-use Rattle.machine.specs.Store.{Session, Store}
+use Rattle.machine.specs.Store.{Session, Store, plain_room}
 use Rattle.store_state.specs.Shows.{Shows}
 use Rattle.store_state.specs.Tables.{Tables, table_shape}
 use Rattle.store_state.proofs.Showing.{shape_shown}
@@ -20,25 +21,25 @@ use Rattle.links.specs.Links.{LinksState}
 use Rattle.updater.proofs.Commanding.{Rests, effect_answers}
 
 -- a key that has no entry
-pub not_shown : (key : Key) (blocks : ℕ) (tables : Tables) (old : Session)
+pub not_shown : (key : Key) (room : Room) (tables : Tables) (old : Session)
     → entry_of key tables.apps ≡ None
-    → Refuses (show_refusals key (table_shape blocks tables)) old says.NotInstalled old
-not_shown key blocks tables old none = inl ((none, refl), refl)
+    → Refuses (show_refusals key (table_shape room tables)) old says.NotInstalled old
+not_shown key room tables old none = inl ((none, refl), refl)
 
-module _ (now blocks : ℕ) (tables : Tables) (image : List ℕ) (before after : LinksState)
-    (old : Session) (shows : Shows blocks tables image old.store) where
+module _ (now : ℕ) (room : Room) (tables : Tables) (image : List ℕ) (before after : LinksState)
+    (old : Session) (shows : Shows room tables image old.store) where
   same_apps : tables.apps ≡ old.store.apps
   same_apps = sym (ap (λ (s : Store). s.apps) shows.is)
 
   pub listed_rests : (rows : List ListRow)
-      → rows ≡ map (list_row (table_shape 0 tables)) tables.apps
+      → rows ≡ map (list_row (table_shape (plain_room 0) tables)) tables.apps
       → Rests now [] command.List before after old (says.Listed rows)
   listed_rests rows is = record {
     new = old;
-    step = effect_answers now [] blocks tables old (shape_shown shows) command.List
+    step = effect_answers now [] room tables old (shape_shown shows) command.List
         (says.Listed rows) old tt (
           ap says.Listed (is
-              ∙ ap (map (list_row (table_shape blocks tables))) same_apps
+              ∙ ap (map (list_row (table_shape room tables))) same_apps
               ∙ ap (λ (s : Shape). map (list_row s) old.store.apps) (sym (shape_shown shows))),
           refl,
         );
@@ -47,11 +48,11 @@ module _ (now blocks : ℕ) (tables : Tables) (image : List ℕ) (before after :
   }
 
   pub shown_rests : (key : Key) (app : AppState) (row : ShowRow)
-      → entry_of key tables.apps ≡ Some app → row ≡ show_row (table_shape 0 tables) app
+      → entry_of key tables.apps ≡ Some app → row ≡ show_row (table_shape (plain_room 0) tables) app
       → Rests now [] (command.Show key) before after old (says.Shown row)
   shown_rests key app row known is = record {
     new = old;
-    step = effect_answers now [] blocks tables old (shape_shown shows) (command.Show key)
+    step = effect_answers now [] room tables old (shape_shown shows) (command.Show key)
         (says.Shown row) old
         ((λ none. none-some app (sym none ∙ known)), tt)
         (record {

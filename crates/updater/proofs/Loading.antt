@@ -1,10 +1,10 @@
 -- What the texts of a journal's changes lead to.
 use Rattle.std.proofs.Common.{◌≡◌, ℕ, suc, ◌+◌, ◌<◌, ◌≤◌, List, [], ◌∷◌, ◌++◌, Bool, true, false, length, get_or, drop, Result, Ok, Err, drop-cons, add-one, sym, ap, subst, ◌∙◌, refl, arith}
 use Rattle.std.proofs.lemmas.Grind.{common_steps}
-use Rattle.record_codec.specs.declared.fault.CodecFault.{CodecFault}
-use Rattle.record_codec.specs.declared.fault.CodecFault.TheVariants.{Bad}
+use Rattle.record_fields.specs.declared.fault.CodecFault.{CodecFault}
+use Rattle.record_fields.specs.declared.fault.CodecFault.TheVariants.{Bad}
 use Rattle.record_codec.specs.Codec.{change_text, group_text, heard_text, install_text, put_text, remove_text, IsChange}
-use Rattle.record_codec.specs.Reading.{Gives}
+use Rattle.record_fields.specs.Reading.{Gives}
 use Rattle.record_codec.proofs.Changes.{change_text_injective}
 use Rattle.std.specs.Prelude.{IfOk, OnOk}
 use Rattle.store_state.specs.declared.state.StateFault.{StateFault}

@@ -168,7 +168,7 @@ module _ {D : Type 0} (on : Ghosts D) (boot : ℕ) (disk_old : D) (read : Result
 
     module _ (few : boot ≤ NUMBER_LIMIT) {T : Type 0} (tried : Result T StepFault) (updater_new : Updater) (disk_new : D) (keeps : Keeps on (Boot boot) updater mid tried updater_new disk_new) where
       leads : on.tells mid → (old : Store) → Stands (on.seen disk_old) old → Leads (Boot boot) (tables_of updater) old (booted boot old)
-      leads told old stands = let holds = held told old stands in booted_leads old.blocks (tables_of updater) (on.seen mid) old boot (holds.shows (on.seen mid) seen_left) few holds.valid
+      leads told old stands = let holds = held told old stands in booted_leads old.room (tables_of updater) (on.seen mid) old boot (holds.shows (on.seen mid) seen_left) few holds.valid
 
       since : on.tells mid → (old : Store) → Stands (on.seen disk_old) old → LeavesSince on (on.moment disk_old + 1) disk_new (StandsForEither old (booted boot old))
       since told old stands t image from to left =

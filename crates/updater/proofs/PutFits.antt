@@ -1,6 +1,7 @@
 -- A put that is not refused fits the tables.
 use Rattle.std.proofs.Common.{◌≡◌, ◌≤◌, ◌<◌, inl, inr, refl, sym, ap, subst, ℕ, Bool, true, false, cond, not, List, map, length, Option, Some, None, arith}
 use Rattle.std.specs.Prelude.{IsSomeAnd}
+use Rattle.small_types.specs.declared.room.Room.{Room}
 use Rattle.small_types.specs.declared.limits.TheConstants.{LOCAL_COUNT_LIMIT, LOCAL_NAME_LIMIT}
 use Rattle.small_types.specs.Name.{IsBelowPre, IsName}
 use Rattle.manifests.specs.Applications.{is_below_pre}
@@ -28,30 +29,30 @@ at_most_one : (b : Bool) → cond b 1 0 ≤ 1
 at_most_one true = omega arith
 at_most_one false = omega arith
 
-module _ (lease blocks : ℕ) (name bytes : List ℕ) (tables : Tables) (are : AreTables tables)
-    (named : IsName name) (putting : Putting)
-    (of : IsPutting blocks lease name bytes tables putting) where
+module _ (lease : ℕ) (room : Room) (image name bytes : List ℕ) (tables : Tables)
+    (are : AreTables tables) (named : IsName name) (putting : Putting)
+    (of : IsPutting room image lease name bytes tables putting) where
   abbrev made : LocalFile
   made = file_of name bytes
 
   row : IsRow of.row
   row = all_in IsRow tables.views of.row are.rows
-      (row_there (is_leased lease name blocks tables of.row of.leased))
+      (row_there (is_leased lease name room tables of.row of.leased))
 
   few : (found : Option LocalFile) → local_named name of.row.locals ≡ found
       → outside_locals (with_named local_name made of.row.locals) ≤ LOCAL_COUNT_LIMIT
   few None none =
       let same = outside_bare of.row.locals in
-      let room : outside_locals of.row.locals < LOCAL_COUNT_LIMIT =
+      let place : outside_locals of.row.locals < LOCAL_COUNT_LIMIT =
       by (λ many. of.passes.1.1.0 (
         bare_row of.row,
-        bare lease name blocks tables of.row of.leased,
-        bare_none lease name blocks tables of.row of.leased none,
+        bare lease name room tables of.row of.leased,
+        bare_none lease name room tables of.row of.leased none,
         subst (λ (n : ℕ). LOCAL_COUNT_LIMIT ≤ n) (sym same) many,
       )) in
       let more = sum-with_named local_name made counts of.row.locals in
       let one = at_most_one (not (is_below_pre name)) in
-      omega (arith, room, more, one)
+      omega (arith, place, more, one)
     where
       by : (LOCAL_COUNT_LIMIT ≤ outside_locals of.row.locals → ⊥)
           → outside_locals of.row.locals < LOCAL_COUNT_LIMIT
@@ -78,7 +79,7 @@ module _ (lease blocks : ℕ) (name bytes : List ℕ) (tables : Tables) (are : A
 
   fits : FitsPut tables of.row.number made
   fits = subst (λ (o : Option View). IsSomeAnd o (MayPut made))
-      (sym (is_row lease name blocks tables of.row of.leased)) may
+      (sym (is_row lease name room tables of.row of.leased)) may
 
   pub put_fits : (file : LocalFile) → file ≡ made → Fits tables (change.Put putting.view file)
   put_fits file is =

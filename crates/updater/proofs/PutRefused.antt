@@ -2,6 +2,7 @@
 use Rattle.std.proofs.Common.{◌≡◌, ◌∙◌, ◌↔◌, ◌<◌, ◌≤◌, inl, inr, refl, sym, ap, subst, ℕ, Bool, true, false, cond, not, List, map, length, Option, Some, None, arith}
 use Rattle.std.specs.Bool.{IsTrue}
 use Rattle.std.proofs.lemmas.Bool.{both_ways}
+use Rattle.small_types.specs.declared.room.Room.{Room}
 use Rattle.small_types.specs.declared.limit.Limit.TheVariants.{Locals}
 use Rattle.small_types.specs.declared.limits.TheConstants.{LOCAL_COUNT_LIMIT}
 use Rattle.manifests.specs.Applications.{is_below_pre}
@@ -32,29 +33,29 @@ abbrev pub IsFull : List ℕ → View → Type 0
 IsFull name row =
     (local_named name row.locals ≡ None) × (LOCAL_COUNT_LIMIT ≤ outside_locals row.locals)
 
-module _ (lease blocks : ℕ) (name bytes : List ℕ) (tables : Tables) (row : View)
+module _ (lease : ℕ) (room : Room) (name bytes : List ℕ) (tables : Tables) (row : View)
     (leased : leased_row lease tables ≡ Some row) where
   pub bad_name : (old : Session) → IsBadName name
-      → Refuses (put_refusals lease name bytes (table_shape blocks tables)) old says.BadName old
-  bad_name old bad = inr (lives lease name blocks tables row leased, inl ((bad, refl), refl))
+      → Refuses (put_refusals lease name bytes (table_shape room tables)) old says.BadName old
+  bad_name old bad = inr (lives lease name room tables row leased, inl ((bad, refl), refl))
 
   module _ (good : ¬ IsBadName name) where
     pub too_many : (old : Session) → IsFull name row
-        → Refuses (put_refusals lease name bytes (table_shape blocks tables)) old
+        → Refuses (put_refusals lease name bytes (table_shape room tables)) old
         (says.TooMany Locals LOCAL_COUNT_LIMIT) old
     too_many old full =
         let many = full.1 in
         let same = outside_bare row.locals in
         inr (
-          lives lease name blocks tables row leased,
+          lives lease name room tables row leased,
           inr (
             good,
             inl (
               (
                 (
                   bare_row row,
-                  bare lease name blocks tables row leased,
-                  bare_none lease name blocks tables row leased full.0,
+                  bare lease name room tables row leased,
+                  bare_none lease name room tables row leased full.0,
                   subst (λ (n : ℕ). LOCAL_COUNT_LIMIT ≤ n) (sym same) many,
                 ),
                 refl,
@@ -65,30 +66,30 @@ module _ (lease blocks : ℕ) (name bytes : List ℕ) (tables : Tables) (row : V
         )
 
     module _ (some : ¬ IsFull name row) where
-      few : ¬ IsOneTooMany lease name (table_shape blocks tables)
+      few : ¬ IsOneTooMany lease name (table_shape room tables)
       few many =
-          let one = one_bare lease name blocks tables row leased many.0 many.1 in
+          let one = one_bare lease name room tables row leased many.0 many.1 in
           let count = ap (λ (v : BareView). outside_count v.data_files) one in
           let same = outside_bare row.locals in
           let least = many.3 in
           some (
-            none_bare lease name blocks tables row leased many.0 many.1 many.2,
+            none_bare lease name room tables row leased many.0 many.1 many.2,
             subst (λ (n : ℕ). LOCAL_COUNT_LIMIT ≤ n) (sym count ∙ same) least,
           )
 
       pub no_room : (old : Session) (need free : ℕ) → need ≡ blocks_of (length bytes)
-          → free ≡ free_blocks (table_shape blocks tables) → free < need
-          → Refuses (put_refusals lease name bytes (table_shape blocks tables)) old
+          → free ≡ free_blocks (table_shape room tables) → free < need
+          → Refuses (put_refusals lease name bytes (table_shape room tables)) old
           (says.Full need free) old
-      no_room old need free is room less =
+      no_room old need free is left less =
           inr (
-            lives lease name blocks tables row leased,
+            lives lease name room tables row leased,
             inr (
               good,
               inr (
                 few,
                 inl (
-                  (need, (is, subst (λ (n : ℕ). n < need) room less), ap (says.Full need) room),
+                  (need, (is, subst (λ (n : ℕ). n < need) left less), ap (says.Full need) left),
                   refl,
                 ),
               ),
@@ -96,18 +97,18 @@ module _ (lease blocks : ℕ) (name bytes : List ℕ) (tables : Tables) (row : V
           )
 
       pub put_passes : (need free : ℕ) → need ≡ blocks_of (length bytes)
-          → free ≡ free_blocks (table_shape blocks tables) → ¬ (free < need)
-          → PassesAll (put_refusals lease name bytes (table_shape blocks tables))
-      put_passes need free is room enough = (
-        lives lease name blocks tables row leased,
+          → free ≡ free_blocks (table_shape room tables) → ¬ (free < need)
+          → PassesAll (put_refusals lease name bytes (table_shape room tables))
+      put_passes need free is left enough = (
+        lives lease name room tables row leased,
         (
           good,
           (
             few,
             (
               (λ other less.
-                  enough (subst (λ (n : ℕ). n < need) (sym room)
-                  (subst (λ (n : ℕ). free_blocks (table_shape blocks tables) < n) (less.0 ∙ sym is)
+                  enough (subst (λ (n : ℕ). n < need) (sym left)
+                  (subst (λ (n : ℕ). free_blocks (table_shape room tables) < n) (less.0 ∙ sym is)
                   less.1))),
               tt,
             ),

@@ -1,25 +1,27 @@
 -- What reading a store finds.
-use Rattle.std.proofs.Common.{◌≡◌, ◌↔◌, ◌≤◌, ◌+◌, ℕ, Bool, true, false, List, Option, Some, None, Result, Err, map, sym, ap, subst, arith}
+use Rattle.std.proofs.Common.{◌≡◌, ◌↔◌, ◌≤◌, ◌+◌, ℕ, Bool, true, false, List, Option, Some, None, Result, Err, map, sym, ap, subst, ◌∙◌, arith}
 use Rattle.std.specs.Prelude.{IfNone, IfSome, IsTrue}
+use Rattle.small_types.specs.declared.room.Room.{Room}
 use Rattle.disks.specs.declared.disk.Disk.{Ghosts}
 use Rattle.disks.specs.Disk.{Only}
 use Rattle.disks.specs.Moments.{LeavesOnly}
 use Rattle.machine.specs.Blocks.{used_blocks}
 use Rattle.machine.specs.Shape.{bare_view}
-use Rattle.store_log.specs.Log.{head_of, IsStore, IsOpen}
-use Rattle.store_log.proofs.Store.{unique}
+use Rattle.store_log.specs.Log.{head_of, IsOpen}
 use Rattle.store_state.specs.Shows.{Shows}
 use Rattle.store_state.specs.Tables.{Tables, bare_row, empty}
+use Rattle.store_state.proofs.Images.{images_have}
 use Rattle.store_state.proofs.Showing.{shows_same}
 use Rattle.updater.specs.declared.updater.Updater.{Updater}
 use Rattle.updater.specs.declared.fault.RecoverFault.{RecoverFault}
 use Rattle.updater.specs.declared.fault.RecoverFault.TheVariants.{DiskFault, NotAStore, Memory as OutOfMemory}
 use Rattle.updater.specs.Loaded.{IsLoaded, Loaded}
 use Rattle.updater.specs.Replay.{Settled, SettleNone, Settles}
-use Rattle.updater.specs.Stands.{StandsForNone, Loads}
+use Rattle.updater.specs.Stands.{IsJournal, StandsForNone, Loads}
 use Rattle.updater.specs.Updater.{room_of, tables_of}
 use Rattle.updater.proofs.Changing.{blocks_shown, journal_shown, views_shown}
 use Rattle.updater.proofs.Loading.{loads_same}
+use Rattle.updater.proofs.Standing.{one_journal}
 
 -- what reading a journal to its end does to a disk
 pub record Reads {D : Type 0} (on : Ghosts D) (disk_old disk_new : D) : Type 0 where
@@ -35,80 +37,85 @@ pub record Reads {D : Type 0} (on : Ghosts D) (disk_old disk_new : D) : Type 0 w
 
 -- a journal whose changes lead to these tables stands for a store that they show, and an updater over them holds it, where
 -- its files have room
-pub found_holds : {D : Type 0} (on : Ghosts D) (disk_old : D) (updater : Updater) (disk_new : D) (changes : List (List ℕ)) → IsStore (room_of updater) changes (on.seen disk_old) → Loads empty changes (tables_of updater) → IsOpen on updater.log (head_of (room_of updater)) changes disk_new → used_blocks (map bare_row (tables_of updater).views) ≤ room_of updater → IsLoaded on disk_old updater disk_new
-found_holds on disk_old updater disk_new changes journal loads opened room =
-    let shown = journal_shown (room_of updater) (on.seen disk_old) (tables_of updater) changes journal.some journal.limit loads in
-    let same : shown.store.blocks ≡ room_of updater = blocks_shown shown.shows in
-    let shows = subst (λ (n : ℕ). Shows n (tables_of updater) (on.seen disk_old) shown.store) (sym same) shown.shows in
+pub found_holds : {D : Type 0} (on : Ghosts D) (disk_old : D) (updater : Updater) (disk_new : D) (changes : List (List ℕ)) → IsJournal (room_of updater) changes (on.seen disk_old) → Loads empty changes (tables_of updater) → IsOpen on updater.log (head_of (room_of updater).blocks) changes disk_new → used_blocks (map bare_row (tables_of updater).views) ≤ (room_of updater).blocks → IsLoaded on disk_old updater disk_new
+found_holds on disk_old updater disk_new changes journal loads opened within =
+    let shown = journal_shown (room_of updater) (on.seen disk_old) (tables_of updater) changes journal.store.some journal.store.limit loads in
+    let same : shown.store.room ≡ room_of updater = blocks_shown shown.shows in
+    let shows = subst (λ (n : Room). Shows n (tables_of updater) (on.seen disk_old) shown.store) (sym same) shown.shows in
     record {
       store = shown.store;
       stands = record {
-        changes = changes;
         tables = tables_of updater;
-        journal = subst (λ (n : ℕ). IsStore n changes (on.seen disk_old)) (sym same) journal;
-        loads = loads;
+        reads = record {
+          changes = changes;
+          journal = subst (λ (r : Room). IsJournal r changes (on.seen disk_old)) (sym same) journal;
+          loads = loads;
+        };
         shows = shows;
-        valid = shown.valid room;
+        valid = shown.valid within;
       };
       holds = record {
-        changes = changes;
-        opened = subst (λ (n : ℕ). IsOpen on updater.log (head_of n) changes disk_new) (sym same) opened;
-        loads = loads;
-        blocks = sym same;
-        shows = λ image left. shows_same image shows;
-        valid = shown.valid room;
+        log = record {
+          changes = changes;
+          opened = subst (λ (r : Room). IsOpen on updater.log (head_of r.blocks) changes disk_new) (sym same) opened;
+          half = ap (λ (r : Room). r.half) same ∙ journal.half;
+          loads = loads;
+        };
+        room = sym same;
+        shows = λ image left. shows_same image (images_have shown.store.room (tables_of updater) (on.seen disk_old) image) shows;
+        valid = shown.valid within;
       };
     }
 
 -- where the changes lead to no tables whose files have room, the journal stands for no store
-pub none_settled : (image : List ℕ) (blocks : ℕ) (changes : List (List ℕ)) → IsStore blocks changes image → SettleNone blocks changes → StandsForNone image
+pub none_settled : (image : List ℕ) (room : Room) (changes : List (List ℕ)) → IsJournal room changes image → SettleNone room changes → StandsForNone image
 unfolding SettleNone
-none_settled image blocks changes journal none store stands =
-    let one = unique image blocks store.blocks changes stands.changes journal stands.journal in
+none_settled image room changes journal none store stands =
+    let one = one_journal image room store.room changes stands.reads.changes journal stands.reads.journal in
     let views : used_blocks (map bare_view store.views) ≡ used_blocks (map bare_row stands.tables.views) = ap used_blocks (views_shown stands.shows) in
     let within = stands.valid.room in
-    let few : blocks ≡ store.blocks = one.0 in
+    let few : room.blocks ≡ store.room.blocks = ap (λ (r : Room). r.blocks) one.0 in
     none stands.tables (record {
-      loads = subst (λ (l : List (List ℕ)). Loads empty l stands.tables) (sym one.1) stands.loads;
-      room = omega arith;
+      loads = subst (λ (l : List (List ℕ)). Loads empty l stands.tables) (sym one.1) stands.reads.loads;
+      within = omega arith;
     })
 
 -- ---- what the changes lead to
 
 -- the tables that texts led to
-pub settled_from : (loaded : Option Tables) (blocks : ℕ) (tables : Tables) (texts : List (List ℕ)) → IfSome loaded (λ t. Loads empty texts t) → loaded ≡ Some tables → used_blocks (map bare_row tables.views) ≤ blocks → Settles blocks texts tables
-settled_from loaded blocks tables texts loads is room = record { loads = (let at = rw is at loads in at); room = room }
+pub settled_from : (loaded : Option Tables) (room : Room) (tables : Tables) (texts : List (List ℕ)) → IfSome loaded (λ t. Loads empty texts t) → loaded ≡ Some tables → used_blocks (map bare_row tables.views) ≤ room.blocks → Settles room texts tables
+settled_from loaded room tables texts loads is within = record { loads = (let at = rw is at loads in at); within = within }
 
 -- texts that lead nowhere settle nowhere
-pub unloaded : (blocks : ℕ) (texts : List (List ℕ)) → ((tables : Tables) → Loads empty texts tables → ⊥) → SettleNone blocks texts
+pub unloaded : (room : Room) (texts : List (List ℕ)) → ((tables : Tables) → Loads empty texts tables → ⊥) → SettleNone room texts
 unfolding SettleNone
-unloaded blocks texts none tables settles = none tables settles.loads
+unloaded room texts none tables settles = none tables settles.loads
 
 -- nor do those that lead to files without room
-pub overfull : (loaded : Option Tables) (blocks : ℕ) (tables : Tables) (texts : List (List ℕ)) → IfSome loaded (λ t. Loads empty texts t) → loaded ≡ Some tables → (used_blocks (map bare_row tables.views) ≤ blocks → ⊥) → SettleNone blocks texts
+pub overfull : (loaded : Option Tables) (room : Room) (tables : Tables) (texts : List (List ℕ)) → IfSome loaded (λ t. Loads empty texts t) → loaded ≡ Some tables → (used_blocks (map bare_row tables.views) ≤ room.blocks → ⊥) → SettleNone room texts
 unfolding SettleNone
-overfull loaded blocks tables texts loads is over other settles =
+overfull loaded room tables texts loads is over other settles =
     let at = rw is at loads in
     let same : other ≡ tables = loads_same empty other tables texts settles.loads at in
-    over (subst (λ (t : Tables). used_blocks (map bare_row t.views) ≤ blocks) same settles.room)
+    over (subst (λ (t : Tables). used_blocks (map bare_row t.views) ≤ room.blocks) same settles.within)
 
 -- ---- by what the calls answered
 
-pub unloaded_by : (loaded : Option Tables) (blocks : ℕ) (texts : List (List ℕ)) → IfNone loaded ((tables : Tables) → Loads empty texts tables → ⊥) → loaded ≡ None → SettleNone blocks texts
-unloaded_by loaded blocks texts none is = unloaded blocks texts (subst (λ (o : Option Tables). IfNone o ((tables : Tables) → Loads empty texts tables → ⊥)) is none)
+pub unloaded_by : (loaded : Option Tables) (room : Room) (texts : List (List ℕ)) → IfNone loaded ((tables : Tables) → Loads empty texts tables → ⊥) → loaded ≡ None → SettleNone room texts
+unloaded_by loaded room texts none is = unloaded room texts (subst (λ (o : Option Tables). IfNone o ((tables : Tables) → Loads empty texts tables → ⊥)) is none)
 
-pub overfull_by : (loaded : Option Tables) (blocks : ℕ) (tables : Tables) (texts : List (List ℕ)) (within : Bool) → IfSome loaded (λ t. Loads empty texts t) → loaded ≡ Some tables → IsTrue within ↔ (used_blocks (map bare_row tables.views) ≤ blocks) → within ≡ false → SettleNone blocks texts
-overfull_by loaded blocks tables texts within loads is tests over =
-    overfull loaded blocks tables texts loads is (λ room. (let e : within ≡ true = tests.1 room in let f : within ≡ false = over in absurd cc))
+pub overfull_by : (loaded : Option Tables) (room : Room) (tables : Tables) (texts : List (List ℕ)) (within : Bool) → IfSome loaded (λ t. Loads empty texts t) → loaded ≡ Some tables → IsTrue within ↔ (used_blocks (map bare_row tables.views) ≤ room.blocks) → within ≡ false → SettleNone room texts
+overfull_by loaded room tables texts within loads is tests over =
+    overfull loaded room tables texts loads is (λ few. (let e : within ≡ true = tests.1 few in let f : within ≡ false = over in absurd cc))
 
-pub settled_by : (loaded : Option Tables) (blocks : ℕ) (tables : Tables) (texts : List (List ℕ)) (within : Bool) → IfSome loaded (λ t. Loads empty texts t) → loaded ≡ Some tables → IsTrue within ↔ (used_blocks (map bare_row tables.views) ≤ blocks) → within ≡ true → Settles blocks texts tables
-settled_by loaded blocks tables texts within loads is tests room = settled_from loaded blocks tables texts loads is (tests.0 room)
+pub settled_by : (loaded : Option Tables) (room : Room) (tables : Tables) (texts : List (List ℕ)) (within : Bool) → IfSome loaded (λ t. Loads empty texts t) → loaded ≡ Some tables → IsTrue within ↔ (used_blocks (map bare_row tables.views) ≤ room.blocks) → within ≡ true → Settles room texts tables
+settled_by loaded room tables texts within loads is tests holds = settled_from loaded room tables texts loads is (tests.0 holds)
 
 -- ---- openings that end without a store
 
-module _ {D : Type 0} (on : Ghosts D) (disk_old disk_new : D) (blocks : ℕ) (changes : List (List ℕ)) where
+module _ {D : Type 0} (on : Ghosts D) (disk_old disk_new : D) (room : Room) (changes : List (List ℕ)) where
   -- the journal was read, and its changes lead to no tables
-  pub unsettled : (fault : RecoverFault) → Settled blocks changes (Err fault) → (on.tells disk_new → IsStore blocks changes (on.seen disk_old)) → Reads on disk_old disk_new → Loaded on disk_old (Err fault) disk_new
+  pub unsettled : (fault : RecoverFault) → Settled room changes (Err fault) → (on.tells disk_new → IsJournal room changes (on.seen disk_old)) → Reads on disk_old disk_new → Loaded on disk_old (Err fault) disk_new
   unsettled fault settled journal reads = record {
     found = λ told. tt;
     not_a_store = λ told e. by fault settled (err_is e) told;
@@ -127,12 +134,12 @@ module _ {D : Type 0} (on : Ghosts D) (disk_old disk_new : D) (blocks : ℕ) (ch
       err_is : {told : RecoverFault} → ◌≡◌ {A = Result Updater RecoverFault} (Err fault) (Err told) → fault ≡ told
       err_is e = cc
 
-      by : (f : RecoverFault) → Settled blocks changes (Err f) → f ≡ NotAStore → on.tells disk_new → StandsForNone (on.seen disk_old)
-      by NotAStore none is told = none_settled (on.seen disk_old) blocks changes (journal told) none
+      by : (f : RecoverFault) → Settled room changes (Err f) → f ≡ NotAStore → on.tells disk_new → StandsForNone (on.seen disk_old)
+      by NotAStore none is told = none_settled (on.seen disk_old) room changes (journal told) none
       by DiskFault none is told = absurd none
       by OutOfMemory none is told = absurd cc
 
-      never : (f : RecoverFault) → Settled blocks changes (Err f) → f ≡ DiskFault → ⊥
+      never : (f : RecoverFault) → Settled room changes (Err f) → f ≡ DiskFault → ⊥
       never NotAStore none is = absurd cc
       never DiskFault none is = none
       never OutOfMemory none is = absurd cc

@@ -3,6 +3,7 @@ use Rattle.std.proofs.Common.{◌≡◌, ◌≢◌, ◌<◌, ◌≤◌, ◌⊎�
 use Rattle.std.specs.Prelude.{option_and_then}
 use Rattle.std.specs.Ordering.{is_lt}
 use Rattle.std.proofs.lemmas.Bool.{cases_lt}
+use Rattle.small_types.specs.declared.room.Room.{Room}
 use Rattle.small_types.specs.declared.limits.TheConstants.{APPLICATION_LIMIT}
 use Rattle.identity.specs.declared.key.Key.{Key}
 use Rattle.identity.specs.declared.version.Version.{Version}
@@ -17,7 +18,7 @@ use Rattle.machine.specs.Machine.{Answers, refusals}
 use Rattle.machine.specs.Minimums.{minimum_of, raised}
 use Rattle.machine.specs.RequireRow.{required}
 use Rattle.machine.specs.Rows.{PassesAll}
-use Rattle.machine.specs.Store.{Session, Store}
+use Rattle.machine.specs.Store.{Session, Store, plain_room}
 use Rattle.machine.specs.Valid.{Valid}
 use Rattle.machine.proofs.Raising.{minimum_of-required}
 use Rattle.machine.proofs.Shortness.{short_key}
@@ -88,14 +89,14 @@ room_from key apps passes new = by (cases_lt (length apps) APPLICATION_LIMIT)
     by (inr full) = absurd (passes (new, full))
 
 -- it fits where the row's refusals are passed
-pub required_fits : (now : ℕ) (tables : Tables) (key : Key) (version : Version) → IsKey key → IsVersion version → ((blocks : ℕ) → PassesAll (refusals now [] (table_shape blocks tables) (command.Require key version))) → Fits tables (change.Require key version)
-required_fits now tables key version is_key is_version passes = (short_key is_key, is_version, room_from key tables.apps (passes 0).0)
+pub required_fits : (now : ℕ) (tables : Tables) (key : Key) (version : Version) → IsKey key → IsVersion version → ((room : Room) → PassesAll (refusals now [] (table_shape room tables) (command.Require key version))) → Fits tables (change.Require key version)
+required_fits now tables key version is_key is_version passes = (short_key is_key, is_version, room_from key tables.apps (passes (plain_room 0)).0)
 
 -- ---- the effect of the row
 
-module _ (now : ℕ) (key : Key) (version : Version) (blocks : ℕ) (tables : Tables) (image : List ℕ) (before after : LinksState) (old : Session) (shows : Shows blocks tables image old.store) (passes : PassesAll (refusals now [] (table_shape blocks tables) (command.Require key version))) where
+module _ (now : ℕ) (key : Key) (version : Version) (room : Room) (tables : Tables) (image : List ℕ) (before after : LinksState) (old : Session) (shows : Shows room tables image old.store) (passes : PassesAll (refusals now [] (table_shape room tables) (command.Require key version))) where
   answers_with : (minimum : Version) → raised (minimum_of key tables.apps) version ≡ minimum → Answers now [] old (command.Require key version) (says.Minimum minimum) (record old { store = record old.store { apps = required key version old.store.apps } })
-  answers_with minimum is = effect_answers now [] blocks tables old (shape_shown shows) (command.Require key version) (says.Minimum minimum) (record old { store = record old.store { apps = required key version old.store.apps } }) passes
+  answers_with minimum is = effect_answers now [] room tables old (shape_shown shows) (command.Require key version) (says.Minimum minimum) (record old { store = record old.store { apps = required key version old.store.apps } }) passes
       (ap says.Minimum (sym (ap (λ (apps : List AppState). raised (minimum_of key apps) version) (apps_shown shows) ∙ is)), refl)
 
   pub required_rests : (minimum : Version) → Stays key version minimum tables.apps → Rests now [] (command.Require key version) before after old (says.Minimum minimum)
@@ -111,7 +112,7 @@ module _ (now : ℕ) (key : Key) (version : Version) (blocks : ℕ) (tables : Ta
   required_does fits valid raises = record {
     new = record old { store = record old.store { apps = required key version old.store.apps } };
     step = answers_with version raises.minimum;
-    leads = required_leads blocks tables image old.store key version shows fits valid;
+    leads = required_leads room tables image old.store key version shows fits valid;
     other = λ same. raises.other (subst (λ (apps : List AppState). required key version apps ≡ apps) (apps_shown shows) (ap (λ (s : Store). s.apps) same));
     served = tt;
   }

@@ -1,6 +1,7 @@
 -- The views that are current and those that are leased, in tables and in the store that they show.
 use Rattle.std.proofs.Common.{◌≡◌, ◌∙◌, ℕ, ◌==◌, List, map, Option, Some, None, IsSome, refl, sym, ap, subst}
 use Rattle.std.specs.Prelude.{option_and_then, option_map}
+use Rattle.small_types.specs.declared.room.Room.{Room}
 use Rattle.identity.specs.declared.key.Key.{Key}
 use Rattle.machine.specs.declared.app.AppState.{AppState}
 use Rattle.machine.specs.declared.lease.Lease.{Lease}
@@ -27,27 +28,33 @@ use Rattle.updater.specs.Start.{KeepsCurrent}
 
 -- ---- by number
 
-view_shown : (contents : List Content) (views : List View) (number : ℕ)
-    → view_at number (map (shown_view contents) views)
-    ≡ option_map (shown_view contents) (row_at number views)
-view_shown contents views number =
-    find-map (shown_view contents) (λ (view : KeptView). view.number == number) views
+view_shown : (room : Room) (image : List ℕ) (contents : List Content) (views : List View)
+    (number : ℕ)
+    → view_at number (map (shown_view room image contents) views)
+    ≡ option_map (shown_view room image contents) (row_at number views)
+view_shown room image contents views number =
+    find-map (shown_view room image contents) (λ (view : KeptView). view.number == number) views
 
 bare_shown : (views : List View) (number : ℕ)
     → bare_view_at number (map bare_row views) ≡ option_map bare_row (row_at number views)
 bare_shown views number = find-map bare_row (λ (view : BareView). view.number == number) views
 
-numbered_by : (contents : List Content) (views : List View) (number : Option ℕ)
-    → option_and_then (λ (n : ℕ). view_at n (map (shown_view contents) views)) number
-    ≡ option_map (shown_view contents) (option_and_then (λ (n : ℕ). row_at n views) number)
-numbered_by contents views None = refl
-numbered_by contents views (Some number) = view_shown contents views number
+numbered_by : (room : Room) (image : List ℕ) (contents : List Content) (views : List View)
+    (number : Option ℕ)
+    → option_and_then (λ (n : ℕ). view_at n (map (shown_view room image contents) views)) number
+    ≡ option_map (shown_view room image contents)
+    (option_and_then (λ (n : ℕ). row_at n views) number)
+numbered_by room image contents views None = refl
+numbered_by room image contents views (Some number) = view_shown room image contents views number
 
-leased_by : (contents : List Content) (views : List View) (lease : Option Lease)
-    → option_and_then (λ (l : Lease). view_at l.view (map (shown_view contents) views)) lease
-    ≡ option_map (shown_view contents) (option_and_then (λ (l : Lease). row_at l.view views) lease)
-leased_by contents views None = refl
-leased_by contents views (Some lease) = view_shown contents views lease.view
+leased_by : (room : Room) (image : List ℕ) (contents : List Content) (views : List View)
+    (lease : Option Lease)
+    → option_and_then (λ (l : Lease). view_at l.view (map (shown_view room image contents) views))
+    lease
+    ≡ option_map (shown_view room image contents)
+    (option_and_then (λ (l : Lease). row_at l.view views) lease)
+leased_by room image contents views None = refl
+leased_by room image contents views (Some lease) = view_shown room image contents views lease.view
 
 bare_by : (views : List View) (lease : Option Lease)
     → option_and_then (λ (l : Lease). bare_view_at l.view (map bare_row views)) lease
@@ -57,19 +64,19 @@ bare_by views (Some lease) = bare_shown views lease.view
 
 -- ---- current and leased
 
-pub leased_bare_row : (number blocks : ℕ) (tables : Tables)
-    → leased_bare number (table_shape blocks tables)
+pub leased_bare_row : (number : ℕ) (room : Room) (tables : Tables)
+    → leased_bare number (table_shape room tables)
     ≡ option_map bare_row (leased_row number tables)
-leased_bare_row number blocks tables = bare_by tables.views (lease_of number tables.leases)
+leased_bare_row number room tables = bare_by tables.views (lease_of number tables.leases)
 
-module _ {blocks : ℕ} {tables : Tables} {image : List ℕ} {store : Store}
-    (shows : Shows blocks tables image store) where
+module _ {room : Room} {tables : Tables} {image : List ℕ} {store : Store}
+    (shows : Shows room tables image store) where
   pub leased_shown : (number : ℕ)
       → leased_view number store
-      ≡ option_map (shown_view tables.contents) (leased_row number tables)
+      ≡ option_map (shown_view room image tables.contents) (leased_row number tables)
   leased_shown number =
       ap (leased_view number) shows.is
-      ∙ leased_by tables.contents tables.views (lease_of number tables.leases)
+      ∙ leased_by room image tables.contents tables.views (lease_of number tables.leases)
 
   -- in a store in its order they are among the views
   pub keeps_current : (key : Key) → Ordered store → KeepsCurrent key tables
@@ -86,13 +93,13 @@ module _ {blocks : ℕ} {tables : Tables} {image : List ℕ} {store : Store}
       let found : previous_view key store ≡ Some kept.0 =
       ap (option_and_then (λ (n : ℕ). view_at n store.views))
       (ap (λ (s : Store). previous_of key s.apps) shows.is ∙ named.1) ∙ kept.1 in
-      map_there (shown_view tables.contents) (previous_row key tables) kept.0
+      map_there (shown_view room image tables.contents) (previous_row key tables) kept.0
       (sym (ap (previous_view key) shows.is
-      ∙ numbered_by tables.contents tables.views (previous_of key tables.apps)) ∙ found)
+      ∙ numbered_by room image tables.contents tables.views (previous_of key tables.apps)) ∙ found)
 
   pub keeps_view : (number : ℕ) → Ordered store → KeepsView number tables
   keeps_view number was some =
       let kept = leased_kept number store was
       (subst (λ (s : Store). IsSome (lease_of number s.leases)) (sym shows.is) some) in
-      map_there (shown_view tables.contents) (leased_row number tables) kept.0
+      map_there (shown_view room image tables.contents) (leased_row number tables) kept.0
       (sym (leased_shown number) ∙ kept.1)

@@ -1,5 +1,6 @@
 -- What going back to the previous view of an application comes to.
 use Rattle.std.specs.Prelude.{◌≡◌, ℕ, [], slice_get, Some, IsSome}
+use Rattle.small_types.specs.declared.room.Room.{Room}
 use Rattle.identity.specs.declared.key.Key.{Key}
 use Rattle.identity.specs.declared.version.Version.{Version}
 use Rattle.machine.specs.declared.command.Command.TheVariants as command
@@ -22,11 +23,11 @@ KeepsPrevious key tables =
 -- The application at the place is that of the key, and no refusal holds. A version is current, and
 -- the one that is shown is previous.
 pub record IsGoingBack (key : Key) (tables : Tables) (going : GoingBack) : Type 0 where
-  pub passes : (now blocks : ℕ)
-      → PassesAll (refusals now [] (table_shape blocks tables) (command.Rollback key))
+  pub passes : (now : ℕ) (room : Room)
+      → PassesAll (refusals now [] (table_shape room tables) (command.Rollback key))
   pub app : slice_get tables.apps going.app ≡ entry_of key tables.apps
   pub fits : Fits tables (Rollback going.app)
   pub have : Version
-  pub current : (blocks : ℕ) → current_version key (table_shape blocks tables) ≡ Some have
-  pub previous : (blocks : ℕ)
-      → previous_version key (table_shape blocks tables) ≡ Some going.version
+  pub current : (room : Room) → current_version key (table_shape room tables) ≡ Some have
+  pub previous : (room : Room)
+      → previous_version key (table_shape room tables) ≡ Some going.version

@@ -6,9 +6,8 @@ use Rattle.disks.specs.Moments.{LeavesOnly}
 use Rattle.machine.specs.Store.{Store}
 use Rattle.machine.specs.Valid.{Valid}
 use Rattle.store_state.specs.declared.change.Change.{Change}
-use Rattle.store_state.specs.Change.{effect}
 use Rattle.store_state.specs.Tables.{Tables}
-use Rattle.store_state.specs.Shows.{Shows}
+use Rattle.install_plan.specs.Leading.{LeadsIn}
 use Rattle.updater.specs.declared.fault.StepFault.{StepFault}
 use Rattle.updater.specs.declared.fault.StepFault.TheVariants.{Memory, DiskFault}
 use Rattle.updater.specs.declared.updater.Updater.{Updater}
@@ -18,7 +17,7 @@ use Rattle.updater.specs.Updater.{Holds, TakesNumber, tables_of}
 -- The change leads from tables that show the old store to tables that show the new one, which is
 -- valid.
 pub record Leads (change : Change) (tables : Tables) (old new : Store) : Type 0 where
-  pub shows : (image : List ℕ) → Shows old.blocks (effect change tables) image new
+  pub shows : LeadsIn old.room change tables old new
   pub valid : Valid new
 
 -- What making a change durable does, for any two stores between which it leads. For want of memory

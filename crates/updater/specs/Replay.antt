@@ -1,5 +1,6 @@
 -- What a text does to tables as one of a journal's changes.
 use Rattle.std.specs.Prelude.{◌≡◌, ◌≤◌, ℕ, Bool, true, false, List, map, Result, Ok, Err}
+use Rattle.small_types.specs.declared.room.Room.{Room}
 use Rattle.machine.specs.Blocks.{used_blocks}
 use Rattle.store_state.specs.declared.change.Change.{Change}
 use Rattle.store_state.specs.declared.state.StateFault.{StateFault}
@@ -38,17 +39,17 @@ Tries text old new false = FitsNone text old
 -- ---- the whole journal
 
 -- the texts lead from the empty tables to these, whose files have room
-pub record Settles (blocks : ℕ) (texts : List (List ℕ)) (tables : Tables) : Type 0 where
+pub record Settles (room : Room) (texts : List (List ℕ)) (tables : Tables) : Type 0 where
   pub loads : Loads empty texts tables
-  pub room : used_blocks (map bare_row tables.views) ≤ blocks
+  pub within : used_blocks (map bare_row tables.views) ≤ room.blocks
 
 -- they lead to none of which it is so
-unfoldable pub SettleNone : ℕ → List (List ℕ) → Type 0
-SettleNone blocks texts = (tables : Tables) → Settles blocks texts tables → ⊥
+unfoldable pub SettleNone : Room → List (List ℕ) → Type 0
+SettleNone room texts = (tables : Tables) → Settles room texts tables → ⊥
 
 -- the tables that they settle, or that there are none
-abbrev pub Settled : ℕ → List (List ℕ) → Result Tables RecoverFault → Type 0
-Settled blocks texts (Ok tables) = Settles blocks texts tables
-Settled blocks texts (Err NotAStore) = SettleNone blocks texts
-Settled blocks texts (Err Memory) = Unit {0}
-Settled blocks texts (Err DiskFault) = ⊥
+abbrev pub Settled : Room → List (List ℕ) → Result Tables RecoverFault → Type 0
+Settled room texts (Ok tables) = Settles room texts tables
+Settled room texts (Err NotAStore) = SettleNone room texts
+Settled room texts (Err Memory) = Unit {0}
+Settled room texts (Err DiskFault) = ⊥

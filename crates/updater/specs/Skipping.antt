@@ -1,5 +1,6 @@
 -- What skipping the offer of an application comes to.
 use Rattle.std.specs.Prelude.{◌≡◌, ◌≢◌, ℕ, Bool, true, false, [], slice_get, Option, Some, None}
+use Rattle.small_types.specs.declared.room.Room.{Room}
 use Rattle.identity.specs.declared.key.Key.{Key}
 use Rattle.identity.specs.declared.version.Version.{Version}
 use Rattle.machine.specs.declared.app.AppState.{AppState}
@@ -22,8 +23,8 @@ minimum_in _ = None
 -- The application at the place is that of the key, and no refusal holds. The version is offered to
 -- it, and is skipped already or not.
 pub record IsSkipping (key : Key) (now : ℕ) (tables : Tables) (skipping : Skipping) : Type 0 where
-  pub passes : (blocks : ℕ)
-      → PassesAll (refusals now [] (table_shape blocks tables) (command.Skip key))
+  pub passes : (room : Room)
+      → PassesAll (refusals now [] (table_shape room tables) (command.Skip key))
   pub app : slice_get tables.apps skipping.app ≡ entry_of key tables.apps
   pub fits : Fits tables (Skip skipping.app)
   pub known : AppState

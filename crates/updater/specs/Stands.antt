@@ -1,5 +1,6 @@
 -- What the bytes of a disk stand for.
 use Rattle.std.specs.Prelude.{◌≡◌, ◌⊎◌, List, ℕ, [], ◌∷◌}
+use Rattle.small_types.specs.declared.room.Room.{Room}
 use Rattle.machine.specs.Store.{Store}
 use Rattle.machine.specs.Valid.{Valid}
 use Rattle.store_log.specs.Log.{IsStore}
@@ -22,14 +23,24 @@ Loads old (text ∷ texts) new =
     (change : Change) × Encodes change text × Fits old change
     × Loads (effect change old) texts new
 
--- The bytes are a journal of the store's number of blocks. Its changes lead from the empty tables
--- to some that show the store, which is within its order and its limits, and whose files have room.
-pub record Stands (image : List ℕ) (store : Store) : Type 0 where
+-- the bytes are a journal of these changes and of this room, whose halves are empty
+pub record IsJournal (room : Room) (changes : List (List ℕ)) (image : List ℕ) : Type 0 where
+  pub store : IsStore room.blocks changes image
+  pub half : room.half ≡ 0
+
+-- The image reads as these tables: it is a journal of this room, whose changes lead to them from the
+-- empty ones.
+pub record ReadsAs (room : Room) (image : List ℕ) (tables : Tables) : Type 0 where
   pub changes : List (List ℕ)
-  pub tables : Tables
-  pub journal : IsStore store.blocks changes image
+  pub journal : IsJournal room changes image
   pub loads : Loads empty changes tables
-  pub shows : Shows store.blocks tables image store
+
+-- The bytes read as tables that show the store, which is within its order and its limits, and whose
+-- files have room.
+pub record Stands (image : List ℕ) (store : Store) : Type 0 where
+  pub tables : Tables
+  pub reads : ReadsAs store.room image tables
+  pub shows : Shows store.room tables image store
   pub valid : Valid store
 
 -- the bytes stand for no store

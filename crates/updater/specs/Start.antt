@@ -1,5 +1,6 @@
 -- What launching an application comes to.
 use Rattle.std.specs.Prelude.{◌≡◌, ℕ, Bool, [], slice_get, Some, Result, Ok, Err, IsSome}
+use Rattle.small_types.specs.declared.room.Room.{Room}
 use Rattle.identity.specs.declared.key.Key.{Key}
 use Rattle.machine.specs.declared.command.Command.TheVariants as command
 use Rattle.machine.specs.declared.due.Due.{Due}
@@ -40,12 +41,12 @@ lease_reply NoLease = says.NoLease
 -- The application at the place is that of the key, and no refusal holds. The lease has the next
 -- number, and the version is that of the view which is current.
 pub record IsStart (key : Key) (now : ℕ) (tables : Tables) (start : Start) : Type 0 where
-  pub passes : (blocks : ℕ)
-      → PassesAll (refusals now [] (table_shape blocks tables) (command.Launch key))
+  pub passes : (room : Room)
+      → PassesAll (refusals now [] (table_shape room tables) (command.Launch key))
   pub app : slice_get tables.apps start.app ≡ entry_of key tables.apps
   pub fits : Fits tables (Launch start.app)
   pub lease : start.lease ≡ tables.next_lease
   pub row : View
   pub current : current_row key tables ≡ Some row
   pub version : start.version ≡ row.deployment.identity.version
-  pub clear : (blocks : ℕ) → due key (table_shape blocks tables) now ≡ Some (Clear start.check_due)
+  pub clear : (room : Room) → due key (table_shape room tables) now ≡ Some (Clear start.check_due)

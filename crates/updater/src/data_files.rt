@@ -1,5 +1,6 @@
 // The data files of a leased view.
 ghost use Rattle.std.specs.Prelude.{◌≡◌, ℕ, Some, IfErr, IfOk};
+ghost use Rattle.small_types.specs.declared.room.Room.{Room};
 ghost use Rattle.machine.specs.LocalRow.{local_refusals};
 ghost use Rattle.machine.specs.Machine.{moment_after};
 ghost use Rattle.machine.specs.Rows.{Refuses};
@@ -20,9 +21,9 @@ pub(crate) fn local_of<'a>(
     name: &Name,
 ) -> Result<&'a LocalFile, Reply>
     ensures file { IfOk result (λ file. IsLocalOf lease name.now state.now file.now) }
-    ensures refused { KeepsView lease state.now → (blocks : ℕ) (old : Session)
+    ensures refused { KeepsView lease state.now → (room : Room) (old : Session)
         → IfErr result (λ reply. Refuses
-        (local_refusals lease name.now (table_shape blocks state.now)) old reply old) }
+        (local_refusals lease name.now (table_shape room state.now)) old reply old) }
     ensures still { (now : ℕ) → IfErr result (λ reply. moment_after now (Some reply) ≡ now) }
 {
     let Some(view) = state.leased(lease) else {
@@ -38,9 +39,9 @@ pub(crate) fn local_of<'a>(
 /// tables give, whatever their number of blocks. It takes no memory.
 pub(crate) fn removal_of(state: &StoreState, lease: u64, name: &Name) -> Result<u64, Reply>
     ensures removal { IfOk result (λ number. IsRemoval lease name.now state.now number) }
-    ensures refused { KeepsView lease state.now → (blocks : ℕ) (old : Session)
+    ensures refused { KeepsView lease state.now → (room : Room) (old : Session)
         → IfErr result (λ reply. Refuses
-        (local_refusals lease name.now (table_shape blocks state.now)) old reply old) }
+        (local_refusals lease name.now (table_shape room state.now)) old reply old) }
     ensures still { (now : ℕ) → IfErr result (λ reply. moment_after now (Some reply) ≡ now) }
 {
     let Some(view) = state.leased(lease) else {

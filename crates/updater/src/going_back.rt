@@ -1,5 +1,6 @@
 // What going back to the previous view of an application comes to.
 ghost use Rattle.std.specs.Prelude.{◌≡◌, ℕ, List, [], Some, None, IfErr, IfOk, IfSome};
+ghost use Rattle.small_types.specs.declared.room.Room.{Room};
 ghost use Rattle.identity.specs.declared.version.Version.{Version};
 ghost use Rattle.identity.specs.Version.{IsBelow};
 ghost use Rattle.machine.specs.declared.command.Command.TheVariants as command;
@@ -48,8 +49,8 @@ fn minimum_above(state: &StoreState, key: &Key, version: Version) -> Option<Vers
 pub(crate) fn going_back_of(state: &StoreState, key: &Key) -> Result<GoingBack, Reply>
     ensures going { IfOk result (IsGoingBack key.now state.now) }
     ensures refused { KeepsCurrent key.now state.now → KeepsPrevious key.now state.now
-        → (now blocks : ℕ) (old : Session) → IfErr result (λ reply. Refuses (refusals now []
-        (table_shape blocks state.now) (command.Rollback key.now)) old reply old) }
+        → (now : ℕ) (room : Room) (old : Session) → IfErr result (λ reply. Refuses (refusals now []
+        (table_shape room state.now) (command.Rollback key.now)) old reply old) }
     ensures still { (now : ℕ) → IfErr result (λ reply. moment_after now (Some reply) ≡ now) }
 {
     let Some(_) = state.current(key) else {

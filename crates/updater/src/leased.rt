@@ -1,5 +1,6 @@
 // What is read of a leased view.
 ghost use Rattle.std.specs.Prelude.{◌≡◌, ℕ, List, [], Some, IfErr, IfOk};
+ghost use Rattle.small_types.specs.declared.room.Room.{Room};
 ghost use Rattle.machine.specs.declared.command.Command.TheVariants as command;
 ghost use Rattle.machine.specs.Machine.{moment_after, refusals};
 ghost use Rattle.machine.specs.ReadRow.{part};
@@ -11,27 +12,28 @@ ghost use Rattle.updater.specs.Leased.{IsLeasedFile, KeepsView};
 use machine::Reply;
 use small_types::{Bytes, Name, rest_from};
 use std::alloc::{AllocError, Global};
-use store_state::StoreState;
+use store_state::{Content, StoreState};
 
-/// The bytes of the program file of that name that stands in the leased view, or the refusal that
+/// The content of the program file of that name that stands in the leased view, or the refusal that
 /// the tables give, whatever their number of blocks. It takes no memory.
 pub(crate) fn leased_file<'a>(
     state: &'a StoreState,
     lease: u64,
     name: &Name,
-) -> Result<&'a Bytes, Reply>
-    ensures file { IfOk result (λ bytes. IsLeasedFile lease name.now state.now bytes.now) }
+) -> Result<&'a Content, Reply>
+    ensures file { IfOk result (λ content. IsLeasedFile lease name.now state.now content.now) }
     ensures refused { KeepsView lease state.now
-        → (now blocks from count : ℕ) (old : Session)
-        → IfErr result (λ reply. Refuses (refusals now [] (table_shape blocks state.now)
+        → (now : ℕ) (room : Room) (from count : ℕ) (old : Session)
+        → IfErr result (λ reply. Refuses (refusals now [] (table_shape room state.now)
         (command.Read lease name.now from count)) old reply old) }
     ensures still { (now : ℕ) → IfErr result (λ reply. moment_after now (Some reply) ≡ now) }
 {
+    state.are_tables();
     let Some(lease) = state.lease(lease) else {
         return Err(Reply::NoLease);
     };
     match state.file(lease.view, name) {
-        Some(bytes) => Ok(bytes),
+        Some(content) => Ok(content),
         None => Err(Reply::NoFile),
     }
 }

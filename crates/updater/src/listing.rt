@@ -3,6 +3,7 @@ ghost use Rattle.std.specs.Prelude.{◌≡◌, ◌++◌, ◌∷◌, [], map, opt
 ghost use Rattle.machine.specs.ListRow.{list_row};
 ghost use Rattle.machine.specs.Previous.{numbered_bare, numbered_version};
 ghost use Rattle.machine.specs.ShowRow.{show_row};
+ghost use Rattle.machine.specs.Store.{plain_room};
 ghost use Rattle.store_state.specs.Tables.{table_shape};
 
 use identity::Version;
@@ -13,7 +14,7 @@ use store_state::StoreState;
 
 // The version of the view of that number, where there is one.
 fn version_of(state: &StoreState, number: Option<u64>) -> Option<Version>
-    ensures { result ≡ numbered_version number (table_shape 0 state.now) }
+    ensures { result ≡ numbered_version number (table_shape (plain_room 0) state.now) }
 {
     match state.numbered(number) {
         Some(view) => Some(view.deployment.identity.version),
@@ -28,7 +29,7 @@ fn entry_of(
     number: Option<u64>,
 ) -> Result<Option<Text>, CopyFault>
     ensures { IfOk result (λ entry. entry ≡ option_map (λ view. view.application.entry)
-        (numbered_bare number (table_shape 0 state.now))) }
+        (numbered_bare number (table_shape (plain_room 0) state.now))) }
 {
     match state.numbered(number) {
         Some(view) => Ok(Some(view.application.entry.copy(alloc)?)),
@@ -38,7 +39,7 @@ fn entry_of(
 
 // The application as a list shows it.
 fn list_row(alloc: Global, state: &StoreState, app: &AppState) -> Result<ListRow, CopyFault>
-    ensures { IfOk result (λ row. row ≡ list_row (table_shape 0 state.now) app.now) }
+    ensures { IfOk result (λ row. row ≡ list_row (table_shape (plain_room 0) state.now) app.now) }
 {
     let key = app.key.copy(alloc)?;
     let current = version_of(state, app.current);
@@ -53,7 +54,7 @@ fn add_row(
     app: &AppState,
 ) -> Result<(), CopyFault>
     ensures { OnOk result (rows.new.items
-        ≡ rows.old.items ++ list_row (table_shape 0 state.now) app.now ∷ []) }
+        ≡ rows.old.items ++ list_row (table_shape (plain_room 0) state.now) app.now ∷ []) }
 {
     rows.push(list_row(alloc, state, app)?)?;
     Ok(())
@@ -62,7 +63,7 @@ fn add_row(
 // Rows for these applications, in their order.
 fn rows_of(alloc: Global, state: &StoreState, apps: &[AppState]) -> Result<Vec<ListRow>, CopyFault>
     ensures { IfOk result (λ rows. rows.items
-        ≡ map (list_row (table_shape 0 state.now)) apps.now) }
+        ≡ map (list_row (table_shape (plain_room 0) state.now)) apps.now) }
 {
     let mut rows = Vec::new(alloc);
     for app in apps {
@@ -75,7 +76,7 @@ fn rows_of(alloc: Global, state: &StoreState, apps: &[AppState]) -> Result<Vec<L
 /// memory.
 pub(crate) fn list_rows(alloc: Global, state: &StoreState) -> Result<List<ListRow>, CopyFault>
     ensures { IfOk result (λ rows. rows
-        ≡ map (list_row (table_shape 0 state.now)) state.now.apps) }
+        ≡ map (list_row (table_shape (plain_room 0) state.now)) state.now.apps) }
 {
     let rows = rows_of(alloc, state, state.apps.as_slice())?;
     Ok(List::from_vec(rows))
@@ -87,7 +88,7 @@ pub(crate) fn show_row(
     state: &StoreState,
     app: &AppState,
 ) -> Result<ShowRow, CopyFault>
-    ensures { IfOk result (λ row. row ≡ show_row (table_shape 0 state.now) app.now) }
+    ensures { IfOk result (λ row. row ≡ show_row (table_shape (plain_room 0) state.now) app.now) }
 {
     let key = app.key.copy(alloc)?;
     let entry = entry_of(alloc, state, app.current)?;

@@ -1,5 +1,6 @@
 // What putting a data file comes to.
-ghost use Rattle.std.specs.Prelude.{◌≡◌, ◌≤◌, ◌↔◌, ℕ, length, None, Some, IfErr, IfOk, IsTrue};
+ghost use Rattle.std.specs.Prelude.{◌≡◌, ◌≤◌, ◌↔◌, ℕ, List, length, None, Some, IfErr, IfOk, IsTrue};
+ghost use Rattle.small_types.specs.declared.room.Room.{Room};
 ghost use Rattle.small_types.specs.declared.limits.TheConstants as limits;
 ghost use Rattle.machine.specs.Blocks.{blocks_of};
 ghost use Rattle.machine.specs.Machine.{moment_after};
@@ -14,7 +15,7 @@ ghost use Rattle.updater.specs.Putting.{IsPutting, file_of};
 
 use machine::Reply;
 use small_types::limits::{BLOCK_SIZE, LOCAL_COUNT_LIMIT, LOCAL_NAME_LIMIT};
-use small_types::{Bytes, CopyFault, Duplicate, Limit, Name};
+use small_types::{Bytes, CopyFault, Duplicate, Limit, Name, Room};
 use std::alloc::Global;
 use store_state::{LocalFile, StoreState, View};
 
@@ -57,10 +58,11 @@ fn blocks_of(bytes: &Bytes) -> u64
 
 // Whether the view has these bytes under the name.
 fn has_bytes(view: &View, name: &Name, bytes: &Bytes) -> bool
-    ensures { IsTrue result ↔ (bytes_named name.now view.now ≡ Some bytes.now) }
+    ensures { (room : Room) (image : List ℕ)
+        → (IsTrue result ↔ (bytes_named room image name.now view.now ≡ Some bytes.now)) }
 {
     match view.local(name) {
-        Some(file) => file.bytes == *bytes,
+        Some(file) => file.held == *bytes,
         None => false,
     }
 }
@@ -69,15 +71,16 @@ fn has_bytes(view: &View, name: &Name, bytes: &Bytes) -> bool
 /// that the tables give. It takes no memory.
 pub(crate) fn putting_of(
     state: &StoreState,
-    blocks: u64,
+    room: Room,
     lease: u64,
     name: &Name,
     bytes: &Bytes,
 ) -> Result<Putting, Reply>
-    ensures putting { IfOk result (IsPutting blocks lease name.now bytes.now state.now) }
+    ensures putting { (image : List ℕ)
+        → IfOk result (IsPutting room image lease name.now bytes.now state.now) }
     ensures refused { KeepsView lease state.now → (old : Session)
         → IfErr result (λ reply. Refuses
-        (put_refusals lease name.now bytes.now (table_shape blocks state.now)) old reply old) }
+        (put_refusals lease name.now bytes.now (table_shape room state.now)) old reply old) }
     ensures still { (now : ℕ) → IfErr result (λ reply. moment_after now (Some reply) ≡ now) }
 {
     let Some(view) = state.leased(lease) else {
@@ -93,7 +96,7 @@ pub(crate) fn putting_of(
         });
     }
     let need = blocks_of(bytes);
-    let free = state.free_blocks(blocks);
+    let free = state.free_blocks(room);
     if free < need {
         return Err(Reply::Full { need, free });
     }
@@ -108,11 +111,7 @@ pub(crate) fn local_file(alloc: Global, name: &Name, bytes: &Bytes) -> Result<Lo
     ensures { IfOk result (λ file. file ≡ file_of name.now bytes.now) }
 {
     let name = name.copy(alloc)?;
-    let bytes = bytes.copy(alloc)?;
-    let length = bytes.as_slice().len() as u64;
-    Ok(LocalFile {
-        name,
-        length,
-        bytes,
-    })
+    let held = bytes.copy(alloc)?;
+    let length = held.as_slice().len() as u64;
+    Ok(LocalFile { name, length, held })
 }

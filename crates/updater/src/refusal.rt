@@ -1,5 +1,6 @@
 // The refusals of commands, as the tables give them.
 ghost use Rattle.std.specs.Prelude.{◌≡◌, ℕ, List, [], None, Some, IfSome};
+ghost use Rattle.small_types.specs.declared.room.Room.{Room};
 ghost use Rattle.identity.specs.declared.version.Version.{Version};
 ghost use Rattle.machine.specs.declared.command.Command.TheVariants as command;
 ghost use Rattle.machine.specs.Machine.{moment_after, refusals};
@@ -15,11 +16,11 @@ use store_state::StoreState;
 
 /// The refusal of `require` that the tables give, whatever their number of blocks.
 pub(crate) fn require_refusal(state: &StoreState, key: &Key) -> Option<Reply>
-    ensures none { result ≡ None → (now blocks : ℕ) (version : Version)
-        → PassesAll (refusals now [] (table_shape blocks state.now)
+    ensures none { result ≡ None → (now : ℕ) (room : Room) (version : Version)
+        → PassesAll (refusals now [] (table_shape room state.now)
         (command.Require key.now version)) }
-    ensures some { (now blocks : ℕ) (version : Version) (old : Session)
-        → IfSome result (λ reply. Refuses (refusals now [] (table_shape blocks state.now)
+    ensures some { (now : ℕ) (room : Room) (version : Version) (old : Session)
+        → IfSome result (λ reply. Refuses (refusals now [] (table_shape room state.now)
         (command.Require key.now version)) old reply old) }
     ensures still { (now : ℕ) → IfSome result (λ reply. moment_after now (Some reply) ≡ now) }
 {
@@ -36,10 +37,10 @@ pub(crate) fn require_refusal(state: &StoreState, key: &Key) -> Option<Reply>
 /// The refusal of `finish` that the tables give, whatever their number of blocks. It takes no
 /// memory.
 pub(crate) fn finish_refusal(state: &StoreState, lease: u64) -> Option<Reply>
-    ensures none { result ≡ None → (now blocks : ℕ)
-        → PassesAll (refusals now [] (table_shape blocks state.now) (command.Finish lease)) }
-    ensures some { (now blocks : ℕ) (old : Session)
-        → IfSome result (λ reply. Refuses (refusals now [] (table_shape blocks state.now)
+    ensures none { result ≡ None → (now : ℕ) (room : Room)
+        → PassesAll (refusals now [] (table_shape room state.now) (command.Finish lease)) }
+    ensures some { (now : ℕ) (room : Room) (old : Session)
+        → IfSome result (λ reply. Refuses (refusals now [] (table_shape room state.now)
         (command.Finish lease)) old reply old) }
     ensures still { (now : ℕ) → IfSome result (λ reply. moment_after now (Some reply) ≡ now) }
 {

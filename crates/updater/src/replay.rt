@@ -6,8 +6,9 @@ ghost use Rattle.updater.specs.Stands.{Loads};
 ghost use Rattle.updater.specs.Replay.{IsMade, Settled, Tests, Tries};
 
 use crate::RecoverFault;
-use record_codec::{CodecFault, decode_change};
-use small_types::Bytes;
+use record_codec::decode_change;
+use record_fields::CodecFault;
+use small_types::{Bytes, Room};
 use std::alloc::Global;
 use store_state::{Change, StateFault, StoreState};
 
@@ -66,14 +67,14 @@ fn replay(alloc: Global, changes: &[Bytes]) -> Result<Option<StoreState>, StateF
     Ok(Some(state))
 }
 
-/// The tables of a journal of so many blocks and these changes, where their files have room.
+/// The tables of a journal of this room and these changes, where their files have blocks enough.
 pub(crate) fn settle(
     alloc: Global,
-    blocks: u64,
+    room: Room,
     changes: &[Bytes],
 ) -> Result<StoreState, RecoverFault>
-    requires { blocks ≤ BLOCK_LIMIT }
-    ensures { Settled blocks changes.now result }
+    requires { room.blocks ≤ BLOCK_LIMIT }
+    ensures { Settled room changes.now result }
 {
     let Ok(loaded) = replay(alloc, changes) else {
         return Err(RecoverFault::Memory);
@@ -81,7 +82,7 @@ pub(crate) fn settle(
     let Some(state) = loaded else {
         return Err(RecoverFault::NotAStore);
     };
-    if !state.is_within(blocks) {
+    if !state.is_within(room) {
         drop(state);
         return Err(RecoverFault::NotAStore);
     }

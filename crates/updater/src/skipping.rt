@@ -1,5 +1,6 @@
 // What skipping the offer of an application comes to.
 ghost use Rattle.std.specs.Prelude.{◌≡◌, ◌↔◌, ℕ, List, [], Some, IfErr, IfOk, IsTrue};
+ghost use Rattle.small_types.specs.declared.room.Room.{Room};
 ghost use Rattle.machine.specs.declared.command.Command.TheVariants as command;
 ghost use Rattle.machine.specs.Machine.{moment_after, refusals};
 ghost use Rattle.machine.specs.Rows.{Refuses};
@@ -45,8 +46,8 @@ fn is_skipped(app: &AppState) -> bool
 /// give, whatever their number of blocks. It takes no memory.
 pub(crate) fn skipping_of(state: &StoreState, key: &Key, now: u64) -> Result<Skipping, Reply>
     ensures skipping { IfOk result (IsSkipping key.now now state.now) }
-    ensures refused { KeepsCurrent key.now state.now → (blocks : ℕ) (old : Session)
-        → IfErr result (λ reply. Refuses (refusals now [] (table_shape blocks state.now)
+    ensures refused { KeepsCurrent key.now state.now → (room : Room) (old : Session)
+        → IfErr result (λ reply. Refuses (refusals now [] (table_shape room state.now)
         (command.Skip key.now)) old reply old) }
     ensures still { IfErr result (λ reply. moment_after now (Some reply) ≡ now) }
 {

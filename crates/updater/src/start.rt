@@ -1,5 +1,6 @@
 // What launching an application comes to.
 ghost use Rattle.std.specs.Prelude.{◌≡◌, ℕ, List, [], Some, IfErr, IfOk};
+ghost use Rattle.small_types.specs.declared.room.Room.{Room};
 ghost use Rattle.machine.specs.declared.command.Command.TheVariants as command;
 ghost use Rattle.machine.specs.Machine.{moment_after, refusals};
 ghost use Rattle.machine.specs.Rows.{Refuses};
@@ -53,8 +54,8 @@ fn lease_reply(fault: LeaseFault) -> Reply
 /// whatever their number of blocks. It takes no memory.
 pub(crate) fn start_of(state: &StoreState, key: &Key, now: u64) -> Result<Start, Reply>
     ensures start { IfOk result (IsStart key.now now state.now) }
-    ensures refused { KeepsCurrent key.now state.now → (blocks : ℕ) (old : Session)
-        → IfErr result (λ reply. Refuses (refusals now [] (table_shape blocks state.now)
+    ensures refused { KeepsCurrent key.now state.now → (room : Room) (old : Session)
+        → IfErr result (λ reply. Refuses (refusals now [] (table_shape room state.now)
         (command.Launch key.now)) old reply old) }
     ensures still { IfErr result (λ reply. moment_after now (Some reply) ≡ now) }
 {

@@ -1,5 +1,6 @@
 // The store in memory and on the disk, and the commands on it.
 ghost use Rattle.std.specs.Prelude.{◌≡◌, ◌≤◌, ◌<◌, ◌^◌, ℕ, List, [], length, map};
+ghost use Rattle.small_types.specs.declared.room.Room.{Room};
 ghost use Rattle.small_types.specs.declared.limits.TheConstants.{NUMBER_LIMIT, PIECE_LIMIT};
 ghost use Rattle.small_types.specs.Name.{IsName};
 ghost use Rattle.identity.specs.Key.{IsKey};
@@ -40,16 +41,16 @@ use install_plan::{prepare, prepare_check, prepare_group};
 use links::Links;
 use machine::{Command, Heard, Reply, one_data_file_is_changed};
 use outside::Failed;
-use small_types::{Bytes, Duplicate, Name, Text};
+use small_types::{Bytes, Duplicate, Name, Room, Text};
 use std::alloc::Global;
 use store_log::{Log, LogFault};
 use store_state::{Change, LocalFile, StoreState, puts_show_the_file, removals_show_the_rest};
 
-/// A store that is open: its log, its number of blocks and its tables.
+/// A store that is open: its log, its room and its tables.
 #[derive(Debug, Drop)]
 pub struct Updater {
     log: Log,
-    blocks: u64,
+    room: Room,
     state: StoreState,
 }
 
@@ -151,8 +152,8 @@ impl Updater {
     /// How many blocks the files of its views take: those of each content that program files share,
     /// and of each data file.
     pub fn used_blocks(&self) -> u64
-        ensures { (blocks : ℕ) (image : List ℕ) (store : Store)
-            → Shows blocks (tables_of self.now) image store → Valid store
+        ensures { (room : Room) (image : List ℕ) (store : Store)
+            → Shows room (tables_of self.now) image store → Valid store
             → result ≡ used_blocks (map bare_view store.views) }
     {
         self.state.used_blocks()
@@ -175,9 +176,12 @@ impl Updater {
             Err(LogFault::Memory) => return Err(RecoverFault::Memory),
             Err(_) => return Err(RecoverFault::DiskFault),
         };
-        let blocks = recovered.blocks;
-        match settle(alloc, blocks, recovered.changes.as_slice()) {
-            Ok(state) => Ok(Updater { log, blocks, state }),
+        let room = Room {
+            blocks: recovered.blocks,
+            half: recovered.half,
+        };
+        match settle(alloc, room, recovered.changes.as_slice()) {
+            Ok(state) => Ok(Updater { log, room, state }),
             Err(fault) => Err(fault),
         }
     }
@@ -239,8 +243,8 @@ impl Updater {
     ) -> Result<Reply, Failed>
         requires words { IsKey key.now × IsVersion version }
         requires moment { _now ≤ NUMBER_LIMIT }
-        requires passed { (blocks : ℕ) → PassesAll (refusals _now []
-            (table_shape blocks (tables_of self.old)) (command.Require key.now version)) }
+        requires passed { (room : Room) → PassesAll (refusals _now []
+            (table_shape room (tables_of self.old)) (command.Require key.now version)) }
         requires raises { Raises key.now version (tables_of self.old).apps }
         ensures { Commanded D.Disk L.Links _now [] (command.Require key.now version)
             self.old disk.old _links.now result self.new disk.new _links.now }
@@ -269,15 +273,7 @@ impl Updater {
         ensures { Commanded D.Disk L.Links now heard.new.texts (command.Install url.now) self.old
             disk.old links.old result self.new disk.new links.new }
     {
-        let (change, reply) = match prepare(
-            alloc,
-            &self.state,
-            self.blocks,
-            links,
-            now,
-            url,
-            heard,
-        ) {
+        let (change, reply) = match prepare(alloc, &self.state, self.room, links, now, url, heard) {
             Ok(ready) => ready,
             Err(reply) => return Ok(reply),
         };
@@ -410,8 +406,8 @@ impl Updater {
             Ok(file) => file,
             Err(reply) => return Ok(reply),
         };
-        let length = file.as_slice().len() as u64;
-        match part_of(alloc, file.as_slice(), from, count) {
+        let length = file.held.as_slice().len() as u64;
+        match part_of(alloc, file.held.as_slice(), from, count) {
             Ok(bytes) => Ok(Reply::Read { length, bytes }),
             Err(_) => Ok(Reply::Memory),
         }
@@ -437,7 +433,7 @@ impl Updater {
             Ok(file) => file,
             Err(reply) => return Ok(reply),
         };
-        let held = file.bytes.as_slice();
+        let held = file.held.as_slice();
         let length = held.len() as u64;
         match part_of(alloc, held, from, count) {
             Ok(bytes) => Ok(Reply::Read { length, bytes }),
@@ -463,7 +459,7 @@ impl Updater {
         ensures { Commanded D.Disk L.Links now [] (command.Put lease name.now bytes.now)
             self.old disk.old _links.now result self.new disk.new _links.now }
     {
-        let putting = match putting_of(&self.state, self.blocks, lease, name, bytes) {
+        let putting = match putting_of(&self.state, self.room, lease, name, bytes) {
             Ok(putting) => putting,
             Err(reply) => return Ok(reply),
         };
@@ -531,7 +527,7 @@ impl Updater {
         let (brought, reply) = match prepare_group(
             alloc,
             &self.state,
-            self.blocks,
+            self.room,
             links,
             lease,
             group,

@@ -17,7 +17,7 @@ returns-in-Err-judge_room-clause-refused g c =
         c.in-Ok.wants.files,
         c.in-Ok.ensures.targets,
         subst (λ (need : ℕ). Refused
-            (room_checks need (free_blocks (table_shape c.args.blocks tables)))
+            (room_checks need (free_blocks (table_shape c.args.room tables)))
             c.in-Err-judge_room.reply) c.in-Ok.ensures.need c.in-Err-judge_room.ensures,
       )),
       record { kept = kept_same (g.L.Links.links c.args.links.now); same = refl },
@@ -47,7 +47,7 @@ returns-in-Ok-fetch_wanted-clause-brought g c =
         targets = c.in-Ok.ensures.targets;
         need = c.in-Ok.wants.need;
         needed = c.in-Ok.ensures.need;
-        room = c.in_default.ensures;
+        enough = c.in_default.ensures;
       };
       fetched = subst
           (λ (ws : List WantedFile). HasFetched c.args.files.now ws (state c.args.links.now)
@@ -65,7 +65,7 @@ returns-clause-refused g c =
         targets = c.in-Ok.ensures.targets;
         need = c.in-Ok.wants.need;
         needed = c.in-Ok.ensures.need;
-        room = c.in_default.ensures;
+        enough = c.in_default.ensures;
       },
       subst (λ (ws : List WantedFile). IsStopped c.args.files.now ws (state c.args.links.now)
           (state c.fetch_wanted.new.links) c.in-Err-fetch_wanted.reply)

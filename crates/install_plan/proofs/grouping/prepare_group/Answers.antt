@@ -15,38 +15,38 @@ use Rattle.install_plan.proofs.grouping.prepare_group.Goals as goal
 pub returns-in_default-clause-over : goal.returns-in_default-clause-over
 returns-in_default-clause-over g c =
     let a = g.L.Links.links c.args.links.now in
-    no_lease_over c.args.blocks c.args.state.now c.args.lease c.args.group.now a a
+    no_lease_over c.args.room c.args.state.now c.args.lease c.args.group.now a a
     (record { kept = kept_same a; same = refl }) (sym c.in_default.ensures.row)
 
 pub returns-in-Err-clause-over : goal.returns-in-Err-clause-over
 returns-in-Err-clause-over g c =
     let a = g.L.Links.links c.args.links.now in
-    no_files_over c.args.blocks c.args.state.now c.args.lease c.args.group.now c.in-Some.view.now
-    (record { row = sym c.in-Some.ensures.row; bare = sym (c.in-Some.ensures.bare c.args.blocks) })
+    no_files_over c.args.room c.args.state.now c.args.lease c.args.group.now c.in-Some.view.now
+    (record { row = sym c.in-Some.ensures.row; bare = sym (c.in-Some.ensures.bare c.args.room) })
     a a c.in-Err.reply (record { kept = kept_same a; same = refl }) c.in-Err.ensures.refused
 
 pub returns-then-has_group-clause-over : goal.returns-then-has_group-clause-over
 returns-then-has_group-clause-over g c =
     let a = g.L.Links.links c.args.links.now in
     let files = group_files c.args.group.now c.in-Some.view.now.application in
-    subst (λ (count : ℕ). IsGroupOver c.args.blocks c.args.state.now c.args.lease c.args.group.now
+    subst (λ (count : ℕ). IsGroupOver c.args.room c.args.state.now c.args.lease c.args.group.now
     a a (says.Group count))
     (sym (ap length (c.as_slice.ensures ∙ c.in-Ok.ensures.files) ∙ length-map files ungrouped))
-    (stands_over c.args.blocks c.args.state.now c.args.lease c.args.group.now c.in-Some.view.now
-    (record { row = sym c.in-Some.ensures.row; bare = sym (c.in-Some.ensures.bare c.args.blocks) })
+    (stands_over c.args.room c.args.state.now c.args.lease c.args.group.now c.in-Some.view.now
+    (record { row = sym c.in-Some.ensures.row; bare = sym (c.in-Some.ensures.bare c.args.room) })
     c.in-Ok.ensures.some a a (record { kept = kept_same a; same = refl })
     (sym c.has_group.ensures ∙ c.if-has_group.true))
 
 pub fetch_lacking-requires : goal.fetch_lacking-requires
 fetch_lacking-requires g c =
-    let leased : IsLeased c.args.blocks c.args.state.now c.args.lease c.in-Some.view.now =
-    record { row = sym c.in-Some.ensures.row; bare = sym (c.in-Some.ensures.bare c.args.blocks) } in
+    let leased : IsLeased c.args.room c.args.state.now c.args.lease c.in-Some.view.now =
+    record { row = sym c.in-Some.ensures.row; bare = sym (c.in-Some.ensures.bare c.args.room) } in
     record {
       sized = subst
           (λ (es : List FileEntry). All (λ (entry : FileEntry). entry.size < 2 ^ 61) es)
           (sym (c.as_slice-2.ensures ∙ c.in-Ok.ensures.files))
           (small_files c.args.group.now c.in-Some.view.now.application
-          (leased_held c.args.blocks c.args.state.now c.args.lease c.in-Some.view.now
+          (leased_held c.args.room c.args.state.now c.args.lease c.in-Some.view.now
           c.are_tables.ensures leased));
     }
 
@@ -55,11 +55,11 @@ returns-in-Err-fetch_lacking-clause-over g c =
     let state = g.L.Links.links in
     let tables = c.args.state.now in
     let view = c.in-Some.view.now in
-    not_brought_over c.args.blocks tables c.args.lease c.args.group.now view
-    (record { row = sym c.in-Some.ensures.row; bare = sym (c.in-Some.ensures.bare c.args.blocks) })
+    not_brought_over c.args.room tables c.args.lease c.args.group.now view
+    (record { row = sym c.in-Some.ensures.row; bare = sym (c.in-Some.ensures.bare c.args.room) })
     c.in-Ok.ensures.some (sym c.has_group.ensures ∙ c.if-has_group.false)
     (state c.args.links.now) (state c.fetch_lacking.new.links) c.in-Err-fetch_lacking.reply
-    (subst (λ (es : List FileEntry). IsNotBrought c.args.blocks tables view es
+    (subst (λ (es : List FileEntry). IsNotBrought c.args.room tables view es
     (state c.args.links.now) (state c.fetch_lacking.new.links) c.in-Err-fetch_lacking.reply)
     (c.as_slice-2.ensures ∙ c.in-Ok.ensures.files) c.in-Err-fetch_lacking.ensures.refused)
 
@@ -68,11 +68,11 @@ returns-in_default-copy-clause-over g c =
     let state = g.L.Links.links in
     let tables = c.args.state.now in
     let view = c.in-Some.view.now in
-    memory_last c.args.blocks tables c.args.lease c.args.group.now view
-    (record { row = sym c.in-Some.ensures.row; bare = sym (c.in-Some.ensures.bare c.args.blocks) })
+    memory_last c.args.room tables c.args.lease c.args.group.now view
+    (record { row = sym c.in-Some.ensures.row; bare = sym (c.in-Some.ensures.bare c.args.room) })
     c.in-Ok.ensures.some (sym c.has_group.ensures ∙ c.if-has_group.false)
     (state c.args.links.now) (state c.fetch_lacking.new.links) c.in-Ok-fetch_lacking.contents
-    (subst (λ (es : List FileEntry). HasBrought c.args.blocks tables view es
+    (subst (λ (es : List FileEntry). HasBrought c.args.room tables view es
     (state c.args.links.now) (state c.fetch_lacking.new.links) c.in-Ok-fetch_lacking.contents)
     (c.as_slice-2.ensures ∙ c.in-Ok.ensures.files) c.in-Ok-fetch_lacking.ensures.brought)
 
@@ -81,11 +81,11 @@ returns-clause-ready g c =
     let state = g.L.Links.links in
     let tables = c.args.state.now in
     let view = c.in-Some.view.now in
-    ready_with c.args.blocks tables c.args.lease c.args.group.now view
-    (record { row = sym c.in-Some.ensures.row; bare = sym (c.in-Some.ensures.bare c.args.blocks) })
+    ready_with c.args.room tables c.args.lease c.args.group.now view
+    (record { row = sym c.in-Some.ensures.row; bare = sym (c.in-Some.ensures.bare c.args.room) })
     c.in-Ok.ensures.some (sym c.has_group.ensures ∙ c.if-has_group.false)
     (state c.args.links.now) (state c.fetch_lacking.new.links) c.in-Ok-fetch_lacking.contents
-    (subst (λ (es : List FileEntry). HasBrought c.args.blocks tables view es
+    (subst (λ (es : List FileEntry). HasBrought c.args.room tables view es
     (state c.args.links.now) (state c.fetch_lacking.new.links) c.in-Ok-fetch_lacking.contents)
     (c.as_slice-2.ensures ∙ c.in-Ok.ensures.files) c.in-Ok-fetch_lacking.ensures.brought)
     c.are_tables.ensures c.groups_show_the_files.ensures c.in-Ok-copy.made

@@ -1,4 +1,3 @@
-use Rattle.std.proofs.Common.{◌∙◌}
 use Rattle.install_plan.proofs.Course.{at_address, at_application, at_deployment, at_judgement, at_plan, at_provider, at_release, size_below}
 use Rattle.install_plan.proofs.hearing.hear.Goals as goal
 
@@ -20,7 +19,7 @@ returns-in-Err-judge_deployment g c = record {
   plan = tt;
   locals = tt;
   refused = at_judgement c.requires.empty c.in-Ok.ensures.read c.hear_deployment.ensures.kept c.in-Ok-hear_deployment.ensures.told
-      (c.in-Err-judge_deployment.ensures.judged c.args.blocks);
+      (c.in-Err-judge_deployment.ensures.judged c.args.room);
 }
 
 pub returns-in-Err-hear_application : goal.returns-in-Err-hear_application
@@ -28,7 +27,7 @@ returns-in-Err-hear_application g c = record {
   plan = tt;
   locals = tt;
   refused = at_application c.requires.empty c.in-Ok.ensures.read c.hear_deployment.ensures.kept c.in-Ok-hear_deployment.ensures.told
-      c.in-Ok-judge_deployment.ensures.joined (c.in-Ok-judge_deployment.ensures.judged c.args.blocks) c.hear_application.ensures.kept
+      c.in-Ok-judge_deployment.ensures.joined (c.in-Ok-judge_deployment.ensures.judged c.args.room) c.hear_application.ensures.kept
       c.in-Err-hear_application.ensures.stopped;
 }
 
@@ -37,14 +36,14 @@ returns-in-Err-judge_release g c = record {
   plan = tt;
   locals = tt;
   refused = at_release c.requires.empty c.in-Ok.ensures.read c.hear_deployment.ensures.kept c.in-Ok-hear_deployment.ensures.told
-      c.in-Ok-judge_deployment.ensures.joined (c.in-Ok-judge_deployment.ensures.judged c.args.blocks) c.hear_application.ensures.kept
+      c.in-Ok-judge_deployment.ensures.joined (c.in-Ok-judge_deployment.ensures.judged c.args.room) c.hear_application.ensures.kept
       c.in-Ok-hear_application.ensures.told (c.in-Err-judge_release.ensures.judged c.args.url.now);
 }
 
 pub returns-in-Ok-provider_of : goal.returns-in-Ok-provider_of
 returns-in-Ok-provider_of g c = record {
   plan = at_plan c.requires.empty c.in-Ok.ensures.read c.hear_deployment.ensures.kept c.in-Ok-hear_deployment.ensures.told
-      c.in-Ok-judge_deployment.ensures.joined (c.in-Ok-judge_deployment.ensures.judged c.args.blocks) c.hear_application.ensures.kept
+      c.in-Ok-judge_deployment.ensures.joined (c.in-Ok-judge_deployment.ensures.judged c.args.room) c.hear_application.ensures.kept
       c.in-Ok-hear_application.ensures.told c.in-Ok-provider_of.ensures.provided c.in-Ok-judge_release.ensures.places
       c.in-Ok-judge_release.ensures.targets (c.in-Ok-judge_release.ensures.judged c.args.url.now);
   locals = c.in-Ok-judge_release.ensures.locals;
@@ -56,6 +55,6 @@ returns-in-Err-provider_of g c = record {
   plan = tt;
   locals = tt;
   refused = at_provider c.requires.empty c.in-Ok.ensures.read c.hear_deployment.ensures.kept c.in-Ok-hear_deployment.ensures.told
-      c.in-Ok-judge_deployment.ensures.joined (c.in-Ok-judge_deployment.ensures.judged c.args.blocks) c.hear_application.ensures.kept
+      c.in-Ok-judge_deployment.ensures.joined (c.in-Ok-judge_deployment.ensures.judged c.args.room) c.hear_application.ensures.kept
       c.in-Ok-hear_application.ensures.told c.in-Err-provider_of.ensures.memory;
 }

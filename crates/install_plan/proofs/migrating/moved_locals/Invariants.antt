@@ -1,4 +1,4 @@
-use Rattle.std.proofs.Common.{◌≡◌, ◌<◌, ◌^◌, ◌++◌, All, drop, length, map}
+use Rattle.std.proofs.Common.{◌≡◌, ◌++◌, drop, map}
 use Rattle.install_plan.specs.Changes.{AreShort}
 use Rattle.install_plan.specs.Parts.{moved_local}
 use Rattle.install_plan.proofs.migrating.moved_locals.Given as goal

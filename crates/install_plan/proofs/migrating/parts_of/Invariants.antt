@@ -1,5 +1,3 @@
-use Rattle.std.proofs.Common.{◌≡◌, length, map}
-use Rattle.install_plan.specs.Changes.{data_part, deployed_local, listed_at, program_part}
 use Rattle.install_plan.proofs.Parting.{Split}
 use Rattle.install_plan.proofs.migrating.parts_of.Given as goal
 

@@ -1,16 +1,18 @@
-use Rattle.std.proofs.Common.{refl, subst, sym}
+use Rattle.std.proofs.Common.{List, ℕ, refl, subst, sym}
 use Rattle.digest_list.specs.Matches.{Matches}
 use Rattle.fetcher.specs.Causes.{IsFileCause}
 use Rattle.machine.specs.declared.reply.Reply.{Reply}
-use Rattle.install_plan.specs.Stages.{StopsOne}
+use Rattle.install_plan.specs.Stages.{IsGot, StopsOne}
 use Rattle.install_plan.proofs.Stops.{file_got, file_stops}
 use Rattle.install_plan.proofs.texts.fetch_listed.Goals as goal
 
 pub returns-in-Ok-clause-got : goal.returns-in-Ok-clause-got
 returns-in-Ok-clause-got g c =
     let d = c.args.d.now in
-    file_got c.args.base.now (g.L.Links.links c.args.links.now) (g.L.Links.links c.fetch_file.new.links) d.app_list d.app_size
-    c.fetch_file.new.basket.bytes c.in-Ok.ensures.file
+    let a = g.L.Links.links c.args.links.now in
+    let b = g.L.Links.links c.fetch_file.new.links in
+    subst (λ (l : List ℕ). IsGot (Matches d.app_list d.app_size) c.args.base.now a b l) (sym c.from_vec.ensures)
+    (file_got c.args.base.now a b d.app_list d.app_size c.fetch_file.new.basket.bytes.items c.in-Ok.ensures.file)
 
 pub returns-in-Err-clause-stopped : goal.returns-in-Err-clause-stopped
 returns-in-Err-clause-stopped g c = λ facts texts.

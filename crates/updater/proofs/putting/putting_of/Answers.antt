@@ -5,20 +5,20 @@ use Rattle.updater.proofs.putting.putting_of.Goals as goal
 
 pub returns-then-is_bad_name-clause-refused : goal.returns-then-is_bad_name-clause-refused
 returns-then-is_bad_name-clause-refused c = λ keeps old.
-    bad_name c.args.lease c.args.blocks c.args.name.now c.args.bytes.now c.args.state.now
+    bad_name c.args.lease c.args.room c.args.name.now c.args.bytes.now c.args.state.now
     c.in-Some.view.now (sym c.in-Some.ensures.row) old
     (c.is_bad_name.ensures.0 c.if-is_bad_name.true)
 
 pub returns-then-is_one_too_many-clause-refused : goal.returns-then-is_one_too_many-clause-refused
 returns-then-is_one_too_many-clause-refused c = λ keeps old.
-    too_many c.args.lease c.args.blocks c.args.name.now c.args.bytes.now c.args.state.now
+    too_many c.args.lease c.args.room c.args.name.now c.args.bytes.now c.args.state.now
     c.in-Some.view.now (sym c.in-Some.ensures.row)
     (no_from c.is_bad_name.result c.is_bad_name.ensures c.if-is_bad_name.false) old
     (c.is_one_too_many.ensures.0 c.if-is_one_too_many.true)
 
 pub returns-then-free-need-clause-refused : goal.returns-then-free-need-clause-refused
 returns-then-free-need-clause-refused c = λ keeps old.
-    no_room c.args.lease c.args.blocks c.args.name.now c.args.bytes.now c.args.state.now
+    no_room c.args.lease c.args.room c.args.name.now c.args.bytes.now c.args.state.now
     c.in-Some.view.now (sym c.in-Some.ensures.row)
     (no_from c.is_bad_name.result c.is_bad_name.ensures c.if-is_bad_name.false)
     (no_from c.is_one_too_many.result c.is_one_too_many.ensures c.if-is_one_too_many.false)
@@ -26,8 +26,8 @@ returns-then-free-need-clause-refused c = λ keeps old.
     c.free_blocks-free.ensures (let less = c.if-free-need.true in omega (arith, less))
 
 pub returns-clause-putting : goal.returns-clause-putting
-returns-clause-putting c = record {
-  passes = put_passes c.args.lease c.args.blocks c.args.name.now c.args.bytes.now
+returns-clause-putting c = λ image. record {
+  passes = put_passes c.args.lease c.args.room c.args.name.now c.args.bytes.now
       c.args.state.now c.in-Some.view.now (sym c.in-Some.ensures.row)
       (no_from c.is_bad_name.result c.is_bad_name.ensures c.if-is_bad_name.false)
       (no_from c.is_one_too_many.result c.is_one_too_many.ensures c.if-is_one_too_many.false)
@@ -36,6 +36,7 @@ returns-clause-putting c = record {
   row = c.in-Some.view.now;
   leased = sym c.in-Some.ensures.row;
   view = refl;
-  stands = λ is. c.has_bytes.ensures.0 is;
-  other = λ differs same. both_ways c.has_bytes.result differs (c.has_bytes.ensures.1 same);
+  stands = λ is. (c.has_bytes.ensures c.args.room image).0 is;
+  other = λ differs same. both_ways c.has_bytes.result differs
+      ((c.has_bytes.ensures c.args.room image).1 same);
 }

@@ -7,11 +7,11 @@ returns-in-Err g c =
     check_over g.D.Disk g.L.Links c.args.now c.args.key.now c.prepare_check.new.heard.texts
     c.args.self.now c.args.disk.now c.args.links.now c.prepare_check.new.links
     (g.met.D.Disk.seen_left c.args.disk.now) c.requires.words c.requires.moment c.in-Err.reply
-    (c.in-Err.ensures.over c.args.self.now.blocks)
+    (c.in-Err.ensures.over c.args.self.now.room)
 
 pub keep-requires : goal.keep-requires
 keep-requires g c =
-    let ready = c.in-Ok.ensures.ready c.args.self.now.blocks in (
+    let ready = c.in-Ok.ensures.ready c.args.self.now.room in (
       ready.fits,
       check_encodes c.args.self.now.state c.args.key.now c.in-Ok.ready.0
           c.requires.words ready.of ready.fits,
@@ -22,5 +22,5 @@ returns g c =
     check_kept g.D.Disk g.L.Links c.args.now c.args.key.now c.prepare_check.new.heard.texts
     c.args.self.now c.args.disk.now c.args.links.now c.prepare_check.new.links
     (g.met.D.Disk.seen_left c.args.disk.now) c.requires.words c.requires.moment
-    c.in-Ok.ready.0 c.in-Ok.ready.1 (c.in-Ok.ensures.ready c.args.self.now.blocks)
+    c.in-Ok.ready.0 c.in-Ok.ready.1 (c.in-Ok.ensures.ready c.args.self.now.room)
     c.keep.new.self c.keep.new.disk c.keep.result c.answer.result c.keep.ensures c.answer.ensures

@@ -14,9 +14,9 @@ returns-then-views-eq0 g c =
     (g.met.D.Disk.seen_left c.args.disk.now) c.requires
     (unlinked g.L.Links command.Clean c.args.self.now c.args._links.now)
     (says.Cleaned (length c.as_slice.result.now)) c.requires
-    (λ old s. cleaned_rests c.args.now c.args.self.now.blocks c.args.self.now.state
+    (λ old s. cleaned_rests c.args.now c.args.self.now.room c.args.self.now.state
     _ _ _ old s.shows s.valid c.requires (length c.as_slice.result.now)
-    (ap length (c.as_slice.ensures ∙ c.in-Ok.ensures c.args.self.now.blocks)) c.if-views-eq0.true)
+    (ap length (c.as_slice.ensures ∙ c.in-Ok.ensures c.args.self.now.room)) c.if-views-eq0.true)
 
 pub returns : goal.returns
 returns g c =
@@ -25,9 +25,9 @@ returns g c =
     (g.met.D.Disk.seen_left c.args.disk.now) c.requires
     (unlinked g.L.Links command.Clean c.args.self.now c.args._links.now)
     change.Clean (says.Cleaned (length c.as_slice.result.now)) c.requires
-    (λ old s. cleaned_does c.args.now c.args.self.now.blocks c.args.self.now.state
+    (λ old s. cleaned_does c.args.now c.args.self.now.room c.args.self.now.state
     _ _ _ old s.shows s.valid c.requires (length c.as_slice.result.now)
-    (ap length (c.as_slice.ensures ∙ c.in-Ok.ensures c.args.self.now.blocks)) c.if-views-eq0.false)
+    (ap length (c.as_slice.ensures ∙ c.in-Ok.ensures c.args.self.now.room)) c.if-views-eq0.false)
     (memory_missed g.D.Disk g.L.Links c.args.now command.Clean
     c.args.self.now c.args.disk.now c.args._links.now
     (g.met.D.Disk.seen_left c.args.disk.now) c.requires tt)

@@ -14,7 +14,7 @@ returns-in-Some g c =
     (g.met.D.Disk.seen_left c.args.disk.now) c.requires.moment tt c.in-Some.reply
     (subst (λ (n : ℕ). n ≤ NUMBER_LIMIT) (sym (c.in-Some.ensures.still c.args.now))
     c.requires.moment)
-    (λ old s. c.in-Some.ensures.some c.args.now c.args.self.now.blocks old)
+    (λ old s. c.in-Some.ensures.some c.args.now c.args.self.now.room old)
 
 pub keep-requires : goal.keep-requires
 keep-requires g c = (
@@ -30,9 +30,9 @@ returns g c =
     (g.met.D.Disk.seen_left c.args.disk.now) c.requires.moment
     (unlinked g.L.Links command c.args.self.now c.args._links.now)
     (change.Finish c.args.lease) (says.Finished c.args.lease) c.requires.moment
-    (λ old s. finished_does c.args.now c.args.lease c.args.self.now.blocks c.args.self.now.state
+    (λ old s. finished_does c.args.now c.args.lease c.args.self.now.room c.args.self.now.state
     _ _ _ old s.shows s.valid c.requires.words c.requires.moment
-    (c.in_default.ensures.none refl c.args.now c.args.self.now.blocks))
+    (c.in_default.ensures.none refl c.args.now c.args.self.now.room))
     (memory_missed g.D.Disk g.L.Links c.args.now command
     c.args.self.now c.args.disk.now c.args._links.now
     (g.met.D.Disk.seen_left c.args.disk.now) c.requires.moment tt)

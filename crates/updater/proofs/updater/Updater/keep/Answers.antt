@@ -10,16 +10,16 @@ pub returns-in-Ok-append : goal.returns-in-Ok-append
 returns-in-Ok-append g c =
     let encodes : Encodes c.args.change (entry_in c.deref_mut.result.now) = record { has = c.requires.1; is = ap entry_in c.deref_mut.ensures.value ∙ c.in-Ok.ensures.change } in
     record {
-      stored = λ old new leads holds. holds_more g.D.Disk c.args.self.now c.args.disk.now c.args.change (entry_in c.deref_mut.result.now) c.requires.0 encodes old new leads holds (record { log = c.append.new.self; blocks = room_of c.args.self.now; state = c.make.new.state }) c.append.new.disk c.in_ok-make.ensures.ok refl c.in-Ok-append.ensures.ok;
-      stop = λ old new leads holds. either_store g.D.Disk c.args.self.now c.args.disk.now c.args.change (entry_in c.deref_mut.result.now) c.requires.0 encodes old new leads holds c.append.new.disk (g.met.D.Disk.seen_left c.args.disk.now) c.append.ensures.any_moment;
+      stored = λ old new leads holds. holds_more g.D.Disk c.args.self.now c.args.disk.now c.args.change (entry_in c.deref_mut.result.now) c.requires.0 encodes old new leads holds (g.met.D.Disk.seen_left c.args.disk.now) (record { log = c.append.new.self; room = room_of c.args.self.now; state = c.make.new.state }) c.append.new.disk c.in_ok-make.ensures.ok refl c.in-Ok-append.ensures.ok;
+      stop = λ old new leads holds. either_store g.D.Disk c.args.self.now c.args.disk.now c.args.change (entry_in c.deref_mut.result.now) c.requires.0 encodes old new leads holds (g.met.D.Disk.seen_left c.args.disk.now) c.append.new.disk c.append.ensures.any_moment;
       past = c.append.ensures.outside.past;
       memory = λ e. absurd (cc);
       tick = c.in-Ok-append.ensures.tick;
-      later = c.append.ensures.later;
-      told = c.append.ensures.told;
-      count = c.append.ensures.cause.later;
+      later = c.append.ensures.spends.later;
+      told = c.append.ensures.spends.told;
+      count = c.append.ensures.spends.count;
       cause = λ e. absurd (cc);
-      undisturbed = λ other. c.in-Ok-append.ensures.cause.quiet;
+      undisturbed = λ other. c.in-Ok-append.ensures.spends.quiet (λ no. cc);
       numbered = λ e. absurd (cc);
     }
 
@@ -28,14 +28,14 @@ returns g c =
     let encodes : Encodes c.args.change (entry_in c.deref_mut.result.now) = record { has = c.requires.1; is = ap entry_in c.deref_mut.ensures.value ∙ c.in-Ok.ensures.change } in
     record {
       stored = λ old new leads holds. tt;
-      stop = λ old new leads holds. either_store g.D.Disk c.args.self.now c.args.disk.now c.args.change (entry_in c.deref_mut.result.now) c.requires.0 encodes old new leads holds c.append.new.disk (g.met.D.Disk.seen_left c.args.disk.now) c.append.ensures.any_moment;
+      stop = λ old new leads holds. either_store g.D.Disk c.args.self.now c.args.disk.now c.args.change (entry_in c.deref_mut.result.now) c.requires.0 encodes old new leads holds (g.met.D.Disk.seen_left c.args.disk.now) c.append.new.disk c.append.ensures.any_moment;
       past = c.append.ensures.outside.past;
       memory = λ e. absurd (cc);
       tick = tt;
-      later = c.append.ensures.later;
-      told = c.append.ensures.told;
-      count = c.append.ensures.cause.later;
-      cause = λ e. c.in-Err.ensures.cause.rose;
+      later = c.append.ensures.spends.later;
+      told = c.append.ensures.spends.told;
+      count = c.append.ensures.spends.count;
+      cause = λ e. c.in-Err.ensures.spends.cause refl;
       undisturbed = λ other. absurd (other refl);
       numbered = λ e. numbered_by _ _ _ _ _ (subst (λ (l : List ℕ). length l ≤ AROUND + CHANGE_LIMIT) (sym c.deref_mut.ensures.value) c.in-Ok.ensures.size.1) c.append.ensures.counted;
     }

@@ -15,7 +15,7 @@ returns-in-Err g c =
     (g.met.D.Disk.seen_left c.args.disk.now) c.requires.moment tt c.in-Err.reply
     (subst (λ (n : ℕ). n ≤ NUMBER_LIMIT) (sym c.in-Err.ensures.still) c.requires.moment)
     (λ old s. c.in-Err.ensures.refused (keeps_current s.shows c.args.key.now s.valid.ordered)
-    c.args.self.now.blocks old)
+    c.args.self.now.room old)
 
 pub returns : goal.returns
 returns g c =
@@ -26,7 +26,7 @@ returns g c =
     (unlinked g.L.Links command c.args.self.now c.args._links.now)
     (change.Launch c.in-Ok.start.app)
     (says.Lease c.in-Ok.start.lease c.in-Ok.start.version c.in-Ok.start.check_due) c.requires.moment
-    (λ old s. launched_does c.args.now c.args.key.now c.args.self.now.blocks c.args.self.now.state
+    (λ old s. launched_does c.args.now c.args.key.now c.args.self.now.room c.args.self.now.state
     _ _ _ old s.shows s.valid c.requires.words c.requires.moment
     c.in-Ok.start c.in-Ok.ensures.start)
     (memory_missed g.D.Disk g.L.Links c.args.now command

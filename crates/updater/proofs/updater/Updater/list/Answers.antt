@@ -12,5 +12,5 @@ returns-in-Ok g c =
     (g.met.D.Disk.seen_left c.args._disk.now) c.requires
     (unlinked g.L.Links command.List c.args.self.now c.args._links.now)
     (says.Listed c.in-Ok.rows) c.requires
-    (λ old s. listed_rests c.args.now c.args.self.now.blocks c.args.self.now.state
+    (λ old s. listed_rests c.args.now c.args.self.now.room c.args.self.now.state
     _ _ _ old s.shows c.in-Ok.rows c.in-Ok.ensures)

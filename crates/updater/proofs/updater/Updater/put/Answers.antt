@@ -26,15 +26,15 @@ returns-then-putting g c =
     c.args.self.now c.args.disk.now c.args._links.now c.args._links.now
     (g.met.D.Disk.seen_left c.args.disk.now) c.requires.moment
     (unlinked g.L.Links command c.args.self.now c.args._links.now) says.Put c.requires.moment
-    (λ old s. put_rests c.args.now c.args.lease c.args.self.now.blocks c.args.name.now
+    (λ old s. put_rests c.args.now c.args.lease c.args.self.now.room c.args.name.now
     c.args.bytes.now c.args.self.now.state _ _ _ old s.shows s.valid c.requires.words
-    c.requires.moment c.in-Ok.putting c.in-Ok.ensures.putting c.if-putting.true)
+    c.requires.moment c.in-Ok.putting (c.in-Ok.ensures.putting _) c.if-putting.true)
 
 pub keep-requires : goal.keep-requires
 keep-requires g c = (
-  put_fits c.args.lease c.args.self.now.blocks c.args.name.now c.args.bytes.now
+  put_fits c.args.lease c.args.self.now.room [] c.args.name.now c.args.bytes.now
       c.args.self.now.state c.are_tables.ensures c.requires.words.1 c.in-Ok.putting
-      c.in-Ok.ensures.putting c.in-Ok-local_file.file c.in-Ok-local_file.ensures,
+      (c.in-Ok.ensures.putting []) c.in-Ok-local_file.file c.in-Ok-local_file.ensures,
   (
     search rules,
     file_encodes c.args.name.now c.args.bytes.now c.in-Ok-local_file.file c.requires.words.1
@@ -50,9 +50,9 @@ returns g c =
     (g.met.D.Disk.seen_left c.args.disk.now) c.requires.moment
     (unlinked g.L.Links command c.args.self.now c.args._links.now)
     (change.Put c.in-Ok.putting.view c.in-Ok-local_file.file) says.Put c.requires.moment
-    (λ old s. put_does c.args.now c.args.lease c.args.self.now.blocks c.args.name.now
+    (λ old s. put_does c.args.now c.args.lease c.args.self.now.room c.args.name.now
     c.args.bytes.now c.args.self.now.state _ _ _ old s.shows s.valid c.requires.words
-    c.requires.moment c.in-Ok.putting c.in-Ok.ensures.putting c.in-Ok-local_file.file
+    c.requires.moment c.in-Ok.putting (c.in-Ok.ensures.putting _) c.in-Ok-local_file.file
     c.in-Ok-local_file.ensures c.puts_show_the_file.ensures
     c.one_data_file_is_changed.ensures.put c.if-putting.false)
     (memory_missed g.D.Disk g.L.Links c.args.now command

@@ -16,7 +16,7 @@ returns-in-Err g c =
     (g.met.D.Disk.seen_left c.args._disk.now) c.requires tt c.in-Err.reply
     (subst (λ (n : ℕ). n ≤ NUMBER_LIMIT) (sym (c.in-Err.ensures.still c.args.now)) c.requires)
     (λ old s. c.in-Err.ensures.refused (keeps_view s.shows c.args.lease s.valid.ordered)
-    c.args.self.now.blocks old)
+    c.args.self.now.room old)
 
 pub returns-in-Ok-part_of : goal.returns-in-Ok-part_of
 returns-in-Ok-part_of g c =
@@ -26,7 +26,7 @@ returns-in-Ok-part_of g c =
     (g.met.D.Disk.seen_left c.args._disk.now) c.requires
     (unlinked g.L.Links command c.args.self.now c.args._links.now)
     (says.Read (length c.as_slice-held.result.now) c.in-Ok-part_of.bytes) c.requires
-    (λ old s. data_rests c.args.lease c.args.name.now c.args.self.now.blocks c.args.self.now.state
+    (λ old s. data_rests c.args.lease c.args.name.now c.args.self.now.room c.args.self.now.state
     c.args.now c.args.from c.args.count _ _ _ old s.shows
     c.in-Ok.file.now c.in-Ok.ensures.file (length c.as_slice-held.result.now) c.in-Ok-part_of.bytes
     (ap length c.as_slice-held.ensures)

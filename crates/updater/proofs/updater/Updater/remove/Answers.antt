@@ -18,7 +18,7 @@ returns-in-Err g c =
     (subst (λ (n : ℕ). n ≤ NUMBER_LIMIT) (sym (c.in-Err.ensures.still c.args.now))
     c.requires.moment)
     (λ old s. c.in-Err.ensures.refused (keeps_view s.shows c.args.lease s.valid.ordered)
-    c.args.self.now.blocks old)
+    c.args.self.now.room old)
 
 pub keep-requires : goal.keep-requires
 keep-requires g c = (
@@ -45,7 +45,7 @@ returns g c =
     (λ (name : List ℕ). Does c.args.now [] command (g.L.Links.links c.args._links.now)
     (g.L.Links.links c.args._links.now) (change.Remove c.in-Ok.view name) c.args.self.now.state old
     says.Removed) (sym c.in-Ok-copy.ensures)
-    (removal_does c.args.now c.args.lease c.args.self.now.blocks c.args.name.now
+    (removal_does c.args.now c.args.lease c.args.self.now.room c.args.name.now
     c.args.self.now.state _ _ _ old s.shows s.valid c.requires.words c.requires.moment
     c.in-Ok.view c.in-Ok.ensures.removal c.removals_show_the_rest.ensures
     c.one_data_file_is_changed.ensures.removed))

@@ -17,7 +17,7 @@ returns-in-Err g c =
     c.requires.moment)
     (λ old s. c.in-Err.ensures.refused (keeps_current s.shows c.args.key.now s.valid.ordered)
     (keeps_previous s.shows c.args.key.now s.valid.ordered) c.args.now
-    c.args.self.now.blocks old)
+    c.args.self.now.room old)
 
 pub returns : goal.returns
 returns g c =
@@ -27,7 +27,7 @@ returns g c =
     (g.met.D.Disk.seen_left c.args.disk.now) c.requires.moment
     (unlinked g.L.Links command c.args.self.now c.args._links.now)
     (change.Rollback c.in-Ok.going.app) (says.Current c.in-Ok.going.version) c.requires.moment
-    (λ old s. rolled_back_does c.args.now c.args.key.now c.args.self.now.blocks
+    (λ old s. rolled_back_does c.args.now c.args.key.now c.args.self.now.room
     c.args.self.now.state _ _ _ old s.shows s.valid c.requires.words c.requires.moment
     c.in-Ok.going c.in-Ok.ensures.going)
     (memory_missed g.D.Disk g.L.Links c.args.now command

@@ -10,7 +10,7 @@ returns-in_default g c =
     refused g.D.Disk g.L.Links c.args.now (command.Show c.args.key.now)
     c.args.self.now c.args._disk.now c.args._links.now
     (g.met.D.Disk.seen_left c.args._disk.now) c.requires tt says.NotInstalled c.requires
-    (λ old s. not_shown c.args.key.now c.args.self.now.blocks c.args.self.now.state old
+    (λ old s. not_shown c.args.key.now c.args.self.now.room c.args.self.now.state old
     (sym c.in_default.ensures))
 
 pub returns-in-Ok : goal.returns-in-Ok
@@ -20,6 +20,6 @@ returns-in-Ok g c =
     (g.met.D.Disk.seen_left c.args._disk.now) c.requires
     (unlinked g.L.Links (command.Show c.args.key.now) c.args.self.now c.args._links.now)
     (says.Shown c.in-Ok.row) c.requires
-    (λ old s. shown_rests c.args.now c.args.self.now.blocks c.args.self.now.state
+    (λ old s. shown_rests c.args.now c.args.self.now.room c.args.self.now.state
     _ _ _ old s.shows c.args.key.now c.in-Some.app.now c.in-Ok.row
     (sym c.in-Some.ensures) c.in-Ok.ensures)

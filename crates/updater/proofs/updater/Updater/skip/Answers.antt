@@ -15,7 +15,7 @@ returns-in-Err g c =
     (g.met.D.Disk.seen_left c.args.disk.now) c.requires.moment tt c.in-Err.reply
     (subst (λ (n : ℕ). n ≤ NUMBER_LIMIT) (sym c.in-Err.ensures.still) c.requires.moment)
     (λ old s. c.in-Err.ensures.refused (keeps_current s.shows c.args.key.now s.valid.ordered)
-    c.args.self.now.blocks old)
+    c.args.self.now.room old)
 
 pub returns-then-skipping : goal.returns-then-skipping
 returns-then-skipping g c =
@@ -25,7 +25,7 @@ returns-then-skipping g c =
     (g.met.D.Disk.seen_left c.args.disk.now) c.requires.moment
     (unlinked g.L.Links command c.args.self.now c.args._links.now)
     (says.Skipped c.in-Ok.skipping.offer) c.requires.moment
-    (λ old s. skipped_rests c.args.now c.args.key.now c.args.self.now.blocks c.args.self.now.state
+    (λ old s. skipped_rests c.args.now c.args.key.now c.args.self.now.room c.args.self.now.state
     _ _ _ old s.shows s.valid c.requires.words c.requires.moment
     c.in-Ok.skipping c.in-Ok.ensures.skipping c.if-skipping.true)
 
@@ -37,7 +37,7 @@ returns g c =
     (g.met.D.Disk.seen_left c.args.disk.now) c.requires.moment
     (unlinked g.L.Links command c.args.self.now c.args._links.now)
     (change.Skip c.in-Ok.skipping.app) (says.Skipped c.in-Ok.skipping.offer) c.requires.moment
-    (λ old s. skipped_does c.args.now c.args.key.now c.args.self.now.blocks c.args.self.now.state
+    (λ old s. skipped_does c.args.now c.args.key.now c.args.self.now.room c.args.self.now.state
     _ _ _ old s.shows s.valid c.requires.words c.requires.moment
     c.in-Ok.skipping c.in-Ok.ensures.skipping c.if-skipping.false)
     (memory_missed g.D.Disk g.L.Links c.args.now command
