@@ -1,9 +1,10 @@
 -- A word of hexadecimal digits.
-use Rattle.std.proofs.Common.{◌≡◌, ◌≤◌, ◌&&◌, ◌∙◌, ℕ, Bool, true, false, List, length, Option, Some, None, is_some, if◌then◌else◌, Result, Ok, Err, nat_le, refl, sym, ap, subst, arith}
+use Rattle.std.proofs.Common.{◌≡◌, ◌≤◌, ◌&&◌, ◌⊎◌, ◌∙◌, ℕ, Bool, true, false, List, length, Option, Some, None, is_some, if◌then◌else◌, Result, Ok, Err, inl, inr, nat_le, refl, sym, ap, subst, arith}
 use Rattle.std.specs.List.{list_all}
 use Rattle.std.proofs.lemmas.Bool.{and_from, and_parts, cond-true, false_from_ne_true, le-leb, leb-true}
 use Rattle.std.proofs.lemmas.List.Sums.{AllPass-from_list_all, list_all-from_AllPass}
 use Rattle.hex.specs.declared.error.FromHexError.{FromHexError}
+use Rattle.hex.specs.declared.error.FromHexError.TheVariants.{OutOfMemory}
 use Rattle.hex.specs.Hex.{decode_of, is_hex_digit}
 use Rattle.hex.proofs.HexLemmas.{decode_of-digits, decode_of-ok, decode_of-same}
 use Rattle.small_types.specs.declared.limits.TheConstants.{PIECE_LIMIT}
@@ -86,3 +87,19 @@ decoded word bytes is read =
     let made = spelled word has.long has.digits in
     let same = decode_of-same word bytes made.0 read made.1 in
     (ap Some same ∙ sym made.2, subst (λ (b : List ℕ). length b ≤ PIECE_LIMIT) (sym same) made.3)
+
+-- digits that were tested decode
+pub decodes : (word : List ℕ) (fault : FromHexError) → is_some (digit_bytes word) ≡ true
+    → decode_of word ≡ Err fault → ⊥
+unfolding digit_bytes
+decodes word fault is failed =
+    let none : is_some (digit_bytes word) ≡ false =
+    ap (λ (read : Result (List ℕ) FromHexError). is_some (bytes_in read)) failed in
+    let same : true ≡ false = sym is ∙ none in
+    cc
+
+-- they decode, or there was no memory
+pub only_memory : (word : List ℕ) (fault : FromHexError) → is_some (digit_bytes word) ≡ true
+    → (fault ≡ OutOfMemory) ⊎ (decode_of word ≡ Err fault) → fault ≡ OutOfMemory
+only_memory word fault is (inl memory) = memory
+only_memory word fault is (inr failed) = absurd (decodes word fault is failed)

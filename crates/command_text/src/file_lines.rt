@@ -12,7 +12,7 @@ use crate::numbers::{read_count, read_number};
 use crate::words::{four_words, three_words, two_words};
 use machine::{Command, LineFault};
 use small_types::{Name, NameFault};
-use std::alloc::Global;
+use std::alloc::{AllocError, Global};
 
 /// Bytes of a file of a leased view, from a place on, at most so many.
 #[derive(Drop)]
@@ -41,8 +41,8 @@ fn span_of(
         return Err(LineFault::BadWord { place: 1 });
     };
     let name = match read_name(alloc, name) {
-        Ok(name) => Some(name),
-        Err(NameFault::Memory) => None,
+        Ok(name) => Ok(name),
+        Err(NameFault::Memory) => Err(AllocError),
         Err(NameFault::Bad) => return Err(LineFault::BadWord { place: 2 }),
     };
     let Some(from) = read_number(from) else {
@@ -52,13 +52,13 @@ fn span_of(
         return Err(LineFault::BadWord { place: 4 });
     };
     match name {
-        Some(name) => Ok(Span {
+        Ok(name) => Ok(Span {
             lease,
             name,
             from,
             count,
         }),
-        None => Err(LineFault::Memory),
+        Err(AllocError) => Err(LineFault::Memory),
     }
 }
 
@@ -140,18 +140,18 @@ fn put_of(alloc: Global, lease: &[u8], name: &[u8], bytes: &[u8]) -> Result<Comm
         return Err(LineFault::BadWord { place: 1 });
     };
     let name = match read_name(alloc, name) {
-        Ok(name) => Some(name),
-        Err(NameFault::Memory) => None,
+        Ok(name) => Ok(name),
+        Err(NameFault::Memory) => Err(AllocError),
         Err(NameFault::Bad) => return Err(LineFault::BadWord { place: 2 }),
     };
     let bytes = match read_bytes(alloc, bytes) {
-        Ok(Some(bytes)) => Some(bytes),
+        Ok(Some(bytes)) => Ok(bytes),
         Ok(None) => return Err(LineFault::BadWord { place: 3 }),
-        Err(_) => None,
+        Err(AllocError) => Err(AllocError),
     };
     match (name, bytes) {
-        (Some(name), Some(bytes)) => Ok(Command::Put { lease, name, bytes }),
-        _ => Err(LineFault::Memory),
+        (Ok(name), Ok(bytes)) => Ok(Command::Put { lease, name, bytes }),
+        (Err(AllocError), _) | (_, Err(AllocError)) => Err(LineFault::Memory),
     }
 }
 

@@ -5,7 +5,7 @@ ghost use Rattle.hex.specs.Hex.{is_hex_digit};
 ghost use Rattle.small_types.specs.declared.limits.TheConstants as limits;
 ghost use Rattle.command_text.specs.Lines.{HasLength, bytes_word, digit_bytes};
 
-use hex::decode;
+use hex::{FromHexError, decode};
 use small_types::Bytes;
 use small_types::limits::PIECE_LIMIT;
 use std::alloc::{AllocError, Global};
@@ -52,8 +52,11 @@ fn decode_bytes(alloc: Global, word: &[u8]) -> Result<Option<Bytes>, AllocError>
     }
     match decode(alloc, word) {
         Ok(bytes) => Ok(Some(Bytes::from_vec(bytes))),
-        // Digits that were tested decode, so only memory lacks.
-        Err(_) => Err(AllocError),
+        Err(fault) => match fault {
+            FromHexError::OutOfMemory => Err(AllocError),
+            // Digits that were tested decode.
+            _ => unreachable!(),
+        },
     }
 }
 

@@ -9,7 +9,7 @@ use crate::names::read_group;
 use crate::numbers::read_number;
 use crate::words::{one_word, two_words};
 use machine::{Command, LineFault};
-use std::alloc::Global;
+use std::alloc::{AllocError, Global};
 
 // The command of the two words behind `group`.
 fn group_of(alloc: Global, lease: &[u8], group: &[u8]) -> Result<Command, LineFault>
@@ -24,7 +24,7 @@ fn group_of(alloc: Global, lease: &[u8], group: &[u8]) -> Result<Command, LineFa
     match read_group(alloc, group) {
         Ok(Some(group)) => Ok(Command::Group { lease, group }),
         Ok(None) => Err(LineFault::BadWord { place: 2 }),
-        Err(_) => Err(LineFault::Memory),
+        Err(AllocError) => Err(LineFault::Memory),
     }
 }
 

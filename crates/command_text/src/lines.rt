@@ -17,7 +17,7 @@ use identity::{Key, KeyFault, Version};
 use machine::{Command, LineFault};
 use small_types::Bytes;
 use small_types::limits::LINE_LIMIT;
-use std::alloc::Global;
+use std::alloc::{AllocError, Global};
 
 // The command of the two words behind `require`.
 fn read_require(alloc: Global, key: &[u8], version: &[u8]) -> Result<Command, LineFault>
@@ -27,16 +27,16 @@ fn read_require(alloc: Global, key: &[u8], version: &[u8]) -> Result<Command, Li
         → IsOk (require_of (key_of key.now) (version_of version.now)) }
 {
     let key = match Key::read(alloc, key) {
-        Ok(key) => Some(key),
-        Err(KeyFault::Memory) => None,
+        Ok(key) => Ok(key),
+        Err(KeyFault::Memory) => Err(AllocError),
         Err(_) => return Err(LineFault::BadWord { place: 1 }),
     };
     let Ok(version) = Version::read(version) else {
         return Err(LineFault::BadWord { place: 2 });
     };
     match key {
-        Some(key) => Ok(Command::Require { key, version }),
-        None => Err(LineFault::Memory),
+        Ok(key) => Ok(Command::Require { key, version }),
+        Err(AllocError) => Err(LineFault::Memory),
     }
 }
 
@@ -92,7 +92,7 @@ fn install_line(alloc: Global, args: Option<&[u8]>) -> Result<Command, LineFault
     }
     match Bytes::from_slice(alloc, word) {
         Ok(url) => Ok(Command::Install { url }),
-        Err(_) => Err(LineFault::Memory),
+        Err(AllocError) => Err(LineFault::Memory),
     }
 }
 

@@ -4,6 +4,7 @@ use Rattle.outside.specs.declared.failed.Failed.{Failed}
 use Rattle.disks.specs.declared.disk.Disk.{Ghosts}
 use Rattle.links.specs.declared.links.Links.{Ghosts as LinksGhosts}
 use Rattle.identity.specs.declared.key.Key.{Key}
+use Rattle.small_types.specs.declared.room.Room.{Room}
 use Rattle.small_types.specs.declared.target.Target.{Target}
 use Rattle.machine.specs.declared.command.Command.{Command}
 use Rattle.machine.specs.declared.command.Command.TheVariants.{Group, Install}
@@ -129,8 +130,8 @@ module _ {D L : Type 0} (on : Ghosts D) (net : LinksGhosts L) (seed : ℕ) (rele
   installs_by : (deployment application : List ℕ) (installed : Installed)
       → ArePublished seed release deployment application → (net.links links).asked ≡ []
       → installed.asked ≡ length (net.links links_new).asked
-      → ((blocks : ℕ) (image : List ℕ) (store : Store)
-      → Shows blocks (tables_of updater_new) image store → Valid store
+      → ((room : Room) (image : List ℕ) (store : Store)
+      → Shows room (tables_of updater_new) image store → Valid store
       → installed.blocks ≡ used_blocks (map bare_view store.views))
       → on.left_at disk_new (on.moment disk_new) (on.seen disk_new)
       → (old : Session) → Sound old.store
@@ -154,7 +155,7 @@ module _ {D L : Type 0} (on : Ghosts D) (net : LinksGhosts L) (seed : ℕ) (rele
           asks = it.served.0.accounts;
           asked = asked ∙ ap length hearing.grown
               ∙ ap (λ (before : List Target). length (before ++ hearing.asked)) unasked;
-          blocks = blocks it.new.store.blocks (on.seen disk_new) it.new.store
+          blocks = blocks it.new.store.room (on.seen disk_new) it.new.store
               (it.stored.shows (on.seen disk_new) seen) it.stored.valid;
         };
         holds = it.stored;
@@ -168,8 +169,8 @@ module _ {D L : Type 0} (on : Ghosts D) (net : LinksGhosts L) (seed : ℕ) (rele
       links_new
       → IsAsPublished said release site
       → installed.asked ≡ length (net.links links_new).asked
-      → ((blocks : ℕ) (image : List ℕ) (store : Store)
-      → Shows blocks (tables_of updater_new) image store → Valid store
+      → ((room : Room) (image : List ℕ) (store : Store)
+      → Shows room (tables_of updater_new) image store → Valid store
       → installed.blocks ≡ used_blocks (map bare_view store.views))
       → on.left_at disk_new (on.moment disk_new) (on.seen disk_new)
       → Goes on (Installs seed release) updater disk (Ok installed) updater_new disk_new

@@ -1,5 +1,6 @@
 -- Parts of the run, one after another.
 use Rattle.std.proofs.Common.{◌≡◌, ℕ, List, map, None, Ok, refl}
+use Rattle.small_types.specs.declared.room.Room.{Room}
 use Rattle.disks.specs.declared.disk.Disk.{Ghosts}
 use Rattle.machine.specs.declared.event.Event.TheVariants.{Boot}
 use Rattle.machine.specs.Blocks.{used_blocks}
@@ -95,8 +96,8 @@ module _ {D : Type 0} (on : Ghosts D) where
       → Goes on (Begun seed) u a (Ok s.one) v b
       → Goes on (Installs seed Two) v b (Ok s.two) w c
       → Goes on (Ended seed) w c (Ok s.three) x d
-      → TablesKeep seed (tables_of x)
-      → ((blocks : ℕ) (image : List ℕ) (store : Store) → Shows blocks (tables_of x) image store
+      → ((room : Room) (image : List ℕ) → TablesKeep room image seed (tables_of x))
+      → ((room : Room) (image : List ℕ) (store : Store) → Shows room (tables_of x) image store
       → Valid store → s.blocks ≡ used_blocks (map bare_view store.views))
       → on.left_at d (on.moment d) (on.seen d)
       → Demonstrates on seed s d
@@ -110,7 +111,7 @@ module _ {D : Type 0} (on : Ghosts D) where
       let first = one.is in
       let second = two.is in
       let third = three.is in
-      let shows : Shows three.session.store.blocks (tables_of x) (on.seen d) three.session.store =
+      let shows : Shows three.session.store.room (tables_of x) (on.seen d) three.session.store =
       three.holds.shows (on.seen d) seen in
       record {
         last = three.session;
@@ -131,7 +132,7 @@ module _ {D : Type 0} (on : Ghosts D) where
           finish = third.left.finish;
           clean_again = third.left.clean_again;
           seed_shown = shown;
-          blocks = blocks three.session.store.blocks (on.seen d) three.session.store shows
+          blocks = blocks three.session.store.room (on.seen d) three.session.store shows
               three.holds.valid;
         };
         run = (
@@ -168,6 +169,6 @@ module _ {D : Type 0} (on : Ghosts D) where
           ),
         );
         stands = stored_stands on x d three.session.store three.holds (on.seen d) seen;
-        files = keeps_shown seed three.session.store.blocks (tables_of x) (on.seen d)
-            three.session.store shows keeps;
+        files = keeps_shown seed three.session.store.room (tables_of x) (on.seen d)
+            three.session.store shows (keeps three.session.store.room (on.seen d));
       }

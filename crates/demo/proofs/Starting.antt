@@ -4,7 +4,7 @@ use Rattle.small_types.specs.declared.limits.TheConstants.{BLOCK_LIMIT}
 use Rattle.disks.specs.declared.disk.Disk.{Ghosts}
 use Rattle.machine.specs.declared.event.Event.TheVariants.{Boot}
 use Rattle.machine.specs.Machine.{Step}
-use Rattle.machine.specs.Store.{booted, empty, session_over}
+use Rattle.machine.specs.Store.{booted, empty, plain_room, session_over}
 use Rattle.machine.proofs.Keeping.{empty_sound}
 use Rattle.machine.proofs.Stepping.{step_sound}
 use Rattle.outside.specs.Streams.{Rose}
@@ -58,12 +58,12 @@ module _ {D : Type 0} (on : Ghosts D) (disk disk_new : D) where
       → IsStore BLOCK_LIMIT [] (on.seen disk) → on.tells disk_new
       → Reaches on (Step 0 start (Boot 1) None) r.0 disk_new
   begins r opened journal tells =
-      let last = session_over (booted 1 (empty BLOCK_LIMIT)) in
+      let last = session_over (booted 1 (empty (plain_room BLOCK_LIMIT))) in
       let step : Step 0 start (Boot 1) None last = (refl, refl) in
       record {
         session = last;
         is = step;
-        holds = opened.stored tells (empty BLOCK_LIMIT) (new_stands (on.seen disk) BLOCK_LIMIT journal);
+        holds = opened.stored tells (empty (plain_room BLOCK_LIMIT)) (new_stands (on.seen disk) (plain_room BLOCK_LIMIT) (record { store = journal; half = refl }));
         sound = step_sound 0 start (Boot 1) None last (omega arith) step
-            (empty_sound BLOCK_LIMIT (omega arith) (omega arith));
+            (empty_sound (plain_room BLOCK_LIMIT) (omega arith) (omega arith));
       }

@@ -1,5 +1,6 @@
 -- The program files of kept views, in a store and in tables.
 use Rattle.std.specs.Prelude.{◌≡◌, ◌&&◌, ℕ, false, not, List, [], All, filter, map, None}
+use Rattle.small_types.specs.declared.room.Room.{Room}
 use Rattle.folders.specs.declared.folder.Held.{Held}
 use Rattle.manifests.specs.declared.facts.FileEntry.{FileEntry}
 use Rattle.machine.specs.Store.{Store}
@@ -30,10 +31,10 @@ abbrev pub standing_of : List (List ℕ) → List FileEntry → List FileEntry
 standing_of groups files =
     filter (λ entry. not entry.local && stands_by groups entry.group) files
 
--- a program file of tables by its name and its bytes
-abbrev pub held_in : List Content → FileEntry → Held
-held_in contents entry =
-    record { name = entry.name; bytes = bytes_in (content_of contents entry) }
+-- a program file of tables by its name and its bytes in an image of the disk
+abbrev pub held_in : Room → List ℕ → List Content → FileEntry → Held
+held_in room image contents entry =
+    record { name = entry.name; bytes = bytes_in room image (content_of contents entry) }
 
 -- the file stands whatever groups do, and is the generated one
 pub record IsGenerated (held : FileEntry → Held) (seed version file : ℕ) (entry : FileEntry)
@@ -43,11 +44,12 @@ pub record IsGenerated (held : FileEntry → Held) (seed version file : ℕ) (en
   pub is : held entry ≡ file_below [] seed version file
 
 -- the program files of a view in tables are the generated ones of its version, in their order
-abbrev pub HasGenerated : ℕ → List Content → View → Type 0
-HasGenerated seed contents view =
-    map (held_in contents) (standing_entries view.groups view.application)
+abbrev pub HasGenerated : Room → List ℕ → ℕ → List Content → View → Type 0
+HasGenerated room image seed contents view =
+    map (held_in room image contents) (standing_entries view.groups view.application)
     ≡ generated_files seed view.deployment.identity.version.a
 
 -- so are those of each view
-abbrev pub TablesKeep : ℕ → Tables → Type 0
-TablesKeep seed tables = All (HasGenerated seed tables.contents) tables.views
+abbrev pub TablesKeep : Room → List ℕ → ℕ → Tables → Type 0
+TablesKeep room image seed tables =
+    All (HasGenerated room image seed tables.contents) tables.views

@@ -8,7 +8,7 @@ use Rattle.machine.specs.declared.event.Event.TheVariants.{Boot}
 use Rattle.machine.specs.declared.reply.Reply.{Reply}
 use Rattle.machine.specs.declared.reply.Reply.TheVariants as says
 use Rattle.machine.specs.Machine.{Run, Step}
-use Rattle.machine.specs.Store.{Session, empty, session_over}
+use Rattle.machine.specs.Store.{Session, empty, plain_room, session_over}
 use Rattle.updater.specs.Stands.{Stands}
 use Rattle.generated_release.specs.declared.release.Release.TheVariants.{One, Two, Three}
 use Rattle.demo.specs.declared.summary.Summary.{Summary}
@@ -20,7 +20,7 @@ use Rattle.demo.specs.Steps.{Cleans, Finishes, Installs, Launches, blocks_in, ev
 
 -- a session over the new store of 65,536 blocks
 abbrev pub start : Session
-start = session_over (empty BLOCK_LIMIT)
+start = session_over (empty (plain_room BLOCK_LIMIT))
 
 -- The seven lines behind the boot event, all at moment 0. Each install hears two texts.
 abbrev pub events_of : List (List ℕ) → List (List ℕ) → List (List ℕ) → List Event

@@ -1,6 +1,7 @@
 // Whether the kept views have the generated files.
 ghost use Rattle.std.specs.Prelude.{◌≡◌, ◌<◌, ℕ, List, All, map, IsTrue};
 ghost use Rattle.std.specs.Option.{option_copied};
+ghost use Rattle.small_types.specs.declared.room.Room.{Room};
 ghost use Rattle.machine.specs.Views.{same_digest};
 ghost use Rattle.store_state.specs.Contents as spec;
 ghost use Rattle.generated_release.specs.Files.{file_bytes as file_text, generated_files};
@@ -72,7 +73,8 @@ fn is_generated(
     entry: &FileEntry,
 ) -> bool
     requires { file < 1000 }
-    ensures { IsTrue result → IsGenerated (held_in contents.now) seed version file entry.now }
+    ensures { (room : Room) (image : List ℕ) → IsTrue result
+        → IsGenerated (held_in room image contents.now) seed version file entry.now }
 {
     if entry.local {
         return false;
@@ -84,7 +86,7 @@ fn is_generated(
         return false;
     }
     match find_content(contents, entry) {
-        Some(content) => are_bytes_of(alloc, seed, version, file, content.bytes.as_slice()),
+        Some(content) => are_bytes_of(alloc, seed, version, file, content.held.as_slice()),
         None => false,
     }
 }
@@ -98,8 +100,8 @@ fn are_generated(
     contents: &[Content],
     files: &[FileEntry],
 ) -> bool
-    ensures { IsTrue result → (groups : List (List ℕ))
-        → map (held_in contents.now) (standing_of groups files.now)
+    ensures { (room : Room) (image : List ℕ) → IsTrue result → (groups : List (List ℕ))
+        → map (held_in room image contents.now) (standing_of groups files.now)
         ≡ generated_files seed version }
 {
     if files.len() != FILE_COUNT as usize {
@@ -117,7 +119,8 @@ fn are_generated(
 // Whether the files of the view are the generated ones of its version. It is false, too, where
 // there was no memory.
 fn has_generated(alloc: Global, seed: u64, contents: &[Content], view: &View) -> bool
-    ensures { IsTrue result → HasGenerated seed contents.now view.now }
+    ensures { (room : Room) (image : List ℕ) → IsTrue result
+        → HasGenerated room image seed contents.now view.now }
 {
     let version = view.deployment.identity.version.a;
     are_generated(
@@ -131,7 +134,8 @@ fn has_generated(alloc: Global, seed: u64, contents: &[Content], view: &View) ->
 
 // Whether those of each view are.
 fn each_has_generated(alloc: Global, seed: u64, contents: &[Content], views: &[View]) -> bool
-    ensures { IsTrue result → All (HasGenerated seed contents.now) views.now }
+    ensures { (room : Room) (image : List ℕ) → IsTrue result
+        → All (HasGenerated room image seed contents.now) views.now }
 {
     for view in views {
         if !has_generated(alloc, seed, contents, view) {
@@ -144,7 +148,8 @@ fn each_has_generated(alloc: Global, seed: u64, contents: &[Content], views: &[V
 /// Whether the files of each view are the generated ones of its version. It is false, too, where
 /// there was no memory.
 pub(crate) fn keeps_generated(alloc: Global, seed: u64, state: &StoreState) -> bool
-    ensures { IsTrue result → TablesKeep seed state.now }
+    ensures { (room : Room) (image : List ℕ) → IsTrue result
+        → TablesKeep room image seed state.now }
 {
     each_has_generated(
         alloc,

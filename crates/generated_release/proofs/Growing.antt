@@ -1,6 +1,5 @@
 -- Bytes and files that are added one after another.
 use Rattle.std.proofs.Common.{◌≡◌, ◌+◌, ◌++◌, ℕ, List, [], ◌∷◌, refl, ap, add-one}
-use Rattle.folders.specs.declared.folder.Held.{Held}
 use Rattle.generated_release.specs.Files.{file_below, files_to, times}
 
 pub times_none : (bytes : List ℕ) → times 0 bytes ≡ []

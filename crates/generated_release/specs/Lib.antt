@@ -1,3 +1,5 @@
+pub mod Faults
 pub mod Files
 pub mod Options
 pub mod Published
+pub mod SureFolder

@@ -1,56 +1,43 @@
-// Want of memory.
+// Why a release is not made.
 ghost use Rattle.std.specs.Prelude.{◌≡◌};
-ghost use Rattle.generated_release.specs.declared.fault.MemoryFault.TheVariants.{Memory};
+ghost use Rattle.generated_release.specs.declared.fault.ReleaseFault.TheVariants.{Memory};
 
-use small_types::{CopyFault, NameFault};
 use std::alloc::{AllocError, AllocFailed};
 use std::error::Error;
 use std::fmt;
 
-/// A release was not made. Where a call of the publisher is refused, which no call is, that is told
-/// so too.
+/// Why a release is not made.
 #[derive(Clone, Copy, Debug, PartialEq, Eq)]
-pub enum MemoryFault {
+pub enum ReleaseFault {
+    /// The publisher refuses the generated files.
+    Refused,
     /// There was no memory.
     Memory,
 }
 
-impl fmt::Display for MemoryFault {
+impl fmt::Display for ReleaseFault {
     fn fmt<W: fmt::Write>(&self, f: &mut fmt::Formatter<W>) -> fmt::Result {
-        write!(f, "out of memory")
+        match self {
+            ReleaseFault::Refused => write!(f, "the generated files can't be published"),
+            ReleaseFault::Memory => write!(f, "out of memory"),
+        }
     }
 }
 
-impl Error for MemoryFault {}
+impl Error for ReleaseFault {}
 
-impl From<AllocError> for MemoryFault {
+impl From<AllocError> for ReleaseFault {
     ghost from_gives = { λ _ e. e ≡ Memory };
 
-    fn from(_: AllocError) -> MemoryFault {
-        MemoryFault::Memory
+    fn from(_: AllocError) -> ReleaseFault {
+        ReleaseFault::Memory
     }
 }
 
-impl<T: Drop> From<AllocFailed<T>> for MemoryFault {
+impl<T: Drop> From<AllocFailed<T>> for ReleaseFault {
     ghost from_gives = { λ _ e. e ≡ Memory };
 
-    fn from(_: AllocFailed<T>) -> MemoryFault {
-        MemoryFault::Memory
-    }
-}
-
-impl From<CopyFault> for MemoryFault {
-    ghost from_gives = { λ _ e. e ≡ Memory };
-
-    fn from(_: CopyFault) -> MemoryFault {
-        MemoryFault::Memory
-    }
-}
-
-impl From<NameFault> for MemoryFault {
-    ghost from_gives = { λ _ e. e ≡ Memory };
-
-    fn from(_: NameFault) -> MemoryFault {
-        MemoryFault::Memory
+    fn from(_: AllocFailed<T>) -> ReleaseFault {
+        ReleaseFault::Memory
     }
 }

@@ -1,24 +1,25 @@
 // The generated files.
 ghost use Rattle.std.specs.Prelude.{◌≡◌, ◌+◌, ◌<◌, IfOk, string_bytes};
+ghost use Rattle.small_types.specs.Name.{IsName};
 ghost use Rattle.generated_release.specs.Files as spec;
 
-use crate::MemoryFault;
 use folders::Held;
-use small_types::{Bytes, List, Name};
+use small_types::{Bytes, List, Name, NameFault};
 use std::alloc::{AllocError, Global};
 
 /// How many files each version has.
 pub const FILE_COUNT: u64 = 200;
 
 /// The name that these bytes are.
-pub(crate) fn name_of(alloc: Global, bytes: &[u8]) -> Result<Name, MemoryFault>
+pub(crate) fn name_of(alloc: Global, bytes: &[u8]) -> Result<Name, AllocError>
+    requires { IsName bytes.now }
     ensures { IfOk result (λ name. name ≡ bytes.now) }
 {
-    let name = Name::read(alloc, bytes)?;
-    if name.as_bytes() != bytes {
-        return Err(MemoryFault::Memory);
+    match Name::read(alloc, bytes) {
+        Ok(name) => Ok(name),
+        Err(NameFault::Memory) => Err(AllocError),
+        Err(NameFault::Bad) => unreachable!(),
     }
-    Ok(name)
 }
 
 // The digit of a number below 10.
@@ -89,7 +90,7 @@ pub fn file_name(file: u64) -> [u8; 8]
 }
 
 // The file of the version, below the folder `in`.
-fn input_file(alloc: Global, seed: u64, version: u16, file: u64) -> Result<Held, MemoryFault>
+fn input_file(alloc: Global, seed: u64, version: u16, file: u64) -> Result<Held, AllocError>
     requires { file < 1000 }
     ensures { IfOk result (λ held. held ≡ spec.input_file seed version file) }
 {
@@ -103,7 +104,7 @@ fn input_file(alloc: Global, seed: u64, version: u16, file: u64) -> Result<Held,
 
 /// The files of the version, below the folder `in`.
 #[tactic(auto, using(crate::proofs::Growing::files_none, crate::proofs::Growing::files_more))]
-pub(crate) fn input_files(alloc: Global, seed: u64, version: u16) -> Result<List<Held>, MemoryFault>
+pub(crate) fn input_files(alloc: Global, seed: u64, version: u16) -> Result<List<Held>, AllocError>
     ensures { IfOk result (λ files. files ≡ spec.input_files seed version) }
 {
     let mut files = Vec::new(alloc);

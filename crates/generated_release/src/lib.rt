@@ -7,8 +7,9 @@ mod files;
 mod options;
 mod publishing;
 mod release;
+mod sure_folder;
 
-pub use fault::MemoryFault;
+pub use fault::ReleaseFault;
 pub use files::{FILE_COUNT, file_bytes, file_name};
 pub use publishing::{PublishedRelease, publish_release};
 pub use release::Release;

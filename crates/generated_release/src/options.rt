@@ -3,10 +3,10 @@ ghost use Rattle.std.specs.Prelude.{◌≡◌, IfOk};
 ghost use Rattle.publisher.specs.Options.{IsPublishable};
 ghost use Rattle.generated_release.specs.Options as spec;
 
+use crate::Release;
 use crate::files::name_of;
-use crate::{MemoryFault, Release};
 use manifests::Rule;
-use publisher::{Options, is_publishable};
+use publisher::Options;
 use small_types::{List, Text};
 use std::alloc::{AllocError, Global};
 
@@ -18,11 +18,11 @@ fn name_text(alloc: Global) -> Result<Text, AllocError>
 }
 
 /// The options of the release: no minimum, no checks, no provider and no marks, with `.deploy`.
-pub(crate) fn options_of(alloc: Global, release: Release) -> Result<Options, MemoryFault>
+pub(crate) fn options_of(alloc: Global, release: Release) -> Result<Options, AllocError>
     ensures options { IfOk result (λ options. options ≡ spec.options_of release) }
     ensures publishable { IfOk result IsPublishable }
 {
-    let options = Options {
+    Ok(Options {
         name: name_text(alloc)?,
         version: release.version(),
         entry: name_of(alloc, b"f000.txt")?,
@@ -34,9 +34,5 @@ pub(crate) fn options_of(alloc: Global, release: Release) -> Result<Options, Mem
         provider: None,
         mapped: true,
         marks: List::from_vec(Vec::new(alloc)),
-    };
-    if !is_publishable(alloc, &options)? {
-        return Err(MemoryFault::Memory);
-    }
-    Ok(options)
+    })
 }

@@ -11,13 +11,13 @@ use Rattle.publication.specs.declared.publication.End.TheVariants as ends
 use Rattle.publication.specs.Lines.{end_of, has_line, line_of}
 
 -- the exit status
-abbrev pub code_of : End → ℕ
-code_of ends.Done = 0
-code_of ends.ReadFault = 2
-code_of ends.WriteFault = 3
-code_of ends.SinkFault = 3
-code_of ends.Memory = 6
-code_of ends.Refused = 7
+abbrev pub status_of : End → ℕ
+status_of ends.Done = 0
+status_of ends.ReadFault = 2
+status_of ends.WriteFault = 3
+status_of ends.SinkFault = 3
+status_of ends.Memory = 6
+status_of ends.Refused = 7
 
 -- how the call ends after a publish with this result, and what is written to the sink
 abbrev pub EndsWith : {K : Type 0} → Type 0 → (K → List ℕ) → K → K → Result Published PublishFault
@@ -40,7 +40,7 @@ EndsWith tells taken old new result ends.Memory =
     (end_of result ≢ ends.ReadFault) × (end_of result ≢ ends.WriteFault) × (new ≡ old)
 
 -- A publish by the options was made, and the call ends by what came of it.
-pub record Publication {F K : Type 0} (folder_tells : Type 0) (held : F → List Held)
+pub record PublishesOptions {F K : Type 0} (folder_tells : Type 0) (held : F → List Held)
     (count : F → ℕ) (sink_tells : Type 0) (taken : K → List ℕ) (o : Options)
     (folder_old folder_new : F) (sink_old sink_new : K) (end : End) : Type 0 where
   pub result : Result Published PublishFault

@@ -12,6 +12,7 @@ use Rattle.identity.specs.Version.{version_of}
 use Rattle.manifest_tree.specs.Writing.{is_content}
 use Rattle.addresses.specs.Address.{target_of_text}
 use Rattle.manifests.specs.Ages.{seconds_in}
+use Rattle.manifests.specs.declared.ages.TheConstants.{AGE_DIGIT_LIMIT}
 use Rattle.manifests.specs.declared.ages.AgeUnit.{AgeUnit}
 use Rattle.manifests.specs.declared.ages.AgeUnit.TheVariants.{Hours, Days, Weeks}
 use Rattle.manifests.specs.declared.facts.Rule.{Rule}
@@ -67,7 +68,7 @@ unit_of letter =
 
 -- one to nine digits
 unfoldable pub number_of : List ℕ → Option ℕ
-number_of digits = if nat_le (length digits) 9 then decimal_of digits else None
+number_of digits = if nat_le (length digits) AGE_DIGIT_LIMIT then decimal_of digits else None
 
 -- so many hours, days or weeks
 unfoldable pub age_of : List ℕ → Option Rule

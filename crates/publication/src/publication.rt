@@ -4,12 +4,13 @@ ghost use Rattle.outside.specs.Streams.{Rose};
 ghost use Rattle.publisher.specs.Options.{IsPublishable};
 ghost use Rattle.publication.specs.declared.publication.End.TheVariants as ends;
 ghost use Rattle.publication.specs.Lines.{has_line};
-ghost use Rattle.publication.specs.Publication.{code_of as status_of, EndsWith, Publication};
+ghost use Rattle.publication.specs.Publication.{status_of, EndsWith, PublishesOptions};
 
 use crate::lines::{end_of, line_of};
 use folders::Folder;
 use outside::{Sink, write_all};
 use publisher::{Options, PublishFault, Published, publish};
+use small_types::PrintFault;
 use std::alloc::Global;
 
 /// How such a publish ends.
@@ -63,8 +64,9 @@ fn say_done<K: Sink>(alloc: Global, done: &Result<Published, PublishFault>, sink
     if !end.has_line() {
         return end;
     }
-    let Ok(line) = line_of(alloc, done) else {
-        return End::Memory;
+    let line = match line_of(alloc, done) {
+        Ok(line) => line,
+        Err(PrintFault::Memory) => return End::Memory,
     };
     let Ok(()) = write_all(sink, line.as_slice()) else {
         return End::SinkFault;
@@ -82,7 +84,7 @@ pub fn publish_options<F: Folder, K: Sink>(
     sink: &mut K,
 ) -> End
     requires { IsPublishable options.now }
-    ensures done { Publication F.tells F.held F.count K.tells K.taken
+    ensures done { PublishesOptions F.tells F.held F.count K.tells K.taken
         options.now folder.old folder.new sink.old sink.new result }
 
     // The counts of faults never fall. An end says which device failed, and any other end leaves

@@ -1,5 +1,5 @@
 // The values of the words behind `publish`.
-ghost use Rattle.std.specs.Prelude.{◌≡◌, ◌≤◌, ℕ, List, None, Some, true, length, take, drop, IfOk, IfErr, IfSome, IfNone};
+ghost use Rattle.std.specs.Prelude.{◌≡◌, ◌≤◌, ℕ, List, None, Some, true, false, length, take, drop, IfOk, IfErr, IfSome, IfNone};
 ghost use Rattle.std.specs.List.{list_all};
 ghost use Rattle.std.specs.Str.{is_utf8};
 ghost use Rattle.manifest_tree.specs.Lexis.{allowed};
@@ -9,7 +9,7 @@ ghost use Rattle.publication.specs.Words.{age_of, check_of, file_of, group_of, n
 ghost use Rattle.publication.specs.declared.values.WordFault.TheVariants.{Unreadable, Memory};
 
 use identity::Version;
-use manifests::{AgeUnit, Rule, UrlFault, target_of};
+use manifests::{AGE_DIGIT_LIMIT, AGE_LIMIT, AgeUnit, Rule, UrlFault, target_of};
 use small_types::limits::NAME_LIMIT;
 use small_types::{CopyFault, Name, NameFault, Text, read_decimal};
 use std::alloc::{AllocError, AllocFailed, Global};
@@ -75,50 +75,45 @@ pub(crate) fn is_allowed_text(bytes: &[u8]) -> bool
     bytes.iter().all(|b| is_allowed(*b))
 }
 
-// Whether the bytes are UTF-8.
+// The bytes as text.
 #[tactic(auto, using(small_types::proofs::Spelling::spelled, small_types::proofs::Spelling::unspelled))]
-pub(crate) fn is_text(bytes: &[u8]) -> bool
-    ensures { result ≡ is_utf8 bytes.now }
-{
-    str::from_utf8(bytes).is_ok()
-}
-
-// A copy of the bytes, which are UTF-8.
-fn text_of(alloc: Global, bytes: &[u8]) -> Result<Text, WordFault>
-    requires { is_utf8 bytes.now ≡ true }
-    ensures value { IfOk result (λ t. t ≡ bytes.now) }
-    ensures memory { IfErr result (λ e. e ≡ Memory) }
+pub(crate) fn text(bytes: &[u8]) -> Result<&str, WordFault>
+    ensures value { IfOk result (λ s. s.now ≡ bytes.now) }
+    ensures text { IfOk result (λ s. is_utf8 bytes.now ≡ true) }
+    ensures none { IfErr result (λ e. is_utf8 bytes.now ≡ false) }
+    ensures fault { IfErr result (λ e. e ≡ Unreadable) }
 {
     match str::from_utf8(bytes) {
-        Ok(text) => Ok(Text::from_string(String::from_str(alloc, text)?)),
-        Err(_) => Err(WordFault::Memory),
+        Ok(text) => Ok(text),
+        Err(_) => Err(WordFault::Unreadable),
     }
 }
 
 // The publisher.
-#[tactic(auto, unfolding(crate::specs::Words::publisher_of))]
-pub(crate) fn read_publisher(alloc: Global, word: &[u8]) -> Result<Text, WordFault>
+#[tactic(auto, using(small_types::proofs::Spelling::spelled), unfolding(crate::specs::Words::publisher_of))]
+pub(crate) fn read_publisher(alloc: Global, word: &str) -> Result<Text, WordFault>
     ensures value { IfOk result (λ t. publisher_of word.now ≡ Some t) }
     ensures fit { IfOk result (IsValue 0 NAME_LIMIT) }
     ensures none { IfErr result (λ e. e ≡ Unreadable → publisher_of word.now ≡ None) }
 {
-    if word.len() > NAME_LIMIT || !is_allowed_text(word) || !is_text(word) {
+    if word.len() > NAME_LIMIT || !is_allowed_text(word.as_bytes()) {
         return Err(WordFault::Unreadable);
     }
-    text_of(alloc, word)
+    Ok(Text::from_string(String::from_str(alloc, word)?))
 }
 
 // A group.
 #[tactic(auto, unfolding(crate::specs::Words::group_of))]
-pub(crate) fn read_group(alloc: Global, text: &[u8]) -> Result<Text, WordFault>
-    ensures value { IfOk result (λ t. group_of text.now ≡ Some t) }
+pub(crate) fn read_group(alloc: Global, bytes: &[u8]) -> Result<Text, WordFault>
+    ensures value { IfOk result (λ t. group_of bytes.now ≡ Some t) }
     ensures fit { IfOk result (IsValue 1 NAME_LIMIT) }
-    ensures none { IfErr result (λ e. e ≡ Unreadable → group_of text.now ≡ None) }
+    ensures none { IfErr result (λ e. e ≡ Unreadable → group_of bytes.now ≡ None) }
 {
-    if text.is_empty() || text.len() > NAME_LIMIT || !is_allowed_text(text) || !is_text(text) {
+    if bytes.is_empty() || bytes.len() > NAME_LIMIT || !is_allowed_text(bytes) {
         return Err(WordFault::Unreadable);
     }
-    text_of(alloc, text)
+    let group = text(bytes)?;
+    Ok(Text::from_string(String::from_str(alloc, group)?))
 }
 
 // A file name.
@@ -166,9 +161,9 @@ fn read_unit(letter: &[u8]) -> Option<AgeUnit>
 #[tactic(auto, unfolding(crate::specs::Words::number_of))]
 fn read_number(digits: &[u8]) -> Option<u64>
     ensures value { result ≡ number_of digits.now }
-    ensures few { IfSome result (λ n. n ≤ 999999999) }
+    ensures few { IfSome result (λ n. n ≤ AGE_LIMIT) }
 {
-    if digits.len() > 9 {
+    if digits.len() > AGE_DIGIT_LIMIT {
         return None;
     }
     read_decimal(digits)

@@ -16,7 +16,7 @@ use crate::command::{
 };
 use crate::marks::read_marks;
 use crate::values::{
-    WordFault, is_text, read_check, read_file, read_provider, read_publisher, read_release,
+    WordFault, read_check, read_file, read_provider, read_publisher, read_release, text,
 };
 use clap::ArgMatches;
 use identity::Version;
@@ -83,8 +83,8 @@ fn publisher_in(alloc: Global, matches: &ArgMatches<'_>, name: &Text) -> Result<
         → publisher_in (rows_in matches.now) name.now ≡ None) }
 {
     match given(matches, PUBLISHER) {
-        Some(word) => read_publisher(alloc, word.as_bytes()),
-        None => read_publisher(alloc, name.as_bytes()),
+        Some(word) => read_publisher(alloc, word),
+        None => read_publisher(alloc, name.as_str()),
     }
 }
 
@@ -187,41 +187,37 @@ fn options_in(alloc: Global, matches: &ArgMatches<'_>) -> Result<Options, WordFa
     })
 }
 
-// The word as text.
-#[tactic(auto, using(small_types::proofs::Spelling::spelled, small_types::proofs::Spelling::unspelled))]
-fn text(word: &[u8]) -> Result<&str, WordFault>
-    ensures value { IfOk result (λ s. s.now ≡ word.now) }
-    ensures text { IfOk result (λ s. is_utf8 word.now ≡ true) }
-    ensures none { IfErr result (λ e. is_utf8 word.now ≡ false) }
-{
-    match str::from_utf8(word) {
-        Ok(text) => Ok(text),
-        Err(_) => Err(WordFault::Unreadable),
-    }
-}
-
 // Whether each of the words is text. It takes no memory.
 fn are_texts(words: &[Word]) -> bool
     ensures { result ≡ spec.are_texts words.now }
 {
-    words.iter().all(|word| is_text(word.as_slice()))
+    words.iter().all(|word| text(word.as_slice()).is_ok())
 }
 
-// The words as text.
+// The words as text. There may be no memory for any words.
+fn read_texts<'a>(alloc: Global, words: &'a [Word]) -> Result<Vec<&'a str>, WordFault>
+    ensures value { IfOk result (λ v. map (λ s. s.now) v.items ≡ words.entry.now) }
+    ensures text { IfOk result (λ v. spec.are_texts words.entry.now ≡ true) }
+    ensures none { result ≡ Err Unreadable → spec.are_texts words.entry.now ≡ false }
+{
+    let mut texts = Vec::new(alloc);
+    for word in words {
+        texts.push(text(word.as_slice())?)?;
+    }
+    Ok(texts)
+}
+
+// The words as text. Want of memory is told only where each of them is.
 fn texts<'a>(alloc: Global, words: &'a [Word]) -> Result<Vec<&'a str>, WordFault>
     ensures value { IfOk result (λ v. map (λ s. s.now) v.items ≡ words.entry.now) }
     ensures text { IfOk result (λ v. spec.are_texts words.entry.now ≡ true) }
     ensures none { result ≡ Err Unreadable → spec.are_texts words.entry.now ≡ false }
     ensures memory { result ≡ Err Memory → spec.are_texts words.entry.now ≡ true }
 {
-    if !are_texts(words) {
-        return Err(WordFault::Unreadable);
+    match read_texts(alloc, words) {
+        Err(WordFault::Memory) if !are_texts(words) => Err(WordFault::Unreadable),
+        texts => texts,
     }
-    let mut texts = Vec::new(alloc);
-    for word in words {
-        texts.push(text(word.as_slice())?)?;
-    }
-    Ok(texts)
 }
 
 /// What the words behind `publish` ask for, in any order: `--name N`, `--release V`, `--entry E`,

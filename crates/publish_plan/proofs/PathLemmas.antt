@@ -1,5 +1,5 @@
 -- Texts that are names where they are not too long.
-use Rattle.std.proofs.Common.{◌≡◌, ◌≢◌, ℕ, ◌+◌, ◌-◌, ◌<◌, ◌≤◌, Bool, true, false, cond, not, ◌==◌, ◌&&◌, ◌||◌, nat_lt, nat_le, List, [], ◌∷◌, ◌++◌, length, take, drop, get_or, IsUtf8, codes, refl, sym, ap, subst, ◌∙◌, inl, inr, arith, lit<, append_assoc, length-append}
+use Rattle.std.proofs.Common.{◌≡◌, ◌≢◌, ℕ, ◌+◌, ◌-◌, ◌<◌, ◌≤◌, Bool, true, false, cond, not, ◌==◌, ◌&&◌, ◌||◌, nat_lt, nat_le, List, [], ◌∷◌, ◌++◌, length, take, drop, get_or, IsUtf8, codes, Ok, Err, refl, sym, ap, subst, ◌∙◌, inl, inr, arith, lit<, append_assoc, length-append}
 use Rattle.std.specs.List.{All, list_all, slice_split, onto_first}
 use Rattle.std.specs.Str.{bytes_eq, is_utf8, IsAscii}
 use Rattle.std.proofs.lemmas.Bool.{and_parts, and_from, cases_Bool, false_from_ne_true, ne_eqb, eqb-true, ltb-true, ltb-false, lt-ltb, leb-true, le-leb, not-true}
@@ -10,7 +10,11 @@ use Rattle.std.proofs.lemmas.List.Splits.{slice_split-cons_yes, slice_split-cons
 use Rattle.std.proofs.lemmas.Slice.Eq.{bytes_eq-Decides}
 use Rattle.std.proofs.lemmas.Str.{IsUtf8-append, IsUtf8-drop, IsUtf8-from_ascii, IsUtf8-from_is_utf8, is_utf8-from_IsUtf8, IsCharBoundary-from_take}
 use Rattle.std.proofs.lemmas.Str.Ascii.{IsAscii-nil, IsAscii-cons}
-use Rattle.small_types.specs.Name.{name_parts, is_name_byte, is_name_part, is_name, IsName}
+use Rattle.small_types.specs.declared.name.NameFault.{NameFault}
+use Rattle.small_types.specs.declared.name.NameFault.TheVariants.{Bad}
+use Rattle.small_types.specs.Name.{name_parts, is_memory, is_name_byte, is_name_part, is_name, IsName, name_of}
+use Rattle.small_types.specs.Reading.{FailsBut}
+use Rattle.small_types.proofs.Spelling.{read_again}
 use Rattle.publish_plan.specs.Paths.{is_path, IsPath, CanFollow}
 use Rattle.publish_plan.specs.Places.{within, front_of, has_front, behind}
 
@@ -77,6 +81,13 @@ unfolding is_name
 path_is_name text is some short =
     let has = path_has text is in
     rw (lt-ltb 0 (length text) some, le-leb (length text) 240 short, has.bytes, has.parts, has.utf8) refl
+
+-- a name is read, and is no bad one
+pub never_bad : (name : List ℕ) (e : NameFault) → IsName name → FailsBut is_memory e (name_of name) → e ≡ Bad → ⊥
+never_bad name e is fails bad =
+    let refused : name_of name ≡ Err Bad = subst (λ (f : NameFault). FailsBut is_memory f (name_of name)) bad fails in
+    let again : name_of name ≡ Ok name = read_again name is in
+    cc
 
 -- ---- a path in a path
 

@@ -13,7 +13,7 @@ mod written;
 
 pub use early::check_options;
 pub use fault::PlanFault;
-pub use laws::plans_have_facts;
+pub use laws::{plain_name_limit_is, plans_have_facts};
 pub use options::{Mark, MarkKind, Options, Plan, PlannedFile};
-pub use places::codebase_of;
+pub use places::{PLAIN_NAME_LIMIT, codebase_of};
 pub use plans::plan;

@@ -9,11 +9,11 @@ ghost use Rattle.publish_plan.specs.Places as spec;
 
 use crate::{Options, PlanFault};
 use identity::Version;
-use small_types::{Name, Text};
+use small_types::{Name, NameFault, Text};
 use std::alloc::{AllocError, Global};
 
 /// The most bytes of the name that is published, and of that of the file that is started.
-const PLAIN_NAME_LIMIT: usize = 100;
+pub const PLAIN_NAME_LIMIT: usize = 100;
 
 // Whether a word may have the byte.
 fn is_plain_byte(byte: u8) -> bool
@@ -152,7 +152,8 @@ pub(crate) fn name_from(alloc: Global, bytes: &[u8]) -> Result<Name, PlanFault>
 {
     match Name::read(alloc, bytes) {
         Ok(name) => Ok(name),
-        Err(_) => Err(PlanFault::Memory),
+        Err(NameFault::Memory) => Err(PlanFault::Memory),
+        Err(NameFault::Bad) => unreachable!(),
     }
 }
 

@@ -13,7 +13,7 @@ use Rattle.publish_plan.specs.Early.{early_of}
 use Rattle.publish_plan.specs.Places.{deployment_name}
 use Rattle.publish_plan.specs.Plans.{plan_of}
 use Rattle.publish_plan.proofs.PlanFacts.{plan_facts}
-use Rattle.publisher.specs.declared.release.Release.{Release}
+use Rattle.publisher.specs.declared.release.ReleaseTexts.{ReleaseTexts}
 use Rattle.publisher.specs.Options.{IsPublishable}
 use Rattle.publisher.specs.Outcome.{KeepsStanding, Leaves, LeavesInput, Publishes}
 use Rattle.publisher.specs.Publication.{copy_in, entry_in, manifests_of, publish_of, published_files, read_entries}
@@ -37,12 +37,12 @@ new o names plan old held fit ascending is are kept =
     subst (IsNewPlan plan) (sym kept) (plan_new o names plan old (plan_facts o names fit plan is) (strict_distinct names ascending) are)
 
 -- a plan, what was read of its files, and the release that was made of that
-pub record IsKnown (o : Options) (names : List (List ℕ)) (old : List Held) (plan : Plan) (entries : List FileEntry) (release : Release) : Type 0 where
+pub record IsKnown (o : Options) (names : List (List ℕ)) (old : List Held) (plan : Plan) (entries : List FileEntry) (release : ReleaseTexts) : Type 0 where
   pub plan_is_good : IsGoodPlan o names plan
   pub read : read_entries old plan.files ≡ Ok entries
   pub written : publish_of o names old ≡ Ok (published_files old plan release)
 
-pub known : (o : Options) (names : List (List ℕ)) (old : List Held) (plan : Plan) (files : List PlannedFile) (entries : List FileEntry) (release : Release)
+pub known : (o : Options) (names : List (List ℕ)) (old : List Held) (plan : Plan) (files : List PlannedFile) (entries : List FileEntry) (release : ReleaseTexts)
     → IsPublishable o → early_of o ≡ None → IsStrictlySortedBy (slice_cmp nat_cmp) names → plan_of o names ≡ Ok plan → files ≡ plan.files
     → read_entries old files ≡ Ok entries → manifests_of o entries ≡ Ok release → IsKnown o names old plan entries release
 known o names old plan files entries release options fit ascending is same read made =
@@ -53,7 +53,7 @@ known o names old plan files entries release options fit ascending is same read 
       written = all_written o names old plan entries release fit is read_all made;
     }
 
-module _ (o : Options) (names : List (List ℕ)) (old mid new : List Held) (plan : Plan) (entries : List FileEntry) (release : Release) (k : IsKnown o names old plan entries release) (kept : mid ≡ old) where
+module _ (o : Options) (names : List (List ℕ)) (old mid new : List Held) (plan : Plan) (entries : List FileEntry) (release : ReleaseTexts) (k : IsKnown o names old plan entries release) (kept : mid ≡ old) where
   some_put : PutsSome (published_files mid plan release) mid new → PutsSome (published_files old plan release) old new
   some_put = subst (λ (h : List Held). PutsSome (published_files h plan release) h new) kept
 

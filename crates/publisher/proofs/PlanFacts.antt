@@ -25,7 +25,7 @@ use Rattle.publish_plan.specs.Facts.{AreFacts, IsApart, file_of, target_of}
 use Rattle.publish_plan.specs.Marks.{group_at, group_in, group_of, names_file}
 use Rattle.publish_plan.specs.Places.{deployment_name, input_names, lies_below, version_folder}
 use Rattle.publish_plan.specs.Plans.{is_local_file, planned, planned_files}
-use Rattle.publisher.specs.declared.release.Release.{Release}
+use Rattle.publisher.specs.declared.release.ReleaseTexts.{ReleaseTexts}
 use Rattle.publisher.specs.Options.{IsKind, IsPublishable}
 use Rattle.publisher.specs.Publication.{copy_in, published_files}
 use Rattle.publisher.specs.Puts.{AreApart, is_apart}
@@ -41,8 +41,8 @@ pub record IsGoodPlan (o : Options) (names : List (List ℕ)) (plan : Plan) : Ty
   pub apart : AreApart plan.files
   pub count : length plan.files ≡ length (input_names o.from names)
   pub last : plan.deployment ≡ deployment_name o
-  pub written : (held : List Held) (release : Release) → distinct (published_files held plan release) ≡ true
-  pub new : (held : List Held) (release : Release) (name : List ℕ) → list_any (bytes_eq name) names ≡ true → name ≢ deployment_name o → list_any (is_named name) (published_files held plan release) ≡ false
+  pub written : (held : List Held) (release : ReleaseTexts) → distinct (published_files held plan release) ≡ true
+  pub new : (held : List Held) (release : ReleaseTexts) (name : List ℕ) → list_any (bytes_eq name) names ≡ true → name ≢ deployment_name o → list_any (is_named name) (published_files held plan release) ≡ false
 
 -- ---- groups
 
@@ -109,7 +109,7 @@ any_then p (x ∷ xs) ys first rest = by (p x) refl (λ more. any_then p xs ys m
     by true is more = absurd (clash (p x || list_any p xs) (ap (λ (b : Bool). b || list_any p xs) is) first)
     by false is more = ap (λ (b : Bool). b || list_any p (xs ++ ys)) is ∙ more (sym (ap (λ (b : Bool). b || list_any p xs) is) ∙ first)
 
-none_new : (o : Options) (names : List (List ℕ)) (plan : Plan) (held : List Held) (release : Release) (name : List ℕ) → AreFacts o names plan → list_any (bytes_eq name) names ≡ true → name ≢ deployment_name o → list_any (is_named name) (published_files held plan release) ≡ false
+none_new : (o : Options) (names : List (List ℕ)) (plan : Plan) (held : List Held) (release : ReleaseTexts) (name : List ℕ) → AreFacts o names plan → list_any (bytes_eq name) names ≡ true → name ≢ deployment_name o → list_any (is_named name) (published_files held plan release) ≡ false
 none_new o names plan held release name facts there differs =
     let folder = version_folder o in
     let outside : lies_below folder name ≡ false = free_at folder name names facts.free there in

@@ -50,9 +50,6 @@ untouched o names old new r e is refuses same =
     stopped o names old new r e is refuses (nothing_left o names old new same) (λ _. no_input_left o names old new same)
     (ap (file_in (deployment_name o)) same) (standing_same (deployment_name o) old new same)
 
-pub memory_refuses : (e : PublishFault) (o : Options) (names : List (List ℕ)) (held : List Held) → e ≡ Memory → Refuses e (publish_of o names held)
-memory_refuses e o names held is = subst (λ (f : PublishFault). Refuses f (publish_of o names held)) (sym is) tt
-
 reading_refuses : (e : PublishFault) (o : Options) (names : List (List ℕ)) (held : List Held) → IsReading e → Refuses e (publish_of o names held)
 reading_refuses ReadFault o names held fault = tt
 reading_refuses Memory o names held fault = tt

@@ -20,7 +20,7 @@ use Rattle.publish_plan.specs.Plans.{plan_of}
 use Rattle.publish_plan.proofs.PlanFacts.{plan_facts}
 use Rattle.publisher.specs.declared.fault.PublishFault.{PublishFault}
 use Rattle.publisher.specs.declared.fault.PublishFault.TheVariants.{ReadFault, WriteFault, Changed, Memory}
-use Rattle.publisher.specs.declared.release.Release.{Release}
+use Rattle.publisher.specs.declared.release.ReleaseTexts.{ReleaseTexts}
 use Rattle.publisher.specs.Faults.{IsDevice, fault_of}
 use Rattle.publisher.specs.Outcome.{Fails, Leaves, LeavesInput, Publishes, Refuses}
 use Rattle.publisher.specs.Publication.{Outcome, copy_in, judged, manifests_of, publish_of, published_files, read_entries, release_of}
@@ -60,7 +60,7 @@ pub plan_refused : (o : Options) (names : List (List ℕ)) (held : List Held) (f
 plan_refused o names held f fit failed =
     fails_same (fault_of f) (judged (plan_of o names) >>= release_of o held) (publish_of o names held) (after_early o names held fit) (fault_fails f (plan_of o names) (release_of o held) failed)
 
-abbrev written : List Held → Plan → Release → Outcome (List Held)
+abbrev written : List Held → Plan → ReleaseTexts → Outcome (List Held)
 written held plan release = Ok (published_files held plan release)
 
 abbrev entered : Options → List Held → Plan → List FileEntry → Outcome (List Held)
@@ -80,10 +80,10 @@ manifests_refused o names held plan entries e fit is read failed =
     fails_same e (read_entries held plan.files >>= entered o held plan) (publish_of o names held) (after_plan o names held plan fit is ∙ release_is o held plan)
     (fails_after e (read_entries held plan.files) entries (entered o held plan) read (fails_then e (manifests_of o entries) (written held plan) failed))
 
-pub all_written : (o : Options) (names : List (List ℕ)) (held : List Held) (plan : Plan) (entries : List FileEntry) (release : Release) → early_of o ≡ None → plan_of o names ≡ Ok plan → read_entries held plan.files ≡ Ok entries → manifests_of o entries ≡ Ok release
+pub all_written : (o : Options) (names : List (List ℕ)) (held : List Held) (plan : Plan) (entries : List FileEntry) (release : ReleaseTexts) → early_of o ≡ None → plan_of o names ≡ Ok plan → read_entries held plan.files ≡ Ok entries → manifests_of o entries ≡ Ok release
     → publish_of o names held ≡ Ok (published_files held plan release)
 all_written o names held plan entries release fit is read made =
-    after_plan o names held plan fit is ∙ release_is o held plan ∙ ap (λ (r : Outcome (List FileEntry)). r >>= entered o held plan) read ∙ ap (λ (r : Outcome Release). r >>= written held plan) made
+    after_plan o names held plan fit is ∙ release_is o held plan ∙ ap (λ (r : Outcome (List FileEntry)). r >>= entered o held plan) read ∙ ap (λ (r : Outcome ReleaseTexts). r >>= written held plan) made
 
 -- ---- what is left
 

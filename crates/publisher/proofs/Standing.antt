@@ -13,7 +13,7 @@ use Rattle.folders.proofs.Filing.{distinct_first, distinct_rest}
 use Rattle.publish_plan.specs.declared.options.Options.{Options}
 use Rattle.publish_plan.specs.declared.options.Plan.{Plan}
 use Rattle.publish_plan.specs.Places.{deployment_name}
-use Rattle.publisher.specs.declared.release.Release.{Release}
+use Rattle.publisher.specs.declared.release.ReleaseTexts.{ReleaseTexts}
 use Rattle.publisher.specs.Outcome.{KeepsStanding}
 use Rattle.publisher.specs.Publication.{copy_in, published_files}
 use Rattle.publisher.specs.Puts.{PutsEach, PutsSome}
@@ -38,11 +38,11 @@ pub named_there : (name : List ℕ) (held : List Held) (names : List (List ℕ))
 named_there name held names are some = sym (list_any-IsPermutation (bytes_eq name) (names_of held) names are.exact) ∙ there name held some
 
 -- it keeps its bytes
-pub standing_each : (o : Options) (names : List (List ℕ)) (plan : Plan) (release : Release) (old new : List Held) → IsGoodPlan o names plan → IsNames old names → PutsEach (published_files old plan release) old new → KeepsStanding (deployment_name o) old new
+pub standing_each : (o : Options) (names : List (List ℕ)) (plan : Plan) (release : ReleaseTexts) (old new : List Held) → IsGoodPlan o names plan → IsNames old names → PutsEach (published_files old plan release) old new → KeepsStanding (deployment_name o) old new
 standing_each o names plan release old new good are puts name some differs =
     kept_each (published_files old plan release) old new name (good.new old release name (named_there name old names are some) differs) puts
 
-pub standing_some : (o : Options) (names : List (List ℕ)) (plan : Plan) (release : Release) (old new : List Held) → IsGoodPlan o names plan → IsNames old names → PutsSome (published_files old plan release) old new → KeepsStanding (deployment_name o) old new
+pub standing_some : (o : Options) (names : List (List ℕ)) (plan : Plan) (release : ReleaseTexts) (old new : List Held) → IsGoodPlan o names plan → IsNames old names → PutsSome (published_files old plan release) old new → KeepsStanding (deployment_name o) old new
 standing_some o names plan release old new good are part name some differs =
     kept_each (take part.count (published_files old plan release)) old new name
     (none_before name part.count (published_files old plan release) (good.new old release name (named_there name old names are some) differs)) part.puts
@@ -68,7 +68,7 @@ last_missing front last count below differ =
     ap (list_any (is_named last.name)) (take-append-le count front (last ∷ []) short) ∙ none_before last.name count front (last_differs front last differ)
 
 -- where not all is put, it is as it was
-pub deployment_kept : (o : Options) (names : List (List ℕ)) (plan : Plan) (release : Release) (old new : List Held) → IsGoodPlan o names plan → PutsSome (published_files old plan release) old new → file_in (deployment_name o) new ≡ file_in (deployment_name o) old
+pub deployment_kept : (o : Options) (names : List (List ℕ)) (plan : Plan) (release : ReleaseTexts) (old new : List Held) → IsGoodPlan o names plan → PutsSome (published_files old plan release) old new → file_in (deployment_name o) new ≡ file_in (deployment_name o) old
 deployment_kept o names plan release old new good part =
     let front : List Held = map (copy_in old) plan.files ++ record { name = plan.manifest; bytes = release.application } ∷ [] in
     let last : Held = record { name = plan.deployment; bytes = release.deployment } in

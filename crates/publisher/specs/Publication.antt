@@ -14,6 +14,7 @@ use Rattle.manifests.specs.declared.facts.Application.{Application}
 use Rattle.manifests.specs.declared.facts.Deployment.{Deployment}
 use Rattle.manifests.specs.declared.facts.FileEntry.{FileEntry}
 use Rattle.manifests.specs.Applications.{size_limit}
+use Rattle.manifest_tree.specs.Writing.{counted}
 use Rattle.manifest_writer.specs.Applications.{application_text}
 use Rattle.manifest_writer.specs.Deployments.{deployment_text}
 use Rattle.publish_plan.specs.declared.options.Options.{Options}
@@ -26,7 +27,7 @@ use Rattle.publish_plan.specs.Places.{codebase}
 use Rattle.publish_plan.specs.Plans.{plan_of}
 use Rattle.publisher.specs.declared.fault.PublishFault.{PublishFault}
 use Rattle.publisher.specs.declared.fault.PublishFault.TheVariants.{FileTooLong, ManifestTooLong}
-use Rattle.publisher.specs.declared.release.Release.{Release}
+use Rattle.publisher.specs.declared.release.ReleaseTexts.{ReleaseTexts}
 use Rattle.publisher.specs.Faults.{fault_of}
 
 -- what comes of a publish, or why it is refused; the first refusal ends it
@@ -117,10 +118,12 @@ read_entries held (file ∷ files) = do
   entries ← read_entries held files
   Ok (entry ∷ entries)
 
--- the text of a manifest, which is within its limit
+-- the text of a manifest, which is within its limit; a length that 64 bits do not hold is told as
+-- the greatest one that they do
 abbrev pub limited : List ℕ → Outcome (List ℕ)
 limited text =
-    if nat_lt MANIFEST_LIMIT (length text) then Err (ManifestTooLong (length text)) else Ok text
+    if nat_lt MANIFEST_LIMIT (length text) then Err (ManifestTooLong (counted (length text)))
+    else Ok text
 
 -- ---- the whole
 
@@ -129,18 +132,23 @@ abbrev pub copy_in : List Held → PlannedFile → Held
 copy_in held file = record { name = file.target; bytes = bytes_in held file }
 
 -- the files in order, then the application manifest, then the deployment manifest
-abbrev pub published_files : List Held → Plan → Release → List Held
+abbrev pub published_files : List Held → Plan → ReleaseTexts → List Held
 published_files held plan release =
     map (copy_in held) plan.files
     ++ record { name = plan.manifest; bytes = release.application }
     ∷ record { name = plan.deployment; bytes = release.deployment } ∷ []
 
 -- the texts of the manifests of an application that has these files
-unfoldable pub manifests_of : Options → List FileEntry → Outcome Release
+unfoldable pub manifests_of : Options → List FileEntry → Outcome ReleaseTexts
 manifests_of o entries = do
   application ← limited (application_text (application_of o entries))
   deployment ← limited (deployment_manifest_of o application)
-  Ok (record { entries = entries; application = application; deployment = deployment })
+  Ok (record {
+    key = deployment_key o;
+    entries = entries;
+    application = application;
+    deployment = deployment;
+  })
 
 -- what the options and the names are judged to be
 abbrev pub judged : {A : Type 0} → Result A PlanFault → Outcome A

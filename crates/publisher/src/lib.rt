@@ -1,12 +1,12 @@
 //! Publishing: the files of a folder, and the two manifests of their release.
 #![tactic(auto)]
 
-mod copying;
+mod copies;
+mod entries;
 mod fault;
-mod listing;
+mod names;
 mod options;
 mod publishing;
-mod reading;
 mod release;
 
 pub use fault::PublishFault;

@@ -15,10 +15,10 @@ ghost use Rattle.publisher.specs.Published.{IsAnswer, IsPublish, PublishesFiles}
 ghost use Rattle.publisher.specs.Puts.{AreApart, IsNewPlan, PutsEach, PutsSome};
 
 use crate::PublishFault;
-use crate::copying::{copy_files, put_file, put_new};
-use crate::listing::list_names;
-use crate::reading::read_entries;
-use crate::release::{Release, deployment_key, manifests_of};
+use crate::copies::{copy_files, put_file, put_new};
+use crate::entries::read_entries;
+use crate::names::list_names;
+use crate::release::{ReleaseTexts, manifests_of};
 use folders::Folder;
 use identity::{Key, Version};
 use publish_plan::{Options, Plan, check_options, plan};
@@ -39,7 +39,7 @@ pub struct Published {
 fn write_release<F: Folder>(
     alloc: Global,
     plan: &Plan,
-    release: &Release,
+    release: &ReleaseTexts,
     folder: &mut F,
 ) -> Result<(), PublishFault>
     requires entries { AreEntries plan.now.files release.now.entries }
@@ -88,12 +88,11 @@ fn publish_names<F: Folder>(
     ensures counted { FaultsCounted (F.count folder.old) (F.count folder.new) result }
 {
     let plan = plan(alloc, options, names)?;
-    let key = deployment_key(alloc, options)?;
     let entries = read_entries(alloc, plan.files.as_slice(), folder)?;
     let release = manifests_of(alloc, options, entries)?;
     write_release(alloc, &plan, &release, folder)?;
     Ok(Published {
-        key,
+        key: release.key,
         version: options.version,
         files: plan.files.as_slice().len() as u64,
     })

@@ -13,7 +13,7 @@ ghost use Rattle.publisher.specs.Outcome.{Gives};
 ghost use Rattle.publisher.specs.Publication.{application_identity as application_identity_of, application_of as application_with, deployment_identity as deployment_identity_of, deployment_of as deployment_with, deployment_key as deployment_key_of, deployment_manifest_of, key_named as key_with, limited, manifests_of as manifests_with};
 
 use crate::PublishFault;
-use crate::reading::digests_of;
+use crate::entries::digests_of;
 use identity::{Identity, Key, Version};
 use manifest_writer::{write_application, write_deployment};
 use manifests::{Application, Deployment, FileEntry};
@@ -24,7 +24,9 @@ use std::alloc::Global;
 
 /// What the manifests of a release say, and their texts.
 #[derive(Drop)]
-pub(crate) struct Release {
+pub(crate) struct ReleaseTexts {
+    /// The key of the deployment.
+    pub(crate) key: Key,
     pub(crate) entries: List<FileEntry>,
     pub(crate) application: Bytes,
     pub(crate) deployment: Bytes,
@@ -51,8 +53,8 @@ fn key_named(alloc: Global, name: Text) -> Result<Key, PublishFault>
     })
 }
 
-/// The key of what is published.
-pub(crate) fn deployment_key(alloc: Global, options: &Options) -> Result<Key, PublishFault>
+// The key of what is published.
+fn deployment_key(alloc: Global, options: &Options) -> Result<Key, PublishFault>
     ensures key { IfOk result (λ key. key ≡ deployment_key_of options.now) }
     ensures memory { OnErr result (result ≡ Err Memory) }
 {
@@ -119,14 +121,7 @@ fn application_manifest(alloc: Global, application: &Application) -> Result<Byte
     ensures exact { Gives (λ text. text) result (limited (application_text_of application.now)) }
     ensures fault { IfErr result IsManifestFault }
 {
-    let text = write_application(alloc, application)?;
-    let length = text.as_slice().len();
-    if length > MANIFEST_LIMIT {
-        return Err(PublishFault::ManifestTooLong {
-            length: length as u64,
-        });
-    }
-    Ok(text)
+    Ok(write_application(alloc, application)?)
 }
 
 // The deployment of the application manifest with this text.
@@ -151,24 +146,23 @@ fn deployment_of(alloc: Global, options: &Options, text: &[u8]) -> Result<Deploy
     })
 }
 
-// The text of the deployment manifest.
-fn deployment_manifest(alloc: Global, options: &Options, text: &[u8]) -> Result<Bytes, PublishFault>
+// The text of the deployment manifest, and the key that it names.
+fn deployment_manifest(
+    alloc: Global,
+    options: &Options,
+    text: &[u8],
+) -> Result<(Bytes, Key), PublishFault>
     requires options { IsPublishable options.now }
     requires fit { early_of options.now ≡ None }
     requires short { length text.now ≤ MANIFEST_LIMIT }
-    ensures exact { Gives (λ text. text) result
+    ensures exact { Gives (λ made. made.0) result
         (limited (deployment_manifest_of options.now text.now)) }
+    ensures key { IfOk result (λ made. made.1 ≡ deployment_key_of options.now) }
     ensures fault { IfErr result IsManifestFault }
 {
     let deployment = deployment_of(alloc, options, text)?;
     let text = write_deployment(alloc, &deployment, &options.publisher, &options.name)?;
-    let length = text.as_slice().len();
-    if length > MANIFEST_LIMIT {
-        return Err(PublishFault::ManifestTooLong {
-            length: length as u64,
-        });
-    }
-    Ok(text)
+    Ok((text, deployment.identity.key))
 }
 
 /// The manifests of an application that has these files.
@@ -176,19 +170,21 @@ pub(crate) fn manifests_of(
     alloc: Global,
     options: &Options,
     entries: List<FileEntry>,
-) -> Result<Release, PublishFault>
+) -> Result<ReleaseTexts, PublishFault>
     requires options { IsPublishable options.now }
     requires fit { early_of options.now ≡ None }
     requires files { AreFiles entries }
     requires each { All IsFile entries }
     ensures exact { Gives (λ release. release) result (manifests_with options.now entries) }
+    ensures key { IfOk result (λ release. release.key ≡ deployment_key_of options.now) }
     ensures entries { IfOk result (λ release. release.entries ≡ entries) }
     ensures fault { IfErr result IsManifestFault }
 {
     let application = application_of(alloc, options, entries)?;
     let text = application_manifest(alloc, &application)?;
-    let deployment = deployment_manifest(alloc, options, text.as_slice())?;
-    Ok(Release {
+    let (deployment, key) = deployment_manifest(alloc, options, text.as_slice())?;
+    Ok(ReleaseTexts {
+        key,
         entries: application.files,
         application: text,
         deployment,

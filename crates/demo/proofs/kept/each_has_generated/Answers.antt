@@ -7,11 +7,11 @@ use Rattle.demo.specs.Kept.{HasGenerated}
 use Rattle.demo.proofs.kept.each_has_generated.Goals as goal
 
 pub loop-view-preserved : goal.loop-view-preserved
-loop-view-preserved c =
+loop-view-preserved c = λ room image.
     let yes : IsTrue c.has_generated.result = search rules in
-    All-more (HasGenerated c.args.seed c.args.contents.now) c.args.views.now c.loop-view.view-index c.view-item.result (omega arith) c.loop-view.invariant
-    (subst (HasGenerated c.args.seed c.args.contents.now) c.view-item.is (c.has_generated.ensures yes))
+    All-more (HasGenerated room image c.args.seed c.args.contents.now) c.args.views.now c.loop-view.view-index c.view-item.result (omega arith) (c.loop-view.invariant room image)
+    (subst (HasGenerated room image c.args.seed c.args.contents.now) c.view-item.is (c.has_generated.ensures room image yes))
 
 pub returns : goal.returns
-returns c = λ yes.
-    subst (λ (views : List View). All (HasGenerated c.args.seed c.args.contents.now) views) (take_all c.loop-view.view-index c.args.views.now (omega arith)) c.loop-view.invariant
+returns c = λ room image yes.
+    subst (λ (views : List View). All (HasGenerated room image c.args.seed c.args.contents.now) views) (take_all c.loop-view.view-index c.args.views.now (omega arith)) (c.loop-view.invariant room image)

@@ -1,4 +1,5 @@
-use Rattle.std.proofs.Common.{rules, IsTrue, refl, subst}
+use Rattle.std.proofs.Common.{rules, ℕ, List, IsTrue, refl, subst}
+use Rattle.small_types.specs.declared.room.Room.{Room}
 use Rattle.store_state.specs.Tables.{Tables}
 use Rattle.updater.specs.Updater.{tables_of}
 use Rattle.demo.specs.Kept.{TablesKeep}
@@ -23,7 +24,8 @@ returns-then-not-keeps_generated-clause-touches g c =
 pub returns-clause-run : goal.returns-clause-run
 returns-clause-run g c = λ opened.
     let yes : IsTrue c.keeps_generated.result = search rules in
-    let keeps : TablesKeep c.args.seed (tables_of c.end.new.updater) = subst (λ (t : Tables). TablesKeep c.args.seed t) c.state.ensures (c.keeps_generated.ensures yes) in
+    let keeps : (room : Room) (image : List ℕ) → TablesKeep room image c.args.seed (tables_of c.end.new.updater) =
+    λ room image. subst (λ (t : Tables). TablesKeep room image c.args.seed t) c.state.ensures (c.keeps_generated.ensures room image yes) in
     demonstrates g.D.Disk c.args.seed _ c.args.updater.now c.begin.new.updater c.update.new.updater c.end.new.updater c.args.disk.now c.begin.new.disk c.update.new.disk c.end.new.disk refl
     opened c.in-Ok.ensures c.in-Ok-update.ensures c.in-Ok-end.ensures keeps c.used_blocks.ensures (g.met.D.Disk.seen_left c.end.new.disk)
 

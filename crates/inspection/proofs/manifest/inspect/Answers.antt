@@ -1,19 +1,20 @@
-use Rattle.std.proofs.Common.{◌≡◌, ◌⊎◌, inl, inr, arith, refl, sym, ◌∙◌, subst, List, ℕ}
-use Rattle.inspection.specs.Inspection.{Says, code_of}
+use Rattle.std.proofs.Common.{◌≡◌, ◌⊎◌, inl, inr, sym, ◌∙◌, subst, List, ℕ}
+use Rattle.inspection.specs.declared.manifest.End.TheVariants as ends
+use Rattle.inspection.specs.Inspection.{Says}
 use Rattle.inspection.proofs.manifest.inspect.Goals as goal
 
-three : (n : ℕ) → n ≡ 3 → (n ≡ 0) ⊎ (n ≡ 7) → ⊥
-three n is (inl same) = omega (arith, is, same)
-three n is (inr same) = omega (arith, is, same)
+not_whole : (ends.SinkFault ≡ ends.Done) ⊎ (ends.SinkFault ≡ ends.Refused) → ⊥
+not_whole (inl same) = cc
+not_whole (inr same) = cc
 
-pub returns-in_default-write_all-clause-says : goal.returns-in_default-write_all-clause-says
-returns-in_default-write_all-clause-says g c = record {
-  whole = λ either. absurd (three 3 refl either);
+pub returns-in_default-clause-says : goal.returns-in_default-clause-says
+returns-in_default-clause-says g c = record {
+  whole = λ either. absurd (not_whole either);
   part = λ _. record {
     lines = c.as_slice-2.result.now;
-    status = code_of c.in-Some.how;
-    said = λ told. subst (λ (b : List ℕ). Says c.args.kind b c.as_slice-2.result.now (code_of c.in-Some.how)) (c.as_slice.ensures.value ∙ c.in-Ok.ensures.bytes told)
-        (subst (λ (l : List ℕ). Says c.args.kind c.as_slice.result.now l (code_of c.in-Some.how)) (sym c.as_slice-2.ensures) c.in-Some.ensures);
-    taken = λ told. c.in_default-write_all.ensures.part told;
+    meant = c.in-Ok-lines_of.said.1;
+    said = λ told. subst (λ (b : List ℕ). Says c.args.kind b c.as_slice-2.result.now c.in-Ok-lines_of.said.1) (c.as_slice.ensures.value ∙ c.in-Ok.ensures.bytes told)
+        (subst (λ (l : List ℕ). Says c.args.kind c.as_slice.result.now l c.in-Ok-lines_of.said.1) (sym c.as_slice-2.ensures) c.in-Ok-lines_of.ensures);
+    taken = λ told. c.in_default.ensures.part told;
   };
 }

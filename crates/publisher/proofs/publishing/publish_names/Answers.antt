@@ -1,6 +1,5 @@
 use Rattle.std.proofs.Common.{◌≡◌, List, Ok, length, map, refl, ap, subst, ◌∙◌}
 use Rattle.publish_plan.specs.declared.options.PlannedFile.{PlannedFile}
-use Rattle.publisher.specs.declared.fault.PublishFault.TheVariants.{Memory}
 use Rattle.publisher.specs.Changes.{IsLate}
 use Rattle.publisher.specs.Entries.{AreEntries}
 use Rattle.publisher.specs.Faults.{fault_of}
@@ -11,7 +10,7 @@ use Rattle.publisher.proofs.Counting.{counted_still, manifest_quiet, plan_quiet}
 use Rattle.publisher.proofs.Giving.{err_handed_on}
 use Rattle.publisher.proofs.Known as publish
 use Rattle.publisher.proofs.PlanRefusals.{plan_late}
-use Rattle.publisher.proofs.Promises.{memory_refuses, stopped, untouched}
+use Rattle.publisher.proofs.Promises.{stopped, untouched}
 use Rattle.publisher.proofs.PublishSteps.{plan_refused, entries_refused, manifests_refused, refuses_from, device_refuses}
 use Rattle.publisher.proofs.ReleaseFacts.{entries_fit, files_fit}
 use Rattle.publisher.proofs.publishing.publish_names.Goals as goal
@@ -33,15 +32,6 @@ pub returns-in_err-plan-clause-counted : goal.returns-in_err-plan-clause-counted
 returns-in_err-plan-clause-counted g c =
     let count = g.F.Folder.count c.args.folder.now in
     counted_still c.from_residual.result count count (fault_of c.in_err-plan.field-0.0) c.from_residual.ensures (plan_quiet c.in_err-plan.field-0.0) refl
-
-pub returns-in_err-key-clause-told : goal.returns-in_err-key-clause-told
-returns-in_err-key-clause-told g c = λ told.
-    let o = c.args.options.now in
-    let names = c.args.names.now in
-    let old = g.F.Folder.held c.args.folder.now in
-    let e = c.in_err-key.field-0.0 in
-    let memory : e ≡ Memory = cc c.in_err-key.ensures.memory in
-    untouched o names old old c.from_residual-in_err-key.result e c.from_residual-in_err-key.ensures (memory_refuses e o names old memory) refl
 
 pub returns-in_err-entries-clause-told : goal.returns-in_err-entries-clause-told
 returns-in_err-entries-clause-told g c = λ told.
@@ -137,4 +127,4 @@ returns-clause-told g c = λ told.
     }
 
 pub returns-clause-answer : goal.returns-clause-answer
-returns-clause-answer g c = record { key = c.in_ok-key.ensures.key; version = refl }
+returns-clause-answer g c = record { key = c.in_ok-release.ensures.key; version = refl }

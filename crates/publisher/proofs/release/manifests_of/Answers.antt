@@ -1,10 +1,11 @@
 use Rattle.std.proofs.Common.{◌≡◌, ℕ, List, Ok, ap, sym, subst, ◌∙◌}
+use Rattle.identity.specs.declared.key.Key.{Key}
 use Rattle.manifest_writer.specs.Applications.{application_text}
 use Rattle.manifests.specs.Facts.{AreApplicationFacts}
 use Rattle.manifests.specs.declared.facts.Application.{Application}
 use Rattle.manifests.specs.declared.facts.FileEntry.{FileEntry}
 use Rattle.publisher.specs.Outcome.{Fails}
-use Rattle.publisher.specs.Publication.{application_of, deployment_manifest_of, limited}
+use Rattle.publisher.specs.Publication.{application_of, deployment_key, deployment_manifest_of, limited}
 use Rattle.publisher.proofs.Giving.{handed_on}
 use Rattle.publisher.proofs.ManifestSteps.{application_fails, deployment_fails, both_made}
 use Rattle.publisher.proofs.OptionFacts.{application_fits}
@@ -39,4 +40,5 @@ returns-clause-exact c =
     let next : limited (deployment_manifest_of o c.in_ok-text.text) ≡ Ok c.in_ok-deployment.deployment =
     subst (λ (t : List ℕ). limited (deployment_manifest_of o t) ≡ Ok c.in_ok-deployment.deployment) c.as_slice.ensures c.in_ok-deployment.ensures.exact in
     both_made o c.args.entries c.in_ok-text.text c.in_ok-deployment.deployment first next
-    ∙ ap (λ (es : List FileEntry). Ok (record { entries = es; application = c.in_ok-text.text; deployment = c.in_ok-deployment.deployment })) (sym entries)
+    ∙ ap (λ (es : List FileEntry). Ok (record { key = deployment_key o; entries = es; application = c.in_ok-text.text; deployment = c.in_ok-deployment.deployment })) (sym entries)
+    ∙ ap (λ (k : Key). Ok (record { key = k; entries = c.in_ok-application.application.files; application = c.in_ok-text.text; deployment = c.in_ok-deployment.deployment })) (sym c.in_ok-deployment.ensures.key)

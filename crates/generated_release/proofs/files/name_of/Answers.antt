@@ -1,0 +1,18 @@
+use Rattle.std.proofs.Common.{◌≡◌, ℕ, List, Result, Ok, sym, ◌∙◌}
+use Rattle.small_types.specs.declared.name.NameFault.{NameFault}
+use Rattle.small_types.proofs.Spelling.{read_again}
+use Rattle.publish_plan.proofs.PathLemmas.{never_bad}
+use Rattle.generated_release.proofs.files.name_of.Goals as goal
+
+abbrev ok_at : List ℕ → Result (List ℕ) NameFault
+ok_at name = Ok name
+
+ok_same : (x y : List ℕ) → ok_at x ≡ ok_at y → x ≡ y
+ok_same x y same = cc
+
+pub returns-in-Ok : goal.returns-in-Ok
+returns-in-Ok c =
+    ok_same c.in-Ok.name c.args.bytes.now (sym c.in-Ok.ensures.exact ∙ read_again c.args.bytes.now c.requires)
+
+pub unreachable-requires : goal.unreachable-requires
+unreachable-requires c = never_bad c.args.bytes.now c.in-Err-Bad.field-0 c.requires c.in-Err-Bad.ensures.exact c.in-Err-Bad.field-0-is

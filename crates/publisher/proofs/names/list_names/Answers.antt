@@ -1,0 +1,14 @@
+use Rattle.folders.proofs.Sorting.{names_in_order}
+use Rattle.publisher.proofs.Counting.{reading_counted, reading_is}
+use Rattle.publisher.proofs.names.list_names.Goals as goal
+
+pub returns-in-Err-clause-reading : goal.returns-in-Err-clause-reading
+returns-in-Err-clause-reading g c = reading_is c.in-Err.fault c.fault_of_reading.result c.fault_of_reading.ensures
+
+pub returns-in-Err-clause-counted : goal.returns-in-Err-clause-counted
+returns-in-Err-clause-counted g c =
+    reading_counted (g.F.Folder.count c.args.folder.now) (g.F.Folder.count c.list.new.self) c.in-Err.fault c.fault_of_reading.result c.fault_of_reading.ensures c.in-Err.ensures.cause
+
+pub returns-in-Ok-clause-names : goal.returns-in-Ok-clause-names
+returns-in-Ok-clause-names g c = λ told.
+    names_in_order (g.F.Folder.held c.args.folder.now) c.in-Ok.names c.in_order.result.items (g.met.F.Folder.names_differ c.args.folder.now told) (c.in-Ok.ensures.names told) c.in_order.ensures.all c.in_order.ensures.ascending
