@@ -83,38 +83,38 @@ enum Asked {
     Print(&'static [u8]),
     // Other words.
     Words(Misread<'static>),
-    // There was no memory for the words.
-    Memory,
 }
 
-fn read_args(rt: &HostRuntime) -> Asked {
+fn read_args(rt: &HostRuntime) -> Result<Asked, AllocError> {
     let args = match env::args(rt) {
         Ok(args) => args,
-        Err(error) if error.kind() == ErrorKind::OutOfMemory => return Asked::Memory,
-        Err(_) => return Asked::Words(Misread::NoText),
+        Err(error) => {
+            return match error.kind() {
+                ErrorKind::OutOfMemory => Err(AllocError),
+                _ => Ok(Asked::Words(Misread::NoText)),
+            };
+        }
     };
     let mut args = args.skip(1);
     let Some(store) = args.next() else {
-        return Asked::Words(Misread::NoCommand);
+        return Ok(Asked::Words(Misread::NoCommand));
     };
     let Some(folder) = args.next() else {
         return match store.as_str() {
-            "--help" => Asked::Print(HELP),
-            "--version" => Asked::Print(VERSION),
-            _ => Asked::Words(Misread::NoCommand),
+            "--help" => Ok(Asked::Print(HELP)),
+            "--version" => Ok(Asked::Print(VERSION)),
+            _ => Ok(Asked::Words(Misread::NoCommand)),
         };
     };
     let mut words = Vec::new(rt.alloc());
     for arg in args {
-        if words.push(Word::from_vec(arg.into_bytes())).is_err() {
-            return Asked::Memory;
-        }
+        words.push(Word::from_vec(arg.into_bytes()))?;
     }
-    Asked::Run {
+    Ok(Asked::Run {
         store,
         folder,
         words,
-    }
+    })
 }
 
 // Says why the program ends. Where that fails nothing more can be said.
@@ -217,12 +217,11 @@ fn run_words(
 }
 
 fn run_args(rt: &HostRuntime) -> Result<u8, AllocError> {
-    match read_args(rt) {
+    match read_args(rt)? {
         Asked::Words(why) => {
             say(rt, why);
             Ok(1)
         }
-        Asked::Memory => Err(AllocError),
         Asked::Print(text) => print(rt, text),
         Asked::Run {
             store,

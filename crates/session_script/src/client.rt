@@ -1,68 +1,43 @@
 // A client in memory: a disk, and a link to a folder of published files.
+use crate::next::{Next, number_of, numbered};
+use crate::releasing::{inspect, publish};
 use crate::running::{
-    Site, empty_disk, empty_folder, empty_report, print_calls, print_target, run_over, run_unheard,
-    site_of,
+    Site, disk_of, empty_disk, empty_folder, empty_report, print_calls, print_target, run_lines,
+    run_silently, run_unheard, site_of,
 };
 use crate::site::{folder_failing, folder_without};
 use disks::{Disk, MemDisk, Pick};
 use folders::MemFolder;
 use std::io::{self, ErrorKind};
-use updater_cli::Report;
+use std::mem::replace;
 
-/// A client, with the lines of its next session.
+/// A client, with what is set for its next run.
 #[derive(Drop)]
 pub struct Client {
     disk: MemDisk,
+    /// The disk that is left aside while the client goes on with what a stop left of it, and the moment
+    /// at which its last session had been opened.
+    aside: Option<(MemDisk, u64)>,
     site: Site,
-    lines: String,
-    /// The marks of the files that are published next.
-    marks: String,
+    /// What is set for its next run.
+    pub next: Next,
     /// The moment at which the last session had been opened.
     opened: u64,
     /// How many targets had been asked for before it.
     asked: usize,
 }
 
-// Runs the words with those lines over the devices, and prints what they write.
-fn run_lines(
-    rt: &HostRuntime,
-    words: &str,
-    lines: &str,
-    disk: &mut MemDisk,
-    site: &mut Site,
-    report: &mut Report,
-) -> io::Result<()> {
-    let mut folder = empty_folder(rt.alloc());
-    let ran = run_over(rt, words, lines.as_bytes(), disk, &mut folder, site, report);
-    drop(folder);
-    ran
-}
-
-// The same, with a report that is not looked at.
-fn run_silently(
-    rt: &HostRuntime,
-    words: &str,
-    lines: &str,
-    disk: &mut MemDisk,
-    site: &mut Site,
-) -> io::Result<()> {
-    let mut report = empty_report(rt.alloc());
-    let ran = run_lines(rt, words, lines, disk, site, &mut report);
-    drop(report);
-    ran
-}
-
-// The same, and prints how many calls the disk had in each line.
+// Runs a session with the lines, and prints how many calls the disk had in each line.
 fn run_counted(
     rt: &HostRuntime,
+    next: &Next,
     words: &str,
-    lines: &str,
     disk: &mut MemDisk,
     site: &mut Site,
     opened: u64,
 ) -> io::Result<()> {
     let mut report = empty_report(rt.alloc());
-    let ran = run_lines(rt, words, lines, disk, site, &mut report);
+    let ran = run_lines(rt, next, words, disk, site, &mut report);
     let counted = print_calls(rt, opened, &report);
     drop(report);
     ran?;
@@ -89,9 +64,9 @@ impl Client {
         let alloc = rt.alloc();
         Client {
             disk: empty_disk(alloc),
+            aside: None,
             site: site_of(alloc, empty_folder(alloc)),
-            lines: String::new(alloc),
-            marks: String::new(alloc),
+            next: Next::new(alloc),
             opened: 0,
             asked: 0,
         }
@@ -116,143 +91,94 @@ impl Client {
     }
 
     /// Lets the call of the site of that number fail, counted from now on.
-    pub fn fail(&mut self, rt: &HostRuntime, words: &str) -> io::Result<()> {
-        let Ok(call) = words.parse::<u64>() else {
-            return Err(ErrorKind::InvalidInput.into());
-        };
-        let folder = folder_failing(rt.alloc(), &self.site.link.folder, call)?;
+    pub fn fail(&mut self, rt: &HostRuntime, word: &str) -> io::Result<()> {
+        let folder = folder_failing(rt.alloc(), &self.site.link.folder, number_of(word)?)?;
         self.site.link.folder = folder;
         Ok(())
     }
 
-    /// Marks a file of what is published next: the mark.
-    pub fn mark(&mut self, mark: &str) -> io::Result<()> {
-        self.marks.push(' ')?;
-        self.marks.push_str(mark)?;
+    /// Goes on with a disk of so many zero bytes.
+    pub fn zero_disk(&mut self, rt: &HostRuntime, word: &str) -> io::Result<()> {
+        let mut bytes = Vec::new(rt.alloc());
+        for _ in 0..number_of(word)? {
+            bytes.push(0u8)?;
+        }
+        self.disk = disk_of(rt.alloc(), &bytes, 0)?;
         Ok(())
     }
 
-    /// Publishes files of the site there, with the marks.
-    pub fn publish(&mut self, rt: &HostRuntime, words: &str) -> io::Result<()> {
-        let alloc = rt.alloc();
-        let marks = self.marks.as_str();
-        let words = format!(in alloc; "{words}{marks}")?;
-        self.marks.clear();
-        let mut disk = empty_disk(alloc);
-        let mut links = site_of(alloc, empty_folder(alloc));
-        let mut report = empty_report(alloc);
-        let ran = run_over(
-            rt,
-            words.as_str(),
-            b"",
-            &mut disk,
-            &mut self.site.link.folder,
-            &mut links,
-            &mut report,
-        );
-        drop(report);
-        drop(links);
-        drop(disk);
-        ran
+    /// Goes on with a disk of the same bytes, whose call of that number fails.
+    pub fn fail_disk(&mut self, rt: &HostRuntime, word: &str) -> io::Result<()> {
+        let disk = disk_of(rt.alloc(), self.disk.bytes(), number_of(word)?)?;
+        self.disk = disk;
+        Ok(())
     }
 
     /// Makes an empty store, on a new disk.
     pub fn format(&mut self, rt: &HostRuntime, words: &str) -> io::Result<()> {
         self.disk = empty_disk(rt.alloc());
-        run_silently(rt, words, "", &mut self.disk, &mut self.site)
+        run_silently(rt, &self.next, words, &mut self.disk, &mut self.site)
     }
 
-    /// Adds a line to the next session.
-    pub fn add(&mut self, line: &str) -> io::Result<()> {
-        self.lines.push_str(line)?;
-        self.lines.push('\n')?;
-        Ok(())
+    /// Publishes files of its site there, with the marks that are set.
+    pub fn publish(&mut self, rt: &HostRuntime, words: &str) -> io::Result<()> {
+        publish(rt, &mut self.next, &mut self.site.link.folder, words)
     }
 
-    /// Adds a line that ends in zero bytes, in hexadecimal: their number, a space, and what stands
-    /// before them.
-    pub fn add_zeros(&mut self, words: &str) -> io::Result<()> {
-        let (count, line) = words.split_once(' ').unwrap_or((words, ""));
-        let Ok(count) = count.parse::<u32>() else {
-            return Err(ErrorKind::InvalidInput.into());
-        };
-        self.lines.push_str(line)?;
-        for _ in 0..count {
-            self.lines.push_str("00")?;
-        }
-        self.lines.push('\n')?;
-        Ok(())
+    /// Inspects a file of its site.
+    pub fn inspect(&mut self, rt: &HostRuntime, words: &str) -> io::Result<()> {
+        inspect(rt, &mut self.next, &mut self.site.link.folder, words)
     }
 
-    /// Adds its last line, without a line feed, or the beginning of a line.
-    pub fn add_last(&mut self, line: &str) -> io::Result<()> {
-        self.lines.push_str(line)?;
-        Ok(())
-    }
-
-    /// Adds a text to the line that has begun, so many times: their number, a space, and the text.
-    pub fn add_repeated(&mut self, words: &str) -> io::Result<()> {
-        let (count, text) = words.split_once(' ').unwrap_or((words, ""));
-        let Ok(count) = count.parse::<u32>() else {
-            return Err(ErrorKind::InvalidInput.into());
-        };
-        for _ in 0..count {
-            self.lines.push_str(text)?;
-        }
-        Ok(())
+    // A session begins: opening is one call of the disk.
+    fn begin(&mut self) {
+        self.opened = self.disk.calls().saturating_add(1);
+        self.asked = self.site.asked.as_slice().len();
     }
 
     /// Runs a session with the lines, and prints what it writes, how many calls the disk had in each
     /// line, and how many targets were asked for.
     pub fn session(&mut self, rt: &HostRuntime, words: &str) -> io::Result<()> {
-        // Opening is one call of the disk.
-        self.opened = self.disk.calls().saturating_add(1);
-        self.asked = self.site.asked.as_slice().len();
+        self.begin();
         run_counted(
             rt,
+            &self.next,
             words,
-            self.lines.as_str(),
             &mut self.disk,
             &mut self.site,
             self.opened,
         )?;
-        self.lines.clear();
+        self.next.clear();
         let asked = self.site.asked.as_slice().len().saturating_sub(self.asked);
         println!(rt; "  asked {asked}")
     }
 
+    /// Runs the words with the lines over its disk, and prints their status behind a label, which is the
+    /// words where none was set, and what they write.
+    pub fn row(&mut self, rt: &HostRuntime, words: &str) -> io::Result<()> {
+        self.begin();
+        if self.next.label.is_none() {
+            self.next.name(rt.alloc(), words)?;
+        }
+        run_silently(rt, &self.next, words, &mut self.disk, &mut self.site)?;
+        self.next.clear();
+        Ok(())
+    }
+
     /// Runs a session with the lines, and prints nothing.
     pub fn quiet_session(&mut self, rt: &HostRuntime, words: &str) -> io::Result<()> {
-        let mut report = empty_report(rt.alloc());
-        let mut folder = empty_folder(rt.alloc());
-        let ran = run_unheard(
-            rt.alloc(),
-            words,
-            self.lines.as_str().as_bytes(),
-            &mut self.disk,
-            &mut folder,
-            &mut self.site,
-            &mut report,
-        );
-        drop(folder);
-        drop(report);
-        self.lines.clear();
+        let alloc = rt.alloc();
+        let ran = run_unheard(alloc, &self.next, words, &mut self.disk, &mut self.site);
+        self.next.clear();
         ran
     }
 
-    /// Goes on with what a stop leaves: after so many calls of the last session, those of its opening
-    /// among them, and how: `kept`, `lost` or `filled`.
-    pub fn go_on(&mut self, rt: &HostRuntime, words: &str) -> io::Result<()> {
-        let (call, how) = words.split_once(' ').unwrap_or((words, ""));
-        let (Ok(call), Some(pick)) = (call.parse::<u64>(), pick_of(how)) else {
-            return Err(ErrorKind::InvalidInput.into());
-        };
-        let moment = self.opened.saturating_sub(1).saturating_add(call);
-        let Ok(image) = self.disk.stop(rt.alloc(), moment, pick) else {
-            return rt.println("no such moment");
-        };
-        self.disk = image;
-        Ok(())
+    /// Prints how many calls the disk had in the last session, but for the first so many.
+    pub fn print_count(&self, rt: &HostRuntime, word: &str) -> io::Result<()> {
+        let before = self.opened.saturating_sub(1);
+        let before = before.saturating_add(number_of(word)?);
+        let made = self.disk.calls().saturating_sub(before);
+        println!(rt; "{made} calls")
     }
 
     /// Prints what the last session asked for.
@@ -263,29 +189,90 @@ impl Client {
         Ok(())
     }
 
+    // What a stop leaves of its disk: after so many calls of the last session, those of its opening
+    // among them, and how: `kept`, `lost` or `filled`.
+    fn left_of(&self, rt: &HostRuntime, words: &str) -> io::Result<MemDisk> {
+        let (call, how) = numbered(words)?;
+        let Some(pick) = pick_of(how) else {
+            return Err(ErrorKind::InvalidInput.into());
+        };
+        let moment = self.opened.saturating_sub(1).saturating_add(call);
+        match self.disk.stop(rt.alloc(), moment, pick) {
+            Ok(image) => Ok(image),
+            Err(_) => Err(ErrorKind::NotFound.into()),
+        }
+    }
+
+    /// Goes on with what a stop leaves.
+    pub fn go_on(&mut self, rt: &HostRuntime, words: &str) -> io::Result<()> {
+        let image = self.left_of(rt, words)?;
+        self.disk = image;
+        Ok(())
+    }
+
+    /// The same, until it comes back to the disk.
+    pub fn go_aside(&mut self, rt: &HostRuntime, words: &str) -> io::Result<()> {
+        let image = self.left_of(rt, words)?;
+        let disk = replace(&mut self.disk, image);
+        self.aside = Some((disk, self.opened));
+        Ok(())
+    }
+
+    /// Comes back to the disk that was left aside.
+    pub fn come_back(&mut self) -> io::Result<()> {
+        let Some((disk, opened)) = self.aside.take() else {
+            return Err(ErrorKind::NotFound.into());
+        };
+        self.disk = disk;
+        self.opened = opened;
+        Ok(())
+    }
+
     // Runs the words with the lines over what a stop at that moment leaves.
     fn stop(&mut self, rt: &HostRuntime, words: &str, moment: u64, pick: Pick) -> io::Result<()> {
         let Ok(mut image) = self.disk.stop(rt.alloc(), moment, pick) else {
             return rt.println("no such moment");
         };
-        let ran = run_silently(rt, words, self.lines.as_str(), &mut image, &mut self.site);
+        let ran = run_silently(rt, &self.next, words, &mut image, &mut self.site);
         drop(image);
         ran
     }
 
-    /// The same for each moment since the last session had been opened, and each pick.
+    // The same for each pick at that moment, which is told as a number of calls.
+    fn stop_each(
+        &mut self,
+        rt: &HostRuntime,
+        words: &str,
+        call: u64,
+        moment: u64,
+    ) -> io::Result<()> {
+        println!(rt; "after {call}, kept:")?;
+        self.stop(rt, words, moment, Pick::Kept)?;
+        println!(rt; "after {call}, lost:")?;
+        self.stop(rt, words, moment, Pick::Lost)?;
+        println!(rt; "after {call}, filled:")?;
+        self.stop(rt, words, moment, Pick::Filled(1))
+    }
+
+    /// Stops its disk at each moment since the last session had been opened, in each way, and runs the
+    /// words with the lines over what is left.
     pub fn stops(&mut self, rt: &HostRuntime, words: &str) -> io::Result<()> {
         let end = self.disk.calls().saturating_add(1);
         for moment in self.opened..end {
             let call = moment.saturating_sub(self.opened);
-            println!(rt; "after {call}, kept:")?;
-            self.stop(rt, words, moment, Pick::Kept)?;
-            println!(rt; "after {call}, lost:")?;
-            self.stop(rt, words, moment, Pick::Lost)?;
-            println!(rt; "after {call}, filled:")?;
-            self.stop(rt, words, moment, Pick::Filled(1))?;
+            self.stop_each(rt, words, call, moment)?;
         }
-        self.lines.clear();
+        self.next.clear();
+        Ok(())
+    }
+
+    /// The same after that many calls of the last session, those of its opening among them: the number, a
+    /// space, and the words.
+    pub fn stop_once(&mut self, rt: &HostRuntime, words: &str) -> io::Result<()> {
+        let (call, words) = numbered(words)?;
+        let moment = self.opened.saturating_sub(1).saturating_add(call);
+        self.stop_each(rt, words, call, moment)?;
+        self.next.clear();
         Ok(())
     }
 }

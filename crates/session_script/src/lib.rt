@@ -1,9 +1,12 @@
-//! Sessions of the client by the top call, over devices in memory, as a script describes them. A
-//! script has a line for each thing that is to be done; what is printed is compared with what must
-//! be printed.
+//! Runs of the client by the top call, over devices in memory, as a script describes them: sessions,
+//! releases that are published and manifests that are inspected. A script has a line for each thing
+//! that is to be done; what is printed is compared with what must be printed.
 #![tactic(auto)]
 
+mod changing;
 mod client;
+mod next;
+mod releasing;
 mod running;
 mod script;
 mod site;

@@ -1,7 +1,8 @@
 // The top call over devices in memory.
+use crate::next::Next;
 use disks::MemDisk;
 use fetcher::FolderLink;
-use folders::MemFolder;
+use folders::{Folder, MemFolder};
 use links::Single;
 use outside::{MemSink, MemSource};
 use small_types::{Bytes, List, Target, Word};
@@ -16,10 +17,25 @@ fn nothing<T>(alloc: Global) -> List<T> {
     List::from_vec(Vec::new(alloc))
 }
 
+// The numbers of the calls that fail: that one, or none where it is 0.
+fn only(alloc: Global, call: u64) -> Result<List<u64>, AllocError> {
+    let mut calls = Vec::new(alloc);
+    if call > 0 {
+        calls.push(call)?;
+    }
+    Ok(List::from_vec(calls))
+}
+
 /// A folder without files.
 pub fn empty_folder(alloc: Global) -> MemFolder {
     let files = List::from_vec(Vec::new(alloc));
     MemFolder::new(alloc, files, nothing(alloc))
+}
+
+/// A folder without files, whose first call fails.
+pub fn unused_folder(alloc: Global) -> Result<MemFolder, AllocError> {
+    let files = List::from_vec(Vec::new(alloc));
+    Ok(MemFolder::new(alloc, files, only(alloc, 1)?))
 }
 
 /// One link to the folder.
@@ -35,6 +51,12 @@ pub fn empty_disk(alloc: Global) -> MemDisk {
     MemDisk::new(alloc, Bytes::from_vec(Vec::new(alloc)), nothing(alloc))
 }
 
+/// A disk of these bytes, whose call of that number fails, or none where it is 0.
+pub fn disk_of(alloc: Global, bytes: &[u8], failing: u64) -> Result<MemDisk, AllocError> {
+    let bytes = Bytes::from_slice(alloc, bytes)?;
+    Ok(MemDisk::new(alloc, bytes, only(alloc, failing)?))
+}
+
 /// A report of nothing.
 pub fn empty_report(alloc: Global) -> Report {
     Report {
@@ -43,8 +65,8 @@ pub fn empty_report(alloc: Global) -> Report {
     }
 }
 
-// The words of a text, between spaces.
-fn words_of(alloc: Global, text: &str) -> Result<Vec<Word>, AllocError> {
+/// The words of a text, between spaces.
+pub fn words_of(alloc: Global, text: &str) -> Result<Vec<Word>, AllocError> {
     let mut words = Vec::new(alloc);
     for word in text.split(' ') {
         words.push(Word::from_vec(word.as_bytes().to_vec(alloc)?))?;
@@ -52,10 +74,19 @@ fn words_of(alloc: Global, text: &str) -> Result<Vec<Word>, AllocError> {
     Ok(words)
 }
 
-// Prints a status other than 0, and then what was written.
-fn tell(rt: &HostRuntime, status: u8, output: &[u8]) -> io::Result<()> {
-    if status != 0 {
-        println!(rt; "status {status}")?;
+// Prints the status, and then what was written. A status 0 without a label is told only where it is
+// asked for.
+fn tell(rt: &HostRuntime, next: &Next, status: u8, output: &[u8]) -> io::Result<()> {
+    match &next.label {
+        Some(label) => {
+            let label = label.as_str();
+            println!(rt; "{label}: {status}")?;
+        }
+        None => {
+            if next.always || status != 0 {
+                println!(rt; "status {status}")?;
+            }
+        }
     }
     match std::str::from_utf8(output) {
         Ok(text) => rt.print(text),
@@ -64,22 +95,23 @@ fn tell(rt: &HostRuntime, status: u8, output: &[u8]) -> io::Result<()> {
 }
 
 // The status of the words over the devices with this input, and what they write.
-fn ran_over(
+fn ran_over<F: Folder>(
     alloc: Global,
-    words: &str,
+    next: &Next,
+    words: &[Word],
     input: &[u8],
     disk: &mut MemDisk,
-    folder: &mut MemFolder,
+    folder: &mut F,
     links: &mut Site,
     report: &mut Report,
 ) -> io::Result<(u8, Vec<u8>)> {
-    let words = words_of(alloc, words)?;
     let input = Bytes::from_slice(alloc, input)?;
-    let mut source = MemSource::new(alloc, input, nothing(alloc));
-    let mut sink = MemSink::new(alloc, Bytes::from_vec(Vec::new(alloc)), nothing(alloc));
+    let mut source = MemSource::new(alloc, input, only(alloc, next.source)?);
+    let output = Bytes::from_vec(Vec::new(alloc));
+    let mut sink = MemSink::new(alloc, output, only(alloc, next.sink)?);
     let status = run(
         alloc,
-        &words,
+        words,
         &mut source,
         &mut sink,
         disk,
@@ -90,35 +122,111 @@ fn ran_over(
     let output = sink.taken().to_vec(alloc);
     drop(sink);
     drop(source);
-    drop(words);
     Ok((status, output?))
 }
 
-/// Runs the words over the devices with this input, and prints what they write.
-pub fn run_over(
+/// Runs the words over the devices with this input, and prints their status and what they write.
+pub fn run_over<F: Folder>(
     rt: &HostRuntime,
-    words: &str,
+    next: &Next,
+    words: &[Word],
     input: &[u8],
     disk: &mut MemDisk,
-    folder: &mut MemFolder,
+    folder: &mut F,
     links: &mut Site,
     report: &mut Report,
 ) -> io::Result<()> {
-    let (status, output) = ran_over(rt.alloc(), words, input, disk, folder, links, report)?;
-    tell(rt, status, &output)
+    let (status, output) = ran_over(rt.alloc(), next, words, input, disk, folder, links, report)?;
+    tell(rt, next, status, &output)
 }
 
-/// Runs the words over the devices with this input, and prints nothing.
-pub fn run_unheard(
-    alloc: Global,
-    words: &str,
+/// Runs the words with this input over that folder, and prints their status and what they write. The
+/// first call of its disk fails, and so does the first of its site.
+pub fn run_apart<F: Folder>(
+    rt: &HostRuntime,
+    next: &Next,
+    words: &[Word],
     input: &[u8],
+    folder: &mut F,
+) -> io::Result<()> {
+    let alloc = rt.alloc();
+    let mut disk = disk_of(alloc, &[], 1)?;
+    let mut links = site_of(alloc, unused_folder(alloc)?);
+    let mut report = empty_report(alloc);
+    let ran = run_over(
+        rt,
+        next,
+        words,
+        input,
+        &mut disk,
+        folder,
+        &mut links,
+        &mut report,
+    );
+    drop(report);
+    drop(links);
+    drop(disk);
+    ran
+}
+
+// The words with the lines that are set, over a disk and a site.
+fn ran_lines(
+    alloc: Global,
+    next: &Next,
+    words: &str,
     disk: &mut MemDisk,
-    folder: &mut MemFolder,
-    links: &mut Site,
+    site: &mut Site,
+    report: &mut Report,
+) -> io::Result<(u8, Vec<u8>)> {
+    let words = words_of(alloc, words)?;
+    let mut folder = unused_folder(alloc)?;
+    let input = next.lines.as_str().as_bytes();
+    let ran = ran_over(alloc, next, &words, input, disk, &mut folder, site, report);
+    drop(folder);
+    drop(words);
+    ran
+}
+
+/// Runs the words with the lines that are set over a disk and a site, and prints their status and what
+/// they write.
+pub fn run_lines(
+    rt: &HostRuntime,
+    next: &Next,
+    words: &str,
+    disk: &mut MemDisk,
+    site: &mut Site,
     report: &mut Report,
 ) -> io::Result<()> {
-    let _ = ran_over(alloc, words, input, disk, folder, links, report)?;
+    let (status, output) = ran_lines(rt.alloc(), next, words, disk, site, report)?;
+    tell(rt, next, status, &output)
+}
+
+/// The same, with a report that is not looked at.
+pub fn run_silently(
+    rt: &HostRuntime,
+    next: &Next,
+    words: &str,
+    disk: &mut MemDisk,
+    site: &mut Site,
+) -> io::Result<()> {
+    let mut report = empty_report(rt.alloc());
+    let ran = run_lines(rt, next, words, disk, site, &mut report);
+    drop(report);
+    ran
+}
+
+/// The same, and prints nothing.
+pub fn run_unheard(
+    alloc: Global,
+    next: &Next,
+    words: &str,
+    disk: &mut MemDisk,
+    site: &mut Site,
+) -> io::Result<()> {
+    let mut report = empty_report(alloc);
+    let ran = ran_lines(alloc, next, words, disk, site, &mut report);
+    drop(report);
+    let _ = ran?;
     Ok(())
 }
 

@@ -1,32 +1,22 @@
 // The lines of a script.
 use crate::client::Client;
-use crate::site;
+use crate::next::{first_of, numbered};
+use crate::{releasing, site};
 use std::io::{self, ErrorKind};
 
-// Adds a line to the next session, so many times.
-fn add_times(client: &mut Client, words: &str) -> io::Result<()> {
-    let Some((count, line)) = words.split_once(' ') else {
-        return Err(ErrorKind::InvalidInput.into());
-    };
-    let Ok(count) = count.parse::<u32>() else {
-        return Err(ErrorKind::InvalidInput.into());
-    };
-    for _ in 0..count {
-        client.add(line)?;
-    }
-    Ok(())
-}
-
 // Does what the line says of the site. Its first word says what: `site` empties it, `file` puts a
-// file there, `fill` one of so many bytes and `build` one of repeated text, `lose` takes one away,
-// `mark` marks a file of what is published next, `terms` gives a published deployment others, and
-// `down` lets the call of that number fail, counted from now on.
+// file there, `line` adds a line to one, `fill` puts one of so many bytes and `build` one of repeated
+// text, `lose` takes one away, `terms` gives a published deployment others, and `down` lets the call
+// of that number fail, counted from now on.
 fn change_site(rt: &HostRuntime, client: &mut Client, word: &str, rest: &str) -> io::Result<()> {
     if word == "site" {
         return client.empty_site(rt);
     }
     if word == "file" {
         return site::put_text(rt, client.folder(), rest);
+    }
+    if word == "line" {
+        return site::add_line(rt, client.folder(), rest);
     }
     if word == "fill" {
         return site::put_zeros(rt, client.folder(), rest);
@@ -36,9 +26,6 @@ fn change_site(rt: &HostRuntime, client: &mut Client, word: &str, rest: &str) ->
     }
     if word == "lose" {
         return client.lose(rt, rest);
-    }
-    if word == "mark" {
-        return client.mark(rest);
     }
     if word == "terms" {
         return site::set_terms(rt, client.folder(), rest);
@@ -54,34 +41,121 @@ fn change_site(rt: &HostRuntime, client: &mut Client, word: &str, rest: &str) ->
 // times and a carriage return, without a line feed.
 fn add_text(rt: &HostRuntime, client: &mut Client, word: &str, rest: &str) -> io::Result<()> {
     if word == ">" {
-        return client.add(rest);
+        return client.next.add(rest);
     }
     if word == "times" {
-        return add_times(client, rest);
+        return client.next.add_times(rest);
     }
     if word == "zeros" {
-        return client.add_zeros(rest);
+        return client.next.add_zeros(rest);
     }
     if word == "last" {
-        return client.add_last(rest);
+        return client.next.add_last(rest);
     }
     if word == "repeat" {
-        return client.add_repeated(rest);
+        return client.next.add_repeated(rest);
     }
     if word == "return" {
-        return client.add_last("\r");
+        return client.next.add_last("\r");
     }
     change_site(rt, client, word, rest)
 }
 
+// Sets what the line says for the next run. Its first word says what: `as` what stands before its
+// status, `source` and `sink` which of their calls fails, `mark` marks a file of what is published,
+// `swap` has another text in place of one of what is inspected and `byte` puts a byte before it, and
+// `statuses` has each status told from here on.
+fn set(rt: &HostRuntime, client: &mut Client, word: &str, rest: &str) -> io::Result<()> {
+    if word == "as" {
+        client.next.name(rt.alloc(), rest)?;
+        return Ok(());
+    }
+    if word == "source" {
+        return client.next.fail_source(rest);
+    }
+    if word == "sink" {
+        return client.next.fail_sink(rest);
+    }
+    if word == "mark" {
+        return client.next.mark(rt.alloc(), rest);
+    }
+    if word == "swap" {
+        return client.next.swap(rt.alloc(), rest);
+    }
+    if word == "byte" {
+        return client.next.put_byte(rest);
+    }
+    if word == "statuses" {
+        client.next.always = true;
+        return Ok(());
+    }
+    add_text(rt, client, word, rest)
+}
+
+// Does what the line says of the disk. Its first word says what: `stops` stops the last session at
+// each of its moments, `stop` after that call of it, and the next one runs over what is left;
+// `left` goes on with what a stop leaves, `aside` does so until `back`; `disk` goes on with zeros,
+// `failing` with the same bytes and a call that fails; and `calls` prints how many calls there were.
+fn change_disk(rt: &HostRuntime, client: &mut Client, word: &str, rest: &str) -> io::Result<()> {
+    if word == "stops" {
+        return client.stops(rt, rest);
+    }
+    if word == "stop" {
+        return client.stop_once(rt, rest);
+    }
+    if word == "left" {
+        return client.go_on(rt, rest);
+    }
+    if word == "aside" {
+        return client.go_aside(rt, rest);
+    }
+    if word == "back" {
+        return client.come_back();
+    }
+    if word == "disk" {
+        return client.zero_disk(rt, rest);
+    }
+    if word == "failing" {
+        return client.fail_disk(rt, rest);
+    }
+    if word == "calls" {
+        return client.print_count(rt, rest);
+    }
+    set(rt, client, word, rest)
+}
+
+// Does what the line says of a release. Its first word says what: `inspect` a manifest, `changing`
+// publishes files that change, and `files` and `count` print the files of the site, and their number.
+fn release(rt: &HostRuntime, client: &mut Client, word: &str, rest: &str) -> io::Result<()> {
+    if word == "inspect" {
+        return client.inspect(rt, rest);
+    }
+    if word == "changing" {
+        return releasing::publish_changing(rt, &mut client.next, rest);
+    }
+    if word == "files" {
+        return site::print_files(rt, client.folder());
+    }
+    if word == "count" {
+        return site::print_count(rt, client.folder());
+    }
+    change_disk(rt, client, word, rest)
+}
+
 // Does what the line says. Its first word says what, and is a word of the program or one of these:
-// `#` prints the line, `quiet` runs a session and prints nothing, `asked` prints what the last
-// session asked for, `stops` stops the last session at each of its moments and runs the next one
-// over what is left, and `left` goes on with what a stop after that call of the last session
-// leaves.
+// `#` prints the line and `say` the rest of it, `part` begins anew with a client, `row` runs what
+// follows and prints it with its status, `quiet` runs a session and prints nothing, and `asked`
+// prints what the last session asked for.
 fn act(rt: &HostRuntime, client: &mut Client, line: &str) -> io::Result<()> {
-    let (word, rest) = line.split_once(' ').unwrap_or((line, ""));
+    let (word, rest) = first_of(line);
     if word == "#" {
+        return rt.println(line);
+    }
+    if word == "say" {
+        return rt.println(rest);
+    }
+    if word == "part" {
+        *client = Client::new(rt);
         return rt.println(line);
     }
     if word == "format" {
@@ -93,29 +167,23 @@ fn act(rt: &HostRuntime, client: &mut Client, line: &str) -> io::Result<()> {
     if word == "session" {
         return client.session(rt, line);
     }
+    if word == "row" {
+        return client.row(rt, rest);
+    }
     if word == "quiet" {
         return client.quiet_session(rt, rest);
     }
     if word == "asked" {
         return client.print_asked(rt);
     }
-    if word == "stops" {
-        return client.stops(rt, rest);
-    }
-    if word == "left" {
-        return client.go_on(rt, rest);
-    }
-    add_text(rt, client, word, rest)
+    release(rt, client, word, rest)
 }
 
 // Does what the line says for each number from one to another, which is not among them: both, and
 // the line, in which each `%` stands for the number.
 fn act_each(rt: &HostRuntime, client: &mut Client, words: &str) -> io::Result<()> {
-    let (from, rest) = words.split_once(' ').unwrap_or((words, ""));
-    let (to, line) = rest.split_once(' ').unwrap_or((rest, ""));
-    let (Ok(from), Ok(to)) = (from.parse::<u32>(), to.parse::<u32>()) else {
-        return Err(ErrorKind::InvalidInput.into());
-    };
+    let (from, rest) = numbered(words)?;
+    let (to, line) = numbered(rest)?;
     for number in from..to {
         let filled = site::filled(rt.alloc(), line, number)?;
         act(rt, client, filled.as_str())?;

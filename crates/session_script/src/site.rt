@@ -1,4 +1,5 @@
 // The files of a site.
+use crate::next::numbered;
 use folders::{Folder, Held, MemFolder, are_distinct};
 use small_types::{Bytes, List, Name};
 use std::alloc::Global;
@@ -28,6 +29,29 @@ pub fn put_text(rt: &HostRuntime, folder: &mut MemFolder, words: &str) -> io::Re
     }
 }
 
+/// The bytes of a file, or none where there is no such file.
+pub fn held(alloc: Global, folder: &mut MemFolder, file: &str) -> io::Result<Option<Bytes>> {
+    let name = name_of(alloc, file)?;
+    match folder.get(alloc, &name) {
+        Ok(bytes) => Ok(bytes),
+        Err(_) => Err(ErrorKind::Other.into()),
+    }
+}
+
+/// Adds a line to a file: its name, `=` and the line.
+pub fn add_line(rt: &HostRuntime, folder: &mut MemFolder, words: &str) -> io::Result<()> {
+    let Some((file, line)) = words.split_once('=') else {
+        return Err(ErrorKind::InvalidInput.into());
+    };
+    let mut bytes = match held(rt.alloc(), folder, file)? {
+        Some(bytes) => bytes.into_vec(),
+        None => Vec::new(rt.alloc()),
+    };
+    bytes.extend_from_slice(line.as_bytes())?;
+    bytes.push(b'\n')?;
+    put(rt, folder, file, &bytes)
+}
+
 /// Puts a file of zeros there: their number, a space and its name.
 pub fn put_zeros(rt: &HostRuntime, folder: &mut MemFolder, words: &str) -> io::Result<()> {
     let Some((count, file)) = words.split_once(' ') else {
@@ -42,7 +66,7 @@ pub fn put_zeros(rt: &HostRuntime, folder: &mut MemFolder, words: &str) -> io::R
 }
 
 /// The text, in which each `%` stands for the number.
-pub fn filled(alloc: Global, text: &str, number: u32) -> io::Result<String> {
+pub fn filled(alloc: Global, text: &str, number: u64) -> io::Result<String> {
     let shown = format!(in alloc; "{number}")?;
     let mut made = String::new(alloc);
     for (place, part) in text.split('%').enumerate() {
@@ -54,15 +78,27 @@ pub fn filled(alloc: Global, text: &str, number: u32) -> io::Result<String> {
     Ok(made)
 }
 
-// The head, so many items, in each of which `%` stands for its number, and the tail.
-fn repeated(alloc: Global, count: u32, text: &str) -> io::Result<String> {
-    let (head, rest) = text.split_once('|').unwrap_or((text, ""));
-    let (item, tail) = rest.split_once('|').unwrap_or((rest, ""));
-    let mut made = String::from_str(alloc, head)?;
+// Adds so many items, in each of which `%` stands for its number.
+fn add_items(alloc: Global, made: &mut String, count: u64, item: &str) -> io::Result<()> {
+    if !item.contains('%') {
+        for _ in 0..count {
+            made.push_str(item)?;
+        }
+        return Ok(());
+    }
     for number in 0..count {
         let part = filled(alloc, item, number)?;
         made.push_str(part.as_str())?;
     }
+    Ok(())
+}
+
+// The head, so many items, in each of which `%` stands for its number, and the tail.
+fn repeated(alloc: Global, count: u64, text: &str) -> io::Result<String> {
+    let (head, rest) = text.split_once('|').unwrap_or((text, ""));
+    let (item, tail) = rest.split_once('|').unwrap_or((rest, ""));
+    let mut made = String::from_str(alloc, head)?;
+    add_items(alloc, &mut made, count, item)?;
     made.push_str(tail)?;
     Ok(made)
 }
@@ -70,8 +106,8 @@ fn repeated(alloc: Global, count: u32, text: &str) -> io::Result<String> {
 /// Puts a file of repeated text there: how often, a space, its name, `=`, and what stands before the
 /// items, an item and what stands behind them, with `|` between.
 pub fn put_repeated(rt: &HostRuntime, folder: &mut MemFolder, words: &str) -> io::Result<()> {
-    let (count, rest) = words.split_once(' ').unwrap_or((words, ""));
-    let (Ok(count), Some((file, text))) = (count.parse::<u32>(), rest.split_once('=')) else {
+    let (count, rest) = numbered(words)?;
+    let Some((file, text)) = rest.split_once('=') else {
         return Err(ErrorKind::InvalidInput.into());
     };
     let made = repeated(rt.alloc(), count, text)?;
@@ -81,8 +117,7 @@ pub fn put_repeated(rt: &HostRuntime, folder: &mut MemFolder, words: &str) -> io
 // The text of a file.
 fn text_of(rt: &HostRuntime, folder: &mut MemFolder, file: &str) -> io::Result<String> {
     let alloc = rt.alloc();
-    let name = name_of(alloc, file)?;
-    let Ok(Some(bytes)) = folder.get(alloc, &name) else {
+    let Some(bytes) = held(alloc, folder, file)? else {
         return Err(ErrorKind::NotFound.into());
     };
     match std::str::from_utf8(bytes.as_slice()) {
@@ -145,4 +180,24 @@ pub fn folder_without(alloc: Global, folder: &MemFolder, lost: &str) -> io::Resu
 pub fn folder_failing(alloc: Global, folder: &MemFolder, call: u64) -> io::Result<MemFolder> {
     let files = files_without(alloc, folder.files().as_slice(), "")?;
     folder_of(alloc, files, List::from_vec([call].to_vec(alloc)?))
+}
+
+/// Prints the names of the files, and what each has: its text, where it is short, or its length.
+pub fn print_files(rt: &HostRuntime, folder: &MemFolder) -> io::Result<()> {
+    for file in folder.files().as_slice() {
+        let name = file.name.as_str();
+        let bytes = file.bytes.as_slice();
+        let length = bytes.len();
+        match std::str::from_utf8(bytes) {
+            Ok(text) if length < 10 => println!(rt; "  {name}: {text}")?,
+            _ => println!(rt; "  {name}: {length} bytes")?,
+        }
+    }
+    Ok(())
+}
+
+/// Prints how many files there are.
+pub fn print_count(rt: &HostRuntime, folder: &MemFolder) -> io::Result<()> {
+    let count = folder.files().as_slice().len();
+    println!(rt; "files {count}")
 }

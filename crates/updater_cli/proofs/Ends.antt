@@ -330,6 +330,7 @@ unopened_run to on net boot now s k l old new status end no_store within reads =
     calls = made status end (λ is. no_store told is store stands.stands) within;
     behind = l;
     served = (refl, refl);
+    downs = tt;
     begun = begun status end store;
     sites = λ tell. refl;
   };

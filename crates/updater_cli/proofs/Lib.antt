@@ -3,10 +3,14 @@ pub mod Asked
 pub mod Asking
 pub mod Begin
 pub mod DemoEnds
+pub mod Downs
 pub mod Ends
+pub mod Formatting
 pub mod Inputs
 pub mod Leased
+pub mod NoOthers
 pub mod Opened
+pub mod Pages
 pub mod Pieces
 pub mod Prefix
 pub mod Premises
@@ -21,6 +25,7 @@ pub mod PublishedTexts
 pub mod PublishedUses
 pub mod Publishing
 pub mod Reading
+pub mod Releases
 pub mod Running
 pub mod Runs
 pub mod Sites

@@ -1,5 +1,5 @@
 -- What the calls give of the premises of the law that what was published is what is read.
-use Rattle.std.proofs.Common.{◌≡◌, ◌∙◌, ◌<◌, ℕ, refl, sym, ap, subst, List, Option, Some, None, IfSome, IsSome, Ok, Err, arith}
+use Rattle.std.proofs.Common.{◌≡◌, ◌∙◌, inl, inr, ◌<◌, ℕ, refl, sym, ap, subst, List, Option, Some, None, IfSome, IsSome, Ok, Err, arith}
 use Rattle.std.specs.Prelude.{Result, slice_get}
 use Rattle.std.specs.Option.{option_or}
 use Rattle.std.proofs.lemmas.Option.{same_Some}
@@ -15,7 +15,7 @@ use Rattle.fetcher.specs.Given.{FitsText, Given, GivenFile, GivenText, IsFirst, 
 use Rattle.manifest_parts.specs.Parts.{Tells}
 use Rattle.manifests.specs.declared.facts.Deployment.{Deployment}
 use Rattle.manifests.specs.Deployments.{deployment_of}
-use Rattle.publish_plan.specs.Places.{deployment_name, manifest_name}
+use Rattle.publish_plan.specs.Places.{codebase, deployment_name, manifest_name}
 use Rattle.publisher.specs.declared.fault.PublishFault.{PublishFault}
 use Rattle.publisher.specs.Outcome.{Publishes}
 use Rattle.publisher.specs.Publication as writes
@@ -83,7 +83,7 @@ no_text some = absurd (by some)
 module _ (links : LinksState) (Came : (List ℕ → Type 0) → Target → List ℕ → Type 0)
     (p : Publication) (files folder : List Held) (url : List ℕ) (texts : List (List ℕ))
     (w : Writes p files) (holds : Holds folder files)
-    (first : IsFirstSite folder (sites_of links))
+    (first : IsFirstSite p url folder (sites_of links))
     (reaches : (given : Target) → target_of_text url ≡ Ok given
     → Reaches given (deployment_name p.options))
     (same : (Fits : List ℕ → Type 0) (target : Target) (bytes other : List ℕ)
@@ -107,8 +107,8 @@ module _ (links : LinksState) (Came : (List ℕ → Type 0) → Target → List 
   deployment_at : (given : Target) → target_of_text url ≡ Ok given
       → (links.link 0).site given ≡ Some out.last
   deployment_at given read =
-      at_name folder (sites_of links) given (deployment_name p.options) out.last first
-      (reaches given read).named out.deployment
+      at_name folder (sites_of links) given (deployment_name p.options) out.last
+      (first.shows given given read (inl refl)) (reaches given read).named out.deployment
 
   abbrev IsFirstText : List ℕ → Type 0
   IsFirstText text = (target : Target) × (target_of_text url ≡ Ok target)
@@ -147,8 +147,9 @@ module _ (links : LinksState) (Came : (List ℕ → Type 0) → Target → List 
       out.deployment_told x.1 (subst (λ (t : List ℕ). Tells deployment_of t (Ok x.1))
       (same_Some x.0 out.last (sym x.2 ∙ heard)) x.3) in
       let joined = joined_at url x.1 given x.4.0 read x.4.1 in
-      let named = out.base url given x.4.0 read (reaches given read)
-      (subst (λ (d : Deployment). app_target_of given d.codebase ≡ Ok x.4.0) is joined) in (
+      let led : app_target_of given (codebase p.options) ≡ Ok x.4.0 =
+      subst (λ (d : Deployment). app_target_of given d.codebase ≡ Ok x.4.0) is joined in
+      let named = out.base url given x.4.0 read (reaches given read) led in (
         x.0,
         x.1,
         x.2,
@@ -157,8 +158,8 @@ module _ (links : LinksState) (Came : (List ℕ → Type 0) → Target → List 
           x.4.0,
           joined,
           given_there (Matches x.1.app_list x.1.app_size) x.4.0 text out.text x.4.2
-              (at_name folder (sites_of links) x.4.0 (manifest_name p.options) out.text first named
-              out.application)
+              (at_name folder (sites_of links) x.4.0 (manifest_name p.options) out.text
+              (first.shows given x.4.0 read (inr (inl led))) named out.application)
               (subst (λ (d : Deployment). Matches d.app_list d.app_size out.text) (sym is)
               (digests_match out.text)),
         ),

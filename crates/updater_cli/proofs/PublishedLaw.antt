@@ -13,7 +13,7 @@ use Rattle.folders.specs.declared.folder.Held.{Held}
 use Rattle.folders.specs.Files.{file_in}
 use Rattle.digest_list.specs.Matches.{Matches}
 use Rattle.http_plain.specs.Path.{name_in_path}
-use Rattle.http_plain.specs.Sites.{file_named as file_at}
+use Rattle.http_plain.specs.Sites.{file_named as file_at, served}
 use Rattle.fetcher.specs.Given.{FitsText, Given}
 use Rattle.manifests.specs.declared.facts.Application.{Application}
 use Rattle.manifests.specs.declared.facts.Deployment.{Deployment}
@@ -24,7 +24,7 @@ use Rattle.manifests.specs.Applications.{application_of}
 use Rattle.manifests.specs.Deployments.{deployment_of}
 use Rattle.publish_plan.specs.Places.{codebase, deployment_name, manifest_name, target_name}
 use Rattle.publisher.specs.Publication as writes
-use Rattle.machine.specs.declared.command.Command.TheVariants.{Install, Launch, Local, Read}
+use Rattle.machine.specs.declared.command.Command.TheVariants.{Install, Launch}
 use Rattle.machine.specs.declared.event.Event.{Event}
 use Rattle.machine.specs.declared.event.Event.TheVariants.{Line}
 use Rattle.machine.specs.declared.lease.Lease.{Lease}
@@ -56,8 +56,8 @@ use Rattle.machine.proofs.Leasing.{lease_below}
 use Rattle.machine.proofs.Members.{In, all_in, contains_in, filter_in, in_all, in_contains, in_map}
 use Rattle.machine.proofs.Names.{aside_below}
 use Rattle.machine.proofs.ViewSteps.{view_below}
-use Rattle.updater_cli.specs.Offered.{Holds, IsFirstSite, Publication, Sites, Writes, input_file, links_of, listed}
-use Rattle.updater_cli.specs.Published.{Course, IsFreshData, IsGiven, IsUntouched, Keeps, KeepsNoOthers, Leads, PublishedIsRead, ReadsInput, ShowsInput}
+use Rattle.updater_cli.specs.Offered.{IsAskedFor, Publication, Sites, input_file, links_of, listed}
+use Rattle.updater_cli.specs.Published.{Course, GivesInput, IsFreshData, IsGiven, IsOffered, Keeps, KeepsNoOthers, Leads, PublishedDataIsRead, PublishedIsGiven, PublishedIsRead, ReadsInput, ReadsInputData, ShowsInput}
 use Rattle.updater_cli.proofs.PublishedDigests.{digests_match}
 use Rattle.updater_cli.proofs.PublishedOut.{IsOut}
 use Rattle.updater_cli.proofs.PublishedRelease.{is_out}
@@ -80,9 +80,9 @@ first_given Fits sites target bytes (Some other) some there fits given = by give
     by (suc k) is before = absurd (no_some Fits (sites.site 0 target) bytes there (before 0 (omega arith)) fits)
 
 -- the site of the folder at a target whose path names a file
-pub at_name : (folder : List Held) (sites : Sites) (target : Target) (name bytes : List ℕ) → IsFirstSite folder sites → name_in_path target.path ≡ Some name → file_in name folder ≡ Some bytes
+pub at_name : (folder : List Held) (sites : Sites) (target : Target) (name bytes : List ℕ) → sites.site 0 target ≡ served folder target → name_in_path target.path ≡ Some name → file_in name folder ≡ Some bytes
     → sites.site 0 target ≡ Some bytes
-at_name folder sites target name bytes first named there = first.shows target ∙ ap (file_at folder) named ∙ there
+at_name folder sites target name bytes shows named there = shows ∙ ap (file_at folder) named ∙ there
 
 -- ---- an answer that is an installation
 
@@ -164,7 +164,7 @@ install_done at heard old url reply new is (inr done) = done.1
 number_is : (a b : _) (v w : _) (m n : ℕ) → says.Installed a v m ≡ says.Installed b w n → m ≡ n
 number_is a b v w m n e = cc
 
-ok_is : (a b : Target) → ◌≡◌ {A = Result Target UrlFault} (Ok a) (Ok b) → a ≡ b
+pub ok_is : (a b : Target) → ◌≡◌ {A = Result Target UrlFault} (Ok a) (Ok b) → a ≡ b
 ok_is a b e = cc
 
 same_answer : (a b : Reply) → ◌≡◌ {A = Option Reply} (Some a) (Some b) → a ≡ b
@@ -187,7 +187,7 @@ mapped_some : {X Y : Type 0} (f : X → Y) (o : Option X) (y : Y) → option_map
 mapped_some f None y is = absurd (none-some y is)
 mapped_some f (Some x) y is = (x, refl, same_Some (f x) y is)
 
-any_in : {X : Type 0} (P : X → Type 0) (xs : List X) (x : X) → In x xs → P x → Any P xs
+pub any_in : {X : Type 0} (P : X → Type 0) (xs : List X) (x : X) → In x xs → P x → Any P xs
 any_in P xs x there holds = let at = contains_in xs x there in (at.0, x, at.1, at.2, holds)
 
 -- ---- the law
@@ -195,17 +195,21 @@ any_in P xs x there holds = let at = contains_in xs x there in (at.0, x, at.1, a
 module _ (runs_sound : RunsKeepSound) (data_stay : KeptDataFilesStay) (data_is : DataIsOfFiles)
     (reads_are : ReadsAreOfFiles) (views_new : ViewsAreNew) (p : Publication)
     (files folder : List Held) (sites : Sites) (c : Course p sites)
-    (w : Writes p files) (holds : Holds folder files) (first : IsFirstSite folder sites) where
+    (offered : IsOffered p files folder sites c) where
   out : IsOut p folder
-  out = is_out p files folder w holds
+  out = is_out p files folder offered.writes offered.holds
+
+  -- what the first link has of what the install asks for
+  shown : (target : Target) → IsAskedFor p c.install.texts.given target → sites.site 0 target ≡ served folder target
+  shown target asked = offered.first.shows c.install.texts.given target c.install.texts.read asked
 
   -- ---- what was heard
 
   given_is : sites.site 0 c.install.texts.given ≡ Some out.last
-  given_is = at_name folder sites c.install.texts.given (deployment_name p.options) out.last first c.install.reaches.named out.deployment
+  given_is = at_name folder sites c.install.texts.given (deployment_name p.options) out.last (shown c.install.texts.given (inl refl)) c.install.reaches.named out.deployment
 
   heard_first : slice_get c.install.heard.texts 0 ≡ Some out.last
-  heard_first = first_given (FitsText MANIFEST_LIMIT) sites c.install.texts.given out.last (slice_get c.install.heard.texts 0) first.some given_is out.deployment_short c.install.texts.deployment
+  heard_first = first_given (FitsText MANIFEST_LIMIT) sites c.install.texts.given out.last (slice_get c.install.heard.texts 0) offered.first.some given_is out.deployment_short c.install.texts.deployment
 
   -- what the first text tells is what was written
   first_told : (text : List ℕ) (d : Deployment) → slice_get c.install.heard.texts 0 ≡ Some text → Tells deployment_of text (Ok d) → d ≡ writes.deployment_of p.options out.text
@@ -224,8 +228,8 @@ module _ (runs_sound : RunsKeepSound) (data_stay : KeptDataFilesStay) (data_is :
   unfolding second_base
   heard_second =
       let app = c.install.texts.application in
-      first_given (Matches app.1.app_list app.1.app_size) sites second_base out.text (slice_get c.install.heard.texts 1) first.some
-      (at_name folder sites second_base (manifest_name p.options) out.text first (out.base c.install.url c.install.texts.given second_base c.install.texts.read c.install.reaches second_joined) out.application)
+      first_given (Matches app.1.app_list app.1.app_size) sites second_base out.text (slice_get c.install.heard.texts 1) offered.first.some
+      (at_name folder sites second_base (manifest_name p.options) out.text (shown second_base (inr (inl second_joined))) (out.base c.install.url c.install.texts.given second_base c.install.texts.read c.install.reaches second_joined) out.application)
       (subst (λ (d : Deployment). Matches d.app_list d.app_size out.text) (sym (first_told app.0 app.1 app.2 app.3)) (digests_match out.text)) app.4.2
 
   -- ---- what was installed
@@ -342,20 +346,21 @@ module _ (runs_sound : RunsKeepSound) (data_stay : KeptDataFilesStay) (data_is :
   entry_given : (entry : FileEntry) → Contains (listed p) entry → IsGiven p sites the_view entry
   entry_given entry there target read =
       let f = out.files entry there in
-      let way = out.reached c.install.url c.install.texts.given done.base c.install.texts.read c.install.reaches base_joined entry there target
-      (subst (λ (d : Deployment). file_target_of done.base d.mapped entry.name ≡ Ok target) deployment_is read) in (
+      let at : file_target_of done.base p.options.mapped entry.name ≡ Ok target =
+      subst (λ (d : Deployment). file_target_of done.base d.mapped entry.name ≡ Ok target) deployment_is read in
+      let way = out.reached c.install.url c.install.texts.given done.base c.install.texts.read c.install.reaches base_joined entry there target at in (
         f.whole,
         f.input,
         record {
           place = 0;
-          within = first.some;
-          there = at_name folder sites target (target_name p.options entry.name) f.whole first way f.out;
+          within = offered.first.some;
+          there = at_name folder sites target (target_name p.options entry.name) f.whole (shown target (inr (inr (done.base, entry, base_joined, there, at)))) way f.out;
           fits = f.matching;
           first = λ k less. absurd (omega (arith, less));
         },
       )
 
-  all_given : (view : View) → view_at c.number c.installed.store.views ≡ Some view → (view.application.files ≡ listed p) × ((entry : FileEntry) → Contains (listed p) entry → IsGiven p sites view entry)
+  all_given : GivesInput p sites c
   all_given view is =
       subst (λ (v : View). (v.application.files ≡ listed p) × ((entry : FileEntry) → Contains (listed p) entry → IsGiven p sites v entry))
       (same_Some the_view view (sym the_there ∙ is)) (ap (λ (a : Application). a.files) application_is, entry_given)
@@ -388,7 +393,7 @@ module _ (runs_sound : RunsKeepSound) (data_stay : KeptDataFilesStay) (data_is :
       → Matches entry.list entry.size whole → entry.name ≡ name → shown ≡ length whole → bytes ≡ part from count whole → ShowsInput p name from count shown bytes
   shows session entry name whole from count shown bytes only there keeps matching named size is =
       let f = out.files entry there in
-      let same : whole ≡ f.whole = same_Some whole f.whole (sym (only entry whole there keeps matching) ∙ f.out) in
+      let same : whole ≡ f.whole = same_Some whole f.whole (sym (only whole keeps entry there matching) ∙ f.out) in
       record {
         whole = f.whole;
         input = ap (input_file p) (sym named) ∙ f.input;
@@ -398,9 +403,8 @@ module _ (runs_sound : RunsKeepSound) (data_stay : KeptDataFilesStay) (data_is :
 
   -- ---- program files
 
-  program_shown : (at : ℕ) (heard : List (List ℕ)) (name : List ℕ) (from count shown : ℕ) (bytes : List ℕ) (new : Session) → KeepsNoOthers p folder c.last
-      → Answers at heard c.last (Read c.lease name from count) (says.Read shown bytes) new → ShowsInput p name from count shown bytes
-  program_shown at heard name from count shown bytes new only answers =
+  program_shown : KeepsNoOthers p folder c.last → ReadsInput p sites c
+  program_shown only at heard name from count shown bytes new answers =
       let r = reads_are at heard c.last c.lease name from count shown bytes new last_sound answers in
       let release = leased_release r.view (leased_number r.view r.leased) in
       let valid = leased_valid c.lease c.last.store r.view last_sound.valid.ordered r.leased in
@@ -451,10 +455,8 @@ module _ (runs_sound : RunsKeepSound) (data_stay : KeptDataFilesStay) (data_is :
           subst (Matches came.original.entry.list came.original.entry.size) (sym came.bytes) (all_in IsWhole done.originals came.original done.fetched.whole_data inside) in
           shows c.installed came.original.entry name file.bytes from count shown bytes only entry keeps matching (sym came.name ∙ named) size is
 
-  data_shown : (at : ℕ) (heard : List (List ℕ)) (name : List ℕ) (from count shown : ℕ) (bytes : List ℕ) (new : Session) → KeepsNoOthers p folder c.installed
-      → IsFreshData c.number name c.before.store c.installed.store → IsUntouched name c
-      → Answers at heard c.last (Local c.lease name from count) (says.Read shown bytes) new → ShowsInput p name from count shown bytes
-  data_shown at heard name from count shown bytes new only fresh untouched answers =
+  data_shown : KeepsNoOthers p folder c.installed → ReadsInputData p sites c
+  data_shown only at heard name from count shown bytes new fresh untouched answers =
       let r = data_is at heard c.last c.lease name from count shown bytes new answers in
       let last : data_at c.number name c.last.store ≡ Some r.file = ap (option_and_then (λ (v : View). data_named name v.data_files)) (leased_number r.view r.leased) ∙ r.found in
       let there = leased_number r.view r.leased in
@@ -474,10 +476,18 @@ module _ (runs_sound : RunsKeepSound) (data_stay : KeptDataFilesStay) (data_is :
       data_by name fresh from count shown bytes only r.file found.0 ((bytes_eq-Decides r.file.name name).0 found.1) r.size r.is_part
       ((done.installed.migrated.files r.file).0 (contains_in done.installed.data_files r.file found.0))
 
-  reads_input : ReadsInput p folder sites c
-  reads_input = record { given = all_given; program = program_shown; data_file = data_shown }
+module _ (runs_sound : RunsKeepSound) (data_stay : KeptDataFilesStay) (data_is : DataIsOfFiles)
+    (reads_are : ReadsAreOfFiles) (views_new : ViewsAreNew) where
+  pub published_given : PublishedIsGiven
+  published_given p files folder sites c offered =
+      all_given runs_sound data_stay data_is reads_are views_new p files folder sites c offered
 
-pub published : RunsKeepSound → KeptDataFilesStay → DataIsOfFiles → ReadsAreOfFiles → ViewsAreNew
-    → PublishedIsRead
-published runs_sound data_stay data_is reads_are views_new p files folder sites c w holds first =
-    reads_input runs_sound data_stay data_is reads_are views_new p files folder sites c w holds first
+  pub published_read : PublishedIsRead
+  published_read p files folder sites c offered only =
+      program_shown runs_sound data_stay data_is reads_are views_new p files folder sites c offered
+      only
+
+  pub published_data : PublishedDataIsRead
+  published_data p files folder sites c offered only =
+      data_shown runs_sound data_stay data_is reads_are views_new p files folder sites c offered
+      only

@@ -20,6 +20,7 @@ use Rattle.manifests.specs.declared.facts.FileEntry.{FileEntry}
 use Rattle.manifests.specs.Applications.{application_of, size_limit}
 use Rattle.manifests.specs.Deployments.{deployment_of}
 use Rattle.manifests.specs.Facts.{AreApplicationFacts, AreDeploymentFacts}
+use Rattle.manifest_tree.specs.Writing.{counted}
 use Rattle.manifest_writer.specs.Applications.{application_text, application_tree}
 use Rattle.manifest_writer.specs.Deployments.{deployment_tree}
 use Rattle.manifest_writer.specs.Held.{IsHeldDeployment, IsHeldFile}
@@ -78,7 +79,7 @@ no_early None value is = refl
 no_early (Some e) value is = absurd cc
 
 abbrev by_length : Bool → List ℕ → Outcome (List ℕ)
-by_length long text = if long then Err (ManifestTooLong (length text)) else Ok text
+by_length long text = if long then Err (ManifestTooLong (counted (length text))) else Ok text
 
 limited_by : (long : Bool) (text out : List ℕ) → nat_lt MANIFEST_LIMIT (length text) ≡ long → by_length long text ≡ Ok out → (out ≡ text) × (length text ≤ MANIFEST_LIMIT)
 limited_by true text out is made = absurd cc

@@ -6,10 +6,10 @@ use Rattle.folders.specs.declared.folder.Folder.{Ghosts as FolderGhosts}
 use Rattle.publish_plan.specs.declared.options.Options.{Options}
 use Rattle.publication.specs.declared.publication.End.{End}
 use Rattle.publication.specs.declared.publication.End.TheVariants.{Done, ReadFault, WriteFault, SinkFault, Memory, Refused}
-use Rattle.publication.specs.Publication.{Publication, code_of}
+use Rattle.publication.specs.Publication.{PublishesOptions, status_of}
 use Rattle.updater_cli.specs.Requests.{PublishesBy}
 
-is_read : (end : End) → code_of end ≡ 2 → end ≡ ReadFault
+is_read : (end : End) → status_of end ≡ 2 → end ≡ ReadFault
 is_read ReadFault is = refl
 is_read Done is = absurd (omega arith)
 is_read WriteFault is = absurd (omega arith)
@@ -17,7 +17,7 @@ is_read SinkFault is = absurd (omega arith)
 is_read Memory is = absurd (omega arith)
 is_read Refused is = absurd (omega arith)
 
-is_fault : (end : End) → code_of end ≡ 3 → (end ≡ WriteFault) ⊎ (end ≡ SinkFault)
+is_fault : (end : End) → status_of end ≡ 3 → (end ≡ WriteFault) ⊎ (end ≡ SinkFault)
 is_fault WriteFault is = inl refl
 is_fault SinkFault is = inr refl
 is_fault Done is = absurd (omega arith)
@@ -25,7 +25,7 @@ is_fault ReadFault is = absurd (omega arith)
 is_fault Memory is = absurd (omega arith)
 is_fault Refused is = absurd (omega arith)
 
-codes : (end : End) → (code_of end ≡ 0) ⊎ ((code_of end ≡ 7) ⊎ ((code_of end ≡ 2) ⊎ ((code_of end ≡ 3) ⊎ (code_of end ≡ 6))))
+codes : (end : End) → (status_of end ≡ 0) ⊎ ((status_of end ≡ 7) ⊎ ((status_of end ≡ 2) ⊎ ((status_of end ≡ 3) ⊎ (status_of end ≡ 6))))
 codes Done = inl refl
 codes Refused = inr (inl refl)
 codes ReadFault = inr (inr (inl refl))
@@ -35,9 +35,9 @@ codes Memory = inr (inr (inr (inr refl)))
 
 module _ {F K : Type 0} (folder : FolderGhosts F) (to : SinkGhosts K) (options : Options) (folder_old folder_new : F) (sink_old sink : K) where
   -- the options were read
-  pub publishes : (end : End) → Publication folder.tells folder.held folder.count to.tells to.taken options folder_old folder_new sink_old sink end
+  pub publishes : (end : End) → PublishesOptions folder.tells folder.held folder.count to.tells to.taken options folder_old folder_new sink_old sink end
       → (end ≡ ReadFault → Rose (folder.count folder_old) (folder.count folder_new)) → (end ≡ WriteFault → Rose (folder.count folder_old) (folder.count folder_new)) → (end ≡ SinkFault → Rose (to.count sink_old) (to.count sink))
-      → (status : ℕ) → status ≡ code_of end → PublishesBy folder to options status folder_old folder_new sink_old sink
+      → (status : ℕ) → status ≡ status_of end → PublishesBy folder to options status folder_old folder_new sink_old sink
   publishes end done read write sunk status is = rw is (record {
     end = end;
     code = refl;

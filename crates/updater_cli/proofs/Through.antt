@@ -19,7 +19,7 @@ use Rattle.updater_cli.proofs.Runs.{run_push}
 
 -- ---- the words of lines
 
-is_event : (now : ℕ) (event : Event) → IsRunAt now event → IsEvent event
+pub is_event : (now : ℕ) (event : Event) → IsRunAt now event → IsEvent event
 is_event now (Boot boot) at = at
 is_event now (Line command moment heard) at = (at.2, at.1)
 is_event now (Unread fault) at = tt

@@ -21,6 +21,7 @@ use Rattle.updater_cli.specs.Report.{StandsSound, origin_over, report_of}
 use Rattle.updater_cli.specs.Session.{Between, Ended, Start, start_over}
 use Rattle.updater_cli.specs.Status.{Outcome, code_of, end_of, IsSessionEnd}
 use Rattle.updater_cli.proofs.Asking.{asks_as, asks_then, rises_as}
+use Rattle.updater_cli.proofs.Downs.{downs_are_counted}
 use Rattle.updater_cli.proofs.Ends.{opened_lines, opened_output, unopened_lines, unopened_run}
 use Rattle.updater_cli.proofs.Leased.{launches_hold, leased_holds, views_hold}
 use Rattle.updater_cli.proofs.Prefix.{ended_at}
@@ -128,6 +129,9 @@ module _ {S K D L : Type 0} (from : SourceGhosts S) (to : SinkGhosts K) (on : Gh
           calls = λ other. inl (end.calls other);
           behind = end.behind;
           served = end.served;
+          downs =
+              downs_are_counted net old.links (origin_over now store) new.course.lines.items
+              end.session end.behind end.served;
           begun = end.begun;
           sites = λ tell.
               sites_of net (net.links old.links) (origin_over now store) old.links new.course.lines.items end.session end.behind (kept_same (net.links old.links)) tell end.served;

@@ -10,7 +10,7 @@ use Rattle.updater.specs.Stands.{Stands, StandsForNone}
 -- store of so many
 pub record StandsForNew (blocks : ℕ) (image : List ℕ) : Type 0 where
   pub journal : IsStore blocks [] image
-  pub stands : Stands image (stores.empty blocks)
+  pub stands : Stands image (stores.empty (stores.plain_room blocks))
 
 -- What stops leave over a format. It makes six calls: a cut and a sync, the write of 4,097 bytes
 -- and a sync, the write of the head gate and a sync. A stop leaves an old image or a cut one, until

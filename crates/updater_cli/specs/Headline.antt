@@ -17,6 +17,7 @@ use Rattle.updater.specs.Stands.{Stands}
 use Rattle.updater.specs.Updater.{IsSpent}
 use Rattle.updater_cli.specs.declared.limits.TheConstants.{INPUT_LIMIT}
 use Rattle.updater_cli.specs.Devices.{Devices}
+use Rattle.updater_cli.specs.Downs.{DownsAreCounted}
 use Rattle.updater_cli.specs.Opening.{BootsFirst, IsLineOrNone, IsUnopened, Survives}
 use Rattle.updater_cli.specs.Report.{answered, marked_by, origin_over, events_of, moment_behind, AreServed, Counts, FailuresRise, IsBegunServed, KeepsMoments, MarksRise, RunsTo, StandsSound, Writes}
 use Rattle.updater_cli.specs.Sites.{AreOfSites}
@@ -113,9 +114,9 @@ MadeCalls status old new lines last =
 -- session, which is sound. Unless the disk failed, which is status 4, the reads then stand for its
 -- store. Each line that changes the store makes four calls of the disk, any other line none, and
 -- its mark is the disk's moment after them. For each line the links did what is said of it, one
--- line after another: what it asked for, what they gave, and why they gave nothing. Where they
--- tell, each text that was heard and each file that was brought is of one link's site at its
--- address.
+-- line after another: what it asked for, what they gave, and why they gave nothing. Where a reply
+-- says of a link that it failed, the number of failures rose with the line. Where the links tell,
+-- each text that was heard and each file that was brought is of one link's site at its address.
 pub record LeadsTo {S K D L : Type 0} (on : Ghosts D) (net : LinksGhosts L) (now status : ℕ)
     (old new : Devices S K D L) (report : Report) (store : Store) : Type 0 where
   pub session : Session
@@ -126,6 +127,7 @@ pub record LeadsTo {S K D L : Type 0} (on : Ghosts D) (net : LinksGhosts L) (now
   pub calls : MadeCalls status (on.moment old.disk) (on.moment new.disk) report.lines last
   pub behind : L
   pub served : AreServed net (origin_over now store) old.links report.lines session behind
+  pub downs : DownsAreCounted (failures_of (net.links old.links)) report.lines
   pub begun : IsBegunServed net (moment_behind now report.lines) session behind
       report.begun new.links
   pub sites : AllTell (net.links old.links)

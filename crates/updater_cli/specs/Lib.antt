@@ -1,12 +1,15 @@
 pub mod Demonstration
 pub mod Devices
+pub mod Downs
 pub mod Format
 pub mod Headline
 pub mod Lines
+pub mod NoOthers
 pub mod Offered
 pub mod Opening
 pub mod Premises
 pub mod Published
+pub mod Releases
 pub mod Report
 pub mod Requests
 pub mod Session

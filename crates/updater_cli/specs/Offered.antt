@@ -1,5 +1,5 @@
 -- What a publish writes, and where it is offered.
-use Rattle.std.specs.Prelude.{◌≡◌, ◌<◌, ℕ, List, [], All, IfSome, map, Option, Some, Ok}
+use Rattle.std.specs.Prelude.{◌≡◌, ◌⊎◌, ◌<◌, ℕ, List, [], All, Contains, IfSome, map, Option, Some, Ok}
 use Rattle.std.specs.Cmp.Lexicographic.{slice_cmp}
 use Rattle.std.specs.List.Sorted.{IsStrictlySortedBy}
 use Rattle.std.specs.Ordering.{nat_cmp}
@@ -7,12 +7,14 @@ use Rattle.small_types.specs.declared.target.Target.{Target}
 use Rattle.small_types.specs.Name.{IsName}
 use Rattle.folders.specs.declared.folder.Held.{Held}
 use Rattle.folders.specs.Files.{IsNames, file_in}
+use Rattle.addresses.specs.Address.{target_of_text}
+use Rattle.addresses.specs.Join.{app_target_of, file_target_of}
 use Rattle.identity.specs.Version.{IsVersion}
 use Rattle.manifests.specs.declared.facts.FileEntry.{FileEntry}
 use Rattle.links.specs.Links.{LinksState}
 use Rattle.http_plain.specs.Sites.{served}
 use Rattle.publish_plan.specs.declared.options.Options.{Options}
-use Rattle.publish_plan.specs.Places.{input_names, within}
+use Rattle.publish_plan.specs.Places.{codebase, input_names, within}
 use Rattle.publish_plan.specs.Plans.{planned_files}
 use Rattle.publisher.specs.Options.{IsPublishable}
 use Rattle.publisher.specs.Publication.{entry_in, publish_of}
@@ -62,12 +64,25 @@ pub record Sites : Type 0 where
 abbrev pub links_of : Sites → LinksState
 links_of sites = record {
   sources = sites.sources;
-  link = λ k. record { tells = Unit {0}; site = sites.site k; rest = []; count = 0 };
+  link = λ k. record { tells = Unit {0}; site = sites.site k; rest = []; count = 0; history = [] };
   gone = 0;
   asked = [];
 }
 
--- there is a first link, and its site is that of a link to the folder
-pub record IsFirstSite (folder : List Held) (sites : Sites) : Type 0 where
+-- what an install of what was published asks for, by the address of its deployment manifest: this
+-- one, that of the application manifest, and beside it that of each listed file
+abbrev pub IsAskedFor : Publication → Target → Target → Type 0
+IsAskedFor p given target =
+    (target ≡ given)
+    ⊎ (app_target_of given (codebase p.options) ≡ Ok target)
+    ⊎ ((base : Target) × (entry : FileEntry)
+    × (app_target_of given (codebase p.options) ≡ Ok base) × Contains (listed p) entry
+    × (file_target_of base p.options.mapped entry.name ≡ Ok target))
+
+-- There is a first link. At what an install from the url asks for its site is that of a link to the
+-- folder; what it has elsewhere is free.
+pub record IsFirstSite (p : Publication) (url : List ℕ) (folder : List Held) (sites : Sites)
+    : Type 0 where
   pub some : 0 < sites.sources
-  pub shows : (target : Target) → sites.site 0 target ≡ served folder target
+  pub shows : (given target : Target) → target_of_text url ≡ Ok given → IsAskedFor p given target
+      → sites.site 0 target ≡ served folder target

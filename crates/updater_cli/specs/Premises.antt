@@ -42,24 +42,25 @@ abbrev pub sites_of : LinksState → Sites
 sites_of links = record { sources = links.sources; site = λ k. (links.link k).site }
 
 -- Of what a command says of an install: where both texts were heard, the first link tells that its
--- site is a folder that holds what was published, and its count did not rise, they are what the links
--- give from an address of the deployment manifest. Of the links behind it nothing is asked.
+-- site is a folder that holds what was published, at what the install asks for, and its count did not
+-- rise, they are what the links give from an address of the deployment manifest. Of the links behind
+-- it nothing is asked.
 abbrev pub ServedIsGiven : LinksState → LinksState → Type 0
 ServedIsGiven before after = (p : Publication) (files folder : List Held) (shape : Shape)
     (url : List ℕ) (texts : List (List ℕ)) (reply : Reply) → Writes p files → Holds folder files
-    → IsFirstSite folder (sites_of before)
+    → IsFirstSite p url folder (sites_of before)
     → ((given : Target) → target_of_text url ≡ Ok given → Reaches given (deployment_name p.options))
     → Served shape url texts before after reply → AreQuietTo 0 before after
     → IsSome (slice_get texts 0) → IsSome (slice_get texts 1)
     → HeardGiven (sites_of before) url texts
 
 -- Of what a session says of an install: where both texts were heard of the only link, and its site
--- is a folder that holds what was published, they are what it gives from an address of the
--- deployment manifest.
+-- is a folder that holds what was published, at what the install asks for, they are what it gives
+-- from an address of the deployment manifest.
 abbrev pub OneSiteIsGiven : LinksState → Type 0
 OneSiteIsGiven links = (p : Publication) (files folder : List Held) (url : List ℕ)
     (texts : List (List ℕ)) → Writes p files → Holds folder files
-    → IsFirstSite folder (sites_of links) → links.sources ≡ 1
+    → IsFirstSite p url folder (sites_of links) → links.sources ≡ 1
     → ((given : Target) → target_of_text url ≡ Ok given → Reaches given (deployment_name p.options))
     → HeardOfSites links url texts → IsSome (slice_get texts 0) → IsSome (slice_get texts 1)
     → HeardGiven (sites_of links) url texts

@@ -108,12 +108,15 @@ Keeps session bytes =
     ⊎ Any (λ (view : View). Any (λ (file : DataFile). file.bytes ≡ bytes) view.data_files)
     session.store.views
 
--- Of the bytes that the session keeps, from whatever link, none match an entry of the release but
--- those that stand in the folder where the file was written.
-abbrev pub KeepsNoOthers : Publication → List Held → Session → Type 0
-KeepsNoOthers p folder session = (entry : FileEntry) (bytes : List ℕ) → Contains (listed p) entry
-    → Keeps session bytes → Matches entry.list entry.size bytes
+-- the bytes match no entry of the release, or they stand in the folder where its file was written
+abbrev pub AreNoOthers : Publication → List Held → List ℕ → Type 0
+AreNoOthers p folder bytes = (entry : FileEntry) → Contains (listed p) entry
+    → Matches entry.list entry.size bytes
     → file_in (target_name p.options entry.name) folder ≡ Some bytes
+
+-- so it is of all bytes that the session keeps, from whatever link
+abbrev pub KeepsNoOthers : Publication → List Held → Session → Type 0
+KeepsNoOthers p folder session = (bytes : List ℕ) → Keeps session bytes → AreNoOthers p folder bytes
 
 -- ---- what is given and read
 
@@ -152,26 +155,53 @@ pub record IsUntouched {p : Publication} {sites : Sites} (name : List ℕ) (c : 
   pub behind : NoneChangesData c.number name c.more_lines.now c.launched c.more_lines.events
       c.more_lines.replies c.last c.more_lines.run
 
--- What the install asks for is given as it was published. At the last line each read on the lease
--- that is answered shows a part of the input file of its name: of a program file, whether required
--- or of a group, and of a data file that came fresh and was not touched since.
-pub record ReadsInput (p : Publication) (folder : List Held) (sites : Sites)
-    (c : Course p sites) : Type 0 where
-  pub given : (view : View) → view_at c.number c.installed.store.views ≡ Some view
-      → (view.application.files ≡ listed p)
-      × ((entry : FileEntry) → Contains (listed p) entry → IsGiven p sites view entry)
-  pub program : (at : ℕ) (heard : List (List ℕ)) (name : List ℕ) (from count shown : ℕ)
-      (bytes : List ℕ) (new : Session) → KeepsNoOthers p folder c.last
-      → Answers at heard c.last (Read c.lease name from count) (says.Read shown bytes) new
-      → ShowsInput p name from count shown bytes
-  pub data_file : (at : ℕ) (heard : List (List ℕ)) (name : List ℕ) (from count shown : ℕ)
-      (bytes : List ℕ) (new : Session) → KeepsNoOthers p folder c.installed
-      → IsFreshData c.number name c.before.store c.installed.store → IsUntouched name c
-      → Answers at heard c.last (Local c.lease name from count) (says.Read shown bytes) new
-      → ShowsInput p name from count shown bytes
+-- the view that was installed lists the input files, and each is given as it was published
+abbrev pub GivesInput : (p : Publication) (sites : Sites) → Course p sites → Type 0
+GivesInput p sites c =
+    (view : View) → view_at c.number c.installed.store.views ≡ Some view
+    → (view.application.files ≡ listed p)
+    × ((entry : FileEntry) → Contains (listed p) entry → IsGiven p sites view entry)
 
--- so it is wherever the first link's site is a folder that holds what a publish writes
+-- at the last line each read on the lease that is answered shows a part of the input file of its
+-- name, whether the program file is required or of a group
+abbrev pub ReadsInput : (p : Publication) (sites : Sites) → Course p sites → Type 0
+ReadsInput p sites c =
+    (at : ℕ) (heard : List (List ℕ)) (name : List ℕ) (from count shown : ℕ) (bytes : List ℕ)
+    (new : Session) → Answers at heard c.last (Read c.lease name from count) (says.Read shown bytes)
+    new
+    → ShowsInput p name from count shown bytes
+
+-- so does each read of a data file that came fresh and was not touched since
+abbrev pub ReadsInputData : (p : Publication) (sites : Sites) → Course p sites → Type 0
+ReadsInputData p sites c =
+    (at : ℕ) (heard : List (List ℕ)) (name : List ℕ) (from count shown : ℕ) (bytes : List ℕ)
+    (new : Session) → IsFreshData c.number name c.before.store c.installed.store
+    → IsUntouched name c
+    → Answers at heard c.last (Local c.lease name from count) (says.Read shown bytes) new
+    → ShowsInput p name from count shown bytes
+
+-- ---- the laws
+
+-- The first link's site is a folder that holds what a publish writes, at what the install asks for.
+pub record IsOffered (p : Publication) (files folder : List Held) (sites : Sites)
+    (c : Course p sites) : Type 0 where
+  pub writes : Writes p files
+  pub holds : Holds folder files
+  pub first : IsFirstSite p c.install.url folder sites
+
+-- then it is given
+abbrev pub PublishedIsGiven : Type 0
+PublishedIsGiven = (p : Publication) (files folder : List Held) (sites : Sites)
+    (c : Course p sites) → IsOffered p files folder sites c → GivesInput p sites c
+
+-- and it is read, where at the last line no other bytes are kept that match an entry of the release
 abbrev pub PublishedIsRead : Type 0
 PublishedIsRead = (p : Publication) (files folder : List Held) (sites : Sites)
-    (c : Course p sites) → Writes p files → Holds folder files → IsFirstSite folder sites
-    → ReadsInput p folder sites c
+    (c : Course p sites) → IsOffered p files folder sites c → KeepsNoOthers p folder c.last
+    → ReadsInput p sites c
+
+-- so are its data files, where none are kept behind the install
+abbrev pub PublishedDataIsRead : Type 0
+PublishedDataIsRead = (p : Publication) (files folder : List Held) (sites : Sites)
+    (c : Course p sites) → IsOffered p files folder sites c → KeepsNoOthers p folder c.installed
+    → ReadsInputData p sites c

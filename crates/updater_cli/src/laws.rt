@@ -1,16 +1,47 @@
 // What holds from a publish to a read, with no code.
+ghost use Rattle.updater_cli.specs.Downs.{ServedDownsAreCounted};
+ghost use Rattle.updater_cli.specs.NoOthers.{NoOthersCome};
 ghost use Rattle.updater_cli.specs.Premises.{OneSiteIsGiven, PublishesWrite, ServedIsGiven};
-ghost use Rattle.updater_cli.specs.Published.{PublishedIsRead};
+ghost use Rattle.updater_cli.specs.Published.{PublishedDataIsRead, PublishedIsGiven, PublishedIsRead};
+ghost use Rattle.updater_cli.specs.Releases.{PagesHaveReleases, ReleasesAreOffered};
 
 use links::Links;
 
-/// What was published is what is read. The first link's site is a folder that holds what a publish
-/// wrote, and an install hears what the links give. Then each read on a lease of the view that it
-/// brought shows a part of the input file of its name: of a program file, and of a data file that
-/// came fresh and was not touched since. It is as sure as the digests: no other bytes that a kept
-/// view has match an entry of the release.
+/// What was published is what is given. The first link's site is a folder that holds what a publish
+/// wrote, at what an install asks for, and the install hears what the links give. Then the view that
+/// it brought lists the input files, and at the address of each the links give the input file.
+pub fn published_is_given()
+    ensures { PublishedIsGiven }
+{}
+
+/// What was published is what is read: each read on a lease of that view shows a part of the input
+/// file of its name. It is as sure as the digests: at the last line no other bytes are kept that match
+/// an entry of the release.
 pub fn published_is_read()
     ensures { PublishedIsRead }
+{}
+
+/// So is a data file that came fresh and was not touched since, where no other bytes that match an
+/// entry of the release are kept behind the install.
+pub fn published_data_is_read()
+    ensures { PublishedDataIsRead }
+{}
+
+/// A first link whose site has what a publish writes, at the addresses that an install asks for, is one
+/// of a folder that holds it, as those laws ask.
+pub fn releases_are_offered()
+    ensures { ReleasesAreOffered }
+{}
+
+/// A link in memory has it with a page for each of these addresses, whatever other pages it has.
+pub fn pages_have_releases()
+    ensures { PagesHaveReleases }
+{}
+
+/// Behind the lines of a session no other bytes are kept that match an entry of the release, where
+/// none were kept before them, no link's site has such, and no line puts such.
+pub fn no_others_come<L: Links>(links: &L)
+    ensures { NoOthersCome (L.links links.now) }
 {}
 
 /// A publish that answers writes what the law speaks of, into the folder that it was given.
@@ -29,4 +60,10 @@ pub fn served_is_given<L: Links>(before: &L, after: &L)
 /// that holds what was published.
 pub fn one_site_is_given<L: Links>(links: &L)
     ensures { OneSiteIsGiven (L.links links.now) }
+{}
+
+/// A line whose reply says of a link that it failed shows more failures than the line before it. At
+/// its type's end the number stands still and counts as risen.
+pub fn downs_are_counted<L: Links>(links: &L)
+    ensures { ServedDownsAreCounted L.Links links.now }
 {}

@@ -12,7 +12,11 @@ mod status;
 mod top;
 mod words;
 
-pub use laws::published_is_read;
+pub use laws::{
+    downs_are_counted, no_others_come, one_site_is_given, pages_have_releases,
+    published_data_is_read, published_is_given, published_is_read, publishes_write,
+    releases_are_offered, served_is_given,
+};
 pub use limits::INPUT_LIMIT;
 pub use machine::{Report, ReportLine};
 pub use top::run;

@@ -48,17 +48,16 @@ impl<L: Links> Links for Noted<L> {
         self.links.sources()
     }
 
+    // Makes the room for the notes of the links that are asked once each.
     fn want(&mut self, alloc: Global, target: &Target) -> Result<(), WantFault> {
+        self.notes.reserve(self.links.sources() as usize)?;
         self.paths.push(target.path.copy(alloc)?)?;
         self.links.want(alloc, target)
     }
 
     fn ask(&mut self, alloc: Global, place: u32, target: &Target) -> Result<u64, LinkFault> {
-        let Ok(()) = self.notes.reserve(1) else {
-            return Err(LinkFault::Memory);
-        };
         let answer = self.links.ask(alloc, place, target);
-        self.notes.push_reserved(Note {
+        let _ = self.notes.push(Note {
             place,
             target: self.paths.len().saturating_sub(1),
             answer,
@@ -71,6 +70,10 @@ impl<L: Links> Links for Noted<L> {
         let piece = self.links.piece(place, buf);
         add_piece(&mut self.notes, piece);
         piece
+    }
+
+    fn retire(&mut self, place: u32) {
+        self.links.retire(place);
     }
 
     fn faults(&self, place: u32) -> u64 {

@@ -2,8 +2,8 @@ use Rattle.machine.proofs.DataSteps.{data_is, kept_data_stays}
 use Rattle.machine.proofs.LeaseSteps.{read_is}
 use Rattle.machine.proofs.Stepping.{run_sound}
 use Rattle.machine.proofs.ViewSteps.{run_numbers}
-use Rattle.updater_cli.proofs.PublishedLaw.{published}
+use Rattle.updater_cli.proofs.PublishedLaw.{published_read}
 use Rattle.updater_cli.proofs.laws.published_is_read.Goals as goal
 
 pub returns : goal.returns
-returns c = published run_sound kept_data_stays data_is read_is run_numbers
+returns c = published_read run_sound kept_data_stays data_is read_is run_numbers

@@ -42,7 +42,7 @@ pub returns-in-Ok-Inspect-clause-inspect : goal.returns-in-Ok-Inspect-clause-ins
 returns-in-Ok-Inspect-clause-inspect g c =
     for_inspect (request_of c.args.words.now) (λ kind. InspectsInput g.S.Source g.K.Sink kind c.code-in-Ok-Inspect.result c.args.source.now c.inspect.new.source c.args.sink.now c.inspect.new.sink)
     c.in-Ok-Inspect.kind (c.in-Ok-Inspect.ensures.request ∙ ap Some c.in-Ok-Inspect.field-0-is)
-    (record { says = rw c.code-in-Ok-Inspect.ensures c.inspect.ensures.says; left = search rules; nothing = search rules; statuses = search rules })
+    (record { end = c.inspect.result; code = c.code-in-Ok-Inspect.ensures; says = c.inspect.ensures.says; left = c.inspect.ensures.left; taken = c.inspect.ensures.taken; nothing = c.inspect.ensures.nothing; statuses = search rules })
 
 pub returns-in-Ok-Demo-clause-demo : goal.returns-in-Ok-Demo-clause-demo
 returns-in-Ok-Demo-clause-demo g c =
