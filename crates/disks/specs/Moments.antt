@@ -20,3 +20,8 @@ pub record Untouched {D : Type 0} (on : Ghosts D) (old new : D) : Type 0 where
   pub no_tick : on.moment new ≡ on.moment old
   pub same_reads : on.seen new ≡ on.seen old
   pub time : Elapses (on.moment old) (on.left_at old) (on.left_at new)
+
+-- no call that changes the disk was made, and reads give the same
+pub record Rests {D : Type 0} (on : Ghosts D) (old new : D) : Type 0 where
+  pub untouched : Untouched on old new
+  pub total : on.total new ≡ on.total old
