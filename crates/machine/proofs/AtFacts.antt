@@ -23,7 +23,7 @@ at_facts now heard next = record {
       (sym done.1) valid;
   sound = λ old reply new is few passes done sound. subst (λ (s : Session). Sound s.store)
       (sym done.1) sound;
-  views = λ old reply new at with_texts none done. inl (ap (λ (s : Session). s.store.views) done.1);
+  views = λ old reply new at with_texts none valid passes done. inl (ap (λ (s : Session). s.store.views) done.1);
   answered = λ old valid none. record {
     reply = says.At next;
     new = old;

@@ -17,7 +17,7 @@ use Rattle.machine.specs.Installed.{AreFetched, new_view, with_view}
 use Rattle.machine.specs.Migrated.{Migrated}
 use Rattle.machine.specs.Shape.{BareData, BareView, bare_data, bare_view, shape_of}
 use Rattle.machine.specs.Sound.{IsSoundView, IsWhole, ShareBytes, Sound, program_files_of}
-use Rattle.machine.specs.Store.{Store}
+use Rattle.machine.specs.Store.{Store, session_over}
 use Rattle.machine.specs.Valid.{Valid}
 use Rattle.machine.specs.Views.{DataFile, ListedFile, View, is_required, standing_entries}
 use Rattle.machine.specs.Wanted.{copied_need, deployed_need, install_need, program_need}
@@ -42,7 +42,7 @@ pub bare_then : (number : Option ℕ) (views : List View) → option_and_then (�
 bare_then None views = refl
 bare_then (Some number) views = bare_at number views
 
-pub bare_current : (key : Key) (store : Store) → current_bare key (shape_of store) ≡ option_map bare_view (current_view key store)
+pub bare_current : (key : Key) (store : Store) → current_bare key (shape_of (session_over store)) ≡ option_map bare_view (current_view key store)
 bare_current key store = bare_then (current_of key store.apps) store.views
 
 data_bare : (view : Option View) → bare_data_of (option_map bare_view view) ≡ map bare_data (data_of view)
@@ -53,10 +53,10 @@ listed_bare : (view : Option View) → bare_listed_by (option_map bare_view view
 listed_bare None = refl
 listed_bare (Some view) = refl
 
-pub bare_data_current : (key : Key) (store : Store) → bare_data_of (current_bare key (shape_of store)) ≡ map bare_data (data_of (current_view key store))
+pub bare_data_current : (key : Key) (store : Store) → bare_data_of (current_bare key (shape_of (session_over store))) ≡ map bare_data (data_of (current_view key store))
 bare_data_current key store = ap bare_data_of (bare_current key store) ∙ data_bare (current_view key store)
 
-pub bare_listed_current : (key : Key) (store : Store) → bare_listed_by (current_bare key (shape_of store)) ≡ listed_by (current_view key store)
+pub bare_listed_current : (key : Key) (store : Store) → bare_listed_by (current_bare key (shape_of (session_over store))) ≡ listed_by (current_view key store)
 bare_listed_current key store = ap bare_listed_by (bare_current key store) ∙ listed_bare (current_view key store)
 
 -- ---- what copies and deployed data files need
@@ -109,7 +109,7 @@ module _ (provider base : Target) (d : Deployment) (a : Application) (files orig
       omega (arith, heavy, joined, new, copied_is (data_of (current_view d.identity.key old)), deployed_is a originals fetched.deployed fetched.whole_data)
 
   -- it takes what it needs at most
-  pub used_after : used_blocks (map bare_view (old.views ++ view ∷ [])) ≤ used_blocks bares + install_need (shape_of old) d a
+  pub used_after : used_blocks (map bare_view (old.views ++ view ∷ [])) ≤ used_blocks bares + install_need (shape_of (session_over old)) d a
   used_after =
       let copied = ap copied_need (bare_data_current d.identity.key old) in
       omega (arith, program_room, data_room, copied)

@@ -109,7 +109,7 @@ module _ (key : Key) (heard : List (List ℕ)) (shape : Shape) where
 
 -- a refused check changes nothing, or it was not heard and counts as made
 pub check_refused : (key : Key) (heard : List (List ℕ)) (old : Session) (reply : Reply)
-    (new : Session) → Refuses (check_refusals key heard (shape_of old.store)) old reply new
+    (new : Session) → Refuses (check_refusals key heard (shape_of old)) old reply new
     → ((IsAllLinks reply → ⊥) × (new ≡ old))
     ⊎ (IsAllLinks reply × (new ≡ record old { store = unheard key old.store }))
 check_refused key heard old reply new (inl given) =
@@ -124,7 +124,7 @@ check_refused key heard old reply new (inr (_, inr (_, inr (_, inr none)))) = ab
 
 -- where it changes something a view is current
 past_current : (key : Key) (heard : List (List ℕ)) (old : Session) (reply : Reply) (new : Session)
-    → Refuses (check_refusals key heard (shape_of old.store)) old reply new
+    → Refuses (check_refusals key heard (shape_of old)) old reply new
     → (new ≡ old) ⊎ (current_of key old.store.apps ≡ None → ⊥)
 past_current key heard old reply new (inl given) = inl given.1
 past_current key heard old reply new (inr rest) = inr rest.0
@@ -222,7 +222,7 @@ module _ (now : ℕ) (heard : List (List ℕ)) (key : Key) where
   held d told = subst IsDeployment told.4 (deployment_read told.0 told.1 told.3)
 
   left_valid : (old : Session) (reply : Reply) (new : Session) → IsKey key → now ≤ NUMBER_LIMIT
-      → PassesAll (check_refusals key heard (shape_of old.store))
+      → PassesAll (check_refusals key heard (shape_of old))
       → CheckEffect key heard now old reply new → Valid old.store → Valid new.store
   left_valid old reply new is few passes done valid =
       let d = done.deployment in
@@ -235,7 +235,7 @@ module _ (now : ℕ) (heard : List (List ℕ)) (key : Key) where
       may.identity.version may.minimum few) valid)
 
   refused : (old : Session) (reply : Reply) (new : Session)
-      → Refuses (check_refusals key heard (shape_of old.store)) old reply new
+      → Refuses (check_refusals key heard (shape_of old)) old reply new
       → Kept (Check key) old reply new
   refused old reply new given =
       by (check_refused key heard old reply new given) (past_current key heard old reply new given)
@@ -300,7 +300,7 @@ check_facts now heard key = record {
   sound = λ old reply new is few passes done sound.
       same_views_sound old.store new.store (ap (λ (s : Session). s.store.views) done.is)
       (left_valid now heard key old reply new is few passes done sound.valid) sound;
-  views = λ old reply new at with_texts none done. inl
+  views = λ old reply new at with_texts none valid passes done. inl
       (ap (λ (s : Session). s.store.views) done.is);
   answered = λ old valid none. heard_nothing now heard key old valid.ordered none;
 }

@@ -30,7 +30,7 @@ use Rattle.machine.specs.Machine.{Answers}
 use Rattle.machine.specs.Minimums.{minimum_of}
 use Rattle.machine.specs.Shape.{BareView, Shape, shape_of}
 use Rattle.machine.specs.SkipRow.{SkipEffect, skip_refusals, skipped, skipped_app}
-use Rattle.machine.specs.Store.{Session, Store}
+use Rattle.machine.specs.Store.{Session, Store, session_over}
 use Rattle.machine.proofs.CheckFacts.{check_refused, heard_keys, unheard_keys}
 use Rattle.machine.proofs.Choosing.{AllGive, given_reply}
 use Rattle.machine.proofs.Entering.{entry_of-with_entry}
@@ -92,8 +92,8 @@ check_done : (now : ℕ) (heard : List (List ℕ)) (old : Session) (key : Key)
 check_done now heard old key offer minimum new (inl (inl memory)) =
     absurd (memory_apart offer minimum (sym memory.0))
 check_done now heard old key offer minimum new (inl (inr refused)) =
-    absurd (given_reply IsUnchecked (check_refusals key heard (shape_of old.store)) old
-    (says.Checked offer minimum) new (none_checked key heard (shape_of old.store)) refused.1 offer
+    absurd (given_reply IsUnchecked (check_refusals key heard (shape_of old)) old
+    (says.Checked offer minimum) new (none_checked key heard (shape_of old)) refused.1 offer
     minimum refl)
 check_done now heard old key offer minimum new (inr done) = done.1
 
@@ -203,37 +203,37 @@ none_due (Some view) at app checked e =
 
 entry_due : (key : Key) (store : Store) (at : ℕ) (app : AppState)
     → entry_of key store.apps ≡ Some app → app.checked ≡ true
-    → due key (shape_of store) at ≢ Some CheckFirst
+    → due key (shape_of (session_over store)) at ≢ Some CheckFirst
 entry_due key store at app is checked e =
-    none_due (current_bare key (shape_of store)) at app checked
+    none_due (current_bare key (shape_of (session_over store))) at app checked
     (sym (ap (λ (o : Option AppState). option_and_then
-    (due_by (current_bare key (shape_of store)) at) o) is) ∙ e)
+    (due_by (current_bare key (shape_of (session_over store))) at) o) is) ∙ e)
 
 unheard_due : (key : Key) (old : Store) (at : ℕ)
-    → due key (shape_of (unheard key old)) at ≢ Some CheckFirst
+    → due key (shape_of (session_over (unheard key old))) at ≢ Some CheckFirst
 unheard_due key old at =
     entry_due key (unheard key old) at (unheard_app (entry_or_fresh key old.apps))
     (entry_of-with_entry key unheard_app unheard_keys old.apps) refl
 
 pub made_counts : (now : ℕ) (heard : List (List ℕ)) (old : Session) (key : Key) (reply : Reply)
     (new : Session) (at : ℕ) → Answers now heard old (Check key) reply new → IsMade reply
-    → due key (shape_of new.store) at ≢ Some CheckFirst
+    → due key (shape_of new) at ≢ Some CheckFirst
 made_counts now heard old key reply new at (inl (inl memory)) (inl made) =
     absurd (memory_apart made.0 made.1 (sym memory.0 ∙ made.2))
 made_counts now heard old key reply new at (inl (inl memory)) (inr links) =
     absurd (memory_links (subst IsAllLinks memory.0 links))
 made_counts now heard old key reply new at (inl (inr refused)) (inl made) =
-    absurd (given_reply IsUnchecked (check_refusals key heard (shape_of old.store)) old reply new
-    (none_checked key heard (shape_of old.store)) refused.1 made.0 made.1 made.2)
+    absurd (given_reply IsUnchecked (check_refusals key heard (shape_of old)) old reply new
+    (none_checked key heard (shape_of old)) refused.1 made.0 made.1 made.2)
 made_counts now heard old key reply new at (inl (inr refused)) (inr links) =
     by (check_refused key heard old reply new refused.1)
   where
     by : ((IsAllLinks reply → ⊥) × (new ≡ old))
         ⊎ (IsAllLinks reply × (new ≡ record old { store = unheard key old.store }))
-        → due key (shape_of new.store) at ≢ Some CheckFirst
+        → due key (shape_of new) at ≢ Some CheckFirst
     by (inl other) = absurd (other.0 links)
     by (inr left) =
-        subst (λ (s : Session). due key (shape_of s.store) at ≢ Some CheckFirst) (sym left.1)
+        subst (λ (s : Session). due key (shape_of s) at ≢ Some CheckFirst) (sym left.1)
         (unheard_due key old.store at)
 made_counts now heard old key reply new at (inr done) made =
     entry_due key new.store at _ (checked_entry now heard old key reply new done.1) refl
@@ -272,8 +272,8 @@ skip_done : (now : ℕ) (heard : List (List ℕ)) (old : Session) (key : Key) (v
 skip_done now heard old key version new (inl (inl memory)) =
     absurd (memory_unskipped version (sym memory.0))
 skip_done now heard old key version new (inl (inr refused)) =
-    absurd (given_reply IsNoSkip (skip_refusals key now (shape_of old.store)) old
-    (says.Skipped version) new (none_skipped key now (shape_of old.store)) refused.1 version refl)
+    absurd (given_reply IsNoSkip (skip_refusals key now (shape_of old)) old
+    (says.Skipped version) new (none_skipped key now (shape_of old)) refused.1 version refl)
 skip_done now heard old key version new (inr done) = done.1
 
 one_version : (version : Version) → version_cmp version version ≡ Equal
@@ -334,12 +334,12 @@ no_offer (Some view) at app other skips e =
 pub skipped_not_due : (now : ℕ) (heard : List (List ℕ)) (old : Session) (key : Key)
     (version : Version) (new : Session) (at : ℕ) (other : Version)
     → Answers now heard old (Skip key) (says.Skipped version) new
-    → due key (shape_of new.store) at ≢ Some (Offered other)
+    → due key (shape_of new) at ≢ Some (Offered other)
 skipped_not_due now heard old key version new at other answers =
     let done = skip_done now heard old key version new answers in
-    subst (λ (s : Session). due key (shape_of s.store) at ≢ Some (Offered other)) (sym done.is)
-    (λ e. no_offer (current_bare key (shape_of (skipped key old.store))) at
+    subst (λ (s : Session). due key (shape_of s) at ≢ Some (Offered other)) (sym done.is)
+    (λ e. no_offer (current_bare key (shape_of (session_over (skipped key old.store)))) at
     (skipped_app (entry_or_fresh key old.store.apps)) other refl
     (sym (ap (λ (o : Option AppState). option_and_then
-    (due_by (current_bare key (shape_of (skipped key old.store))) at) o)
+    (due_by (current_bare key (shape_of (session_over (skipped key old.store)))) at) o)
     (entry_of-with_entry key skipped_app skips_keys old.store.apps)) ∙ e))

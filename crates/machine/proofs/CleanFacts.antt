@@ -1,5 +1,5 @@
 -- The row of `clean`.
-use Rattle.std.proofs.Common.{◌≢◌, ◌∙◌, inl, inr, refl, sym, ap, subst, ℕ, List, length, Some}
+use Rattle.std.proofs.Common.{◌≢◌, ◌∙◌, inl, inr, refl, sym, ap, subst, ℕ, List, length, Some, arith}
 use Rattle.machine.specs.declared.command.Command.TheVariants.{Clean}
 use Rattle.machine.specs.declared.reply.Reply.{Reply}
 use Rattle.machine.specs.declared.reply.Reply.TheVariants as says
@@ -9,8 +9,8 @@ use Rattle.machine.specs.Shape.{shape_of}
 use Rattle.machine.specs.Sound.{Sound}
 use Rattle.machine.specs.Store.{Session}
 use Rattle.machine.specs.Valid.{Valid}
-use Rattle.machine.proofs.CleanedStores.{cleaned_keeps, cleaned_shrinks, cleaned_sound, cleaned_valid}
-use Rattle.machine.proofs.RowFacts.{RowFacts, Shrinks, acts_on, rises_as}
+use Rattle.machine.proofs.CleanedStores.{cleaned_keeps, cleaned_sound, cleaned_takes, cleaned_valid}
+use Rattle.machine.proofs.RowFacts.{RowFacts, TakesMore, acts_on, rises_as}
 
 cleaned_is_other : (gone : ℕ) → says.Cleaned gone ≢ says.Memory
 cleaned_is_other gone e = cc
@@ -27,10 +27,13 @@ clean_facts now heard = record {
       (sym done.1) (cleaned_valid old.store valid);
   sound = λ old reply new is few passes done sound. subst (λ (s : Session). Sound s.store)
       (sym done.1) (cleaned_sound old.store sound);
-  views = λ old reply new at with_texts none done. inr (inl
-      (subst (λ (s : Session). Shrinks old.store s.store) (sym done.1) (cleaned_shrinks old.store)));
+  views = λ old reply new at with_texts none valid passes done. inr (inl (
+    0,
+    omega arith,
+    subst (λ (s : Session). TakesMore 0 old.store s.store) (sym done.1) (cleaned_takes old.store),
+  ));
   answered = λ old valid none. record {
-    reply = says.Cleaned (length (removable (shape_of old.store)));
+    reply = says.Cleaned (length (removable (shape_of old)));
     new = record old { store = cleaned old.store };
     answers = inr ((tt, tt), (refl, refl));
     other = cleaned_is_other _;

@@ -14,7 +14,7 @@ use Rattle.machine.specs.Current.{view_at}
 use Rattle.machine.specs.InUse.{IsInUse, is_in_use}
 use Rattle.machine.specs.Shape.{BareView, bare_view, shape_of}
 use Rattle.machine.specs.Sound.{IsSoundView, Sound, program_files_of}
-use Rattle.machine.specs.Store.{Store}
+use Rattle.machine.specs.Store.{Store, session_over}
 use Rattle.machine.specs.Valid.{AreNumbers, IsApp, IsInstalled, IsView, IsViewOf, Ordered, Valid}
 use Rattle.machine.specs.Views.{ListedFile, View, key_of, standing_entries}
 use Rattle.machine.proofs.DataViews.{data_sum, weight_of}
@@ -26,7 +26,7 @@ use Rattle.machine.proofs.Mapping.{flat_map_in}
 use Rattle.machine.proofs.Members.{In, all_in, contains_in, filter_in, filter_map_is, in_all, in_contains, in_filter, in_flat_map, in_map, map_in}
 use Rattle.machine.proofs.OtherViews.{over_views}
 use Rattle.machine.proofs.RisingNumbers.{numbers_among}
-use Rattle.machine.proofs.RowFacts.{Shrinks}
+use Rattle.machine.proofs.RowFacts.{TakesMore}
 use Rattle.machine.proofs.Shared.{alike_each, each_alike}
 use Rattle.machine.proofs.Using.{any_in, in_any, is_used, used_is}
 
@@ -124,8 +124,8 @@ module _ (old : Store) where
   no_more_data =
       omega (arith, sum_by-filter_both is_kept is_gone (λ v. refl) weight_of old.views)
 
-  pub cleaned_shrinks : Shrinks old (cleaned old)
-  cleaned_shrinks = record {
+  pub cleaned_takes : TakesMore 0 old (cleaned old)
+  cleaned_takes = record {
     programs = among_files;
     standing = among_standing;
     data_blocks = omega (arith, data_sum views, data_sum old.views, no_more_data);
@@ -151,7 +151,7 @@ module _ (old : Store) where
   bare_numbers [] = refl
   bare_numbers (v ∷ vs) = ap (λ (ns : List ℕ). v.number ∷ ns) (bare_numbers vs)
 
-  pub gone_count : length (removable (shape_of old)) + length (cleaned old).views
+  pub gone_count : length (removable (shape_of (session_over old))) + length (cleaned old).views
       ≡ length old.views
   gone_count =
       let of_bare = ap (λ (ns : List ℕ). length (filter (λ (n : ℕ). not

@@ -67,7 +67,7 @@ pub clean_is : (now : ℕ) (heard : List (List ℕ)) (old : Session) (gone : ℕ
 clean_is now heard old gone new valid answers =
     let done = clean_done now heard old gone new answers in
     let was = valid.ordered in
-    let shown = cleaned_one gone (length (removable (shape_of old.store))) done.0 in
+    let shown = cleaned_one gone (length (removable (shape_of old))) done.0 in
     subst (λ (s : Session). IsCleaned gone old s) (sym done.1) (record {
       kept = λ view. (
         (λ is. (let kept = stayed old.store view

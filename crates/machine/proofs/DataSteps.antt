@@ -159,8 +159,8 @@ put_done : (now : ℕ) (heard : List (List ℕ)) (old : Session) (lease : ℕ) (
 put_done now heard old lease name bytes new (inl (inl memory)) =
     absurd (memory_no_put (sym memory.0))
 put_done now heard old lease name bytes new (inl (inr refused)) =
-    absurd (given_reply IsNoPut (put_refusals lease name bytes (shape_of old.store)) old says.Put new
-    (no_put lease name bytes (shape_of old.store)) refused.1 refl)
+    absurd (given_reply IsNoPut (put_refusals lease name bytes (shape_of old)) old says.Put new
+    (no_put lease name bytes (shape_of old)) refused.1 refl)
 put_done now heard old lease name bytes new (inr done) = done.1
 
 remove_done : (now : ℕ) (heard : List (List ℕ)) (old : Session) (lease : ℕ) (name : List ℕ)
@@ -169,8 +169,8 @@ remove_done : (now : ℕ) (heard : List (List ℕ)) (old : Session) (lease : ℕ
 remove_done now heard old lease name new (inl (inl memory)) =
     absurd (memory_no_removal (sym memory.0))
 remove_done now heard old lease name new (inl (inr refused)) =
-    absurd (given_reply IsNoRemoval (remove_refusals lease name (shape_of old.store)) old
-    says.Removed new (no_removal lease name (shape_of old.store)) refused.1 refl)
+    absurd (given_reply IsNoRemoval (remove_refusals lease name (shape_of old)) old
+    says.Removed new (no_removal lease name (shape_of old)) refused.1 refl)
 remove_done now heard old lease name new (inr done) = done.1
 
 local_done : (now : ℕ) (heard : List (List ℕ)) (old : Session) (lease : ℕ) (name : List ℕ)
@@ -180,8 +180,8 @@ local_done : (now : ℕ) (heard : List (List ℕ)) (old : Session) (lease : ℕ)
 local_done now heard old lease name from count shown bytes new (inl (inl memory)) =
     absurd (memory_no_read shown bytes (sym memory.0))
 local_done now heard old lease name from count shown bytes new (inl (inr refused)) =
-    absurd (given_reply IsNoRead (local_refusals lease name (shape_of old.store)) old
-    (says.Read shown bytes) new (no_read lease name (shape_of old.store)) refused.1 shown bytes refl)
+    absurd (given_reply IsNoRead (local_refusals lease name (shape_of old)) old
+    (says.Read shown bytes) new (no_read lease name (shape_of old)) refused.1 shown bytes refl)
 local_done now heard old lease name from count shown bytes new (inr done) = done.1
 
 -- ---- one line
@@ -432,7 +432,7 @@ module _ (number : ℕ) (name : List ℕ) where
       by (kept_or_effect now heard.texts old command step.answer new step.answers)
     where
       by : Kept command old step.answer new
-          ⊎ (PassesAll (refusals now heard.texts (shape_of old.store) command)
+          ⊎ (PassesAll (refusals now heard.texts (shape_of old) command)
           × effect now heard.texts command old step.answer new)
           → KeepsData number name old.store new.store
       by (inl kept) = same_views old.store new.store kept.views

@@ -157,22 +157,35 @@ module _ (number : ℕ) (g : List DataFile → List DataFile) (old : Store) wher
         (pairs_head (λ (v w : View). v.number ≢ w.number) v vs apart)
         (more_sum vs (pairs_tail (λ (v w : View). v.number ≢ w.number) v vs apart))
 
+    numbers_apart : Ordered old → AllPairs (λ (v w : View). v.number ≢ w.number) old.views
+    numbers_apart was =
+        pairs_weaker (λ (v w : View). v.number < w.number) (λ (v w : View). v.number ≢ w.number)
+        old.views (λ v w less e. omega (arith, less, e))
+        (pairs_unmap (λ (v : View). v.number) (λ (m n : ℕ). m < n) old.views
+        was.view_numbers.rising)
+
     -- the blocks that g may take more
+    pub data_with : Ordered old
+        → sum_by (λ (file : BareData). blocks_of file.length)
+        (flat_map (λ (view : BareView). view.data_files)
+        (map bare_view (with_view_at number (redone g) old.views)))
+        ≤ extra + sum_by (λ (file : BareData). blocks_of file.length)
+        (flat_map (λ (view : BareView). view.data_files) (map bare_view old.views))
+    data_with was =
+        omega (
+          arith,
+          more_sum old.views (numbers_apart was),
+          data_sum views,
+          data_sum old.views,
+        )
+
     pub room_with : Ordered old
         → used_blocks (map bare_view (with_view_at number (redone g) old.views))
         ≤ extra + used_blocks (map bare_view old.views)
     room_with was =
         let files = ap (λ (es : List FileEntry). sum_by (λ (entry : FileEntry). blocks_of entry.size)
         (distinct es)) same_standing in
-        let sum = more_sum old.views (numbers_apart was) in
-        omega (arith, files, sum, data_sum views, data_sum old.views)
-      where
-        numbers_apart : Ordered old → AllPairs (λ (v w : View). v.number ≢ w.number) old.views
-        numbers_apart was =
-            pairs_weaker (λ (v w : View). v.number < w.number) (λ (v w : View). v.number ≢ w.number)
-            old.views (λ v w less e. omega (arith, less, e))
-            (pairs_unmap (λ (v : View). v.number) (λ (m n : ℕ). m < n) old.views
-            was.view_numbers.rising)
+        omega (arith, files, data_with was)
 
   -- less room does as well
   pub room_within : ((files : List DataFile) → sum_by weight (g files) ≤ sum_by weight files)

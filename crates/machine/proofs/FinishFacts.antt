@@ -46,7 +46,7 @@ module _ (now : ℕ) (heard : List (List ℕ)) (lease : ℕ) where
   pub finish_facts : RowFacts now heard (Finish lease)
   finish_facts = record {
     refused = λ old reply new given.
-        kept_unchanged (Finish lease) (finish_refusals lease (shape_of old.store)) old reply new
+        kept_unchanged (Finish lease) (finish_refusals lease (shape_of old)) old reply new
         ((λ s. refl), tt) given;
     set_none = λ shape. ((λ reply given. ap (λ (r : Reply). moment_set (Some r)) given.1), tt);
     acts = λ old reply new done.
@@ -61,7 +61,7 @@ module _ (now : ℕ) (heard : List (List ℕ)) (lease : ℕ) where
         same_views_sound old.store new.store (ap (λ (s : Session). s.store.views) done.1)
         (subst (λ (s : Session). Valid s.store) (sym done.1)
         (finished_valid lease old.store sound.valid)) sound;
-    views = λ old reply new at with_texts none done. inl
+    views = λ old reply new at with_texts none valid passes done. inl
         (ap (λ (s : Session). s.store.views) done.1);
     answered = λ old valid none. by_lease old (lease_of lease old.store.leases) refl;
   }

@@ -21,7 +21,7 @@ use Rattle.machine.specs.Minimums.{minimum_of}
 use Rattle.machine.specs.Previous.{previous_of, previous_version, previous_view}
 use Rattle.machine.specs.RollbackRow.{IsPreviousBelow, RollbackEffect, rollback_refusals, rolled_back, rolled_back_app}
 use Rattle.machine.specs.Shape.{BareView, Shape, shape_of}
-use Rattle.machine.specs.Store.{Session, Store}
+use Rattle.machine.specs.Store.{Session, Store, session_over}
 use Rattle.machine.specs.Views.{View, version_of}
 use Rattle.machine.proofs.Checking.{due_by, is_itself}
 use Rattle.machine.proofs.Choosing.{AllGive, given_reply}
@@ -64,12 +64,12 @@ no_current key shape = (
 rollback_done : (now : ℕ) (heard : List (List ℕ)) (old : Session) (key : Key) (version : Version)
     (new : Session) → Answers now heard old (Rollback key) (says.Current version) new
     → RollbackEffect key old (says.Current version) new
-    × ((minimum : Version) → IsPreviousBelow key (shape_of old.store) minimum → ⊥)
+    × ((minimum : Version) → IsPreviousBelow key (shape_of old) minimum → ⊥)
 rollback_done now heard old key version new (inl (inl memory)) =
     absurd (memory_apart version (sym memory.0))
 rollback_done now heard old key version new (inl (inr refused)) =
-    absurd (given_reply IsNoCurrent (rollback_refusals key (shape_of old.store)) old
-    (says.Current version) new (no_current key (shape_of old.store)) refused.1 version refl)
+    absurd (given_reply IsNoCurrent (rollback_refusals key (shape_of old)) old
+    (says.Current version) new (no_current key (shape_of old)) refused.1 version refl)
 rollback_done now heard old key version new (inr done) = (done.1, done.0.1.1.1.0)
 
 -- ---- what it leaves
@@ -94,8 +94,8 @@ module _ (old : Session) (key : Key) (have version : Version) (view back : View)
     (was_previous : previous_view key old.store ≡ Some back) (shown : version_of back ≡ version)
     (number : previous_of key old.store.apps ≡ Some back.number)
     (known : entry_of key old.store.apps ≡ Some app) (named : app.previous ≡ Some back.number)
-    (previous : previous_version key (shape_of old.store) ≡ Some version)
-    (free : (minimum : Version) → IsPreviousBelow key (shape_of old.store) minimum → ⊥) where
+    (previous : previous_version key (shape_of old) ≡ Some version)
+    (free : (minimum : Version) → IsPreviousBelow key (shape_of old) minimum → ⊥) where
   is_back : current_view key (rolled_back key have old.store) ≡ Some back
   is_back =
       ap (λ (o : Option ℕ). option_and_then (λ (n : ℕ). view_at n old.store.views) o)
@@ -166,7 +166,7 @@ rollback_is now heard old key version new answers =
 pub rollback_granted : (now : ℕ) (heard : List (List ℕ)) (old : Session) (key : Key)
     (version : Version) (reply : Reply) (new : Session)
     → IsSome (current_of key old.store.apps)
-    → previous_version key (shape_of old.store) ≡ Some version
+    → previous_version key (shape_of old) ≡ Some version
     → IfSome (minimum_of key old.store.apps) (λ minimum. ¬ IsBelow version minimum)
     → Answers now heard old (Rollback key) reply new
     → (reply ≡ says.Current version) ⊎ (reply ≡ says.Memory)
@@ -271,9 +271,9 @@ none_due (Some view) at app version is e =
 
 pub excluded_not_due : (key : Key) (version : Version) (store : Store) (at : ℕ)
     → excluded_of key store.apps ≡ Some version
-    → due key (shape_of store) at ≢ Some (Offered version)
+    → due key (shape_of (session_over store)) at ≢ Some (Offered version)
 excluded_not_due key version store at is e =
     let app = then_value (λ (a : AppState). a.excluded) (entry_of key store.apps) version is in
-    none_due (current_bare key (shape_of store)) at app.0 version app.2
+    none_due (current_bare key (shape_of (session_over store))) at app.0 version app.2
     (sym (ap (λ (o : Option AppState). option_and_then
-    (due_by (current_bare key (shape_of store)) at) o) app.1) ∙ e)
+    (due_by (current_bare key (shape_of (session_over store))) at) o) app.1) ∙ e)

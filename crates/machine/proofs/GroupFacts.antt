@@ -28,6 +28,7 @@ use Rattle.machine.specs.Valid.{Valid}
 use Rattle.machine.specs.Views.{View}
 use Rattle.machine.specs.Words.{IsGroup}
 use Rattle.machine.proofs.Choosing.{AllGive, exactly-exact, exactly_with-exact}
+use Rattle.machine.proofs.CountedBlocks.{counted_more}
 use Rattle.machine.proofs.FileAddresses.{IsReached, bad_or_none, file_reached}
 use Rattle.machine.proofs.Finding.{some_there}
 use Rattle.machine.proofs.GroupAnswers.{taken_group}
@@ -118,7 +119,7 @@ module _ (lease : ℕ) (group : List ℕ) where
           (leased_number lease old.store done.view done.leased) grown.among))
 
   module _ (old : Session) (reply : Reply) (new : Session) (is : IsGroup group)
-      (passes : PassesAll (group_refusals lease group (shape_of old.store)))
+      (passes : PassesAll (group_refusals lease group (shape_of old)))
       (done : GroupEffect lease group old reply new) where
     abbrev view : View
     view = done.view
@@ -126,18 +127,18 @@ module _ (lease : ℕ) (group : List ℕ) where
     abbrev bares : List BareView
     bares = map bare_view old.store.views
 
-    leased_too : leased_bare lease (shape_of old.store) ≡ Some (bare_view view)
+    leased_too : leased_bare lease (shape_of old) ≡ Some (bare_view view)
     leased_too = leased_shape lease old.store ∙ ap (option_map bare_view) done.leased
 
     -- there is room, where it comes
     has_room : group_stands group view.groups ≡ false
-        → group_need bares group view.application ≤ free_blocks (shape_of old.store)
+        → group_need bares group view.application ≤ free_blocks (shape_of old)
     has_room absent =
-        by (cases_lt (free_blocks (shape_of old.store)) (group_need bares group view.application))
+        by (cases_lt (free_blocks (shape_of old)) (group_need bares group view.application))
       where
-        by : (free_blocks (shape_of old.store) < group_need bares group view.application)
-            ⊎ (group_need bares group view.application ≤ free_blocks (shape_of old.store))
-            → group_need bares group view.application ≤ free_blocks (shape_of old.store)
+        by : (free_blocks (shape_of old) < group_need bares group view.application)
+            ⊎ (group_need bares group view.application ≤ free_blocks (shape_of old))
+            → group_need bares group view.application ≤ free_blocks (shape_of old)
         by (inl less) =
             absurd (passes.1.1.1.0 (group_need bares group view.application)
             (bare_view view, leased_too, absent, (refl, less)))
@@ -153,7 +154,8 @@ module _ (lease : ℕ) (group : List ℕ) where
         subst Valid (sym grown.is) (record {
           ordered = grouped_ordered view.number group grown.program_files old.store view found
               grown.among.order is.short valid.ordered;
-          room = omega (arith, used, has_room comes.0, valid.room);
+          room = (let counted = counted_more (shape_of old).views (shape_of old).jobs in
+              omega (arith, used, has_room comes.0, valid.room, counted));
         })
 
     left_valid : Valid old.store → Valid new.store
@@ -179,7 +181,7 @@ module _ (lease : ℕ) (group : List ℕ) where
 module _ (now : ℕ) (heard : List (List ℕ)) (lease : ℕ) (group : List ℕ) (old : Session)
     (sound : Sound old.store) where
   abbrev shape : Shape
-  shape = shape_of old.store
+  shape = shape_of old
 
   no_lease : lease_of lease old.store.leases ≡ None → IsAnswered now heard old (Group lease group)
   no_lease none = record {
@@ -424,15 +426,15 @@ pub group_facts : (now : ℕ) (heard : List (List ℕ)) (lease : ℕ) (group : L
     → RowFacts now heard (Group lease group)
 group_facts now heard lease group = record {
   refused = λ old reply new given.
-      kept_unchanged (Group lease group) (group_refusals lease group (shape_of old.store)) old reply
-      new (group_unchanged lease group (shape_of old.store)) given;
+      kept_unchanged (Group lease group) (group_refusals lease group (shape_of old)) old reply
+      new (group_unchanged lease group (shape_of old)) given;
   set_none = λ shape. group_none lease group shape;
   acts = group_acts lease group;
   valid = λ old reply new is few passes done valid.
       left_valid lease group old reply new is.1 passes done valid;
   sound = λ old reply new is few passes done sound.
       left_sound lease group old reply new is.1 passes done sound;
-  views = λ old reply new at with_texts none done. inr (inr none);
+  views = λ old reply new at with_texts none valid passes done. inr (inr none);
   answered = λ old valid sound.
       by_lease now heard lease group old sound (lease_of lease old.store.leases) refl;
 }

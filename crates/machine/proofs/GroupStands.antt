@@ -140,8 +140,8 @@ group_done : (now : ℕ) (heard : List (List ℕ)) (old : Session) (lease : ℕ)
 group_done now heard old lease group files new (inl (inl memory)) =
     absurd (memory_apart files (sym memory.0))
 group_done now heard old lease group files new (inl (inr refused)) =
-    absurd (given_reply IsNoGroup (group_refusals lease group (shape_of old.store)) old
-    (says.Group files) new (no_group lease group (shape_of old.store)) refused.1 files refl)
+    absurd (given_reply IsNoGroup (group_refusals lease group (shape_of old)) old
+    (says.Group files) new (no_group lease group (shape_of old)) refused.1 files refl)
 group_done now heard old lease group files new (inr done) = done.1
 
 -- ---- it stands

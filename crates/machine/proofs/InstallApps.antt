@@ -20,7 +20,7 @@ use Rattle.machine.specs.InstallLaws.{IsCurrent, IsInstall}
 use Rattle.machine.specs.InstallRow.{InstallEffect, IsBelowMinimum, Replies}
 use Rattle.machine.specs.Minimums.{minimum_of}
 use Rattle.machine.specs.Shape.{BareView, bare_view, shape_of}
-use Rattle.machine.specs.Store.{Session, Store}
+use Rattle.machine.specs.Store.{Session, Store, session_over}
 use Rattle.machine.specs.Valid.{Ordered}
 use Rattle.machine.specs.Views.{View}
 use Rattle.machine.proofs.Bringing.{bare_current}
@@ -110,7 +110,7 @@ module _ {R C : Type 0} {says : Replies R C} {locals : ℕ} {url : List ℕ} {he
   current_left : current_of d.identity.key left.apps ≡ Some old.store.next_view
   current_left = ap (λ (e : Option AppState). option_and_then (λ (app : AppState). app.current) e) entry_left
 
-  version_left : Ordered old.store → current_version d.identity.key (shape_of left) ≡ Some d.identity.version
+  version_left : Ordered old.store → current_version d.identity.key (shape_of (session_over left)) ≡ Some d.identity.version
   version_left was =
       let view = new_view old.store.next_view is.effect.base d is.effect.application is.effect.files is.effect.installed.data_files in
       ap (λ (o : Option BareView). option_map (λ (v : BareView). v.deployment.identity.version) o) (bare_current d.identity.key left)
@@ -135,7 +135,7 @@ module _ {R C : Type 0} {says : Replies R C} {locals : ℕ} {url : List ℕ} {he
 
   old_reached : (minimum : Option Version) → minimum_of d.identity.key old.store.apps ≡ minimum → IfSome minimum (λ m. ¬ IsBelow d.identity.version m)
   old_reached None e = tt
-  old_reached (Some minimum) e = λ below. (deployment_passes is).1.1.1.0 minimum (of_deployment is {P = λ (x : Deployment). IsBelowMinimum (shape_of old.store) x minimum} (e, below))
+  old_reached (Some minimum) e = λ below. (deployment_passes is).1.1.1.0 minimum (of_deployment is {P = λ (x : Deployment). IsBelowMinimum (shape_of old) x minimum} (e, below))
 
   pub reached_minimum : IfSome (minimum_of d.identity.key new.store.apps) (λ minimum. ¬ IsBelow d.identity.version minimum)
   reached_minimum =

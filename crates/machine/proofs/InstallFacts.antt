@@ -72,7 +72,7 @@ installed_is_other key version view e = cc
 module _ (now : ℕ) (heard : List (List ℕ)) (url : List ℕ) (old : Session) (reply : Reply)
     (new : Session) where
   as_install : now ≤ NUMBER_LIMIT
-      → PassesAll (install_refusals install_replies LOCAL_COUNT_LIMIT url heard (shape_of old.store))
+      → PassesAll (install_refusals install_replies LOCAL_COUNT_LIMIT url heard (shape_of old))
       → InstallEffect install_replies url heard now old reply new
       → IsInstall install_replies LOCAL_COUNT_LIMIT url heard now old reply new
   as_install few passes done =
@@ -133,14 +133,14 @@ pub install_facts : (now : ℕ) (heard : List (List ℕ)) (url : List ℕ)
 install_facts now heard url = record {
   refused = λ old reply new given.
       kept_unchanged (Install url)
-      (install_refusals install_replies LOCAL_COUNT_LIMIT url heard (shape_of old.store)) old reply new
-      (install_unchanged install_replies LOCAL_COUNT_LIMIT url heard (shape_of old.store)) given;
+      (install_refusals install_replies LOCAL_COUNT_LIMIT url heard (shape_of old)) old reply new
+      (install_unchanged install_replies LOCAL_COUNT_LIMIT url heard (shape_of old)) given;
   set_none = λ shape. install_none url heard shape;
   acts = λ old reply new done. install_acts now heard url old reply new done;
   valid = λ old reply new is few passes done valid.
       left_valid (as_install now heard url old reply new few passes done) valid;
   sound = λ old reply new is few passes done sound.
       left_sound (as_install now heard url old reply new few passes done) sound;
-  views = λ old reply new at with_texts none done. inr (inr none);
+  views = λ old reply new at with_texts none valid passes done. inr (inr none);
   answered = λ old valid none. heard_nothing now heard url old none;
 }

@@ -25,12 +25,13 @@ use Rattle.machine.specs.Migrated.{migrated_names}
 use Rattle.machine.specs.Rows.{PassesAll, Refusal}
 use Rattle.machine.specs.Shape.{BareData, BareView, Shape, bare_data, bare_view, shape_of}
 use Rattle.machine.specs.Sound.{Sound}
-use Rattle.machine.specs.Store.{Session, Store}
+use Rattle.machine.specs.Store.{Session, Store, session_over}
 use Rattle.machine.specs.Valid.{IsDataFile, IsView, Ordered, Valid}
 use Rattle.machine.specs.Views.{DataFile, View}
 use Rattle.machine.specs.Wanted.{install_need}
 use Rattle.machine.proofs.Addresses.{codebase_is_held, text_is_held}
 use Rattle.machine.proofs.Bringing.{bare_data_current, bare_listed_current, installed_sound, used_after}
+use Rattle.machine.proofs.CountedBlocks.{counted_more}
 use Rattle.machine.proofs.Installing.{Fitting, installed_ordered}
 use Rattle.machine.proofs.Members.{sum_map}
 use Rattle.machine.proofs.Moving.{are_data, few_named}
@@ -94,10 +95,10 @@ data_names : (files : List DataFile) → map (λ (file : BareData). file.name) (
 data_names [] = refl
 data_names (file ∷ files) = ap (λ (names : List (List ℕ)). file.name ∷ names) (data_names files)
 
-locals_is : (store : Store) (d : Deployment) (a : Application) → locals_after (shape_of store) d a ≡ count_by (λ (name : List ℕ). not (is_below_pre name)) (migrated_names (map (λ (file : DataFile). file.name) (data_of (current_view d.identity.key store))) (listed_by (current_view d.identity.key store)) a.files)
+locals_is : (store : Store) (d : Deployment) (a : Application) → locals_after (shape_of (session_over store)) d a ≡ count_by (λ (name : List ℕ). not (is_below_pre name)) (migrated_names (map (λ (file : DataFile). file.name) (data_of (current_view d.identity.key store))) (listed_by (current_view d.identity.key store)) a.files)
 locals_is store d a =
-    ap (λ (datas : List BareData). count_by (λ (name : List ℕ). not (is_below_pre name)) (migrated_names (map (λ (file : BareData). file.name) datas) (bare_listed_by (current_bare d.identity.key (shape_of store))) a.files)) (bare_data_current d.identity.key store)
-    ∙ ap (λ (names : List (List ℕ)). count_by (λ (name : List ℕ). not (is_below_pre name)) (migrated_names names (bare_listed_by (current_bare d.identity.key (shape_of store))) a.files)) (data_names (data_of (current_view d.identity.key store)))
+    ap (λ (datas : List BareData). count_by (λ (name : List ℕ). not (is_below_pre name)) (migrated_names (map (λ (file : BareData). file.name) datas) (bare_listed_by (current_bare d.identity.key (shape_of (session_over store)))) a.files)) (bare_data_current d.identity.key store)
+    ∙ ap (λ (names : List (List ℕ)). count_by (λ (name : List ℕ). not (is_below_pre name)) (migrated_names names (bare_listed_by (current_bare d.identity.key (shape_of (session_over store)))) a.files)) (data_names (data_of (current_view d.identity.key store)))
     ∙ ap (λ (files : List FileEntry). count_by (λ (name : List ℕ). not (is_below_pre name)) (migrated_names (map (λ (file : DataFile). file.name) (data_of (current_view d.identity.key store))) files a.files)) (bare_listed_current d.identity.key store)
 
 -- ---- the data files of the current view
@@ -121,7 +122,7 @@ current_data key store was = data_then (current_of key store.apps) store.views w
 
 module _ {R C : Type 0} {says : Replies R C} {locals : ℕ} {url : List ℕ} {heard : List (List ℕ)} {now : ℕ} {old : Session} {reply : R} {new : Session} (is : IsInstall says locals url heard now old reply new) where
   abbrev shape : Shape
-  shape = shape_of old.store
+  shape = shape_of old
 
   abbrev d : Deployment
   d = is.effect.deployment
@@ -250,7 +251,7 @@ module _ {R C : Type 0} {says : Replies R C} {locals : ℕ} {url : List ℕ} {he
   left_room was =
       let used = used_after is.effect.installed.provider is.effect.base d a is.effect.files is.effect.originals is.effect.installed.data_files now old.store is.effect.fetched is.effect.installed.migrated in
       let room = was.room in
-      subst (λ (store : Store). used_blocks (map bare_view store.views) ≤ store.room.blocks) (sym is.effect.installed.is) (omega (arith, used, room, has_room))
+      subst (λ (store : Store). used_blocks (map bare_view store.views) ≤ store.room.blocks) (sym is.effect.installed.is) (omega (arith, used, room, has_room, counted_more shape.views shape.jobs))
 
   pub left_valid : Valid old.store → Valid new.store
   left_valid was = subst (λ (s : Session). Valid s.store) (sym is.effect.is) (record { ordered = left_ordered was.ordered; room = left_room was })

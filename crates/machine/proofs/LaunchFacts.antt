@@ -178,7 +178,7 @@ module _ (now : ℕ) (heard : List (List ℕ)) (key : Key) where
       (launched_keeps key done.view.number old.store)
 
   left_valid : (old : Session) (reply : Reply) (new : Session) → IsKey key
-      → PassesAll (launch_refusals key now (shape_of old.store))
+      → PassesAll (launch_refusals key now (shape_of old))
       → LaunchEffect key now old reply new
       → Valid old.store → Valid new.store
   left_valid old reply new is passes done valid =
@@ -193,7 +193,7 @@ module _ (now : ℕ) (heard : List (List ℕ)) (key : Key) where
       (some_there (entry_of key old.store.apps) current.0 current.1) kept few left valid)
 
   left_sound : (old : Session) (reply : Reply) (new : Session) → IsKey key
-      → PassesAll (launch_refusals key now (shape_of old.store))
+      → PassesAll (launch_refusals key now (shape_of old))
       → LaunchEffect key now old reply new
       → Sound old.store → Sound new.store
   left_sound old reply new is passes done sound =
@@ -204,7 +204,7 @@ module _ (now : ℕ) (heard : List (List ℕ)) (key : Key) where
 
   module _ (old : Session) where
     abbrev shape : Shape
-    shape = shape_of old.store
+    shape = shape_of old
 
     not_installed : current_of key old.store.apps ≡ None → IsAnswered now heard old (Launch key)
     not_installed none = record {
@@ -336,13 +336,13 @@ module _ (now : ℕ) (heard : List (List ℕ)) (key : Key) where
   pub launch_facts : RowFacts now heard (Launch key)
   launch_facts = record {
     refused = λ old reply new given.
-        kept_unchanged (Launch key) (launch_refusals key now (shape_of old.store)) old reply new
-        (launch_unchanged key now (shape_of old.store)) given;
+        kept_unchanged (Launch key) (launch_refusals key now (shape_of old)) old reply new
+        (launch_unchanged key now (shape_of old)) given;
     set_none = λ shape. launch_none key now shape;
     acts = launch_acts;
     valid = λ old reply new is few passes done valid. left_valid old reply new is passes done valid;
     sound = λ old reply new is few passes done sound. left_sound old reply new is passes done sound;
-    views = λ old reply new at with_texts none done. inl
+    views = λ old reply new at with_texts none valid passes done. inl
         (ap (λ (s : Session). s.store.views) done.is);
     answered = λ old valid none. by_current old (current_of key old.store.apps) refl valid.ordered;
   }

@@ -106,8 +106,8 @@ launch_done : (now : ℕ) (heard : List (List ℕ)) (old : Session) (key : Key) 
 launch_done now heard old key lease version check_due new (inl (inl memory)) =
     absurd (memory_apart lease version check_due (sym memory.0))
 launch_done now heard old key lease version check_due new (inl (inr refused)) =
-    absurd (given_reply IsNoLease (launch_refusals key now (shape_of old.store)) old
-    (says.Lease lease version check_due) new (no_lease key now (shape_of old.store)) refused.1
+    absurd (given_reply IsNoLease (launch_refusals key now (shape_of old)) old
+    (says.Lease lease version check_due) new (no_lease key now (shape_of old)) refused.1
     lease version check_due refl)
 launch_done now heard old key lease version check_due new (inr done) = done.1
 
@@ -212,14 +212,14 @@ launch_reaches now old events replies mid at heard key minimum lease version che
 pub launch_granted : (now : ℕ) (heard : List (List ℕ)) (old : Session) (key : Key)
     (check_due : Bool)
     (reply : Reply) (new : Session)
-    → due key (shape_of old.store) now ≡ Some (found.Clear check_due)
+    → due key (shape_of old) now ≡ Some (found.Clear check_due)
     → length old.store.leases < LEASE_LIMIT → old.store.next_lease < NUMBER_LIMIT
     → Answers now heard old (Launch key) reply new → IsLeaseOrMemory reply
 launch_granted now heard old key check_due reply new is few left (inl (inl memory)) = inr memory.0
 launch_granted now heard old key check_due reply new is few left (inl (inr refused)) =
-    absurd (none_refuses (launch_refusals key now (shape_of old.store)) old reply new
-    (launch_exact key now (shape_of old.store))
-    (free_passes key now (shape_of old.store) check_due is few left)
+    absurd (none_refuses (launch_refusals key now (shape_of old)) old reply new
+    (launch_exact key now (shape_of old))
+    (free_passes key now (shape_of old) check_due is few left)
     refused.1)
 launch_granted now heard old key check_due reply new is few left (inr done) =
     inl (old.store.next_lease, version_of done.1.view, done.1.check_due, done.1.replied)
@@ -272,9 +272,9 @@ read_done : (now : ℕ) (heard : List (List ℕ)) (old : Session) (lease : ℕ) 
 read_done now heard old lease name from count shown bytes new (inl (inl memory)) =
     absurd (memory_unread shown bytes (sym memory.0))
 read_done now heard old lease name from count shown bytes new (inl (inr refused)) =
-    absurd (given_reply IsNoRead (read_refusals lease name (shape_of old.store)) old
+    absurd (given_reply IsNoRead (read_refusals lease name (shape_of old)) old
     (says.Read shown bytes) new
-    (no_read lease name (shape_of old.store)) refused.1 shown bytes refl)
+    (no_read lease name (shape_of old)) refused.1 shown bytes refl)
 read_done now heard old lease name from count shown bytes new (inr done) = done.1
 
 pub read_is : (now : ℕ) (heard : List (List ℕ)) (old : Session) (lease : ℕ) (name : List ℕ)

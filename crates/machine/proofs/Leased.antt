@@ -18,7 +18,7 @@ use Rattle.machine.specs.Leases.{lease_of, leased_bare, leased_view}
 use Rattle.machine.specs.ReadRow.{entry_named, file_named}
 use Rattle.machine.specs.Shape.{BareView, Shape, bare_view, shape_of}
 use Rattle.machine.specs.Sound.{IsSoundView, Sound}
-use Rattle.machine.specs.Store.{Store}
+use Rattle.machine.specs.Store.{Store, session_over}
 use Rattle.machine.specs.Valid.{IsApp, IsView, IsViewOf, Ordered}
 use Rattle.machine.specs.Views.{ListedFile, View, standing_entries, version_of}
 use Rattle.machine.proofs.Bringing.{bare_current}
@@ -58,7 +58,7 @@ shape_at (Some lease) views = find-map bare_view (λ (v : BareView). eqb v.numbe
 
 -- the shape has what the store has
 pub leased_shape : (number : ℕ) (store : Store)
-    → leased_bare number (shape_of store) ≡ option_map bare_view (leased_view number store)
+    → leased_bare number (shape_of (session_over store)) ≡ option_map bare_view (leased_view number store)
 leased_shape number store = shape_at (lease_of number store.leases) store.views
 
 -- each lease names a view that is kept
@@ -81,7 +81,7 @@ leased_kept number store was lives =
 pub leased_bare_kept : (number : ℕ) (store : Store) → Ordered store
     → IsSome (lease_of number store.leases)
     → (view : View) × (leased_view number store ≡ Some view)
-    × (leased_bare number (shape_of store) ≡ Some (bare_view view))
+    × (leased_bare number (shape_of (session_over store)) ≡ Some (bare_view view))
 leased_bare_kept number store was lives =
     let kept = leased_kept number store was lives in
     (kept.0, kept.1, leased_shape number store ∙ ap (option_map bare_view) kept.1)
@@ -200,7 +200,7 @@ current_number key store view is =
 -- by the view and the entry
 pub due_shown : (key : Key) (now : ℕ) (store : Store) (app : AppState) (view : View)
     → entry_of key store.apps ≡ Some app → current_view key store ≡ Some view
-    → due key (shape_of store) now
+    → due key (shape_of (session_over store)) now
     ≡ Some (due_of (version_of view) view.deployment.rule app now)
 due_shown key now store app view entry current =
     ap (λ (o : Option BareView). option_and_then (λ (a : AppState). option_map
@@ -212,7 +212,7 @@ due_shown key now store app view entry current =
 
 -- where a version is installed there is an answer
 pub due_installed : (key : Key) (now number : ℕ) (store : Store) → Ordered store
-    → current_of key store.apps ≡ Some number → (d : Due) × (due key (shape_of store) now ≡ Some d)
+    → current_of key store.apps ≡ Some number → (d : Due) × (due key (shape_of (session_over store)) now ≡ Some d)
 due_installed key now number store was is =
     let app = current_by key store.apps number is in
     let view = current_kept key number store was is in (
@@ -221,11 +221,11 @@ due_installed key now number store was is =
     )
 
 pub due_some : (key : Key) (now : ℕ) (store : Store) → Ordered store
-    → IsSome (current_of key store.apps) → IsSome (due key (shape_of store) now)
+    → IsSome (current_of key store.apps) → IsSome (due key (shape_of (session_over store)) now)
 due_some key now store was is =
     let number = value_of (current_of key store.apps) is in
     let found = due_installed key now number.0 store was number.1 in
-    some_there (due key (shape_of store) now) found.0 found.1
+    some_there (due key (shape_of (session_over store)) now) found.0 found.1
 
 no_due : (entry : Option AppState)
     → ◌≡◌ {A = Option Due} (option_and_then (λ (app : AppState). None) entry) None

@@ -51,17 +51,17 @@ mid = rolled_back kept.key have old
 apps_are : mid.apps ≡ back ∷ []
 apps_are = rw (tied_itself order (key_text kept.key)) refl
 
-current : current_version kept.key (shape_of old) ≡ Some have
-current = ap (λ (o : Option ℕ). numbered_version o (shape_of old)) (has (λ a. a.current))
+current : current_version kept.key (shape_of (session_over old)) ≡ Some have
+current = ap (λ (o : Option ℕ). numbered_version o (shape_of (session_over old))) (has (λ a. a.current))
 
-previous : previous_version kept.key (shape_of old) ≡ Some (version_of kept.first)
-previous = ap (λ (o : Option ℕ). numbered_version o (shape_of old)) (has (λ a. a.previous))
+previous : previous_version kept.key (shape_of (session_over old)) ≡ Some (version_of kept.first)
+previous = ap (λ (o : Option ℕ). numbered_version o (shape_of (session_over old))) (has (λ a. a.previous))
 
 some_apart : {X : Type 0} (o : Option X) (x : X) → o ≡ Some x → o ≡ None → ⊥
 some_apart o x is none = none-some x (sym none ∙ is)
 
-gone : removable (shape_of mid) ≡ 2 ∷ []
-gone = ap (λ (apps : List AppState). removable (record (shape_of mid) { apps = apps })) apps_are
+gone : removable (shape_of (session_over mid)) ≡ 2 ∷ []
+gone = ap (λ (apps : List AppState). removable (record (shape_of (session_over mid)) { apps = apps })) apps_are
 
 there : current_view kept.key (cleaned mid) ≡ Some kept.first
 there =

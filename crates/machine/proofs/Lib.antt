@@ -10,6 +10,7 @@ pub mod CleanFacts
 pub mod CleanedStores
 pub mod Cleaning
 pub mod Contents
+pub mod CountedBlocks
 pub mod Counting
 pub mod DataSteps
 pub mod DataViews

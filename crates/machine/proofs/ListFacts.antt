@@ -26,9 +26,9 @@ list_facts now heard = record {
       (sym done.1) valid;
   sound = λ old reply new is few passes done sound. subst (λ (s : Session). Sound s.store)
       (sym done.1) sound;
-  views = λ old reply new at with_texts none done. inl (ap (λ (s : Session). s.store.views) done.1);
+  views = λ old reply new at with_texts none valid passes done. inl (ap (λ (s : Session). s.store.views) done.1);
   answered = λ old valid none. record {
-    reply = says.Listed (map (list_row (shape_of old.store)) old.store.apps);
+    reply = says.Listed (map (list_row (shape_of old)) old.store.apps);
     new = old;
     answers = inr ((tt, tt), (refl, refl));
     other = listed_is_other _;

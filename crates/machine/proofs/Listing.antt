@@ -20,7 +20,7 @@ use Rattle.machine.specs.Machine.{Answers}
 use Rattle.machine.specs.Previous.{numbered_version}
 use Rattle.machine.specs.Shape.{BareView, Shape, bare_view, shape_of}
 use Rattle.machine.specs.ShowRow.{ShowEffect, show_refusals, show_row}
-use Rattle.machine.specs.Store.{Session, Store}
+use Rattle.machine.specs.Store.{Session, Store, session_over}
 use Rattle.machine.specs.Valid.{IsApp, Valid}
 use Rattle.machine.specs.Views.{View}
 use Rattle.machine.proofs.Choosing.{AllGive, given_reply}
@@ -56,26 +56,26 @@ same_keys shape (app ∷ apps) = ap (λ (keys : List Key). app.key ∷ keys) (sa
 
 -- the version of an entry is that of its key
 own_version : (store : Store) → AreInOrder store.apps → (app : AppState) → In app store.apps
-    → numbered_version app.current (shape_of store) ≡ current_version app.key (shape_of store)
+    → numbered_version app.current (shape_of (session_over store)) ≡ current_version app.key (shape_of (session_over store))
 own_version store ordered app there =
     sym (ap (λ (e : Option AppState). numbered_version
-    (option_and_then (λ (a : AppState). a.current) e) (shape_of store))
+    (option_and_then (λ (a : AppState). a.current) e) (shape_of (session_over store)))
     (own_entry store.apps ordered app there))
 
 listed_is : (store : Store) → AreInOrder store.apps
-    → IsListed (map (list_row (shape_of store)) store.apps) store
+    → IsListed (map (list_row (shape_of (session_over store))) store.apps) store
 listed_is store ordered = record {
-  each = same_keys (shape_of store) store.apps;
-  order = pairs_map (list_row (shape_of store)) (λ (a b : AppState). key_cmp a.key b.key ≡ Less)
+  each = same_keys (shape_of (session_over store)) store.apps;
+  order = pairs_map (list_row (shape_of (session_over store))) (λ (a b : AppState). key_cmp a.key b.key ≡ Less)
       (λ (a b : ListRow). key_cmp a.key b.key ≡ Less) store.apps (λ a b less. less)
       (λ i j d less within. rising store.apps i j d ordered less within);
-  current = all_mapped (list_row (shape_of store))
-      (λ (app : AppState). numbered_version app.current (shape_of store)
-      ≡ current_version app.key (shape_of store))
-      (λ (row : ListRow). row.current ≡ current_version row.key (shape_of store)) store.apps
+  current = all_mapped (list_row (shape_of (session_over store)))
+      (λ (app : AppState). numbered_version app.current (shape_of (session_over store))
+      ≡ current_version app.key (shape_of (session_over store)))
+      (λ (row : ListRow). row.current ≡ current_version row.key (shape_of (session_over store))) store.apps
       (λ app there is. is)
-      (in_all (λ (app : AppState). numbered_version app.current (shape_of store)
-      ≡ current_version app.key (shape_of store)) store.apps (own_version store ordered));
+      (in_all (λ (app : AppState). numbered_version app.current (shape_of (session_over store))
+      ≡ current_version app.key (shape_of (session_over store))) store.apps (own_version store ordered));
 }
 
 pub list_is : (now : ℕ) (heard : List (List ℕ)) (old : Session) (rows : List ListRow)
@@ -85,7 +85,7 @@ pub list_is : (now : ℕ) (heard : List (List ℕ)) (old : Session) (rows : List
 list_is now heard old rows new valid answers =
     let done = list_done now heard old rows new answers in (
       subst (λ (rs : List ListRow). IsListed rs old.store)
-          (sym (listed_one rows (map (list_row (shape_of old.store)) old.store.apps) done.0))
+          (sym (listed_one rows (map (list_row (shape_of old)) old.store.apps) done.0))
           (listed_is old.store valid.ordered.order),
       done.1,
     )
@@ -119,8 +119,8 @@ show_done : (now : ℕ) (heard : List (List ℕ)) (old : Session) (key : Key) (r
     → ShowEffect key old (says.Shown row) new
 show_done now heard old key row new (inl (inl memory)) = absurd (memory_shown row (sym memory.0))
 show_done now heard old key row new (inl (inr refused)) =
-    absurd (given_reply IsNoRow (show_refusals key (shape_of old.store)) old (says.Shown row) new
-    (no_row key (shape_of old.store)) refused.1 row refl)
+    absurd (given_reply IsNoRow (show_refusals key (shape_of old)) old (says.Shown row) new
+    (no_row key (shape_of old)) refused.1 row refl)
 show_done now heard old key row new (inr done) = done.1
 
 entries : (o : Option View)
@@ -144,12 +144,12 @@ module _ (key : Key) (store : Store) (app : AppState) (is_key : IsKey key) (vali
       let is = all_in (IsApp store.views) store.apps app valid.ordered.apps of.0 in
       equal_keys app.key key is.key (short_key is_key) of.1
 
-  shown_is : IsShown key (show_row (shape_of store) app) store
+  shown_is : IsShown key (show_row (shape_of (session_over store)) app) store
   shown_is = record {
     own = own_key;
-    current = part_of (λ e. numbered_version (number e) (shape_of store));
+    current = part_of (λ e. numbered_version (number e) (shape_of (session_over store)));
     previous = part_of (λ e. numbered_version (option_and_then (λ (a : AppState). a.previous) e)
-        (shape_of store));
+        (shape_of (session_over store)));
     minimum = part_of (λ e. option_and_then (λ (a : AppState). a.minimum) e);
     offer = part_of (λ e. option_and_then (λ (a : AppState). a.offer) e);
     skipped = part_of (λ e. option_map (λ (a : AppState). a.skipped) e);
@@ -171,7 +171,7 @@ pub show_is : (now : ℕ) (heard : List (List ℕ)) (old : Session) (key : Key) 
 show_is now heard old key row new is_key valid answers =
     let done = show_done now heard old key row new answers in (
       subst (λ (r : ShowRow). IsShown key r old.store)
-          (sym (shown_one row (show_row (shape_of old.store) done.app) done.replied))
+          (sym (shown_one row (show_row (shape_of old) done.app) done.replied))
           (shown_is key old.store done.app is_key valid done.known),
       done.is,
     )

@@ -79,7 +79,7 @@ module _ (now : ℕ) (heard : List (List ℕ)) (lease : ℕ) (name : List ℕ) (
 
     module _ (lives : lease_of lease old.store.leases ≡ None → ⊥) (view : View)
         (leased : leased_view lease old.store ≡ Some view)
-        (bare : leased_bare lease (shape_of old.store) ≡ Some (bare_view view)) where
+        (bare : leased_bare lease (shape_of old) ≡ Some (bare_view view)) where
       by_file : (file : Option DataFile) → data_named name view.data_files ≡ file
           → IsAnswered now heard old (Local lease name from count)
       by_file None none = record {
@@ -87,7 +87,7 @@ module _ (now : ℕ) (heard : List (List ℕ)) (lease : ℕ) (name : List ℕ) (
         new = old;
         answers = inl (inr (
           tt,
-          inr (lives, inl ((lacks lease name (shape_of old.store) view bare none, refl), refl)),
+          inr (lives, inl ((lacks lease name (shape_of old) view bare none, refl), refl)),
         ));
         other = no_file_is_other;
       }
@@ -95,7 +95,7 @@ module _ (now : ℕ) (heard : List (List ℕ)) (lease : ℕ) (name : List ℕ) (
         reply = says.Read (length file.bytes) (part from count file.bytes);
         new = old;
         answers = inr (
-          (tt, (lives, (has lease name (shape_of old.store) view bare file is, tt))),
+          (tt, (lives, (has lease name (shape_of old) view bare file is, tt))),
           record {
             view = view;
             leased = leased;
@@ -120,8 +120,8 @@ module _ (now : ℕ) (heard : List (List ℕ)) (lease : ℕ) (name : List ℕ) (
   pub local_facts : RowFacts now heard (Local lease name from count)
   local_facts = record {
     refused = λ old reply new given.
-        kept_unchanged (Local lease name from count) (local_refusals lease name (shape_of old.store))
-        old reply new (local_unchanged lease name (shape_of old.store)) given;
+        kept_unchanged (Local lease name from count) (local_refusals lease name (shape_of old))
+        old reply new (local_unchanged lease name (shape_of old)) given;
     set_none = λ shape. local_none lease name shape;
     acts = λ old reply new done.
         acts_not (Local lease name from count) old reply new done.is
@@ -132,7 +132,7 @@ module _ (now : ℕ) (heard : List (List ℕ)) (lease : ℕ) (name : List ℕ) (
         (sym done.is) valid;
     sound = λ old reply new is few passes done sound. subst (λ (s : Session). Sound s.store)
         (sym done.is) sound;
-    views = λ old reply new at with_texts none done. inl
+    views = λ old reply new at with_texts none valid passes done. inl
         (ap (λ (s : Session). s.store.views) done.is);
     answered = λ old valid none. by_lease old (lease_of lease old.store.leases) refl valid.ordered;
   }

@@ -5,7 +5,7 @@ use Rattle.identity.specs.declared.version.Version.{Version}
 use Rattle.machine.specs.Current.{view_at}
 use Rattle.machine.specs.Previous.{numbered_bare, numbered_version}
 use Rattle.machine.specs.Shape.{BareView, bare_view, shape_of}
-use Rattle.machine.specs.Store.{Store}
+use Rattle.machine.specs.Store.{Store, session_over}
 use Rattle.machine.specs.Views.{View, version_of}
 use Rattle.machine.proofs.Bringing.{bare_then}
 use Rattle.machine.proofs.Finding.{map_value, then_value}
@@ -18,7 +18,7 @@ module _ (store : Store) where
   numbered_view number = option_and_then (λ (n : ℕ). view_at n store.views) number
 
   pub bare_numbered : (number : Option ℕ)
-      → numbered_bare number (shape_of store)
+      → numbered_bare number (shape_of (session_over store))
       ≡ option_map bare_view (option_and_then (λ (n : ℕ). view_at n store.views) number)
   bare_numbered number = bare_then number store.views
 
@@ -29,7 +29,7 @@ module _ (store : Store) where
   versions (Some view) = refl
 
   pub version_numbered : (number : Option ℕ)
-      → numbered_version number (shape_of store)
+      → numbered_version number (shape_of (session_over store))
       ≡ option_map version_of (option_and_then (λ (n : ℕ). view_at n store.views) number)
   version_numbered number =
       ap (option_map (λ (v : BareView). v.deployment.identity.version)) (bare_numbered number)
@@ -37,7 +37,7 @@ module _ (store : Store) where
 
   -- the view that has the version
   pub version_by : (number : Option ℕ) (version : Version)
-      → numbered_version number (shape_of store) ≡ Some version
+      → numbered_version number (shape_of (session_over store)) ≡ Some version
       → (view : View) × (option_and_then (λ (n : ℕ). view_at n store.views) number ≡ Some view)
       × (version_of view ≡ version)
   version_by number version is =

@@ -6,6 +6,7 @@ use Rattle.std.proofs.lemmas.Option.{none-some, same_Some}
 use Rattle.small_types.specs.declared.limit.Limit.TheVariants.{Locals}
 use Rattle.small_types.specs.declared.limits.TheConstants.{LOCAL_COUNT_LIMIT, LOCAL_NAME_LIMIT}
 use Rattle.small_types.specs.Name.{IsName}
+use Rattle.manifests.specs.declared.facts.FileEntry.{FileEntry}
 use Rattle.manifests.specs.Applications.{is_below_pre}
 use Rattle.machine.specs.declared.command.Command.TheVariants.{Put}
 use Rattle.machine.specs.declared.lease.Lease.{Lease}
@@ -22,19 +23,20 @@ use Rattle.machine.specs.Shape.{BareData, BareView, Shape, bare_data, bare_view,
 use Rattle.machine.specs.Sound.{Sound}
 use Rattle.machine.specs.Store.{Session, Store}
 use Rattle.machine.specs.Valid.{IsDataFile, IsView, Ordered, Valid}
-use Rattle.machine.specs.Views.{DataFile, View}
+use Rattle.machine.specs.Views.{DataFile, ListedFile, View}
 use Rattle.machine.proofs.Choosing.{AllGive, exactly-exact, exactly_with-exact}
-use Rattle.machine.proofs.DataViews.{changed_keeps, changed_ordered, changed_sound, room_with, weight}
+use Rattle.machine.proofs.CountedBlocks.{counted_more}
+use Rattle.machine.proofs.DataViews.{changed_keeps, changed_ordered, changed_sound, data_with, room_with, same_programs, same_standing, weight}
 use Rattle.machine.proofs.Finding.{some_there}
 use Rattle.machine.proofs.GroupStands.{leased_number}
 use Rattle.machine.proofs.Leased.{leased_bare_kept, leased_shape, leased_valid}
 use Rattle.machine.proofs.LocalFacts.{bare_found}
-use Rattle.machine.proofs.Members.{sum_map}
+use Rattle.machine.proofs.Members.{In, sum_map}
 use Rattle.machine.proofs.Moments.{SetsNone}
 use Rattle.machine.proofs.Names.{below_from, test_outside}
 use Rattle.machine.proofs.NamedItems.{all_with_named, order-with_named, sum-with_known, sum-with_named}
 use Rattle.machine.proofs.OtherReplies.{full_is_other, no_lease_is_other}
-use Rattle.machine.proofs.RowFacts.{Acts, RowFacts, acts_on, kept_unchanged, rises_as}
+use Rattle.machine.proofs.RowFacts.{Acts, RowFacts, TakesMore, acts_on, kept_unchanged, rises_as}
 
 -- ---- replies
 
@@ -128,16 +130,43 @@ module _ (file : DataFile) (view : View) (is : IsView view) (fits : IsDataFile f
     few_data = few_then (data_named file.name view.data_files) refl;
   }
 
+-- ---- blocks
+
+module _ (lease : ℕ) (name bytes : List ℕ) (old : Session)
+    (passes : PassesAll (put_refusals lease name bytes (shape_of old))) where
+  has_room : blocks_of (length bytes) ≤ free_blocks (shape_of old)
+  has_room = by (cases_lt (free_blocks (shape_of old)) (blocks_of (length bytes)))
+    where
+      by : (free_blocks (shape_of old) < blocks_of (length bytes))
+          ⊎ (blocks_of (length bytes) ≤ free_blocks (shape_of old))
+          → blocks_of (length bytes) ≤ free_blocks (shape_of old)
+      by (inl less) = absurd (passes.1.1.1.0 (blocks_of (length bytes)) (refl, less))
+      by (inr le) = le
+
+put_takes : (number : ℕ) (name bytes : List ℕ) (old : Store) → Ordered old
+    → TakesMore (blocks_of (length bytes)) old
+    (put_in number (record { name = name; bytes = bytes }) old)
+put_takes number name bytes old was =
+    let file : DataFile = record { name = name; bytes = bytes } in
+    record {
+      programs = λ f there. subst (λ (fs : List ListedFile). In f fs)
+          (same_programs number (among file) old) there;
+      standing = λ entry there. subst (λ (es : List FileEntry). In entry es)
+          (same_standing number (among file) old) there;
+      data_blocks = data_with number (among file) old (blocks_of (length bytes))
+          (λ files. sum-with_named data_name file weight files) was;
+    }
+
 -- ---- its effect
 
-module _ (lease : ℕ) (name bytes : List ℕ) (old : Store) (is_name : IsName name)
+module _ (lease : ℕ) (name bytes : List ℕ) (old : Session) (is_name : IsName name)
     (passes : PassesAll (put_refusals lease name bytes (shape_of old))) (view : View)
-    (leased : leased_view lease old ≡ Some view) where
+    (leased : leased_view lease old.store ≡ Some view) where
   abbrev file : DataFile
   file = record { name = name; bytes = bytes }
 
   bare : leased_bare lease (shape_of old) ≡ Some (bare_view view)
-  bare = leased_shape lease old ∙ ap (option_map bare_view) leased
+  bare = leased_shape lease old.store ∙ ap (option_map bare_view) leased
 
   short : length name ≤ LOCAL_NAME_LIMIT
   short = by (cases_lt LOCAL_NAME_LIMIT (length name))
@@ -163,33 +192,26 @@ module _ (lease : ℕ) (name bytes : List ℕ) (old : Store) (is_name : IsName n
             many,
           ))
 
-  has_room : blocks_of (length bytes) ≤ free_blocks (shape_of old)
-  has_room = by (cases_lt (free_blocks (shape_of old)) (blocks_of (length bytes)))
-    where
-      by : (free_blocks (shape_of old) < blocks_of (length bytes))
-          ⊎ (blocks_of (length bytes) ≤ free_blocks (shape_of old))
-          → blocks_of (length bytes) ≤ free_blocks (shape_of old)
-      by (inl less) = absurd (passes.1.1.1.0 (blocks_of (length bytes)) (refl, less))
-      by (inr le) = le
-
-  view_with : Ordered old → IsView (with_data file view)
+  view_with : Ordered old.store → IsView (with_data file view)
   view_with was =
-      with_is file view (leased_valid lease old view was leased)
+      with_is file view (leased_valid lease old.store view was leased)
       (record { name = is_name; short = λ outside. short }) few
 
-  pub put_valid : Valid old → Valid (put_in view.number file old)
+  pub put_valid : Valid old.store → Valid (put_in view.number file old.store)
   put_valid valid = record {
-    ordered = changed_ordered view.number (among file) old view
-        (leased_number lease old view leased) (view_with valid.ordered) valid.ordered;
+    ordered = changed_ordered view.number (among file) old.store view
+        (leased_number lease old.store view leased) (view_with valid.ordered) valid.ordered;
     room = (let room = valid.room in
-        let more = room_with view.number (among file) old (blocks_of (length bytes))
+        let more = room_with view.number (among file) old.store (blocks_of (length bytes))
         (λ files. sum-with_named data_name file weight files) valid.ordered in
-        omega (arith, room, more, has_room));
+        let counted = counted_more (shape_of old).views (shape_of old).jobs in
+        omega (arith, room, more, has_room lease name bytes old passes, counted));
   }
 
-  pub put_sound : Sound old → Sound (put_in view.number file old)
+  pub put_sound : Sound old.store → Sound (put_in view.number file old.store)
   put_sound sound =
-      changed_sound view.number (among file) old view (leased_number lease old view leased)
+      changed_sound view.number (among file) old.store view
+      (leased_number lease old.store view leased)
       (view_with sound.valid.ordered) (put_valid sound.valid) sound
 
 put_acts : (lease : ℕ) (name bytes : List ℕ) (old : Session) (reply : Reply) (new : Session)
@@ -220,7 +242,7 @@ bad_or_good name = by (is_below_pre name) refl (cases_lt LOCAL_NAME_LIMIT (lengt
 
 module _ (now : ℕ) (heard : List (List ℕ)) (lease : ℕ) (name bytes : List ℕ) (old : Session) where
   abbrev shape : Shape
-  shape = shape_of old.store
+  shape = shape_of old
 
   no_lease : lease_of lease old.store.leases ≡ None
       → IsAnswered now heard old (Put lease name bytes)
@@ -233,7 +255,7 @@ module _ (now : ℕ) (heard : List (List ℕ)) (lease : ℕ) (name bytes : List 
 
   module _ (lives : lease_of lease old.store.leases ≡ None → ⊥) (view : View)
       (leased : leased_view lease old.store ≡ Some view)
-      (bare : leased_bare lease (shape_of old.store) ≡ Some (bare_view view)) where
+      (bare : leased_bare lease (shape_of old) ≡ Some (bare_view view)) where
     bad : IsBadName name → IsAnswered now heard old (Put lease name bytes)
     bad is = record {
       reply = says.BadName;
@@ -243,7 +265,7 @@ module _ (now : ℕ) (heard : List (List ℕ)) (lease : ℕ) (name bytes : List 
     }
 
     module _ (good : IsBadName name → ⊥) where
-      too_many : IsOneTooMany lease name (shape_of old.store)
+      too_many : IsOneTooMany lease name (shape_of old)
           → IsAnswered now heard old (Put lease name bytes)
       too_many many = record {
         reply = says.TooMany Locals LOCAL_COUNT_LIMIT;
@@ -252,12 +274,12 @@ module _ (now : ℕ) (heard : List (List ℕ)) (lease : ℕ) (name bytes : List 
         other = too_many_is_other;
       }
 
-      module _ (few : IsOneTooMany lease name (shape_of old.store) → ⊥) where
-        by_room : (free_blocks (shape_of old.store) < blocks_of (length bytes))
-            ⊎ (blocks_of (length bytes) ≤ free_blocks (shape_of old.store))
+      module _ (few : IsOneTooMany lease name (shape_of old) → ⊥) where
+        by_room : (free_blocks (shape_of old) < blocks_of (length bytes))
+            ⊎ (blocks_of (length bytes) ≤ free_blocks (shape_of old))
             → IsAnswered now heard old (Put lease name bytes)
         by_room (inl less) = record {
-          reply = says.Full (blocks_of (length bytes)) (free_blocks (shape_of old.store));
+          reply = says.Full (blocks_of (length bytes)) (free_blocks (shape_of old));
           new = old;
           answers = inl (inr (
             tt,
@@ -269,7 +291,7 @@ module _ (now : ℕ) (heard : List (List ℕ)) (lease : ℕ) (name bytes : List 
               ),
             ),
           ));
-          other = full_is_other (blocks_of (length bytes)) (free_blocks (shape_of old.store));
+          other = full_is_other (blocks_of (length bytes)) (free_blocks (shape_of old));
         }
         by_room (inr room) = record {
           reply = says.Put;
@@ -284,7 +306,7 @@ module _ (now : ℕ) (heard : List (List ℕ)) (lease : ℕ) (name bytes : List 
         }
           where
             fits : (need : ℕ)
-                → (need ≡ blocks_of (length bytes)) × (free_blocks (shape_of old.store) < need) → ⊥
+                → (need ≡ blocks_of (length bytes)) × (free_blocks (shape_of old) < need) → ⊥
             fits need over =
                 let same = over.0 in let less = over.1 in absurd (omega (arith, same, less, room))
 
@@ -305,14 +327,14 @@ module _ (now : ℕ) (heard : List (List ℕ)) (lease : ℕ) (name bytes : List 
           let count = ap (λ (v : BareView). outside_count v.data_files) same in
           let many = over.3 in
           absurd (omega (arith, less, count, many)))
-          (cases_lt (free_blocks (shape_of old.store)) (blocks_of (length bytes)))
+          (cases_lt (free_blocks (shape_of old)) (blocks_of (length bytes)))
       by_file (Some file) is size =
           by_room (λ over.
           let same = same_Some over.0 (bare_view view) (sym over.1 ∙ bare) in
           none-some (bare_data file)
           (sym (subst (λ (v : BareView). bare_data_named name v.data_files ≡ None) same over.2)
           ∙ bare_found name view.data_files ∙ ap (option_map bare_data) is))
-          (cases_lt (free_blocks (shape_of old.store)) (blocks_of (length bytes)))
+          (cases_lt (free_blocks (shape_of old)) (blocks_of (length bytes)))
 
     by_name : IsBadName name ⊎ (IsBadName name → ⊥)
         → IsAnswered now heard old (Put lease name bytes)
@@ -335,17 +357,22 @@ pub put_facts : (now : ℕ) (heard : List (List ℕ)) (lease : ℕ) (name bytes 
     → RowFacts now heard (Put lease name bytes)
 put_facts now heard lease name bytes = record {
   refused = λ old reply new given.
-      kept_unchanged (Put lease name bytes) (put_refusals lease name bytes (shape_of old.store)) old
-      reply new (put_unchanged lease name bytes (shape_of old.store)) given;
+      kept_unchanged (Put lease name bytes) (put_refusals lease name bytes (shape_of old)) old
+      reply new (put_unchanged lease name bytes (shape_of old)) given;
   set_none = λ shape. put_none lease name bytes shape;
   acts = put_acts lease name bytes;
   valid = λ old reply new is few passes done valid. subst (λ (s : Session). Valid s.store)
       (sym done.is)
-      (put_valid lease name bytes old.store is.1 passes done.view done.leased valid);
+      (put_valid lease name bytes old is.1 passes done.view done.leased valid);
   sound = λ old reply new is few passes done sound. subst (λ (s : Session). Sound s.store)
       (sym done.is)
-      (put_sound lease name bytes old.store is.1 passes done.view done.leased sound);
-  views = λ old reply new at with_texts none done. inr (inr none);
+      (put_sound lease name bytes old is.1 passes done.view done.leased sound);
+  views = λ old reply new at with_texts none valid passes done. inr (inl (
+    blocks_of (length bytes),
+    has_room lease name bytes old passes,
+    subst (λ (s : Session). TakesMore (blocks_of (length bytes)) old.store s.store) (sym done.is)
+        (put_takes done.view.number name bytes old.store valid.ordered),
+  ));
   answered = λ old valid none.
       by_lease now heard lease name bytes old (lease_of lease old.store.leases) refl valid.ordered;
 }

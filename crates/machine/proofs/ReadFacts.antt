@@ -58,7 +58,7 @@ module _ (now : ℕ) (heard : List (List ℕ)) (lease : ℕ) (name : List ℕ) (
 
     module _ (lives : lease_of lease old.store.leases ≡ None → ⊥) (view : View)
         (leased : leased_view lease old.store ≡ Some view)
-        (bare : leased_bare lease (shape_of old.store) ≡ Some (bare_view view))
+        (bare : leased_bare lease (shape_of old) ≡ Some (bare_view view))
         (named : entry_named name (standing_entries view.groups view.application)
         ≡ option_map (λ (file : ListedFile). file.entry) (file_named name view.program_files)) where
       by_file : (file : Option ListedFile) → file_named name view.program_files ≡ file
@@ -72,7 +72,7 @@ module _ (now : ℕ) (heard : List (List ℕ)) (lease : ℕ) (name : List ℕ) (
             lives,
             inl (
               (
-                lacks lease name (shape_of old.store) (bare_view view) bare
+                lacks lease name (shape_of old) (bare_view view) bare
                     (named ∙ ap (option_map (λ (file : ListedFile). file.entry)) none),
                 refl,
               ),
@@ -91,7 +91,7 @@ module _ (now : ℕ) (heard : List (List ℕ)) (lease : ℕ) (name : List ℕ) (
             (
               lives,
               (
-                has lease name (shape_of old.store) (bare_view view) bare file.entry
+                has lease name (shape_of old) (bare_view view) bare file.entry
                     (named ∙ ap (option_map (λ (file : ListedFile). file.entry)) is),
                 tt,
               ),
@@ -122,7 +122,7 @@ module _ (now : ℕ) (heard : List (List ℕ)) (lease : ℕ) (name : List ℕ) (
   pub read_facts : RowFacts now heard (Read lease name from count)
   read_facts = record {
     refused = λ old reply new given.
-        kept_unchanged (Read lease name from count) (read_refusals lease name (shape_of old.store))
+        kept_unchanged (Read lease name from count) (read_refusals lease name (shape_of old))
         old reply new ((λ s. refl), ((λ s. refl), tt)) given;
     set_none = λ shape. (
       (λ reply given. ap (λ (r : Reply). moment_set (Some r)) given.1),
@@ -137,7 +137,7 @@ module _ (now : ℕ) (heard : List (List ℕ)) (lease : ℕ) (name : List ℕ) (
         (sym done.is) valid;
     sound = λ old reply new is few passes done sound. subst (λ (s : Session). Sound s.store)
         (sym done.is) sound;
-    views = λ old reply new at with_texts none done. inl
+    views = λ old reply new at with_texts none valid passes done. inl
         (ap (λ (s : Session). s.store.views) done.is);
     answered = λ old valid none. by_lease old (lease_of lease old.store.leases) refl valid.ordered;
   }

@@ -14,7 +14,7 @@ use Rattle.machine.proofs.RowFacts.{Kept, kept_same}
 pub kept_or_effect : (now : ℕ) (heard : List (List ℕ)) (old : Session) (command : Command)
     (reply : Reply) (new : Session) → Answers now heard old command reply new
     → Kept command old reply new
-    ⊎ (PassesAll (refusals now heard (shape_of old.store) command)
+    ⊎ (PassesAll (refusals now heard (shape_of old) command)
     × effect now heard command old reply new)
 kept_or_effect now heard old command reply new (inl (inl memory)) =
     inl (kept_same command old reply new memory.1)
@@ -28,7 +28,7 @@ memory_unchanged now heard old command new answers =
     only (kept_or_effect now heard old command says.Memory new answers)
   where
     only : Kept command old says.Memory new
-        ⊎ (PassesAll (refusals now heard (shape_of old.store) command)
+        ⊎ (PassesAll (refusals now heard (shape_of old) command)
         × effect now heard command old says.Memory new) → new ≡ old
     only (inl kept) = kept.memory refl
     only (inr done) = absurd (((facts now heard command).acts old says.Memory new done.1).other refl)

@@ -26,7 +26,7 @@ use Rattle.machine.proofs.LocalFacts.{has, lacks, local_none, local_unchanged}
 use Rattle.machine.proofs.Members.{In}
 use Rattle.machine.proofs.NamedItems.{all_without_named, order-without_named, sum-without_named}
 use Rattle.machine.proofs.OtherReplies.{no_file_is_other, no_lease_is_other}
-use Rattle.machine.proofs.RowFacts.{Acts, RowFacts, Shrinks, acts_on, kept_unchanged, rises_as}
+use Rattle.machine.proofs.RowFacts.{Acts, RowFacts, TakesMore, acts_on, kept_unchanged, rises_as}
 
 removed_is_other : says.Removed ≢ says.Memory
 removed_is_other e = cc
@@ -78,14 +78,14 @@ module _ (lease : ℕ) (name : List ℕ) (old : Store) (view : View)
       (without_is name view (leased_valid lease old view sound.valid.ordered leased))
       (removed_valid sound.valid) sound
 
-removed_shrinks : (number : ℕ) (name : List ℕ) (old : Store)
-    → Shrinks old (removed_in number name old)
-removed_shrinks number name old = record {
+removed_takes : (number : ℕ) (name : List ℕ) (old : Store)
+    → TakesMore 0 old (removed_in number name old)
+removed_takes number name old = record {
   programs = λ file there. subst (λ (fs : List ListedFile). In file fs)
       (same_programs number (rest name) old) there;
   standing = λ entry there. subst (λ (es : List FileEntry). In entry es)
       (same_standing number (rest name) old) there;
-  data_blocks = no_more number (rest name) old (no_heavier name);
+  data_blocks = omega (arith, no_more number (rest name) old (no_heavier name));
 }
 
 -- ---- the row
@@ -102,7 +102,7 @@ module _ (now : ℕ) (heard : List (List ℕ)) (lease : ℕ) (name : List ℕ) w
 
     module _ (lives : lease_of lease old.store.leases ≡ None → ⊥) (view : View)
         (leased : leased_view lease old.store ≡ Some view)
-        (bare : leased_bare lease (shape_of old.store) ≡ Some (bare_view view)) where
+        (bare : leased_bare lease (shape_of old) ≡ Some (bare_view view)) where
       by_file : (file : Option DataFile) → data_named name view.data_files ≡ file
           → IsAnswered now heard old (Remove lease name)
       by_file None none = record {
@@ -110,7 +110,7 @@ module _ (now : ℕ) (heard : List (List ℕ)) (lease : ℕ) (name : List ℕ) w
         new = old;
         answers = inl (inr (
           tt,
-          inr (lives, inl ((lacks lease name (shape_of old.store) view bare none, refl), refl)),
+          inr (lives, inl ((lacks lease name (shape_of old) view bare none, refl), refl)),
         ));
         other = no_file_is_other;
       }
@@ -118,7 +118,7 @@ module _ (now : ℕ) (heard : List (List ℕ)) (lease : ℕ) (name : List ℕ) w
         reply = says.Removed;
         new = record old { store = removed_in view.number name old.store };
         answers = inr (
-          (tt, (lives, (has lease name (shape_of old.store) view bare file is, tt))),
+          (tt, (lives, (has lease name (shape_of old) view bare file is, tt))),
           record { view = view; leased = leased; replied = refl; is = refl },
         );
         other = removed_is_other;
@@ -145,16 +145,19 @@ module _ (now : ℕ) (heard : List (List ℕ)) (lease : ℕ) (name : List ℕ) w
   pub remove_facts : RowFacts now heard (Remove lease name)
   remove_facts = record {
     refused = λ old reply new given.
-        kept_unchanged (Remove lease name) (remove_refusals lease name (shape_of old.store))
-        old reply new (local_unchanged lease name (shape_of old.store)) given;
+        kept_unchanged (Remove lease name) (remove_refusals lease name (shape_of old))
+        old reply new (local_unchanged lease name (shape_of old)) given;
     set_none = λ shape. local_none lease name shape;
     acts = remove_acts;
     valid = λ old reply new is few passes done valid. subst (λ (s : Session). Valid s.store)
         (sym done.is) (removed_valid lease name old.store done.view done.leased valid);
     sound = λ old reply new is few passes done sound. subst (λ (s : Session). Sound s.store)
         (sym done.is) (removed_sound lease name old.store done.view done.leased sound);
-    views = λ old reply new at with_texts none done. inr (inl
-        (subst (λ (s : Session). Shrinks old.store s.store) (sym done.is)
-        (removed_shrinks done.view.number name old.store)));
+    views = λ old reply new at with_texts none valid passes done. inr (inl (
+      0,
+      omega arith,
+      subst (λ (s : Session). TakesMore 0 old.store s.store) (sym done.is)
+          (removed_takes done.view.number name old.store),
+    ));
     answered = λ old valid none. by_lease old (lease_of lease old.store.leases) refl valid.ordered;
   }

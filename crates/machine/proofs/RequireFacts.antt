@@ -72,7 +72,7 @@ module _ (now : ℕ) (heard : List (List ℕ)) (key : Key) (version : Version) w
   pub require_facts : RowFacts now heard (Require key version)
   require_facts = record {
     refused = λ old reply new given.
-        kept_unchanged (Require key version) (require_refusals key (shape_of old.store)) old reply
+        kept_unchanged (Require key version) (require_refusals key (shape_of old)) old reply
         new ((λ s. refl), tt) given;
     set_none = λ shape. ((λ reply given. ap (λ (r : Reply). moment_set (Some r)) given.1), tt);
     acts = λ old reply new done.
@@ -96,7 +96,7 @@ module _ (now : ℕ) (heard : List (List ℕ)) (key : Key) (version : Version) w
         same_views_sound old.store new.store (ap (λ (s : Session). s.store.views) done.1)
         (subst (λ (s : Session). Valid s.store) (sym done.1)
         (required_valid key version old.store (short_key is.0) is.1 passes.0 sound.valid)) sound;
-    views = λ old reply new at with_texts none done. inl
+    views = λ old reply new at with_texts none valid passes done. inl
         (ap (λ (s : Session). s.store.views) done.1);
     answered = λ old valid none. by_entry old (entry_of key old.store.apps) refl;
   }

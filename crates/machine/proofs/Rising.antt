@@ -25,7 +25,7 @@ step_holds key minimum now old (Line command at heard) reply new step is =
     by (kept_or_effect now heard.texts old command step.answer new step.answers)
   where
     by : Kept command old step.answer new
-        ⊎ (PassesAll (refusals now heard.texts (shape_of old.store) command)
+        ⊎ (PassesAll (refusals now heard.texts (shape_of old) command)
         × effect now heard.texts command old step.answer new)
         → Holds minimum (minimum_of key new.store.apps)
     by (inl kept) = kept.minimums key minimum is

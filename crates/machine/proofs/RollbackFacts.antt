@@ -22,7 +22,7 @@ use Rattle.machine.specs.Previous.{numbered_version, previous_of, previous_versi
 use Rattle.machine.specs.RollbackRow.{IsPreviousBelow, RollbackEffect, rollback_refusals, rolled_back, rolled_back_app}
 use Rattle.machine.specs.Rows.{AreExact, ChangeNothing}
 use Rattle.machine.specs.Shape.{Shape, shape_of}
-use Rattle.machine.specs.Store.{Session, Store}
+use Rattle.machine.specs.Store.{Session, Store, session_over}
 use Rattle.machine.specs.Valid.{IsApp, IsView, Ordered, Valid}
 use Rattle.machine.specs.Views.{View, version_of}
 use Rattle.machine.proofs.Changing.{same_part}
@@ -105,7 +105,7 @@ back_is_app views have is_version app is = record {
 
 -- a version that is current is one of a view that is kept
 have_version : (key : Key) (store : Store) (have : Version) → Ordered store
-    → current_version key (shape_of store) ≡ Some have → IsVersion have
+    → current_version key (shape_of (session_over store)) ≡ Some have → IsVersion have
 have_version key store have was is =
     let by = version_by store (current_of key store.apps) have is in
     let known = numbered_in store (current_of key store.apps) by.0 by.1 in
@@ -114,7 +114,7 @@ have_version key store have was is =
 
 -- one that is previous has an entry that names its view
 pub previous_by : (key : Key) (store : Store) (version : Version)
-    → previous_version key (shape_of store) ≡ Some version
+    → previous_version key (shape_of (session_over store)) ≡ Some version
     → (number : ℕ) × (app : AppState) × (entry_of key store.apps ≡ Some app)
     × (app.previous ≡ Some number)
 previous_by key store version is =
@@ -152,7 +152,7 @@ module _ (now : ℕ) (heard : List (List ℕ)) (key : Key) where
 
   module _ (old : Session) where
     abbrev shape : Shape
-    shape = shape_of old.store
+    shape = shape_of old
 
     not_installed : current_of key old.store.apps ≡ None → IsAnswered now heard old (Rollback key)
     not_installed none = record {
@@ -263,15 +263,15 @@ module _ (now : ℕ) (heard : List (List ℕ)) (key : Key) where
   pub rollback_facts : RowFacts now heard (Rollback key)
   rollback_facts = record {
     refused = λ old reply new given.
-        kept_unchanged (Rollback key) (rollback_refusals key (shape_of old.store)) old reply new
-        (rollback_unchanged key (shape_of old.store)) given;
+        kept_unchanged (Rollback key) (rollback_refusals key (shape_of old)) old reply new
+        (rollback_unchanged key (shape_of old)) given;
     set_none = λ shape. rollback_none key shape;
     acts = rollback_acts;
     valid = λ old reply new is few passes done valid. left_valid old reply new is done valid;
     sound = λ old reply new is few passes done sound.
         same_views_sound old.store new.store (ap (λ (s : Session). s.store.views) done.is)
         (left_valid old reply new is done sound.valid) sound;
-    views = λ old reply new at with_texts none done. inl
+    views = λ old reply new at with_texts none valid passes done. inl
         (ap (λ (s : Session). s.store.views) done.is);
     answered = λ old valid none. by_current old (current_of key old.store.apps) refl valid.ordered;
   }

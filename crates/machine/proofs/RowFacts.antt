@@ -1,5 +1,5 @@
 -- What is shown of each row of the machine, so that each law is shown of all rows at once.
-use Rattle.std.proofs.Common.{◌≡◌, ◌≢◌, ◌∙◌, ◌⊎◌, ◌≤◌, refl, sym, subst, ℕ, List, [], map, Option, Some, None}
+use Rattle.std.proofs.Common.{◌≡◌, ◌≢◌, ◌∙◌, ◌⊎◌, ◌+◌, ◌≤◌, refl, sym, subst, ℕ, List, [], map, Option, Some, None}
 use Rattle.std.specs.Prelude.{flat_map, sum_by}
 use Rattle.small_types.specs.declared.limits.TheConstants.{NUMBER_LIMIT}
 use Rattle.identity.specs.declared.key.Key.{Key}
@@ -12,7 +12,7 @@ use Rattle.machine.specs.declared.event.Event.TheVariants.{Line}
 use Rattle.machine.specs.declared.event.Heard.{Heard}
 use Rattle.machine.specs.declared.reply.Reply.{Reply}
 use Rattle.machine.specs.declared.reply.Reply.TheVariants as says
-use Rattle.machine.specs.Blocks.{blocks_of, standing_files}
+use Rattle.machine.specs.Blocks.{blocks_of, free_blocks, standing_files}
 use Rattle.machine.specs.Laws.{FetchesWithoutJobs, IsAnswered, IsAnswerable}
 use Rattle.machine.specs.Machine.{effect, moment_set, refusals}
 use Rattle.machine.specs.Minimums.{minimum_of}
@@ -127,37 +127,43 @@ kept_unchanged command refusals old reply new same refused =
 
 -- ---- a row
 
--- the program files of all views are among those that were, and data files take no more blocks
-pub record Shrinks (old new : Store) : Type 0 where
+-- the program files of all views are among those that were, and data files take so many blocks more
+-- at most
+pub record TakesMore (more : ℕ) (old new : Store) : Type 0 where
   pub programs : (file : ListedFile) → In file (program_files_of new) → In file (program_files_of old)
   pub standing : (entry : FileEntry) → In entry (standing_files (map bare_view new.views))
       → In entry (standing_files (map bare_view old.views))
   pub data_blocks : sum_by (λ (file : BareData). blocks_of file.length)
       (flat_map (λ (view : BareView). view.data_files) (map bare_view new.views))
-      ≤ sum_by (λ (file : BareData). blocks_of file.length)
+      ≤ more + sum_by (λ (file : BareData). blocks_of file.length)
       (flat_map (λ (view : BareView). view.data_files) (map bare_view old.views))
 
+-- data files take free blocks alone
+abbrev pub TakesFree : Session → Store → Type 0
+TakesFree old new = (more : ℕ) × (more ≤ free_blocks (shape_of old)) × TakesMore more old.store new
+
 -- Its refusals keep a store and set no moment. Its effect acts so, and keeps a store valid and
--- sound. It leaves the views, or takes no more of them, or there is no open job. And there is an
--- answer.
+-- sound. It leaves the views, or brings no program file and takes free blocks alone, or there is no
+-- open job. And there is an answer.
 pub record RowFacts (now : ℕ) (heard : List (List ℕ)) (command : Command) : Type 0 where
   pub refused : (old : Session) (reply : Reply) (new : Session)
-      → Refuses (refusals now heard (shape_of old.store) command) old reply new
+      → Refuses (refusals now heard (shape_of old) command) old reply new
       → Kept command old reply new
   pub set_none : (shape : Shape) → AllGive SetsNone (refusals now heard shape command)
   pub acts : (old : Session) (reply : Reply) (new : Session)
       → effect now heard command old reply new → Acts command old reply new
   pub valid : (old : Session) (reply : Reply) (new : Session) → IsCommand command
       → now ≤ NUMBER_LIMIT
-      → PassesAll (refusals now heard (shape_of old.store) command)
+      → PassesAll (refusals now heard (shape_of old) command)
       → effect now heard command old reply new → Valid old.store → Valid new.store
   pub sound : (old : Session) (reply : Reply) (new : Session) → IsCommand command
       → now ≤ NUMBER_LIMIT
-      → PassesAll (refusals now heard (shape_of old.store) command)
+      → PassesAll (refusals now heard (shape_of old) command)
       → effect now heard command old reply new → Sound old.store → Sound new.store
   pub views : (old : Session) (reply : Reply) (new : Session) (at : ℕ) (with_texts : Heard)
-      → FetchesWithoutJobs (Line command at with_texts) old
+      → FetchesWithoutJobs (Line command at with_texts) old → Valid old.store
+      → PassesAll (refusals now heard (shape_of old) command)
       → effect now heard command old reply new
-      → (new.store.views ≡ old.store.views) ⊎ Shrinks old.store new.store ⊎ (old.jobs ≡ [])
+      → (new.store.views ≡ old.store.views) ⊎ TakesFree old new.store ⊎ (old.jobs ≡ [])
   pub answered : (old : Session) → Valid old.store → IsAnswerable command heard old.store
       → IsAnswered now heard old command

@@ -35,8 +35,8 @@ set_by : (now : ℕ) (heard : List (List ℕ)) (old : Session) (command : Comman
 set_by now heard old command reply new (inl (inl memory)) =
     inl (ap (λ (r : Reply). moment_set (Some r)) memory.0)
 set_by now heard old command reply new (inl (inr refused)) =
-    inl (given_reply SetsNone (refusals now heard (shape_of old.store) command) old reply new
-    ((facts now heard command).set_none (shape_of old.store)) refused.1)
+    inl (given_reply SetsNone (refusals now heard (shape_of old) command) old reply new
+    ((facts now heard command).set_none (shape_of old)) refused.1)
 set_by now heard old command reply new (inr done) =
     inr ((facts now heard command).acts old reply new done.1).sets
 

@@ -37,7 +37,7 @@ module _ (now : ℕ) (heard : List (List ℕ)) (key : Key) where
     other = not_installed_is_other;
   }
   by_entry old (Some app) is = record {
-    reply = says.Shown (show_row (shape_of old.store) app);
+    reply = says.Shown (show_row (shape_of old) app);
     new = old;
     answers = inr (
       (tt, ((λ none. none-some app (sym none ∙ is)), tt)),
@@ -49,7 +49,7 @@ module _ (now : ℕ) (heard : List (List ℕ)) (key : Key) where
   pub show_facts : RowFacts now heard (Show key)
   show_facts = record {
     refused = λ old reply new given.
-        kept_unchanged (Show key) (show_refusals key (shape_of old.store)) old reply new
+        kept_unchanged (Show key) (show_refusals key (shape_of old)) old reply new
         ((λ s. refl), tt) given;
     set_none = λ shape. ((λ reply given. ap (λ (r : Reply). moment_set (Some r)) given.1), tt);
     acts = λ old reply new done.
@@ -59,7 +59,7 @@ module _ (now : ℕ) (heard : List (List ℕ)) (key : Key) where
         (sym done.is) valid;
     sound = λ old reply new is few passes done sound. subst (λ (s : Session). Sound s.store)
         (sym done.is) sound;
-    views = λ old reply new at with_texts none done. inl
+    views = λ old reply new at with_texts none valid passes done. inl
         (ap (λ (s : Session). s.store.views) done.is);
     answered = λ old valid none. by_entry old (entry_of key old.store.apps) refl;
   }

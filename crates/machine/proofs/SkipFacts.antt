@@ -127,7 +127,7 @@ module _ (now : ℕ) (heard : List (List ℕ)) (key : Key) where
 
   module _ (old : Session) where
     abbrev shape : Shape
-    shape = shape_of old.store
+    shape = shape_of old
 
     not_installed : current_of key old.store.apps ≡ None → IsAnswered now heard old (Skip key)
     not_installed none = record {
@@ -187,15 +187,15 @@ module _ (now : ℕ) (heard : List (List ℕ)) (key : Key) where
   pub skip_facts : RowFacts now heard (Skip key)
   skip_facts = record {
     refused = λ old reply new given.
-        kept_unchanged (Skip key) (skip_refusals key now (shape_of old.store)) old reply new
-        (skip_unchanged key now (shape_of old.store)) given;
+        kept_unchanged (Skip key) (skip_refusals key now (shape_of old)) old reply new
+        (skip_unchanged key now (shape_of old)) given;
     set_none = λ shape. skip_none key now shape;
     acts = skip_acts;
     valid = λ old reply new is few passes done valid. left_valid old reply new is done valid;
     sound = λ old reply new is few passes done sound.
         same_views_sound old.store new.store (ap (λ (s : Session). s.store.views) done.is)
         (left_valid old reply new is done sound.valid) sound;
-    views = λ old reply new at with_texts none done. inl
+    views = λ old reply new at with_texts none valid passes done. inl
         (ap (λ (s : Session). s.store.views) done.is);
     answered = λ old valid none. by_current old (current_of key old.store.apps) refl valid.ordered;
   }

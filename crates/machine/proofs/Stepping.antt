@@ -31,7 +31,7 @@ step_valid now old (Line command at heard) reply new is step valid =
     by (kept_or_effect now heard.texts old command step.answer new step.answers)
   where
     by : Kept command old step.answer new
-        ⊎ (PassesAll (refusals now heard.texts (shape_of old.store) command)
+        ⊎ (PassesAll (refusals now heard.texts (shape_of old) command)
         × effect now heard.texts command old step.answer new) → Valid new.store
     by (inl kept) = kept.valid is.0 valid
     by (inr done) =
@@ -53,7 +53,7 @@ module _ {X : Type 0} (part : Session → X) (boots : (boot : ℕ) (old : Sessio
       by (kept_or_effect now heard.texts old command step.answer new step.answers)
     where
       by : Kept command old step.answer new
-          ⊎ (PassesAll (refusals now heard.texts (shape_of old.store) command)
+          ⊎ (PassesAll (refusals now heard.texts (shape_of old) command)
           × effect now heard.texts command old step.answer new) → part new ≡ part old
       by (inl kept) = refused command old step.answer new kept
       by (inr done) =
@@ -73,7 +73,7 @@ step_boot now old (Line command at heard) reply new step =
     by (kept_or_effect now heard.texts old command step.answer new step.answers)
   where
     by : Kept command old step.answer new
-        ⊎ (PassesAll (refusals now heard.texts (shape_of old.store) command)
+        ⊎ (PassesAll (refusals now heard.texts (shape_of old) command)
         × effect now heard.texts command old step.answer new) → new.store.boot ≡ old.store.boot
     by (inl kept) = kept.boot
     by (inr done) = ((facts now heard.texts command).acts old step.answer new done.1).boot
@@ -88,7 +88,7 @@ step_sound now old (Line command at heard) reply new is step sound =
     by (kept_or_effect now heard.texts old command step.answer new step.answers)
   where
     by : Kept command old step.answer new
-        ⊎ (PassesAll (refusals now heard.texts (shape_of old.store) command)
+        ⊎ (PassesAll (refusals now heard.texts (shape_of old) command)
         × effect now heard.texts command old step.answer new) → Sound new.store
     by (inl kept) =
         same_views_sound old.store new.store kept.views (kept.valid is.0 sound.valid) sound
@@ -117,7 +117,7 @@ step_leases now old (Line command at heard) reply new step =
     by (kept_or_effect now heard.texts old command step.answer new step.answers)
   where
     by : Kept command old step.answer new
-        ⊎ (PassesAll (refusals now heard.texts (shape_of old.store) command)
+        ⊎ (PassesAll (refusals now heard.texts (shape_of old) command)
         × effect now heard.texts command old step.answer new) → KeepsLeases old.store new.store
     by (inl kept) = kept.leases
     by (inr done) = ((facts now heard.texts command).acts old step.answer new done.1).leases

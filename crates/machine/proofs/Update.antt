@@ -22,7 +22,7 @@ use Rattle.machine.specs.InstallLaws.{IsUpdate}
 use Rattle.machine.specs.Migrated.{Migrated, aside}
 use Rattle.machine.specs.Shape.{bare_data, bare_view, shape_of}
 use Rattle.machine.specs.Sound.{IsWhole, Sound}
-use Rattle.machine.specs.Store.{Store}
+use Rattle.machine.specs.Store.{Store, session_over}
 use Rattle.machine.specs.Valid.{IsDataFile, Valid}
 use Rattle.machine.specs.Views.{DataFile, ListedFile, View, same_content}
 use Rattle.machine.specs.Wanted.{copied_need, program_need}
@@ -165,7 +165,7 @@ held = (content_decides old.program old.program).1 refl
 nothing_new : program_need (map bare_view old.views) a ≡ 0
 nothing_new = ap (λ (b : Bool). sum_by (λ (entry : FileEntry). blocks_of entry.size) (cond (not (b || (b || false))) (old.program ∷ []) [])) held
 
-copied : copied_need (bare_data_of (current_bare old.key (shape_of old.store))) ≡ 1
+copied : copied_need (bare_data_of (current_bare old.key (shape_of (session_over old.store)))) ≡ 1
 unfolding is_below_pre
 copied = ap copied_need (bare_data_current old.key old.store ∙ ap (λ (view : Option View). map bare_data (data_of view)) is_current)
 

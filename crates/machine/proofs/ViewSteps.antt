@@ -184,7 +184,7 @@ step_numbers now old (Line command at heard) reply new step =
     by (kept_or_effect now heard.texts old command step.answer new step.answers)
   where
     by : Kept command old step.answer new
-        ⊎ (PassesAll (refusals now heard.texts (shape_of old.store) command)
+        ⊎ (PassesAll (refusals now heard.texts (shape_of old) command)
         × effect now heard.texts command old step.answer new) → KeepsNumbers old.store new.store
     by (inl kept) = same old.store new.store kept.next_view kept.views
     by (inr done) = effect_numbers now heard.texts command old step.answer new done.1

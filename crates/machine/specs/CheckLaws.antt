@@ -44,7 +44,7 @@ IsMade reply =
 abbrev pub MadeChecksCount : Type 0
 MadeChecksCount = (now : ℕ) (heard : List (List ℕ)) (old : Session) (key : Key) (reply : Reply)
     (new : Session) (at : ℕ) → Answers now heard old (Check key) reply new → IsMade reply
-    → due key (shape_of new.store) at ≢ Some CheckFirst
+    → due key (shape_of new) at ≢ Some CheckFirst
 
 -- ---- offers
 
@@ -53,4 +53,4 @@ abbrev pub SkippedOffersAreNotDue : Type 0
 SkippedOffersAreNotDue = (now : ℕ) (heard : List (List ℕ)) (old : Session) (key : Key)
     (version : Version) (new : Session) (at : ℕ) (other : Version)
     → Answers now heard old (Skip key) (says.Skipped version) new
-    → due key (shape_of new.store) at ≢ Some (Offered other)
+    → due key (shape_of new) at ≢ Some (Offered other)

@@ -76,7 +76,7 @@ pub record CheckEffect (key : Key) (heard : List (List ℕ)) (now : ℕ) (old : 
   pub deployment : Deployment
   pub told : OfDeployment heard (λ d. d ≡ deployment)
   pub have : Version
-  pub current : current_version key (shape_of old.store) ≡ Some have
+  pub current : current_version key (shape_of old) ≡ Some have
   pub replied : reply
       ≡ says.Checked (above have (Some deployment.identity.version)) (minimum_of key new.store.apps)
   pub is : new ≡ record old { store = checked key have deployment now old.store }

@@ -27,5 +27,5 @@ cleaned old = record old {
 -- the reply shows how many are gone
 abbrev pub clean_effect : Session → Reply → Session → Type 0
 clean_effect old reply new =
-    (reply ≡ says.Cleaned (length (removable (shape_of old.store))))
+    (reply ≡ says.Cleaned (length (removable (shape_of old))))
     × (new ≡ record old { store = cleaned old.store })

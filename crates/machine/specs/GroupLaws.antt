@@ -14,7 +14,7 @@ use Rattle.machine.specs.Machine.{Answers}
 use Rattle.machine.specs.ReadRow.{file_named}
 use Rattle.machine.specs.Shape.{BareView, bare_view, shape_of}
 use Rattle.machine.specs.Sound.{Sound}
-use Rattle.machine.specs.Store.{Session, Store}
+use Rattle.machine.specs.Store.{Session, Store, session_over}
 use Rattle.machine.specs.Valid.{Valid}
 use Rattle.machine.specs.Views.{ContentKey, ListedFile, View, content_key}
 use Rattle.machine.specs.Wanted.{is_held}
@@ -82,7 +82,7 @@ pub record IsGrowth (old new : Store) : Type 0 where
   pub absent : group_stands group view.groups ≡ false
   pub wanted : 0 < length (group_wanted (map bare_view old.views) group view.application)
   pub room : group_need (map bare_view old.views) group view.application
-      ≤ free_blocks (shape_of old)
+      ≤ free_blocks (shape_of (session_over old))
   pub comes : Grouped group view old new
   pub after : Sound new
 

@@ -22,7 +22,7 @@ use Rattle.machine.specs.Minimums.{minimum_of}
 use Rattle.machine.specs.Rows.{AreExact, PassesAll}
 use Rattle.machine.specs.Shape.{BareView, Shape, shape_of}
 use Rattle.machine.specs.Sound.{Sound}
-use Rattle.machine.specs.Store.{Session, Store}
+use Rattle.machine.specs.Store.{Session, Store, session_over}
 use Rattle.machine.specs.Valid.{Ordered, Valid}
 use Rattle.machine.specs.Views.{ContentKey, DataFile, ListedFile, content_key, is_required}
 use Rattle.machine.specs.Wanted.{deployed_need, is_held, program_need, wanted}
@@ -33,7 +33,7 @@ pub record IsInstall {R C : Type 0} (says : Replies R C) (locals : ℕ) (url : L
     (now : ℕ) (old : Session) (reply : R) (new : Session) : Type 0 where
   pub few : locals ≤ LOCAL_COUNT_LIMIT
   pub moment : now ≤ NUMBER_LIMIT
-  pub passes : PassesAll (install_refusals says locals url heard (shape_of old.store))
+  pub passes : PassesAll (install_refusals says locals url heard (shape_of old))
   pub effect : InstallEffect says url heard now old reply new
 
 -- it leads from a valid store to one
@@ -56,7 +56,8 @@ pub record IsCurrent (d : Deployment) (number : ℕ) (old new : Store) : Type 0 
   pub current : current_of d.identity.key new.apps ≡ Some number
   pub previous : option_and_then (λ app. app.previous) (entry_of d.identity.key new.apps)
       ≡ current_of d.identity.key old.apps
-  pub version : current_version d.identity.key (shape_of new) ≡ Some d.identity.version
+  pub version : current_version d.identity.key (shape_of (session_over new))
+      ≡ Some d.identity.version
   pub others : (key : Key) → key_cmp d.identity.key key ≢ Equal
       → entry_of key new.apps ≡ entry_of key old.apps
 

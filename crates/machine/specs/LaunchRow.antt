@@ -48,6 +48,6 @@ pub record LaunchEffect (key : Key) (now : ℕ) (old : Session) (reply : Reply) 
   pub view : View
   pub current : current_view key old.store ≡ Some view
   pub check_due : Bool
-  pub clear : due key (shape_of old.store) now ≡ Some (found.Clear check_due)
+  pub clear : due key (shape_of old) now ≡ Some (found.Clear check_due)
   pub replied : reply ≡ says.Lease old.store.next_lease (version_of view) check_due
   pub is : new ≡ record old { store = launched key view.number old.store }

@@ -1,5 +1,5 @@
 -- What is true of the machine.
-use Rattle.std.specs.Prelude.{◌≡◌, ◌≢◌, ◌⊎◌, ◌↔◌, ◌<◌, ◌≤◌, ◌+◌, ◌*◌, ℕ, true, List, [], ◌∷◌, All, AllPairs, Any, Contains, length, Option, Some, Ok, IsSome, IsSomeAnd, count_by, map, not}
+use Rattle.std.specs.Prelude.{◌≡◌, ◌≢◌, ◌⊎◌, ◌↔◌, ◌<◌, ◌≤◌, ◌+◌, ◌-◌, ◌*◌, ℕ, true, List, [], ◌∷◌, All, AllPairs, Any, Contains, length, Option, Some, Ok, IsSome, IsSomeAnd, count_by, map, not}
 use Rattle.std.specs.declared.cmp.Ordering.TheVariants.{Equal}
 use Rattle.small_types.specs.declared.room.Room.{Room}
 use Rattle.small_types.specs.declared.limits.TheConstants.{BLOCK_LIMIT, BLOCK_SIZE, NUMBER_LIMIT, URL_LIMIT}
@@ -27,14 +27,14 @@ use Rattle.machine.specs.declared.reply.Reply.{Reply}
 use Rattle.machine.specs.declared.reply.Reply.TheVariants as says
 use Rattle.machine.specs.CheckRow.{unheard}
 use Rattle.machine.specs.GroupRow.{room_refusals}
-use Rattle.machine.specs.Blocks.{blocks_of, distinct, standing_files}
+use Rattle.machine.specs.Blocks.{blocks_of, blocks_with, distinct, free_blocks, standing_files, used_blocks}
 use Rattle.machine.specs.Entries.{AreInOrder, KeepsKeys, entry_of, entry_or_fresh, key_cmp, with_entry}
 use Rattle.machine.specs.Fields.{IsApplication, IsDeployment, IsTarget}
 use Rattle.machine.specs.InstallLaws.{InstallRefusalsAreExact}
 use Rattle.machine.specs.Machine.{Answers, Hears, Run, Step, moment_after, refusals}
 use Rattle.machine.specs.Minimums.{minimum_of}
 use Rattle.machine.specs.Rows.{AreExact, ChangeNothing, GivesAt, LeavesNothingAt, Passes, PassesAll, Refuses}
-use Rattle.machine.specs.Shape.{Shape, bare_view, shape_of}
+use Rattle.machine.specs.Shape.{BareView, Shape, bare_view, shape_of}
 use Rattle.machine.specs.Sound.{Sound, program_files_of}
 use Rattle.machine.specs.SoundSession.{SoundSession}
 use Rattle.machine.specs.Store.{Session, Store, empty, session_over}
@@ -80,6 +80,16 @@ ContentsCountOnce = (entries : List FileEntry) → CountOnce entries (distinct e
 abbrev pub BlocksAreRoundedUp : Type 0
 BlocksAreRoundedUp = (bytes : ℕ)
     → (bytes ≤ BLOCK_SIZE * blocks_of bytes) × (BLOCK_SIZE * blocks_of bytes < bytes + BLOCK_SIZE)
+
+-- where there is no open job, the free blocks are those that no file of a view takes
+abbrev pub FreeBlocksAreThoseOfViews : Type 0
+FreeBlocksAreThoseOfViews = (shape : Shape) → shape.jobs ≡ []
+    → free_blocks shape ≡ shape.room.blocks - used_blocks shape.views
+
+-- open jobs make the count no smaller
+abbrev pub JobsCountMore : Type 0
+JobsCountMore = (views : List BareView) (jobs : List Application)
+    → used_blocks views ≤ blocks_with views jobs
 
 -- ---- manifests
 
@@ -147,8 +157,8 @@ StoresMayBeUsed = (store : Store) × IsUsed store
 abbrev pub RefusalsComeInOrder : Type 0
 RefusalsComeInOrder = (now : ℕ) (heard : List (List ℕ)) (old : Session) (command : Command)
     (k : ℕ) (reply : Reply) (new : Session)
-    → Passes k (refusals now heard (shape_of old.store) command)
-    → GivesAt k (refusals now heard (shape_of old.store) command) old reply new
+    → Passes k (refusals now heard (shape_of old) command)
+    → GivesAt k (refusals now heard (shape_of old) command) old reply new
     → Answers now heard old command reply new
 
 -- a refusal that is given is the first that is not passed
@@ -263,7 +273,7 @@ IsAllLinks reply =
 abbrev pub RefusedChecksCount : Type 0
 RefusedChecksCount = (now : ℕ) (heard : List (List ℕ)) (old : Session) (key : Key) (reply : Reply)
     (new : Session)
-    → Refuses (refusals now heard (shape_of old.store) (Check key)) old reply new
+    → Refuses (refusals now heard (shape_of old) (Check key)) old reply new
     → ((IsAllLinks reply → ⊥) × (new ≡ old))
     ⊎ (IsAllLinks reply × (new ≡ record old { store = unheard key old.store }))
 
@@ -299,7 +309,7 @@ IsAnswerable (Show key) heard store = Unit {0}
 -- and a check at least where they hear nothing, and a group in each sound store.
 abbrev pub CommandsAreAnswered : Type 0
 CommandsAreAnswered = (now : ℕ) (heard : List (List ℕ)) (old : Session) (command : Command)
-    → Valid old.store → Hears (shape_of old.store) command heard
+    → Valid old.store → Hears (shape_of old) command heard
     → IsAnswerable command heard old.store
     → IsAnswered now heard old command
 
@@ -307,7 +317,7 @@ CommandsAreAnswered = (now : ℕ) (heard : List (List ℕ)) (old : Session) (com
 abbrev pub MayCome : ℕ → Session → Event → Type 0
 MayCome now old (Boot boot) = Unit {0}
 MayCome now old (Line command at heard) = (at ≡ now)
-    × Hears (shape_of old.store) command heard.texts
+    × Hears (shape_of old) command heard.texts
 MayCome now old (Unread fault) = Unit {0}
 
 -- the same of the command of an event
@@ -384,11 +394,10 @@ RunsKeepSound = (now : ℕ) (old : Session) (events : List Event) (replies : Lis
     (new : Session)
     → All IsEvent events → Run now old events replies new → Sound old.store → Sound new.store
 
--- An install, a group or a put finds no open job. One that does may bring other bytes than a job
--- has for a content, or take blocks that a job counts.
+-- An install or a group finds no open job. One that does may bring other bytes than a job has for a
+-- content.
 abbrev pub FetchesWithoutJobs : Event → Session → Type 0
 FetchesWithoutJobs (Line (Install url) now heard) old = old.jobs ≡ []
-FetchesWithoutJobs (Line (Put lease name bytes) now heard) old = old.jobs ≡ []
 FetchesWithoutJobs (Line (Group lease group) now heard) old = old.jobs ≡ []
 FetchesWithoutJobs _ old = Unit {0}
 

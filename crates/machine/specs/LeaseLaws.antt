@@ -62,7 +62,7 @@ IsLeaseOrMemory reply =
 abbrev pub FreeLaunchesAreGranted : Type 0
 FreeLaunchesAreGranted = (now : ℕ) (heard : List (List ℕ)) (old : Session) (key : Key)
     (check_due : Bool) (reply : Reply) (new : Session)
-    → due key (shape_of old.store) now ≡ Some (Clear check_due)
+    → due key (shape_of old) now ≡ Some (Clear check_due)
     → length old.store.leases < LEASE_LIMIT → old.store.next_lease < NUMBER_LIMIT
     → Answers now heard old (Launch key) reply new → IsLeaseOrMemory reply
 

@@ -26,7 +26,7 @@ use Rattle.machine.specs.Previous.{previous_version, previous_view}
 use Rattle.machine.specs.Shape.{Shape, shape_of}
 use Rattle.machine.specs.SkipRow.{offer_of}
 use Rattle.machine.specs.Sound.{Sound}
-use Rattle.machine.specs.Store.{Session, Store}
+use Rattle.machine.specs.Store.{Session, Store, session_over}
 use Rattle.machine.specs.Valid.{Valid}
 use Rattle.machine.specs.Views.{View, version_of}
 
@@ -116,7 +116,7 @@ abbrev pub RollbacksAreGranted : Type 0
 RollbacksAreGranted = (now : ℕ) (heard : List (List ℕ)) (old : Session) (key : Key)
     (version : Version) (reply : Reply) (new : Session)
     → IsSome (current_of key old.store.apps)
-    → previous_version key (shape_of old.store) ≡ Some version
+    → previous_version key (shape_of old) ≡ Some version
     → IfSome (minimum_of key old.store.apps) (λ minimum. ¬ IsBelow version minimum)
     → Answers now heard old (Rollback key) reply new
     → (reply ≡ says.Current version) ⊎ (reply ≡ says.Memory)
@@ -138,7 +138,7 @@ excluded_of key apps = option_and_then (λ app. app.excluded) (entry_of key apps
 abbrev pub ExcludedOffersAreNotDue : Type 0
 ExcludedOffersAreNotDue = (key : Key) (version : Version) (store : Store) (at : ℕ)
     → excluded_of key store.apps ≡ Some version
-    → due key (shape_of store) at ≢ Some (Offered version)
+    → due key (shape_of (session_over store)) at ≢ Some (Offered version)
 
 -- A rollback from a sound store leaves the view that was current in no use, and a clean takes it.
 -- The view that is current then stays.
@@ -159,7 +159,8 @@ ViewsMayGo = (old mid new : Session) × IsLeft old mid new
 pub record IsListed (rows : List ListRow) (store : Store) : Type 0 where
   pub each : map (λ row. row.key) rows ≡ map (λ app. app.key) store.apps
   pub order : AllPairs (λ (a b : ListRow). key_cmp a.key b.key ≡ Less) rows
-  pub current : All (λ row. row.current ≡ current_version row.key (shape_of store)) rows
+  pub current : All (λ row.
+      row.current ≡ current_version row.key (shape_of (session_over store))) rows
 
 abbrev pub ListsShowCurrent : Type 0
 ListsShowCurrent = (now : ℕ) (heard : List (List ℕ)) (old : Session) (rows : List ListRow)
@@ -183,8 +184,8 @@ entry_part part key store = option_map part (entry_of key store.apps)
 -- starts, and all else is what its entry has.
 pub record IsShown (key : Key) (row : ShowRow) (store : Store) : Type 0 where
   pub own : row.key ≡ key
-  pub current : row.current ≡ current_version key (shape_of store)
-  pub previous : row.previous ≡ previous_version key (shape_of store)
+  pub current : row.current ≡ current_version key (shape_of (session_over store))
+  pub previous : row.previous ≡ previous_version key (shape_of (session_over store))
   pub minimum : row.minimum ≡ minimum_of key store.apps
   pub offer : row.offer ≡ offer_of key store.apps
   pub skipped : Some row.skipped ≡ entry_part (λ app. app.skipped) key store

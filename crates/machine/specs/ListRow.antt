@@ -23,4 +23,4 @@ list_row shape app = record {
 -- the reply shows a row for each application, in order of their printed keys, and nothing changes
 abbrev pub list_effect : Session → Reply → Session → Type 0
 list_effect old reply new =
-    (reply ≡ says.Listed (map (list_row (shape_of old.store)) old.store.apps)) × (new ≡ old)
+    (reply ≡ says.Listed (map (list_row (shape_of old)) old.store.apps)) × (new ≡ old)

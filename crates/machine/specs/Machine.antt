@@ -95,7 +95,7 @@ effect now heard (Show key) = ShowEffect key
 -- reply, and where none holds the effect is that of the row.
 abbrev pub Answers : ℕ → List (List ℕ) → Session → Command → Reply → Session → Type 0
 Answers now heard old command reply new =
-    FirstOf (maybe says.Memory ∷ refusals now heard (shape_of old.store) command)
+    FirstOf (maybe says.Memory ∷ refusals now heard (shape_of old) command)
     (effect now heard command) old reply new
 
 -- ---- events
@@ -104,7 +104,7 @@ Answers now heard old command reply new =
 pub record IsLineStep (now : ℕ) (old : Session) (command : Command) (at : ℕ) (heard : Heard)
     (reply : Option Reply) (new : Session) : Type 0 where
   pub moment : at ≡ now
-  pub hears : Hears (shape_of old.store) command heard.texts
+  pub hears : Hears (shape_of old) command heard.texts
   pub answer : Reply
   pub replied : reply ≡ Some answer
   pub answers : Answers now heard.texts old command answer new

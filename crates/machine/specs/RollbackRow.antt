@@ -44,8 +44,8 @@ rolled_back key have old = record old { apps = with_entry key (rolled_back_app h
 -- the reply shows the version that is current from then on
 pub record RollbackEffect (key : Key) (old : Session) (reply : Reply) (new : Session) : Type 0 where
   pub have : Version
-  pub current : current_version key (shape_of old.store) ≡ Some have
+  pub current : current_version key (shape_of old) ≡ Some have
   pub version : Version
-  pub previous : previous_version key (shape_of old.store) ≡ Some version
+  pub previous : previous_version key (shape_of old) ≡ Some version
   pub replied : reply ≡ says.Current version
   pub is : new ≡ record old { store = rolled_back key have old.store }

@@ -1,5 +1,5 @@
--- A store without the bytes of its files: what tables have as it stands, and what refusals are
--- about.
+-- A session without the bytes of its files: what tables have as it stands, the applications of its
+-- open jobs, and what refusals are about.
 use Rattle.std.specs.Prelude.{ℕ, List, length, map}
 use Rattle.small_types.specs.declared.room.Room.{Room}
 use Rattle.small_types.specs.declared.target.Target.{Target}
@@ -7,7 +7,7 @@ use Rattle.manifests.specs.declared.facts.Application.{Application}
 use Rattle.manifests.specs.declared.facts.Deployment.{Deployment}
 use Rattle.machine.specs.declared.app.AppState.{AppState}
 use Rattle.machine.specs.declared.lease.Lease.{Lease}
-use Rattle.machine.specs.Store.{Store}
+use Rattle.machine.specs.Store.{Session}
 use Rattle.machine.specs.Views.{DataFile, View}
 
 pub record BareData : Type 0 where
@@ -30,6 +30,7 @@ pub record Shape : Type 0 where
   pub leases : List Lease
   pub views : List BareView
   pub apps : List AppState
+  pub jobs : List Application
 
 abbrev pub bare_data : DataFile → BareData
 bare_data file = record { name = file.name; length = length file.bytes }
@@ -44,13 +45,14 @@ bare_view view = record {
   data_files = map bare_data view.data_files;
 }
 
-abbrev pub shape_of : Store → Shape
-shape_of store = record {
-  room = store.room;
-  boot = store.boot;
-  next_view = store.next_view;
-  next_lease = store.next_lease;
-  leases = store.leases;
-  views = map bare_view store.views;
-  apps = store.apps;
+abbrev pub shape_of : Session → Shape
+shape_of session = record {
+  room = session.store.room;
+  boot = session.store.boot;
+  next_view = session.store.next_view;
+  next_lease = session.store.next_lease;
+  leases = session.store.leases;
+  views = map bare_view session.store.views;
+  apps = session.store.apps;
+  jobs = map (λ job. job.application) session.jobs;
 }

@@ -35,5 +35,5 @@ show_row shape app = record {
 pub record ShowEffect (key : Key) (old : Session) (reply : Reply) (new : Session) : Type 0 where
   pub app : AppState
   pub known : entry_of key old.store.apps ≡ Some app
-  pub replied : reply ≡ says.Shown (show_row (shape_of old.store) app)
+  pub replied : reply ≡ says.Shown (show_row (shape_of old) app)
   pub is : new ≡ old

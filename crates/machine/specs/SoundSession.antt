@@ -1,11 +1,11 @@
 -- A session whose store is sound, and whose jobs hold what their releases ask.
-use Rattle.std.specs.Prelude.{◌≡◌, ◌⊎◌, ◌+◌, ◌≤◌, ◌||◌, ℕ, true, List, All, AllPairs, Any, Contains, ◌++◌, filter, flat_map, length, map, sum_by}
+use Rattle.std.specs.Prelude.{◌≡◌, ◌⊎◌, ◌≤◌, ◌||◌, ℕ, true, List, All, AllPairs, Any, Contains, ◌++◌, filter, flat_map, length, map}
 use Rattle.small_types.specs.declared.limits.TheConstants.{JOB_LIMIT}
 use Rattle.manifests.specs.declared.facts.Application.{Application}
 use Rattle.manifests.specs.declared.facts.FileEntry.{FileEntry}
-use Rattle.machine.specs.Blocks.{blocks_of, distinct, standing_files}
+use Rattle.machine.specs.Blocks.{counted_blocks}
 use Rattle.machine.specs.Fields.{IsApplication, IsDeployment, IsTarget}
-use Rattle.machine.specs.Shape.{BareView, bare_view}
+use Rattle.machine.specs.Shape.{shape_of}
 use Rattle.machine.specs.Sound.{IsWhole, ShareBytes, Sound, program_files_of}
 use Rattle.machine.specs.Store.{Job, Session}
 use Rattle.machine.specs.Valid.{AreNumbers}
@@ -48,19 +48,9 @@ program_files_in jobs = flat_map (λ job. filter (λ file. is_required file.entr
 
 -- ---- blocks
 
--- A job counts whole from its beginning on: program files that share their bytes share their
--- blocks, also with those of views; each data file has its own.
-abbrev pub blocks_with : List BareView → List Job → ℕ
-blocks_with views jobs =
-    sum_by (λ entry. blocks_of entry.size)
-    (distinct (standing_files views
-    ++ flat_map (λ job. filter is_required job.application.files) jobs))
-    + sum_by (λ file. blocks_of file.length) (flat_map (λ view. view.data_files) views)
-    + sum_by (λ entry. blocks_of entry.size)
-    (flat_map (λ job. filter (λ entry. entry.local) job.application.files) jobs)
-
+-- a job counts whole from its beginning on
 abbrev pub session_blocks : Session → ℕ
-session_blocks session = blocks_with (map bare_view session.store.views) session.jobs
+session_blocks session = counted_blocks (shape_of session)
 
 -- ---- the session
 

@@ -1,5 +1,5 @@
 // What is true of the machine, with no code.
-ghost use Rattle.machine.specs.Laws.{AddressesAreShort, AtSetsTheMoment, BlocksAreRoundedUp, RoomStays, CommandsAreAnswered, ContentsAreCompared, ContentsCountOnce, EmptyStoresAreSound, EntriesStayInOrder, EventsHaveSteps, JoinedAddressesAreShort, JoinedAddressesMayBeHeld, MemoryChangesNothing, MinimumsAreShown, MinimumsNeverFall, MomentsStayFew, NoRefusalIsGivenWherePassed, OneEntryIsMade, OneRefusalIsGiven, OnlyBootsChangeTheBoot, OtherEntriesStay, OthersLeaveTheMoment, ReadAddressesMayBeHeld, ReadApplicationsMayBeHeld, ReadDeploymentsMayBeHeld, RefusedChecksCount, RefusalsAreFirst, RefusalsChangeNothing, RefusalsComeInOrder, RowsAreExact, RowsChangeNothing, RunsKeepSound, SessionsBeginSound, StepsKeepSound, StepsKeepSoundSessions, StepsKeepValid, StoresMayBeUsed};
+ghost use Rattle.machine.specs.Laws.{AddressesAreShort, AtSetsTheMoment, BlocksAreRoundedUp, RoomStays, CommandsAreAnswered, ContentsAreCompared, ContentsCountOnce, EmptyStoresAreSound, EntriesStayInOrder, EventsHaveSteps, FreeBlocksAreThoseOfViews, JoinedAddressesAreShort, JoinedAddressesMayBeHeld, JobsCountMore, MemoryChangesNothing, MinimumsAreShown, MinimumsNeverFall, MomentsStayFew, NoRefusalIsGivenWherePassed, OneEntryIsMade, OneRefusalIsGiven, OnlyBootsChangeTheBoot, OtherEntriesStay, OthersLeaveTheMoment, ReadAddressesMayBeHeld, ReadApplicationsMayBeHeld, ReadDeploymentsMayBeHeld, RefusedChecksCount, RefusalsAreFirst, RefusalsChangeNothing, RefusalsComeInOrder, RowsAreExact, RowsChangeNothing, RunsKeepSound, SessionsBeginSound, StepsKeepSound, StepsKeepSoundSessions, StepsKeepValid, StoresMayBeUsed};
 
 /// A change of an entry leaves the entries in order of their keys.
 pub fn entries_stay_in_order()
@@ -21,6 +21,13 @@ pub fn contents_are_compared()
 pub fn blocks_are_counted()
     ensures contents { ContentsCountOnce }
     ensures bytes { BlocksAreRoundedUp }
+{}
+
+/// Where no job is open, the free blocks are those that no file of a view takes. Open jobs make the
+/// count no smaller.
+pub fn blocks_of_jobs_are_counted()
+    ensures none { FreeBlocksAreThoseOfViews }
+    ensures more { JobsCountMore }
 {}
 
 /// What a manifest says is what a valid store may hold: texts are UTF-8, versions have 16 bits, names are names.
@@ -110,7 +117,7 @@ pub fn steps_keep_sound()
 {}
 
 /// A session begins sound over a sound store, and a step from a sound session leads to one; an
-/// install, a put or a group where there is no open job.
+/// install or a group where there is no open job.
 pub fn sessions_stay_sound()
     ensures begun { SessionsBeginSound }
     ensures steps { StepsKeepSoundSessions }

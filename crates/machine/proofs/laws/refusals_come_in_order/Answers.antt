@@ -6,7 +6,7 @@ use Rattle.machine.proofs.laws.refusals_come_in_order.Goals as goal
 
 pub returns-clause-answer : goal.returns-clause-answer
 returns-clause-answer c = λ now heard old command k reply new passes at.
-    inl (inr (tt, refused_at k (refusals now heard (shape_of old.store) command) old reply new passes at))
+    inl (inr (tt, refused_at k (refusals now heard (shape_of old) command) old reply new passes at))
 
 pub returns-clause-first : goal.returns-clause-first
 returns-clause-first c = λ now heard shape command. first_refused (refusals now heard shape command)
