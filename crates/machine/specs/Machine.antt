@@ -52,7 +52,7 @@ Hears shape asks.List heard = heard ≡ []
 Hears shape (Show key) heard = heard ≡ []
 
 -- the refusals of a command at a moment, in their order, by what it heard and by the shape of the
--- store
+-- session
 abbrev pub refusals : ℕ → List (List ℕ) → Shape → Command → List (Refusal Reply Session)
 refusals now heard shape (At next) = at_refusals
 refusals now heard shape (Require key version) = require_refusals key shape
