@@ -19,7 +19,7 @@ use Rattle.machine.specs.LaunchRow.{launched, started_app}
 use Rattle.machine.specs.RequireRow.{required}
 use Rattle.machine.specs.Shape.{BareData, BareView, bare_data, bare_view, shape_of}
 use Rattle.machine.specs.Store as stores
-use Rattle.machine.specs.Store.{Store, booted}
+use Rattle.machine.specs.Store.{Job, Session, Store, booted}
 use Rattle.machine.specs.Views.{DataFile, ListedFile, standing_entries}
 use Rattle.machine.specs.Views.{View as KeptView}
 use Rattle.machine.proofs.Leased.{current_by, entry_in}
@@ -82,13 +82,15 @@ bare_views room image contents (view ∷ views) measured =
     ∙ ap (λ (rest : List BareView). bare_row view ∷ rest)
     (bare_views room image contents views (All-tail (HasMeasured room image) view views measured))
 
--- a store that tables show has their shape
-pub shape_shown : {room : Room} {tables : Tables} {image : List ℕ} {store : Store}
-    → Shows room tables image store → shape_of store ≡ table_shape room tables
-shape_shown {room = room} {tables = tables} {image = image} shows =
-    ap shape_of shows.is
-    ∙ ap (λ (views : List BareView). record (table_shape room tables) { views = views })
+-- a session without jobs, over a store that tables show, has their shape
+pub shape_shown : {room : Room} {tables : Tables} {image : List ℕ} (session : Session)
+    → session.jobs ≡ [] → Shows room tables image session.store
+    → shape_of session ≡ table_shape room tables
+shape_shown {room = room} {tables = tables} {image = image} session none shows =
+    ap (λ (store : Store). shape_of (record session { store = store })) shows.is
+    ∙ ap (λ (views : List BareView). record (shape_of (record session { store = shown_store room image tables })) { views = views })
     (bare_views room image tables.contents tables.views shows.measured)
+    ∙ ap (λ (jobs : List Job). record (table_shape room tables) { jobs = map (λ (job : Job). job.application) jobs }) none
 
 -- ---- another image, and each change
 

@@ -29,10 +29,10 @@ use Rattle.machine.specs.Grouped.{grouped}
 use Rattle.machine.specs.Groups.{group_files, is_group, is_in}
 use Rattle.machine.specs.LaunchRow.{launched}
 use Rattle.machine.specs.RollbackRow.{rolled_back}
-use Rattle.machine.specs.Shape.{Shape, bare_view}
+use Rattle.machine.specs.Shape.{Shape, bare_view, shape_of}
 use Rattle.machine.specs.SkipRow.{skipped, skipped_app}
 use Rattle.machine.specs.Store as stores
-use Rattle.machine.specs.Store.{Store, booted}
+use Rattle.machine.specs.Store.{Store, booted, session_over}
 use Rattle.machine.specs.Valid.{IsApp, IsDataFile, IsView, IsViewOf, Ordered}
 use Rattle.machine.specs.Views.{DataFile, ListedFile, standing_entries}
 use Rattle.machine.specs.Views.{View as KeptView}
@@ -56,7 +56,7 @@ use Rattle.store_state.specs.Laws.{ShowsOrdered, stand_files}
 use Rattle.store_state.specs.Locals.{outside_locals, with_local}
 use Rattle.store_state.specs.Rows.{current_at, current_row, listed_files, offer_at, row_at}
 use Rattle.store_state.specs.Shows.{HoldsNew, SameFiles, Shows, shown_data, shown_file, shown_view}
-use Rattle.store_state.specs.Tables.{Tables, bare_row, empty}
+use Rattle.store_state.specs.Tables.{Tables, bare_row, empty, table_shape}
 use Rattle.store_state.proofs.Checking.{current_entry, entry_ordered, own_entry, shows_heard, shows_skipped, shows_unheard, version_shown}
 use Rattle.store_state.proofs.Cleaning.{cleans_shown}
 use Rattle.store_state.proofs.Firsts.{in_place}
@@ -407,7 +407,7 @@ room_shown : (room : Room) (tables : Tables) (image : List ℕ) (store : Store)
     → Shows room tables image store → used_blocks (map bare_row tables.views) ≤ room.blocks
     → used_blocks (map bare_view store.views) ≤ store.room.blocks
 room_shown room tables image store shows few =
-    let shape = shape_shown shows in
+    let shape : shape_of (session_over store) ≡ table_shape room tables = shape_shown (session_over store) refl shows in
     let used : used_blocks (map bare_view store.views) ≡ used_blocks (map bare_row tables.views) =
     ap (λ (s : Shape). used_blocks s.views) shape in
     let same : store.room.blocks ≡ room.blocks = ap (λ (s : Shape). s.room.blocks) shape in

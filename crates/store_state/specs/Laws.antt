@@ -24,7 +24,7 @@ use Rattle.machine.specs.RequireRow.{required}
 use Rattle.machine.specs.RollbackRow.{rolled_back}
 use Rattle.machine.specs.Shape.{shape_of}
 use Rattle.machine.specs.SkipRow.{offer_of, skipped}
-use Rattle.machine.specs.Store.{Store, booted, empty as empty_store}
+use Rattle.machine.specs.Store.{Session, Store, booted, empty as empty_store}
 use Rattle.machine.specs.Valid.{Ordered, Valid}
 use Rattle.machine.specs.Views.{ListedFile, standing_entries}
 use Rattle.store_state.specs.declared.change.Change.{Change}
@@ -47,10 +47,11 @@ abbrev pub OneStoreIsShown : Type 0
 OneStoreIsShown = (room : Room) (tables : Tables) (image : List ℕ) (a b : Store)
     → Shows room tables image a → Shows room tables image b → a ≡ b
 
--- a store that tables show has their shape
+-- a session without jobs, over a store that tables show, has their shape
 abbrev pub ShapesAreShown : Type 0
-ShapesAreShown = (room : Room) (tables : Tables) (image : List ℕ) (store : Store)
-    → Shows room tables image store → shape_of store ≡ table_shape room tables
+ShapesAreShown = (room : Room) (tables : Tables) (image : List ℕ) (session : Session)
+    → session.jobs ≡ [] → Shows room tables image session.store
+    → shape_of session ≡ table_shape room tables
 
 -- Tables that changes led to from the empty ones show a store within its order and its limits,
 -- where the number of blocks is possible. Where its files have room, it is valid.

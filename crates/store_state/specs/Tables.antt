@@ -31,7 +31,8 @@ empty = record {
   contents = [];
 }
 
--- ---- what they have of a store of this room: all but the bytes of its files
+-- ---- what they have of a session over a store of this room in which no job is open: all but the
+-- bytes of the store's files
 
 abbrev pub bare_local : LocalFile → BareData
 bare_local file = record { name = file.name; length = file.length }
@@ -55,4 +56,5 @@ table_shape room tables = record {
   leases = tables.leases;
   views = map bare_row tables.views;
   apps = tables.apps;
+  jobs = [];
 }

@@ -11,7 +11,7 @@ use crate::StateFault;
 use identity::{Key, Version};
 use machine::AppState;
 use small_types::{List, Text};
-use std::alloc::Global;
+use std::alloc::{AllocFailed, Global};
 use std::cmp::Ordering;
 use std::mem::replace;
 
@@ -47,7 +47,7 @@ pub(crate) fn insert_at<T: Drop>(
     *list = List::from_vec(items);
     match done {
         Ok(()) => Ok(()),
-        Err(_) => Err(StateFault::Memory),
+        Err(AllocFailed { .. }) => Err(StateFault::Memory),
     }
 }
 
@@ -100,11 +100,13 @@ pub(crate) fn insert_both(
     ensures same_apps { OnErr result (apps.new ≡ apps.old) }
 {
     insert_at(alloc, keys, place, text)?;
-    let Ok(()) = insert_at(alloc, apps, place, app) else {
-        remove_at(alloc, keys, place);
-        return Err(StateFault::Memory);
-    };
-    Ok(())
+    match insert_at(alloc, apps, place, app) {
+        Ok(()) => Ok(()),
+        Err(StateFault::Memory) => {
+            remove_at(alloc, keys, place);
+            Err(StateFault::Memory)
+        }
+    }
 }
 
 // An entry of which only the minimum is known.

@@ -10,7 +10,7 @@ use crate::sign::add_places;
 use crate::views::place_of_view;
 use crate::{Content, StateFault, StoreState, View};
 use small_types::{List, Text};
-use std::alloc::Global;
+use std::alloc::{AllocFailed, Global};
 use std::mem::replace;
 
 impl StoreState {
@@ -77,6 +77,6 @@ fn group_in(view: &mut View, group: Text) -> Result<(), StateFault>
 {
     match view.groups.push(group) {
         Ok(()) => Ok(()),
-        Err(_) => Err(StateFault::Memory),
+        Err(AllocFailed { .. }) => Err(StateFault::Memory),
     }
 }

@@ -11,7 +11,7 @@ use identity::{Key, Version};
 use machine::AppState;
 use manifests::Deployment;
 use small_types::{Duplicate, List, Target, Text};
-use std::alloc::Global;
+use std::alloc::{AllocError, AllocFailed, Global};
 use std::mem::replace;
 
 // The version, where it is above the installed one.
@@ -162,7 +162,7 @@ pub(crate) fn append<T: Drop>(
     *list = List::from_vec(items);
     match done {
         Ok(()) => Ok(()),
-        Err(_) => Err(StateFault::Memory),
+        Err(AllocError) => Err(StateFault::Memory),
     }
 }
 
@@ -180,14 +180,14 @@ fn add_view(
     ensures same_names { OnErr result (names.new ≡ names.old) }
 {
     let count = views.as_slice().len();
-    let Ok(()) = views.push(view) else {
-        return Err(StateFault::Memory);
-    };
-    let Ok(()) = names.push(index) else {
-        cut(alloc, views, count);
-        return Err(StateFault::Memory);
-    };
-    Ok(())
+    views.push(view)?;
+    match names.push(index) {
+        Ok(()) => Ok(()),
+        Err(AllocFailed { .. }) => {
+            cut(alloc, views, count);
+            Err(StateFault::Memory)
+        }
+    }
 }
 
 // Adds the view with its index and the contents, all or nothing.
@@ -210,10 +210,12 @@ pub(crate) fn add_rows(
 {
     let count = views.as_slice().len();
     add_view(alloc, views, names, view, index)?;
-    let Ok(()) = append(alloc, contents, new) else {
-        cut(alloc, views, count);
-        cut(alloc, names, count);
-        return Err(StateFault::Memory);
-    };
-    Ok(())
+    match append(alloc, contents, new) {
+        Ok(()) => Ok(()),
+        Err(StateFault::Memory) => {
+            cut(alloc, views, count);
+            cut(alloc, names, count);
+            Err(StateFault::Memory)
+        }
+    }
 }

@@ -6,7 +6,7 @@ pub fn one_store_is_shown()
     ensures { laws.OneStoreIsShown }
 {}
 
-/// The store that tables show has their shape.
+/// A session without jobs, over a store that tables show, has their shape.
 pub fn shapes_are_shown()
     ensures { laws.ShapesAreShown }
 {}

@@ -2,4 +2,4 @@ use Rattle.store_state.proofs.Showing.{shape_shown}
 use Rattle.store_state.proofs.laws.shapes_are_shown.Goals as goal
 
 pub returns : goal.returns
-returns c = λ room tables image store shows. shape_shown shows
+returns c = λ room tables image session none shows. shape_shown session none shows
