@@ -10,6 +10,11 @@ use std::alloc::{AllocError, Global};
 /// How many files each version has.
 pub const FILE_COUNT: u64 = 200;
 
+/// How many they are.
+pub fn file_count_is()
+    ensures { FILE_COUNT ≡ 200 }
+{}
+
 /// The name that these bytes are.
 pub(crate) fn name_of(alloc: Global, bytes: &[u8]) -> Result<Name, AllocError>
     requires { IsName bytes.now }

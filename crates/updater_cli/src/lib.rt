@@ -17,7 +17,7 @@ pub use laws::{
     published_data_is_read, published_is_given, published_is_read, publishes_write,
     releases_are_offered, served_is_given,
 };
-pub use limits::INPUT_LIMIT;
+pub use limits::{INPUT_LIMIT, input_limit_is};
 pub use machine::{Report, ReportLine};
 pub use top::run;
 pub use words::Request;
