@@ -44,10 +44,10 @@ module _ (room : Room) (tables : Tables) (key : Key) (now : ℕ) (a : LinksState
     hears = subst (HearsOffer key (table_shape room tables)) (sym none) tt;
     kept = kept_same a;
     still = refl;
-    step = λ image old shows valid. let gone = absent image old shows valid in record {
+    step = λ image old idle shows valid. let gone = absent image old shows valid in record {
       new = old;
       step = inl (inr (tt, inl ((gone, refl), refl)));
-      served = served_none (shape_of old.store) gone;
+      served = served_none (shape_of old) gone;
       leaves = refl;
     };
   }

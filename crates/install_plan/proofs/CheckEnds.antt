@@ -1,6 +1,6 @@
 -- Each end of a check, by what was heard of the provider.
-use Rattle.std.proofs.Common.{◌≡◌, ◌≢◌, ◌∙◌, ◌⊎◌, ◌++◌, ◌≤◌, inl, inr, refl, sym, ap, subst, ℕ, true, List, [], ◌∷◌, Option, Some, None, Ok, Err, IsSome}
-use Rattle.std.specs.Prelude.{IfErr, IfOk, Result, option_and_then, option_map}
+use Rattle.std.proofs.Common.{◌≡◌, ◌≢◌, ◌∙◌, ◌⊎◌, ◌++◌, ◌≤◌, inl, inr, refl, sym, ap, subst, ℕ, true, List, [], ◌∷◌, Option, Some, None, Ok, IsSome}
+use Rattle.std.specs.Prelude.{option_and_then, option_map}
 use Rattle.std.proofs.lemmas.List.{append-nil}
 use Rattle.std.proofs.lemmas.Option.{none-some, same_Some}
 use Rattle.small_types.specs.declared.room.Room.{Room}
@@ -47,9 +47,12 @@ use Rattle.fetcher.specs.Causes.{IsTextCause}
 use Rattle.fetcher.specs.Fetched.{Kept, MayAsk, NoneGave}
 use Rattle.fetcher.specs.Given.{FitsText}
 use Rattle.install_plan.specs.declared.checking.Offered.{Offered}
-use Rattle.install_plan.specs.Checks.{IsCheckOver, IsCheckReady, IsMissed, IsNoted, IsUnmissed, IsUnnoted, checked_of, heard_of, is_missing}
+use Rattle.install_plan.specs.declared.prepared.Prepared.{Prepared}
+use Rattle.install_plan.specs.declared.prepared.Prepared.TheVariants as to
+use Rattle.install_plan.specs.Checks.{IsCheckOver, IsCheckReady, IsMissed, IsNoted, IsUnmissed, IsUnnoted, MissesTo, NotesTo, checked_of, heard_of, is_missing}
 use Rattle.install_plan.specs.Hearing.{IsFront}
 use Rattle.install_plan.specs.Offers.{IsNoOffer, IsOfOther, IsOffer, OfferHearing, OfferServed}
+use Rattle.install_plan.specs.Prepared.{IsCheckPrepared}
 use Rattle.install_plan.specs.Stages.{IsGot, IsNotRead, StopsOne}
 use Rattle.install_plan.proofs.Entry.{entry_same, entry_stays}
 use Rattle.install_plan.proofs.Rows.{unrefused}
@@ -97,10 +100,10 @@ module _ (room : Room) (tables : Tables) (key : Key) (now : ℕ)
 
   -- ---- steps of a session over the store that the tables show
 
-  module _ (old : Session) (image : List ℕ) (shows : Shows room tables image old.store)
-      (texts : List (List ℕ)) where
-    abbrev same_shape : shape_of old.store ≡ shape
-    same_shape = shape_shown shows
+  module _ (old : Session) (image : List ℕ) (idle : old.jobs ≡ [])
+      (shows : Shows room tables image old.store) (texts : List (List ℕ)) where
+    abbrev same_shape : shape_of old ≡ shape
+    same_shape = shape_shown old idle shows
 
     same_apps : old.store.apps ≡ tables.apps
     same_apps = ap (λ (s : Shape). s.apps) same_shape
@@ -128,7 +131,7 @@ module _ (room : Room) (tables : Tables) (key : Key) (now : ℕ)
         )
 
     served_by : (reply : Reply) → OfferServed key shape texts a b reply
-        → OfferServed key (shape_of old.store) texts a b reply
+        → OfferServed key (shape_of old) texts a b reply
     served_by reply served =
         subst (λ (s : Shape). OfferServed key s texts a b reply) (sym same_shape) served
 
@@ -152,10 +155,10 @@ module _ (room : Room) (tables : Tables) (key : Key) (now : ℕ)
     hears = hears;
     kept = both;
     still = refl;
-    step = λ image old shows valid. record {
+    step = λ image old idle shows valid. record {
       new = old;
       step = inl (inl (refl, refl));
-      served = served_by old image shows texts says.Memory
+      served = served_by old image idle shows texts says.Memory
           (record { hearing = hearing; accounts = tt });
       leaves = refl;
     };
@@ -170,10 +173,10 @@ module _ (room : Room) (tables : Tables) (key : Key) (now : ℕ)
     hears = hears;
     kept = both;
     still = still;
-    step = λ image old shows valid. record {
+    step = λ image old idle shows valid. record {
       new = old;
-      step = by_refusal old image shows texts reply old (refuses old);
-      served = served_by old image shows texts reply served;
+      step = by_refusal old image idle shows texts reply old (refuses old);
+      served = served_by old image idle shows texts reply served;
       leaves = refl;
     };
   }
@@ -212,15 +215,15 @@ module _ (room : Room) (tables : Tables) (key : Key) (now : ℕ)
       still = refl;
       of = refl;
       fits = some_there (current_row key tables) row is_row;
-      step = λ image old shows valid. record {
+      step = λ image old idle shows valid. record {
         new = record old { store = unheard key old.store };
-        step = by_refusal old image shows [] missing (record old { store = unheard key old.store })
+        step = by_refusal old image idle shows [] missing (record old { store = unheard key old.store })
             (unheard_refuses old);
-        served = served_by old image shows [] missing unserved;
+        served = served_by old image idle shows [] missing unserved;
         leaves = record {
           leads = λ first later had same new. shows_unheard room tables key first later old.store
               had same;
-          other = differs old image shows [] unheard_app unheard_keys other;
+          other = differs old image idle shows [] unheard_app unheard_keys other;
         };
       };
     }
@@ -230,12 +233,12 @@ module _ (room : Room) (tables : Tables) (key : Key) (now : ℕ)
       hears = tt;
       kept = both;
       still = refl;
-      step = λ image old shows valid. record {
+      step = λ image old idle shows valid. record {
         new = record old { store = unheard key old.store };
-        step = by_refusal old image shows [] missing (record old { store = unheard key old.store })
+        step = by_refusal old image idle shows [] missing (record old { store = unheard key old.store })
             (unheard_refuses old);
-        served = served_by old image shows [] missing unserved;
-        leaves = stays old image shows [] unheard_app same;
+        served = served_by old image idle shows [] missing unserved;
+        leaves = stays old image idle shows [] unheard_app same;
       };
     }
 
@@ -332,12 +335,13 @@ module _ (room : Room) (tables : Tables) (key : Key) (now : ℕ)
               sym (version_shown room tables key)
               ∙ ap (option_map (λ (v : View). v.deployment.identity.version)) is_row
 
-          module _ (old : Session) (image : List ℕ) (shows : Shows room tables image old.store) where
+          module _ (old : Session) (image : List ℕ) (idle : old.jobs ≡ [])
+              (shows : Shows room tables image old.store) where
             minimum_left : minimum_of key (left old).store.apps ≡ raised_by d.minimum app.minimum
             minimum_left =
                 minimum_raised key (heard_of offered) keeps d.minimum (λ x. refl) old.store.apps
                 ∙ ap (raised_by d.minimum)
-                (ap (minimum_of key) (same_apps old image shows (text ∷ []))
+                (ap (minimum_of key) (same_apps old image idle shows (text ∷ []))
                 ∙ ap (λ (o : Option AppState). option_and_then (λ (x : AppState). x.minimum) o) is_app)
 
             done : CheckEffect key (text ∷ []) now old (checked_of offered app) (left old)
@@ -346,7 +350,7 @@ module _ (room : Room) (tables : Tables) (key : Key) (now : ℕ)
               told = (text, d, refl, tells, refl);
               have = have;
               current = subst (λ (s : Shape). shape_version key s ≡ Some have)
-                  (sym (same_shape old image shows (text ∷ []))) version_is;
+                  (sym (same_shape old image idle shows (text ∷ []))) version_is;
               replied = ap (λ (minimum : Option Version).
                   says.Checked (above have (Some d.identity.version)) minimum) (sym minimum_left);
               is = refl;
@@ -369,15 +373,15 @@ module _ (room : Room) (tables : Tables) (key : Key) (now : ℕ)
               least = held.minimum;
               moment = few;
             };
-            step = λ image old shows valid. record {
+            step = λ image old idle shows valid. record {
               new = left old;
-              step = by_effect old image shows (text ∷ []) (checked_of offered app) (left old) passes
-                  (done old image shows);
-              served = served_by old image shows (text ∷ []) (checked_of offered app) served;
+              step = by_effect old image idle shows (text ∷ []) (checked_of offered app) (left old) passes
+                  (done old image idle shows);
+              served = served_by old image idle shows (text ∷ []) (checked_of offered app) served;
               leaves = record {
                 leads = λ first later had same new. shows_heard room tables key have
                     d.identity.version d.minimum now first later old.store had same version_is;
-                other = differs old image shows (text ∷ []) (heard_of offered) keeps other;
+                other = differs old image idle shows (text ∷ []) (heard_of offered) keeps other;
               };
             };
           }
@@ -388,12 +392,12 @@ module _ (room : Room) (tables : Tables) (key : Key) (now : ℕ)
             hears = some_current;
             kept = both;
             still = refl;
-            step = λ image old shows valid. record {
+            step = λ image old idle shows valid. record {
               new = left old;
-              step = by_effect old image shows (text ∷ []) (checked_of offered app) (left old) passes
-                  (done old image shows);
-              served = served_by old image shows (text ∷ []) (checked_of offered app) served;
-              leaves = stays old image shows (text ∷ []) (heard_of offered) same;
+              step = by_effect old image idle shows (text ∷ []) (checked_of offered app) (left old) passes
+                  (done old image idle shows);
+              served = served_by old image idle shows (text ∷ []) (checked_of offered app) served;
+              leaves = stays old image idle shows (text ∷ []) (heard_of offered) same;
             };
           }
 
@@ -410,12 +414,12 @@ module _ (room : Room) (tables : Tables) (key : Key) (now : ℕ)
         subst (IsCheckOver room tables key texts a b now) (sym is)
         (subst (λ (ts : List (List ℕ)). IsCheckOver room tables key ts a b now reply) (sym noted) over)
 
-    ready_on : (heard : List (List ℕ)) (note : Change) (reply : Reply) (made : Change × Reply)
-        → texts ≡ heard → made.0 ≡ note → made.1 ≡ reply
+    ready_on : (heard : List (List ℕ)) (note : Change) (reply : Reply) (made : Change) (due : Reply)
+        → texts ≡ heard → made ≡ note → due ≡ reply
         → IsCheckReady room tables key heard a b now note reply
-        → IsCheckReady room tables key texts a b now made.0 made.1
-    ready_on heard note reply made noted first second ready =
-        subst (λ (c : Change). IsCheckReady room tables key texts a b now c made.1) (sym first)
+        → IsCheckReady room tables key texts a b now made due
+    ready_on heard note reply made due noted first second ready =
+        subst (λ (c : Change). IsCheckReady room tables key texts a b now c due) (sym first)
         (subst (IsCheckReady room tables key texts a b now note) (sym second)
         (subst (λ (ts : List (List ℕ)). IsCheckReady room tables key ts a b now note reply)
         (sym noted) ready))
@@ -433,13 +437,13 @@ module _ (room : Room) (tables : Tables) (key : Key) (now : ℕ)
         now = now;
       }
 
-      ready_heard : (made : Change × Reply)
+      ready_heard : (made : Change) (due : Reply)
           → IsNoted (heard_of heard_then) app (change.Heard key d.identity.version d.minimum now)
-          (checked_of heard_then app) made
-          → IsCheckReady room tables key texts a b now made.0 made.1
-      ready_heard made noted =
+          (checked_of heard_then app) made due
+          → IsCheckReady room tables key texts a b now made due
+      ready_heard made due noted =
           ready_on (offer.heard.text ∷ []) (change.Heard key d.identity.version d.minimum now)
-          (checked_of heard_then app) made (noted_is offer.heard.text offer.heard.noted)
+          (checked_of heard_then app) made due (noted_is offer.heard.text offer.heard.noted)
           noted.change_is noted.reply_is
           (heard_ready offer.heard.text offer.heard.got d offer.heard.tells offer.same held few
           noted.other)
@@ -460,18 +464,13 @@ module _ (room : Room) (tables : Tables) (key : Key) (now : ℕ)
           same.1)
 
       -- what noting it comes to
-      pub readies_heard : (result : Result (Change × Reply) Reply)
-          → IfOk result (IsNoted (heard_of heard_then) app
-          (change.Heard key d.identity.version d.minimum now) (checked_of heard_then app))
-          → IfOk result (λ made. IsCheckReady room tables key texts a b now made.0 made.1)
-      readies_heard (Ok made) noted = ready_heard made noted
-      readies_heard (Err reply) noted = tt
-
-      pub overs_heard : (result : Result (Change × Reply) Reply)
-          → IfErr result (IsUnnoted (heard_of heard_then) app (checked_of heard_then app))
-          → IfErr result (IsCheckOver room tables key texts a b now)
-      overs_heard (Ok made) unnoted = tt
-      overs_heard (Err reply) unnoted = over_heard reply unnoted
+      pub heard_to : (result : Prepared)
+          → NotesTo (heard_of heard_then) app (change.Heard key d.identity.version d.minimum now)
+          (checked_of heard_then app) result
+          → IsCheckPrepared room tables key texts a b now result
+      heard_to (to.Change made due) noted = ready_heard made due noted
+      heard_to (to.Reply reply) unnoted = over_heard reply unnoted
+      heard_to to.DiskFault none = absurd none
 
     -- ---- none was heard
 
@@ -486,23 +485,23 @@ module _ (room : Room) (tables : Tables) (key : Key) (now : ℕ)
           → is_missing other ≡ true
       unlike_missing other is missing = subst (λ (r : Reply). is_missing r ≡ true) is missing
 
-      ready_by : (made : Change × Reply) → IsMissed key app reply made → Why
-          → IsCheckReady room tables key texts a b now made.0 made.1
-      ready_by made missed (inl (inl given)) =
-          ready_on [] (change.Unheard key) (says.AllLinks provider given.reasons) made
+      ready_by : (made : Change) (due : Reply) → IsMissed key app reply made due → Why
+          → IsCheckReady room tables key texts a b now made due
+      ready_by made due missed (inl (inl given)) =
+          ready_on [] (change.Unheard key) (says.AllLinks provider given.reasons) made due
           (given.noted ∙ empty) missed.noted.change_is
           (missed.noted.reply_is ∙ replied_is given.named given.reasons given.gave reply given.replied)
           (unheard_ready given.named given.reasons given.gave missed.noted.other)
-      ready_by made missed (inl (inr (inl read))) =
+      ready_by made due missed (inl (inr (inl read))) =
           absurd (let no : is_missing (says.Manifest read.reason) ≡ true =
           unlike_missing (says.Manifest read.reason) read.replied missed.missing in cc)
-      ready_by made missed (inl (inr (inr unkept))) =
+      ready_by made due missed (inl (inr (inr unkept))) =
           absurd (let no : is_missing says.Memory ≡ true =
           unlike_missing says.Memory unkept.replied missed.missing in cc)
-      ready_by made missed (inr other) = by other.replied
+      ready_by made due missed (inr other) = by other.replied
         where
           by : (reply ≡ says.Memory) ⊎ (reply ≡ says.IdentityDiffers other.deployment.identity.key)
-              → IsCheckReady room tables key texts a b now made.0 made.1
+              → IsCheckReady room tables key texts a b now made due
           by (inl memory) =
               absurd (let no : is_missing says.Memory ≡ true =
               unlike_missing says.Memory memory missed.missing in cc)
@@ -510,12 +509,6 @@ module _ (room : Room) (tables : Tables) (key : Key) (now : ℕ)
               absurd (let no : is_missing (says.IdentityDiffers other.deployment.identity.key) ≡ true =
               unlike_missing (says.IdentityDiffers other.deployment.identity.key) differs
               missed.missing in cc)
-
-      pub readies_missed : (result : Result (Change × Reply) Reply)
-          → IfOk result (IsMissed key app reply)
-          → IfOk result (λ made. IsCheckReady room tables key texts a b now made.0 made.1)
-      readies_missed (Ok made) missed = ready_by made missed no.why
-      readies_missed (Err other) missed = tt
 
       -- ---- and nothing is noted
 
@@ -584,8 +577,8 @@ module _ (room : Room) (tables : Tables) (key : Key) (now : ℕ)
               (other_over other.heard.text other.heard.got other.deployment other.heard.tells
               other.other)
 
-      pub overs_missed : (result : Result (Change × Reply) Reply)
-          → IfErr result (IsUnmissed app reply)
-          → IfErr result (IsCheckOver room tables key texts a b now)
-      overs_missed (Ok made) unmissed = tt
-      overs_missed (Err other) unmissed = over_by other unmissed no.why
+      pub missed_to : (result : Prepared) → MissesTo key app reply result
+          → IsCheckPrepared room tables key texts a b now result
+      missed_to (to.Change made due) missed = ready_by made due missed no.why
+      missed_to (to.Reply other) unmissed = over_by other unmissed no.why
+      missed_to to.DiskFault none = absurd none

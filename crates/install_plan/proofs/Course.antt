@@ -1,6 +1,6 @@
 -- Each end of the hearing, by what its calls promised.
 use Rattle.std.proofs.Common.{◌≡◌, ◌∙◌, ◌++◌, ◌<◌, ◌^◌, ℕ, refl, sym, ap, subst, List, [], ◌∷◌, Some, Ok, map, arith}
-use Rattle.std.specs.Prelude.{Result, slice_get}
+use Rattle.std.specs.Prelude.{IfSome, Result, slice_get}
 use Rattle.small_types.specs.declared.limits.TheConstants.{MANIFEST_LIMIT}
 use Rattle.small_types.specs.declared.target.Target.{Target}
 use Rattle.addresses.specs.declared.fault.UrlFault.{UrlFault}
@@ -11,6 +11,7 @@ use Rattle.manifests.specs.declared.facts.Application.{Application}
 use Rattle.manifests.specs.declared.facts.Deployment.{Deployment}
 use Rattle.manifests.specs.Applications.{application_of}
 use Rattle.manifests.specs.Deployments.{deployment_of}
+use Rattle.manifests.specs.Facts.{IsProvider}
 use Rattle.machine.specs.declared.reply.Reply.{Reply}
 use Rattle.machine.specs.declared.reply.Reply.TheVariants as says
 use Rattle.machine.specs.Fields.{IsApplication}
@@ -25,7 +26,6 @@ use Rattle.links.specs.Links.{LinksState}
 use Rattle.fetcher.specs.Causes.{IsFileCause, IsTextCause}
 use Rattle.fetcher.specs.Fetched.{Kept}
 use Rattle.fetcher.specs.Given.{FitsText}
-use Rattle.data_migration.specs.declared.plan.LocalPlan.{LocalPlan}
 use Rattle.install_plan.specs.declared.plan.Plan.{Plan}
 use Rattle.install_plan.specs.declared.plan.WantedFile.{WantedFile}
 use Rattle.install_plan.specs.Judging.{Refused, address_checks, deployment_checks, release_checks}
@@ -41,6 +41,10 @@ oks (w ∷ ws) = ap (λ (rs : List (Result Target UrlFault)). Ok w.target ∷ rs
 -- the size that was heard can be hashed
 pub size_below : {Fits : List ℕ → Type 0} {target : Target} {a b : LinksState} {old new : List (List ℕ)} {d : Deployment} → HearsOne deployment_of Fits target a b old new d → d.app_size < 2 ^ 61
 size_below {d = d} hears = let is = deployment_read hears.text d hears.tells in let most = is.facts.app_size in omega arith
+
+-- what it gives as provider was read as an address
+pub provider_read : {Fits : List ℕ → Type 0} {target : Target} {a b : LinksState} {old new : List (List ℕ)} {d : Deployment} → HearsOne deployment_of Fits target a b old new d → IfSome d.provider IsProvider
+provider_read {d = d} hears = (deployment_read hears.text d hears.tells).facts.provider
 
 -- one text more stands at the end
 grown : (text : List ℕ) {front old new : List (List ℕ)} → new ≡ old ++ text ∷ [] → old ≡ front → new ≡ front ++ text ∷ []
@@ -75,11 +79,11 @@ module _ {shape : Shape} {url : List ℕ} {a : LinksState} {none : List (List �
           at_provider {reply = reply} memory = subst (λ (ts : List (List ℕ)). IsRefused shape url ts a c reply) (sym (grown second.text second.noted (grown hears.text hears.noted empty)))
               (memory_end shape url target read a b one hears.text d hears.got hears.tells base joined passed c two second.text second.got reply memory)
 
-          pub at_plan : {provider : Target} {files : List WantedFile} {locals : List LocalPlan} → IsProvidedBy target d.provider provider
+          pub at_plan : {provider : Target} {files : List WantedFile} → IsProvidedBy target d.provider provider
               → map (λ file. slice_get app.files file.place) files ≡ map Some (wanted shape.views app)
               → map (λ entry. file_target_of base d.mapped entry.name) (wanted shape.views app) ≡ map (λ file. Ok file.target) files
-              → (base_of url d ≡ Ok base → IsApplication app → PassesAll (release_checks url shape d app)) → IsPlanned shape url both a c (record { deployment = d; application = app; url = target; base = base; provider = provider; wanted = files; locals = locals })
-          at_plan {provider = provider} {files = files} {locals = locals} provided places targets last =
-              let plan : Plan = record { deployment = d; application = app; url = target; base = base; provider = provider; wanted = files; locals = locals } in
+              → (base_of url d ≡ Ok base → IsApplication app → PassesAll (release_checks url shape d app)) → IsPlanned shape url both a c (record { deployment = d; application = app; url = target; base = base; provider = provider; wanted = files })
+          at_plan {provider = provider} {files = files} provided places targets last =
+              let plan : Plan = record { deployment = d; application = app; url = target; base = base; provider = provider; wanted = files } in
               subst (λ (ts : List (List ℕ)). IsPlanned shape url ts a c plan) (sym (grown second.text second.noted (grown hears.text hears.noted empty)))
               (plan_end shape url target read a b one hears.text d hears.got hears.tells base joined passed c two second.text second.got app second.tells plan refl refl refl refl provided places (targets ∙ sym (oks files)) (last (base_is url d target (Ok base) read joined) (application_read second.text app second.tells)))

@@ -12,7 +12,7 @@ use Rattle.machine.specs.Installed.{new_view}
 use Rattle.machine.specs.Current.{current_view, data_of, listed_by}
 use Rattle.machine.specs.Migrated.{IsAside, IsFresh, IsKept, Migrated}
 use Rattle.machine.specs.Shape.{Shape, shape_of}
-use Rattle.machine.specs.Store.{Store}
+use Rattle.machine.specs.Store.{Session}
 use Rattle.machine.specs.Views.{DataFile, ListedFile, content_key, same_content, standing_entries}
 use Rattle.machine.specs.Views.{View as KeptView}
 use Rattle.machine.specs.Wanted.{is_held, wanted}
@@ -108,19 +108,19 @@ module _ (room : Room) (tables : Tables) (image : List ℕ) (url : List ℕ) (te
       let some = all_in (λ (e : FileEntry). IsSome (content_of after e)) (standing_entries [] plan.application) of.0 brings.each of.1 in
       subst (IsHeldOrFetched (table_shape room tables) a c (view number others)) of.2 (either of.0 some))
 
-  module _ (old : Store) (number : ℕ) (others : List DataFile) (originals : List ListedFile)
-      (migrated : Migrated (data_of (current_view plan.deployment.identity.key old)) (listed_by (current_view plan.deployment.identity.key old)) plan.application.files originals others)
+  module _ (old : Session) (number : ℕ) (others : List DataFile) (originals : List ListedFile)
+      (migrated : Migrated (data_of (current_view plan.deployment.identity.key old.store)) (listed_by (current_view plan.deployment.identity.key old.store)) plan.application.files originals others)
       (each : (file : ListedFile) → In file originals → IsOriginal a c place_of wants file) where
     abbrev Kept : DataFile → Type 0
-    Kept file = IsKept (data_of (current_view plan.deployment.identity.key old)) (listed_by (current_view plan.deployment.identity.key old)) plan.application.files file
+    Kept file = IsKept (data_of (current_view plan.deployment.identity.key old.store)) (listed_by (current_view plan.deployment.identity.key old.store)) plan.application.files file
 
     abbrev Aside : DataFile → Type 0
-    Aside file = IsAside (data_of (current_view plan.deployment.identity.key old)) (listed_by (current_view plan.deployment.identity.key old)) plan.application.files file
+    Aside file = IsAside (data_of (current_view plan.deployment.identity.key old.store)) (listed_by (current_view plan.deployment.identity.key old.store)) plan.application.files file
 
     abbrev Comes : DataFile → Type 0
-    Comes file = IsFresh (data_of (current_view plan.deployment.identity.key old)) (listed_by (current_view plan.deployment.identity.key old)) plan.application.files originals file
+    Comes file = IsFresh (data_of (current_view plan.deployment.identity.key old.store)) (listed_by (current_view plan.deployment.identity.key old.store)) plan.application.files originals file
 
-    carried : (file : DataFile) → Kept file ⊎ Aside file ⊎ Comes file → IsCarriedOrFetched old a c (view number others) file
+    carried : (file : DataFile) → Kept file ⊎ Aside file ⊎ Comes file → IsCarriedOrFetched old.store a c (view number others) file
     carried file (inl kept) = inl kept
     carried file (inr (inl aside)) = inr (inl aside)
     carried file (inr (inr fresh)) =
@@ -144,7 +144,7 @@ module _ (room : Room) (tables : Tables) (image : List ℕ) (url : List ℕ) (te
     brought_view : shape_of old ≡ table_shape room tables → IsBrought old a c (view number others)
     brought_view same = record {
       files = subst (λ (s : Shape). All (IsHeldOrFetched s a c (view number others)) (view number others).program_files) (sym same) (files_brought number others);
-      data_files = in_all (IsCarriedOrFetched old a c (view number others)) others (λ file there. carried file ((migrated.files file).0 (contains_in others file there)));
+      data_files = in_all (IsCarriedOrFetched old.store a c (view number others)) others (λ file there. carried file ((migrated.files file).0 (contains_in others file there)));
     }
 
     pub brought_last : shape_of old ≡ table_shape room tables → (views : List KeptView) (last : KeptView) → views ++ view number others ∷ [] ≡ views ++ last ∷ [] → IsBrought old a c last

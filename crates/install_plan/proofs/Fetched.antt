@@ -19,7 +19,7 @@ use Rattle.install_plan.specs.Brought.{AreContentsFor, IsContentFor}
 use Rattle.install_plan.specs.Changes.{data_part, is_data, program_part}
 use Rattle.install_plan.specs.Given.{IsFrom}
 use Rattle.install_plan.specs.Held.{given_bytes}
-use Rattle.install_plan.proofs.Aligning.{oks, rest_is, somes, whole_for}
+use Rattle.install_plan.proofs.Aligning.{count_for, oks, rest_is, somes, whole_for}
 use Rattle.install_plan.proofs.Keyed.{kept_key}
 use Rattle.install_plan.proofs.Sufficing.{IsWholeContent, wanted_required}
 
@@ -89,6 +89,14 @@ keys_step false entry content rest es key more = ap (λ (k : ContentKey). k ∷ 
 head_of : {X : Type 0} (x y : X) (xs ys : List X) → x ∷ xs ≡ y ∷ ys → x ≡ y
 head_of x y xs ys e = cc
 
+-- the data files among as many contents as entries
+pub data_listed : (entries : List FileEntry) (contents : List Content) → length contents ≡ length entries
+    → map (λ (file : ListedFile). file.entry) (data_part (somes entries) contents) ≡ filter (λ (e : FileEntry). e.local) entries
+data_listed [] contents same = refl
+data_listed (entry ∷ entries) [] same = absurd (omega (arith, same))
+data_listed (entry ∷ entries) (content ∷ contents) same =
+    data_step entry.local entry content (data_part (somes entries) contents) (filter (λ (e : FileEntry). e.local) entries) (data_listed entries contents (omega (arith, same)))
+
 module _ (a c : LinksState) where
   pub program_keys : (entries : List FileEntry) (targets : List Target) (contents : List Content) → AreContentsFor a c entries targets contents → ((e : FileEntry) → In e entries → IsEither e)
       → map kept_key (program_part (somes entries) contents) ≡ map content_key (filter is_required entries)
@@ -102,16 +110,6 @@ module _ (a c : LinksState) where
       (ap (λ (n : ℕ). record (kept_key content) { size = n }) are.0.size ∙ ap (λ (l : List Digest). record (content_key entry) { list = l }) are.0.list)
       (program_keys entries targets contents are.1 (λ e there. each e (inr there)))
       ∙ sym (ap (λ (b : Bool). map content_key (cond b (entry ∷ filter is_required entries) (filter is_required entries))) (each entry (inl refl)))
-
-  pub data_entries : (entries : List FileEntry) (targets : List Target) (contents : List Content) → AreContentsFor a c entries targets contents
-      → map (λ (file : ListedFile). file.entry) (data_part (somes entries) contents) ≡ filter (λ (e : FileEntry). e.local) entries
-  data_entries [] [] [] are = refl
-  data_entries [] [] (content ∷ contents) are = absurd are
-  data_entries [] (target ∷ targets) contents are = absurd are
-  data_entries (entry ∷ entries) [] contents are = absurd are
-  data_entries (entry ∷ entries) (target ∷ targets) [] are = absurd are
-  data_entries (entry ∷ entries) (target ∷ targets) (content ∷ contents) are =
-      data_step entry.local entry content (data_part (somes entries) contents) (filter (λ (e : FileEntry). e.local) entries) (data_entries entries targets contents are.1)
 
   -- a data file that was got at its address
   pub record IsOriginal (at : FileEntry → Result Target UrlFault) (entries : List FileEntry) (file : ListedFile) : Type 0 where
@@ -173,7 +171,7 @@ module _ (a c : LinksState) where
         whole = in_all IsWholeContent (program_part (somes entries) contents) (λ content there. all_in IsWholeContent contents content whole (program_in (somes entries) contents content there));
         few = program_few (somes entries) contents;
         within = program_in (somes entries) contents;
-        deployed = data_entries entries targets contents are ∙ local_wanted app.files (standing_files views);
+        deployed = data_listed entries contents (count_for a c entries targets contents are) ∙ local_wanted app.files (standing_files views);
         originals = original_for at entries targets contents are named;
       })
 

@@ -37,7 +37,7 @@ fewer (e ∷ es) held = by e.local _ (fewer es held) (fewer es (e ∷ held))
 
 module _ (shape : Shape) (d : Deployment) (a : Application) (is : IsApplication a)
     (few : FILE_COUNT_LIMIT < files_after shape a → ⊥) where
-  within : sum_by (λ (entry : FileEntry). blocks_of entry.size) (wanted shape.views a) ≤ 2 ^ 64 - 1
+  within : sum_by (λ (entry : FileEntry). blocks_of entry.size) (wanted shape.views a) ≤ 2 ^ 60
   within =
       let most = sum_most (λ (entry : FileEntry). blocks_of entry.size) (wanted shape.views a) 16384
       (λ entry there. few_blocks entry.local entry.size (all_in IsFile a.files entry is.facts.each (wanted_within a.files (standing_files shape.views) entry there)).size) in
@@ -46,5 +46,5 @@ module _ (shape : Shape) (d : Deployment) (a : Application) (is : IsApplication 
 
   -- the blocks of the wanted files and those of the copied data files are what is needed
   pub need_is : (wants copied need : ℕ) → wants ≡ min (sum_by (λ (entry : FileEntry). blocks_of entry.size) (wanted shape.views a)) (2 ^ 64 - 1)
-      → copied ≡ copied_need (bare_data_of (current_bare d.identity.key shape)) → need ≡ wants + copied → need ≡ install_need shape d a
-  need_is wants copied need wants_are copied_is same = omega (arith, wants_are, copied_is, same, within, (are_wanted shape.views a).blocks)
+      → copied ≡ copied_need (bare_data_of (current_bare d.identity.key shape)) → copied ≤ 2 ^ 60 → need ≡ min (wants + copied) (2 ^ 64 - 1) → need ≡ install_need shape d a
+  need_is wants copied need wants_are copied_is few same = omega (arith, wants_are, copied_is, few, same, within, (are_wanted shape.views a).blocks)

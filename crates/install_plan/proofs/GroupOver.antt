@@ -47,27 +47,27 @@ module _ (room : Room) (tables : Tables) (lease : ℕ) (group : List ℕ) where
   shape = table_shape room tables
 
   pub by_refusal : (now : ℕ) (image : List ℕ) (old : Session) (reply : Reply)
-      → Shows room tables image old.store
+      → old.jobs ≡ [] → Shows room tables image old.store
       → Refuses (group_refusals lease group (table_shape room tables)) old reply old
       → Answers now [] old (command.Group lease group) reply old
-  by_refusal now image old reply shows refuses =
+  by_refusal now image old reply idle shows refuses =
       inl (inr (
         tt,
         subst (λ (s : Shape). Refuses (group_refusals lease group s) old reply old)
-            (sym (shape_shown shows)) refuses,
+            (sym (shape_shown old idle shows)) refuses,
       ))
 
   pub by_effect : (now : ℕ) (image : List ℕ) (old : Session) (reply : Reply) (new : Session)
-      → Shows room tables image old.store
+      → old.jobs ≡ [] → Shows room tables image old.store
       → PassesAll (group_refusals lease group (table_shape room tables))
       → GroupEffect lease group old reply new
       → Answers now [] old (command.Group lease group) reply new
-  by_effect now image old reply new shows passes done =
+  by_effect now image old reply new idle shows passes done =
       inr (
         (
           tt,
           subst (λ (s : Shape). PassesAll (group_refusals lease group s))
-              (sym (shape_shown shows)) passes,
+              (sym (shape_shown old idle shows)) passes,
         ),
         done,
       )
@@ -81,20 +81,20 @@ module _ (room : Room) (tables : Tables) (lease : ℕ) (group : List ℕ) where
 
   pub over_by : (a c : LinksState) (reply : Reply) → Kept a c
       → ((now : ℕ) → moment_after now (Some reply) ≡ now)
-      → ((now : ℕ) (image : List ℕ) (old : Session) → Shows room tables image old.store
-      → Sound old.store → IsDue a c reply now old)
+      → ((now : ℕ) (image : List ℕ) (old : Session) → old.jobs ≡ []
+      → Shows room tables image old.store → Sound old.store → IsDue a c reply now old)
       → IsGroupOver room tables lease group a c reply
   over_by a c reply kept still due = record {
     kept = kept;
     still = still;
-    step = λ now image old shows sound. (
-        let is = due now image old shows sound in
+    step = λ now image old idle shows sound. (
+        let is = due now image old idle shows sound in
         record {
           new = old;
           step = is.answers;
           served = subst (λ (s : Shape). GroupServed lease group s a c reply)
-              (sym (shape_shown shows)) is.served;
-          brought = still_brought lease group old.store a c sound.valid.ordered;
+              (sym (shape_shown old idle shows)) is.served;
+          brought = still_brought lease group old a c sound.valid.ordered;
           leaves = refl;
         }
         );
@@ -116,16 +116,16 @@ module _ (room : Room) (tables : Tables) (lease : ℕ) (group : List ℕ) where
   pub memory_over : (a c : LinksState) → AreUnasked a c
       → IsGroupOver room tables lease group a c says.Memory
   memory_over a c unasked = over_by a c says.Memory unasked.kept (λ now. refl)
-      (λ now image old shows sound.
+      (λ now image old idle shows sound.
       record { answers = inl (inl (refl, refl)); served = served_none a c says.Memory unasked tt })
 
   pub no_lease_over : (a c : LinksState) → AreUnasked a c → leased_row lease tables ≡ None
       → IsGroupOver room tables lease group a c says.NoLease
   no_lease_over a c unasked none = over_by a c says.NoLease unasked.kept (λ now. refl)
-      (λ now image old shows sound. (
+      (λ now image old idle shows sound. (
       let gone = no_lease shows lease sound.valid.ordered none in
       record {
-        answers = by_refusal now image old says.NoLease shows (inl ((gone, refl), refl));
+        answers = by_refusal now image old says.NoLease idle shows (inl ((gone, refl), refl));
         served = served_none a c says.NoLease unasked (inl ((λ passes. passes.0 gone), refl));
       }
       ))
@@ -142,8 +142,8 @@ module _ (room : Room) (tables : Tables) (lease : ℕ) (group : List ℕ) where
         → group_files group view.application ≡ []
         → IsGroupOver room tables lease group a c says.NoGroup
     no_group_over a c unasked none = over_by a c says.NoGroup unasked.kept (λ now. refl)
-        (λ now image old shows sound. record {
-          answers = by_refusal now image old says.NoGroup shows
+        (λ now image old idle shows sound. record {
+          answers = by_refusal now image old says.NoGroup idle shows
               (inr (lives, inl (((bare_row view, leased.bare, none), refl), refl)));
           served = served_none a c says.NoGroup unasked
               (inl ((λ passes. passes.1.0 (bare_row view, leased.bare, none)), refl));
@@ -176,8 +176,8 @@ module _ (room : Room) (tables : Tables) (lease : ℕ) (group : List ℕ) where
           (says.Group (length (group_files group view.application)))
       stands_over a c unasked stands =
           let reply = says.Group (length (group_files group view.application)) in
-          over_by a c reply unasked.kept (λ now. refl) (λ now image old shows sound. record {
-            answers = by_effect now image old reply old shows (
+          over_by a c reply unasked.kept (λ now. refl) (λ now image old idle shows sound. record {
+            answers = by_effect now image old reply old idle shows (
               lives,
               (
                 has_group,
@@ -218,8 +218,8 @@ module _ (room : Room) (tables : Tables) (lease : ℕ) (group : List ℕ) where
         bad_url_over a c unasked any =
             let bad = bad_wanted tables view group any in
             over_by a c says.BadUrl unasked.kept (λ now. refl)
-            (λ now image old shows sound. record {
-              answers = by_refusal now image old says.BadUrl shows
+            (λ now image old idle shows sound. record {
+              answers = by_refusal now image old says.BadUrl idle shows
                   (inr (
                     lives,
                     inr (
@@ -284,10 +284,10 @@ module _ (room : Room) (tables : Tables) (lease : ℕ) (group : List ℕ) where
                 (says.Full need (free_blocks (table_shape room tables)))
             full need own less =
                 let reply = says.Full need (free_blocks (table_shape room tables)) in
-                over_by a c reply unasked.kept (λ now. refl) (λ now image old shows sound. (
+                over_by a c reply unasked.kept (λ now. refl) (λ now image old idle shows sound. (
                 let same = need_is need (view_valid shows leased sound) (own ∙ is) in
                 record {
-                  answers = by_refusal now image old reply shows
+                  answers = by_refusal now image old reply idle shows
                       (inr (
                         lives,
                         inr (

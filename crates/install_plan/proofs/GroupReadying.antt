@@ -102,8 +102,8 @@ module _ (room : Room) (tables : Tables) (lease : ℕ) (group : List ℕ) (view 
     abbrev reply : Reply
     reply = says.Group (length (group_files group view.application))
 
-    module _ (image : List ℕ) (old : Session) (shows : Shows room tables image old.store)
-        (sound : Sound old.store) where
+    module _ (image : List ℕ) (old : Session) (idle : old.jobs ≡ [])
+        (shows : Shows room tables image old.store) (sound : Sound old.store) where
       abbrev led_store : Store
       led_store = grouped view.number group (stand_files room image tables contents group view)
           old.store
@@ -148,13 +148,13 @@ module _ (room : Room) (tables : Tables) (lease : ℕ) (group : List ℕ) (view 
           (LedBy room tables (change.Group view.number group contents) old.store)
       step now = record {
         new = led;
-        step = by_effect room tables lease group now image old reply led shows
+        step = by_effect room tables lease group now image old reply led idle shows
             (passes_all room tables lease group view leased some absent got.wanted got.are is)
             done;
         served = subst (λ (s : Shape). GroupServed lease group s a c reply)
-            (sym (shape_shown shows)) served;
+            (sym (shape_shown old idle shows)) served;
         brought = subst (λ (s : Shape). AreBrought lease group s a c led_store)
-            (sym (shape_shown shows))
+            (sym (shape_shown old idle shows))
             (led_brought room tables image lease group view leased contents are.contents brings a c
             (addresses got.wanted) contents_are named old.store shows);
         leaves = record {
@@ -173,7 +173,7 @@ module _ (room : Room) (tables : Tables) (lease : ℕ) (group : List ℕ) (view 
       still = λ now. refl;
       of = (refl, few_contents);
       fits = fits;
-      step = λ now image old shows sound. step image old shows sound now;
+      step = λ now image old idle shows sound. step image old idle shows sound now;
     }
 
     -- the change and the reply as they are made

@@ -159,7 +159,7 @@ module _ (room : Room) (tables : Tables) (lease : ℕ) (group : List ℕ) (view 
           → IsGroupOver room tables lease group a c says.Memory
       memory_behind asked rest grown front =
           over_by room tables lease group a c says.Memory kept (λ now. refl)
-          (λ now image old shows sound. record {
+          (λ now image old idle shows sound. record {
             answers = inl (inl (refl, refl));
             served = served_of a c says.Memory asked rest kept (view_valid shows leased sound) grown
                 front tt;
@@ -240,12 +240,12 @@ module _ (room : Room) (tables : Tables) (lease : ℕ) (group : List ℕ) (view 
         pub links_over : IsGroupOver room tables lease group a c (says.AllLinks named reasons)
         links_over =
             over_by room tables lease group a c (says.AllLinks named reasons) kept (λ now. refl)
-            (λ now image old shows sound. (
+            (λ now image old idle shows sound. (
             let is = view_valid shows leased sound in
             let passed = passes_room is in
             record {
               answers = by_refusal room tables lease group now image old
-                  (says.AllLinks named reasons) shows
+                  (says.AllLinks named reasons) idle shows
                   (inr (
                     passed.0,
                     inr (

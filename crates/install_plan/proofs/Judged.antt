@@ -1,5 +1,5 @@
 -- What the tests of a judgement say.
-use Rattle.std.proofs.Common.{◌≡◌, ◌≢◌, ◌∙◌, ◌⊎◌, ◌||◌, ◌<◌, ℕ, inl, inr, refl, sym, ap, true, false, Bool, not, List, [], ◌∷◌, length, map, get_or, Err}
+use Rattle.std.proofs.Common.{◌≡◌, ◌≢◌, ◌∙◌, ◌⊎◌, ◌||◌, ◌<◌, ℕ, inl, inr, refl, sym, ap, true, false, Bool, not, List, [], ◌∷◌, length, map, get_or, Ok, Err}
 use Rattle.std.specs.Prelude.{◌↔◌, Any, IsTrue, Result, sum_by}
 use Rattle.std.specs.List.{list_any}
 use Rattle.std.proofs.lemmas.List.{get_or_default, length-map}
@@ -7,8 +7,9 @@ use Rattle.small_types.specs.declared.target.Target.{Target}
 use Rattle.small_types.specs.Name.{IsBelowPre}
 use Rattle.addresses.specs.declared.fault.UrlFault.{UrlFault}
 use Rattle.addresses.specs.declared.fault.UrlFault.TheVariants.{BadUrl, NotHttp, Memory}
-use Rattle.addresses.specs.Address.{Gives}
+use Rattle.addresses.specs.Address.{Gives, target_of_text}
 use Rattle.manifests.specs.Applications.{is_below_pre}
+use Rattle.manifests.specs.Facts.{IsProvider}
 use Rattle.machine.specs.declared.reply.Reply.{Reply}
 use Rattle.machine.specs.declared.reply.Reply.TheVariants as says
 use Rattle.machine.specs.Shape.{BareData, BareView}
@@ -66,3 +67,20 @@ pub refused_at : (reply : Reply) (P : ℕ → Type 0) (places : List ℕ) (k : �
     → (reply ≡ says.Memory) ⊎ ((reply ≡ says.BadUrl) × P (get_or places k 0)) → (reply ≡ says.Memory) ⊎ ((reply ≡ says.BadUrl) × Any P places)
 refused_at reply P places k within (inl memory) = inl memory
 refused_at reply P places k within (inr bad) = inr (bad.0, (k, get_or places k 0, within, get_or_default places k (get_or places k 0) 0 within, bad.1))
+
+-- ---- addresses of providers
+
+-- what was read as an address is read as one again, unless there is no memory
+pub only_memory : (text bytes : List ℕ) (fault : UrlFault) → bytes ≡ text → IsProvider text → Gives (Err fault) (target_of_text bytes) → fault ≡ Memory
+only_memory text bytes fault same is gives = by fault gives
+  where
+    clash : (t : Target) (e : UrlFault) → ◌≡◌ {A = Result Target UrlFault} (Ok t) (Err e) → ⊥
+    clash t e is = cc
+
+    read : target_of_text bytes ≡ Ok is.target
+    read = ap target_of_text same ∙ is.address
+
+    by : (e : UrlFault) → Gives (Err e) (target_of_text bytes) → e ≡ Memory
+    by BadUrl gives = absurd (clash is.target BadUrl (sym read ∙ gives))
+    by (NotHttp scheme) gives = absurd (clash is.target (NotHttp scheme) (sym read ∙ gives))
+    by Memory gives = refl

@@ -11,7 +11,7 @@ use Rattle.machine.specs.Fields.{IsApplication}
 use Rattle.machine.specs.Leases.{lease_of, leased_bare, leased_view}
 use Rattle.machine.specs.Shape.{BareView, bare_view, shape_of}
 use Rattle.machine.specs.Sound.{Sound}
-use Rattle.machine.specs.Store.{Store}
+use Rattle.machine.specs.Store.{Session, Store}
 use Rattle.machine.specs.Valid.{IsView, Ordered}
 use Rattle.machine.specs.Views.{ListedFile, same_content, standing_entries}
 use Rattle.machine.specs.Views.{View as KeptView}
@@ -107,18 +107,18 @@ module _ {room : Room} {tables : Tables} {image : List ℕ} {store : Store}
 -- ---- the files of a leased view
 
 -- the program files of a kept view are held by it
-pub still_brought : (lease : ℕ) (group : List ℕ) (store : Store) (a c : LinksState)
-    → Ordered store → AreBrought lease group (shape_of store) a c store
-still_brought lease group store a c was = record {
+pub still_brought : (lease : ℕ) (group : List ℕ) (old : Session) (a c : LinksState)
+    → Ordered old.store → AreBrought lease group (shape_of old) a c old.store
+still_brought lease group old a c was = record {
   files = λ view leased.
-      let there = leased_in lease store view leased in
-      let is = all_in IsView store.views view was.views there in
-      in_all (IsHeldOrCame group (shape_of store) a c view) view.program_files (λ file of.
-      inl (in_passes (same_content file.entry) (standing_files (map bare_view store.views))
+      let there = leased_in lease old.store view leased in
+      let is = all_in IsView old.store.views view was.views there in
+      in_all (IsHeldOrCame group (shape_of old) a c view) view.program_files (λ file of.
+      inl (in_passes (same_content file.entry) (standing_files (map bare_view old.store.views))
       file.entry
       (in_flat_map (λ (v : BareView). standing_entries v.groups v.application)
-      (map bare_view store.views) (bare_view view) file.entry
-      (in_map bare_view store.views view there)
+      (map bare_view old.store.views) (bare_view view) file.entry
+      (in_map bare_view old.store.views view there)
       (subst (λ (es : List FileEntry). In file.entry es) is.files
       (in_map (λ (f : ListedFile). f.entry) view.program_files file of)))
       (is_same file.entry file.entry refl)));

@@ -33,6 +33,7 @@ pub mod Released
 pub mod Rows
 pub mod Serving
 pub mod Showing
+pub mod Sources
 pub mod Stops
 pub mod Sufficing
 pub mod Told

@@ -42,6 +42,7 @@ use Rattle.store_state.specs.Shows.{Shows, shown_data, shown_file}
 use Rattle.store_state.specs.Tables.{Tables, bare_row, table_shape}
 use Rattle.store_state.proofs.Images.{images_have, images_hold, same_image}
 use Rattle.store_state.proofs.Showing.{shows_same}
+use Rattle.data_migration.specs.declared.plan.LocalPlan.{LocalPlan}
 use Rattle.install_plan.specs.declared.plan.Plan.{Plan}
 use Rattle.install_plan.specs.Carried.{row_files, row_locals}
 use Rattle.install_plan.specs.Changes.{change_of_plan, listed_at, made_locals, plan_contents, plan_locals, plan_originals, view_of}
@@ -116,11 +117,11 @@ module _ (room : Room) (tables : Tables) (url : List ℕ) (texts : List (List �
   abbrev row : Option View
   row = current_row d.identity.key tables
 
-  outside_are : (originals : List ListedFile) → IsInOrder tables plan → outside_locals (made_locals (row_locals row) originals plan.locals) ≡ locals_after shape d a
-  outside_are originals has = made_outside (row_locals row) originals plan.locals ∙ counted d.identity.key tables room a.files plan.locals has.are
+  outside_are : (plans : List LocalPlan) (originals : List ListedFile) → IsInOrder tables plan plans → outside_locals (made_locals (row_locals row) originals plans) ≡ locals_after shape d a
+  outside_are plans originals has = made_outside (row_locals row) originals plans ∙ counted d.identity.key tables room a.files plans has.are
 
-  pub plan_fits : (before behind : LinksState) (contents : List Content) (now : ℕ) → AreTables tables → now ≤ NUMBER_LIMIT → IsInOrder tables plan → ArePartsOf before behind place_of (map bare_row tables.views) a contents (listed_at a.files plan.wanted) → Fits tables (change_of_plan tables plan contents now)
-  plan_fits before behind contents now are moment has parts = record {
+  pub plan_fits : (plans : List LocalPlan) (before behind : LinksState) (contents : List Content) (now : ℕ) → AreTables tables → now ≤ NUMBER_LIMIT → IsInOrder tables plan plans → ArePartsOf before behind place_of (map bare_row tables.views) a contents (listed_at a.files plan.wanted) → Fits tables (change_of_plan tables plan plans contents now)
+  plan_fits plans before behind contents now are moment has parts = record {
     number = refl;
     next = less_than tables.next_view NUMBER_LIMIT (λ le. is.deployment.1.1.1.1.1.1.0 (omega (arith, are.limit, le)));
     moment = moment;
@@ -128,10 +129,10 @@ module _ (room : Room) (tables : Tables) (url : List ℕ) (texts : List (List �
       deployment = held_deployment;
       application = held_application;
       base = held_base;
-      order = made_order (row_locals row) (plan_originals plan contents) plan.locals has.order;
-      locals = made_are (row_locals row) (plan_originals plan contents) plan.locals
-          (plan_names (row_locals row) (row_files row) a (row_are d.identity.key tables row refl are) held_application plan.locals has.are.names);
-      few = subst (λ (n : ℕ). n ≤ LOCAL_COUNT_LIMIT) (sym (outside_are (plan_originals plan contents) has)) few_locals;
+      order = made_order (row_locals row) (plan_originals plan contents) plans has.order;
+      locals = made_are (row_locals row) (plan_originals plan contents) plans
+          (plan_names (row_locals row) (row_files row) a (row_are d.identity.key tables row refl are) held_application plans has.are.names);
+      few = subst (λ (n : ℕ). n ≤ LOCAL_COUNT_LIMIT) (sym (outside_are plans (plan_originals plan contents) has)) few_locals;
     };
     groups = refl;
     has_provider = held_provider;
@@ -152,13 +153,13 @@ module _ (room : Room) (tables : Tables) (url : List ℕ) (texts : List (List �
 
   -- ---- what it leads to
 
-  module _ (shapes : ShapesAreShown) (image : List ℕ) (old : Session) (before behind : LinksState) (contents : List Content) (now : ℕ) (shows : Shows room tables image old.store) (are : AreTables tables) (has : IsInOrder tables plan)
-      (parts : ArePartsOf before behind place_of (map bare_row tables.views) a contents (listed_at a.files plan.wanted)) (fits : Fits tables (change_of_plan tables plan contents now)) where
+  module _ (plans : List LocalPlan) (shapes : ShapesAreShown) (image : List ℕ) (old : Session) (idle : old.jobs ≡ []) (before behind : LinksState) (contents : List Content) (now : ℕ) (shows : Shows room tables image old.store) (are : AreTables tables) (has : IsInOrder tables plan plans)
+      (parts : ArePartsOf before behind place_of (map bare_row tables.views) a contents (listed_at a.files plan.wanted)) (fits : Fits tables (change_of_plan tables plan plans contents now)) where
     abbrev after : List Content
     after = tables.contents ++ plan_contents plan contents
 
     abbrev pub led_data : List DataFile
-    led_data = map (shown_data room image) (plan_locals tables plan contents)
+    led_data = map (shown_data room image) (plan_locals tables plan plans contents)
 
     -- the store with the new view
     abbrev pub led_store : Store
@@ -167,11 +168,11 @@ module _ (room : Room) (tables : Tables) (url : List ℕ) (texts : List (List �
     abbrev pub led : Session
     led = record old { store = led_store }
 
-    pub same_shape : shape_of old.store ≡ shape
-    same_shape = shapes room tables image old.store shows
+    pub same_shape : shape_of old ≡ shape
+    same_shape = shapes room tables image old idle shows
 
     pub led_migrated : Sound old.store → Migrated (data_of (current_view d.identity.key old.store)) (listed_by (current_view d.identity.key old.store)) a.files (plan_originals plan contents) led_data
-    led_migrated sound = migrated room tables image old.store shows d.identity.key a held_application sound plan.locals has.are (plan_originals plan contents) parts.deployed
+    led_migrated sound = migrated room tables image old.store shows d.identity.key a held_application sound plans has.are (plan_originals plan contents) parts.deployed
 
     next_is : old.store.next_view ≡ tables.next_view
     next_is = ap (λ (s : Store). s.next_view) shows.is
@@ -204,8 +205,8 @@ module _ (room : Room) (tables : Tables) (url : List ℕ) (texts : List (List �
     pub plan_step : Sound old.store → Answers now texts old (InstallCommand url) (IsInstalled d.identity.key d.identity.version tables.next_view) led
     plan_step sound = inr ((tt, subst (λ (s : Shape). PassesAll (install_refusals install_replies LOCAL_COUNT_LIMIT url texts s)) (sym same_shape) plan_passes), plan_effect sound)
 
-    pub plan_shows : InstallsShowTheView → (later : List ℕ) → Shows room (effect (change_of_plan tables plan contents now) tables) later led_store
+    pub plan_shows : InstallsShowTheView → (later : List ℕ) → Shows room (effect (change_of_plan tables plan plans contents now) tables) later led_store
     plan_shows law later =
-        let change = change_of_plan tables plan contents now in
+        let change = change_of_plan tables plan plans contents now in
         shows_same later (images_have room (effect change tables) image later)
-        (law room tables (view_of tables plan (plan_locals tables plan contents)) (plan_contents plan contents) plan.provider now image image old.store shows (same_image room tables image) (images_hold room tables change image fits) fits)
+        (law room tables (view_of tables plan (plan_locals tables plan plans contents)) (plan_contents plan contents) plan.provider now image image old.store shows (same_image room tables image) (images_hold room tables change image fits) fits)

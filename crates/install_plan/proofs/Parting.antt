@@ -132,8 +132,8 @@ locals_made old old' originals fetched plans plans' locals old_is fetched_is pla
 pub places_are : (files files' : List FileEntry) (wanted wanted' : List WantedFile) → files' ≡ files → wanted' ≡ wanted → listed_at files' wanted' ≡ listed_at files wanted
 places_are files files' wanted wanted' files_are wanted_are = ap (λ (fs : List FileEntry). listed_at fs wanted') files_are ∙ ap (listed_at files) wanted_are
 
-pub change_is : (tables : Tables) (plan : Plan) (contents : List Content) (now : ℕ) (locals : List LocalFile) (programs : List Content) → locals ≡ plan_locals tables plan contents → programs ≡ plan_contents plan contents
-    → Install (view_of tables plan locals) programs plan.provider now ≡ change_of_plan tables plan contents now
-change_is tables plan contents now locals programs locals_are programs_are =
+pub change_is : (tables : Tables) (plan : Plan) (plans : List LocalPlan) (contents : List Content) (now : ℕ) (locals : List LocalFile) (programs : List Content) → locals ≡ plan_locals tables plan plans contents → programs ≡ plan_contents plan contents
+    → Install (view_of tables plan locals) programs plan.provider now ≡ change_of_plan tables plan plans contents now
+change_is tables plan plans contents now locals programs locals_are programs_are =
     ap (λ (ls : List LocalFile). Install (view_of tables plan ls) programs plan.provider now) locals_are
-    ∙ ap (λ (cs : List Content). Install (view_of tables plan (plan_locals tables plan contents)) cs plan.provider now) programs_are
+    ∙ ap (λ (cs : List Content). Install (view_of tables plan (plan_locals tables plan plans contents)) cs plan.provider now) programs_are

@@ -1,12 +1,12 @@
 -- The plans of the data files of a new view, beside the view that is current.
-use Rattle.std.proofs.Common.{◌≡◌, ◌≢◌, ◌∙◌, ◌+◌, ◌≤◌, ◌==◌, refl, sym, ap, subst, ℕ, Bool, true, false, cond, not, List, [], ◌∷◌, length, map, AllPairs, All, Option, Some, None, IsSome, arith}
+use Rattle.std.proofs.Common.{◌≡◌, ◌≢◌, ◌∙◌, ◌+◌, ◌*◌, ◌^◌, ◌<◌, ◌≤◌, ◌==◌, refl, sym, ap, subst, ℕ, Bool, true, false, cond, not, List, [], ◌∷◌, length, map, drop, get_or, AllPairs, All, Option, Some, None, IsSome, arith}
 use Rattle.std.specs.Prelude.{count_by, filter, flat_map, option_and_then, option_map, sum_by}
 use Rattle.std.specs.List.Sorted.{IsPermutation}
 use Rattle.std.specs.declared.cmp.Ordering.TheVariants.{Less}
 use Rattle.std.proofs.lemmas.List.{length-append, length-map}
 use Rattle.std.proofs.lemmas.List.Kept.{AllPairs-filter}
 use Rattle.std.proofs.lemmas.List.Sorted.{length_permutation, sum_by-IsPermutation}
-use Rattle.std.proofs.lemmas.List.Sums.{count_by-le-length, length-filter, sum_by-cons}
+use Rattle.std.proofs.lemmas.List.Sums.{count_by-le-length, length-filter, sum_by-cons, sum_by-drop_more}
 use Rattle.std.proofs.lemmas.Option.{none-some, same_Some}
 use Rattle.small_types.specs.declared.room.Room.{Room}
 use Rattle.small_types.specs.declared.limits.TheConstants.{FILE_COUNT_LIMIT, LOCAL_COUNT_LIMIT}
@@ -36,7 +36,7 @@ use Rattle.store_state.specs.Rows.{current_row, row_at}
 use Rattle.store_state.specs.Tables.{Tables, bare_local, bare_row, table_shape}
 use Rattle.store_state.proofs.Current.{bare_current}
 use Rattle.data_migration.specs.declared.plan.LocalPlan.{LocalPlan}
-use Rattle.data_migration.specs.Migration.{AreApart, IsMigration, IsMovable, deployed_files}
+use Rattle.data_migration.specs.Migration.{AreApart, HasSource, IsMigration, IsMovable, deployed_files}
 use Rattle.data_migration.specs.Plans.{local_names, plan_name}
 use Rattle.install_plan.specs.declared.plan.Plan.{Plan}
 use Rattle.install_plan.specs.Held.{given_data}
@@ -64,8 +64,8 @@ movable key tables row view is some are = in_all IsMovable view.locals (λ file 
 
 -- plans beside it
 pub plans_at : (key : Key) (tables : Tables) (files : List FileEntry) (view : View) → Some view ≡ current_row key tables → (plans : List LocalPlan) → IsMigration view.locals view.application.files files plans
-    → IsPermutation (migrated_names (local_names view.locals) view.application.files files) (map plan_name plans) → (AreApart view.locals files → Rise plans) → ArePlans (current_row key tables) files plans
-plans_at key tables files view is plans migrated names once = subst (λ (row : Option View). ArePlans row files plans) is (record { migrated = migrated; names = names; once = once })
+    → IsPermutation (migrated_names (local_names view.locals) view.application.files files) (map plan_name plans) → (AreApart view.locals files → Rise plans) → All (HasSource view.locals files) plans → ArePlans (current_row key tables) files plans
+plans_at key tables files view is plans migrated names once sources = subst (λ (row : Option View). ArePlans row files plans) is (record { migrated = migrated; names = names; once = once; sources = sources })
 
 -- ---- counts
 
@@ -102,8 +102,8 @@ pub record AreLocals (row : Option View) (files : List FileEntry) (plans : List 
   pub order : Rise plans
   pub few : length plans ≤ FILE_COUNT_LIMIT
 
-abbrev pub IsInOrder : Tables → Plan → Type 0
-IsInOrder tables plan = AreLocals (current_row plan.deployment.identity.key tables) plan.application.files plan.locals
+abbrev pub IsInOrder : Tables → Plan → List LocalPlan → Type 0
+IsInOrder tables plan plans = AreLocals (current_row plan.deployment.identity.key tables) plan.application.files plans
 
 -- names in order differ
 old_apart : (files : List LocalFile) → AllPairs (λ (f g : LocalFile). text_cmp f.name g.name ≡ Less) files → AllPairs (λ (f g : LocalFile). ◌≢◌ {A = List ℕ} f.name g.name) files
@@ -143,7 +143,7 @@ module _ (key : Key) (tables : Tables) (are : AreTables tables) where
   row_apart None e = λ i j d less within. absurd (omega arith)
   row_apart (Some view) e = old_apart view.locals (all_in IsRow tables.views view are.rows (current_in key tables view e)).order
 
-  row_few : (row : Option View) → current_row key tables ≡ row → outside_locals (row_locals row) ≤ LOCAL_COUNT_LIMIT
+  pub row_few : (row : Option View) → current_row key tables ≡ row → outside_locals (row_locals row) ≤ LOCAL_COUNT_LIMIT
   row_few None e = omega arith
   row_few (Some view) e = (all_in IsRow tables.views view are.rows (current_in key tables view e)).few
 
@@ -175,6 +175,26 @@ module _ (key : Key) (tables : Tables) (are : AreTables tables) where
     in_order plans of = record { are = of; order = of.once apart; few = few_plans plans of }
 
 -- ---- blocks
+
+-- a data file takes so many blocks at most, and one below `.pre` is not copied
+few_more : (b : Bool) (blocks : ℕ) → blocks ≤ cond b (2 ^ 52) 0 → blocks ≤ 2 ^ 52 * cond b 1 0
+few_more true blocks few = omega (arith, few)
+few_more false blocks few = omega (arith, few)
+
+pub copied_few : (files : List LocalFile) (i : ℕ) (file : LocalFile) (sum blocks : ℕ) → i < length files → file ≡ get_or files i file → blocks ≤ cond (not (is_below_pre file.name)) (2 ^ 52) 0
+    → sum + 2 ^ 52 * outside_locals (drop i files) ≤ 2 ^ 60 → sum + blocks + 2 ^ 52 * outside_locals (drop (i + 1) files) ≤ 2 ^ 60
+copied_few files i file sum blocks within is few bound =
+    let step = sum_by-drop_more (λ (f : LocalFile). one_outside f.name) files i file within in
+    let same : one_outside (get_or files i file).name ≡ one_outside file.name = ap (λ (f : LocalFile). one_outside f.name) (sym is) in
+    let more = few_more (not (is_below_pre file.name)) blocks few in
+    omega (arith, step, same, more, bound)
+
+pub copied_sum : (files : List LocalFile) (i : ℕ) (file : LocalFile) (sum blocks : ℕ) → i < length files → file ≡ get_or files i file → blocks ≡ copied_blocks_of file
+    → sum + copied_in (drop i files) ≡ copied_in files → sum + blocks + copied_in (drop (i + 1) files) ≡ copied_in files
+copied_sum files i file sum blocks within is are same =
+    let step = sum_by-drop_more copied_blocks_of files i file within in
+    let one : copied_blocks_of (get_or files i file) ≡ copied_blocks_of file = ap copied_blocks_of (sym is) in
+    omega (arith, step, one, are, same)
 
 abbrev bare_blocks : BareData → ℕ
 bare_blocks file = blocks_of file.length

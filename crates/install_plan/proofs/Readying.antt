@@ -1,6 +1,7 @@
 -- All that is ready once the files of a plan are fetched.
 use Rattle.std.proofs.Common.{◌≡◌, ◌≤◌, refl, sym, subst, ℕ, Bool, true, false, cond, not, ◌&&◌, List, [], ◌∷◌, length, map, Option, Result, arith}
 use Rattle.std.proofs.lemmas.List.{append-nil, length-map}
+use Rattle.std.proofs.lemmas.Slice.Zip.{AllZip-long}
 use Rattle.small_types.specs.declared.room.Room.{Room}
 use Rattle.small_types.specs.declared.limits.TheConstants.{FILE_COUNT_LIMIT, NUMBER_LIMIT}
 use Rattle.small_types.specs.declared.target.Target.{Target}
@@ -27,9 +28,9 @@ use Rattle.data_migration.specs.Migration.{made}
 use Rattle.links.specs.Links.{LinksState}
 use Rattle.install_plan.specs.declared.plan.Plan.{Plan}
 use Rattle.install_plan.specs.Brought.{AreContentsFor}
-use Rattle.install_plan.specs.Carried.{HasLocals, row_locals}
-use Rattle.install_plan.specs.Changes.{AreShort, change_of_plan, installed_of, listed_at, local_of, plan_contents, plan_locals, plan_originals}
-use Rattle.install_plan.specs.Fetching.{ArePlaces, HasFetched}
+use Rattle.install_plan.specs.Carried.{ArePlansFor, row_locals}
+use Rattle.install_plan.specs.Changes.{AreShort, HasContents, IsChangeOf, change_of_plan, installed_of, listed_at, local_of, plan_contents, plan_locals, plan_originals}
+use Rattle.install_plan.specs.Fetching.{ArePlaces, HasFetched, IsContentAt}
 use Rattle.install_plan.specs.Held.{given_data}
 use Rattle.install_plan.specs.Plans.{IsPlan, IsPlanned, IsRefused, targets_of}
 use Rattle.install_plan.specs.Ready.{IsReady, IsStep}
@@ -81,31 +82,31 @@ module _ (room : Room) (tables : Tables) (url : List ℕ) (texts : List (List �
   parts : ArePartsOf a c place_of (map bare_row tables.views) plan.application contents places
   parts = parts_are a c place_of (map bare_row tables.views) plan.application contents places (targets_of plan) planned.is.places contents_are planned.is.targets
 
-  module _ (now : ℕ) (are : AreTables tables) (moment : now ≤ NUMBER_LIMIT) (shapes : ShapesAreShown) (law : InstallsShowTheView) (known : HasLocals tables plan) (short : AreShort (plan_locals tables plan contents)) where
-    has : IsInOrder tables plan
-    has = in_order plan.deployment.identity.key tables are plan.application (held_application room tables url texts plan planned.is) plan.locals known
+  module _ (now : ℕ) (are : AreTables tables) (moment : now ≤ NUMBER_LIMIT) (shapes : ShapesAreShown) (law : InstallsShowTheView) (plans : List LocalPlan) (known : ArePlansFor tables plan plans) (short : AreShort (plan_locals tables plan plans contents)) where
+    has : IsInOrder tables plan plans
+    has = in_order plan.deployment.identity.key tables are plan.application (held_application room tables url texts plan planned.is) plans known
 
-    fits : Fits tables (change_of_plan tables plan contents now)
-    fits = plan_fits room tables url texts plan planned.is a c contents now are moment has parts
+    fits : Fits tables (change_of_plan tables plan plans contents now)
+    fits = plan_fits room tables url texts plan planned.is plans a c contents now are moment has parts
 
-    step : (image : List ℕ) (old : Session) → Shows room tables image old.store → Sound old.store → IsStep room tables url texts a c now (change_of_plan tables plan contents now) (installed_of tables plan) old
-    step image old shows sound = record {
-      new = led room tables url texts plan planned.is shapes image old a c contents now shows are has parts fits;
-      installs = plan_effect room tables url texts plan planned.is shapes image old a c contents now shows are has parts fits sound;
-      leads = λ first later had same new. plan_shows room tables url texts plan planned.is shapes image old a c contents now shows are has parts fits law later;
+    step : (image : List ℕ) (old : Session) → old.jobs ≡ [] → Shows room tables image old.store → Sound old.store → IsStep room tables url texts a c now (change_of_plan tables plan plans contents now) (installed_of tables plan) old
+    step image old idle shows sound = record {
+      new = led room tables url texts plan planned.is plans shapes image old idle a c contents now shows are has parts fits;
+      installs = plan_effect room tables url texts plan planned.is plans shapes image old idle a c contents now shows are has parts fits sound;
+      leads = λ first later had same new. plan_shows room tables url texts plan planned.is plans shapes image old idle a c contents now shows are has parts fits law later;
       brought = λ view same. brought_last room tables image url texts plan planned.is a c contents (plan_contents plan contents) parts.within are.contents contents_are fits.brings
-          old.store old.store.next_view (led_data room tables url texts plan planned.is shapes image old a c contents now shows are has parts fits) (plan_originals plan contents)
-          (led_migrated room tables url texts plan planned.is shapes image old a c contents now shows are has parts fits sound) parts.originals
-          (shapes room tables image old.store shows) old.store.views view same;
+          old old.store.next_view (led_data room tables url texts plan planned.is plans shapes image old idle a c contents now shows are has parts fits) (plan_originals plan contents)
+          (led_migrated room tables url texts plan planned.is plans shapes image old idle a c contents now shows are has parts fits sound) parts.originals
+          (shapes room tables image old idle shows) old.store.views view same;
     }
 
-    few_locals : length (plan_locals tables plan contents) ≤ FILE_COUNT_LIMIT
-    few_locals = subst (λ (n : ℕ). n ≤ FILE_COUNT_LIMIT) (sym (length-map plan.locals (λ (p : LocalPlan). local_of (made (map given_data (row_locals (current_row plan.deployment.identity.key tables))) (plan_originals plan contents) p)))) has.few
+    few_locals : length (plan_locals tables plan plans contents) ≤ FILE_COUNT_LIMIT
+    few_locals = subst (λ (n : ℕ). n ≤ FILE_COUNT_LIMIT) (sym (length-map plans (λ (p : LocalPlan). local_of (made (map given_data (row_locals (current_row plan.deployment.identity.key tables))) (plan_originals plan contents) p)))) has.few
 
     few_programs : length (plan_contents plan contents) ≤ FILE_COUNT_LIMIT
     few_programs = (let few = parts.few in omega (arith, few, few_contents))
 
-    ready : IsReady room tables url texts a c now (change_of_plan tables plan contents now) (installed_of tables plan)
+    ready : IsReady room tables url texts a c now (change_of_plan tables plan plans contents now) (installed_of tables plan)
     ready = record {
       hears = planned.hears;
       passes = plan_passes room tables url texts plan planned.is;
@@ -116,7 +117,19 @@ module _ (room : Room) (tables : Tables) (url : List ℕ) (texts : List (List �
       step = step;
     }
 
-    pub ready_with : (change : Change) (reply : Reply) → change ≡ change_of_plan tables plan contents now → reply ≡ installed_of tables plan → IsReady room tables url texts a c now change reply
+    ready_with : (change : Change) (reply : Reply) → change ≡ change_of_plan tables plan plans contents now → reply ≡ installed_of tables plan → IsReady room tables url texts a c now change reply
     ready_with change reply made due =
         subst (λ (x : Change). IsReady room tables url texts a c now x reply) (sym made)
-        (subst (λ (r : Reply). IsReady room tables url texts a c now (change_of_plan tables plan contents now) r) (sym due) ready)
+        (subst (λ (r : Reply). IsReady room tables url texts a c now (change_of_plan tables plan plans contents now) r) (sym due) ready)
+
+  -- the change and the reply as they are made
+  pub ready_of : (now : ℕ) → AreTables tables → now ≤ NUMBER_LIMIT → ShapesAreShown → InstallsShowTheView → (change : Change) (reply : Reply) → IsChangeOf tables plan contents now change → reply ≡ installed_of tables plan
+      → IsReady room tables url texts a c now change reply
+  ready_of now are moment shapes law change reply made due = ready_with now are moment shapes law made.plans made.are made.short change reply made.is due
+
+  -- of each wanted file there is a content
+  pub has_contents : HasContents tables plan contents
+  has_contents = record {
+    places = planned.is.places;
+    each = AllZip-long (IsContentAt b c plan.application.files) plan.wanted contents got.each;
+  }

@@ -6,10 +6,12 @@ use Rattle.causes.specs.declared.cause.Cause.{Cause}
 use Rattle.digest_list.specs.declared.digest.Digest.{Digest}
 use Rattle.digest_list.specs.Matches.{Matches}
 use Rattle.manifest_tree.specs.Tree.{Tree}
+use Rattle.manifests.specs.declared.facts.FileEntry.{FileEntry}
 use Rattle.manifest_parts.specs.declared.fault.ManifestFault.{ManifestFault}
 use Rattle.manifest_parts.specs.declared.fault.ManifestFault.TheVariants as fault
 use Rattle.manifest_parts.specs.Elements.{Read}
 use Rattle.manifest_parts.specs.Parts.{RefusesBytes, Tells}
+use Rattle.machine.specs.declared.reply.Reply.{Reply}
 use Rattle.machine.specs.declared.reply.Reply.TheVariants as says
 use Rattle.links.specs.Link.{LinkState}
 use Rattle.links.specs.Links.{LinksState}
@@ -18,7 +20,8 @@ use Rattle.fetcher.specs.declared.fault.FetchFault.TheVariants.{AllLinks, Basket
 use Rattle.fetcher.specs.Causes.{IsFileCause, IsTextCause}
 use Rattle.fetcher.specs.Fetched.{IsFile, IsFileFault, IsText, IsTextFault}
 use Rattle.fetcher.specs.Given.{FitsText}
-use Rattle.install_plan.specs.Replies.{fetch_reply, manifest_reply}
+use Rattle.install_plan.specs.Replies.{IsFetchReply, manifest_reply}
+use Rattle.install_plan.specs.Fetching.{IsLack}
 use Rattle.install_plan.specs.Stages.{HearsOne, IsGot, StopsOne}
 
 module _ (target : Target) (a b : LinksState) where
@@ -36,21 +39,39 @@ module _ (target : Target) (a b : LinksState) where
       subst (IsGot (Matches list size) target a b) (sym same)
       (record { asked = is.asked; from = record { fits = is.matches; enough = is.enough; site = is.site; given = is.given } })
 
+  -- ---- why nothing was fetched
+
+  -- a text has no basket
+  pub text_fault : (limit : ℕ) (reason : FetchFault) → IsTextFault limit target a b reason → ◌≢◌ {A = FetchFault} reason BasketFault
+  text_fault limit (AllLinks named reasons) is = λ e. cc
+  text_fault limit BasketFault is = absurd is
+  text_fault limit Memory is = λ e. cc
+
+  no_rise : Rose 0 0 → ⊥
+  no_rise (inl less) = omega arith
+  no_rise (inr full) = omega arith
+
+  -- a basket without a count never fails
+  pub file_fault : (list : List Digest) (size : ℕ) (reason : FetchFault) → IsFileFault list size target a b 0 0 reason → ◌≢◌ {A = FetchFault} reason BasketFault
+  file_fault list size (AllLinks named reasons) is = λ e. cc
+  file_fault list size BasketFault is = absurd (no_rise is.rose)
+  file_fault list size Memory is = λ e. cc
+
+  pub file_lacks : (entry : FileEntry) (reason : FetchFault) (reply : Reply) → IsFileFault entry.list entry.size target a b 0 0 reason → IsFetchReply reason reply → IsLack entry target a b reply
+  file_lacks entry (AllLinks named reasons) reply is replied = subst (IsLack entry target a b) (sym replied) (is.shown, is.asked, record { causes = is.causes; none = is.none })
+  file_lacks entry BasketFault reply is replied = absurd replied
+  file_lacks entry Memory reply is replied = subst (IsLack entry target a b) (sym replied) is
+
   module _ {A : Type 0} (facts : Tree → Read A) (old new : List (List ℕ)) (same : new ≡ old) where
-    pub text_stops : (limit : ℕ) (reason : FetchFault) → IsTextFault limit target a b reason → StopsOne facts (IsTextCause limit target) (FitsText limit) target a b old new (fetch_reply reason)
-    text_stops limit (AllLinks named reasons) is = inl (record { noted = same; named = named; reasons = reasons; gave = is; replied = refl })
-    text_stops limit BasketFault is = absurd is
-    text_stops limit Memory is = inr (inr (record { replied = refl; noted = inl (same, is) }))
+    pub text_stops : (limit : ℕ) (reason : FetchFault) (reply : Reply) → IsTextFault limit target a b reason → IsFetchReply reason reply → StopsOne facts (IsTextCause limit target) (FitsText limit) target a b old new reply
+    text_stops limit (AllLinks named reasons) reply is replied = inl (record { noted = same; named = named; reasons = reasons; gave = is; replied = replied })
+    text_stops limit BasketFault reply is replied = absurd is
+    text_stops limit Memory reply is replied = inr (inr (record { replied = replied; noted = inl (same, is) }))
 
-    no_rise : Rose 0 0 → ⊥
-    no_rise (inl less) = omega arith
-    no_rise (inr full) = omega arith
-
-    -- the basket has no count
-    pub file_stops : (list : List Digest) (size : ℕ) (reason : FetchFault) → IsFileFault list size target a b 0 0 reason → StopsOne facts (IsFileCause list size target) (Matches list size) target a b old new (fetch_reply reason)
-    file_stops list size (AllLinks named reasons) is = inl (record { noted = same; named = named; reasons = reasons; gave = is; replied = refl })
-    file_stops list size BasketFault is = absurd (no_rise is.rose)
-    file_stops list size Memory is = inr (inr (record { replied = refl; noted = inl (same, is) }))
+    pub file_stops : (list : List Digest) (size : ℕ) (reason : FetchFault) (reply : Reply) → IsFileFault list size target a b 0 0 reason → IsFetchReply reason reply → StopsOne facts (IsFileCause list size target) (Matches list size) target a b old new reply
+    file_stops list size (AllLinks named reasons) reply is replied = inl (record { noted = same; named = named; reasons = reasons; gave = is; replied = replied })
+    file_stops list size BasketFault reply is replied = absurd replied
+    file_stops list size Memory reply is replied = inr (inr (record { replied = replied; noted = inl (same, is) }))
 
   -- ---- a text that was got
 

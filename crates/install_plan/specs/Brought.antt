@@ -8,7 +8,7 @@ use Rattle.machine.specs.Blocks.{standing_files}
 use Rattle.machine.specs.Current.{current_view, data_of, listed_by}
 use Rattle.machine.specs.Migrated.{IsAside, IsKept}
 use Rattle.machine.specs.Shape.{Shape, shape_of}
-use Rattle.machine.specs.Store.{Store}
+use Rattle.machine.specs.Store.{Session, Store}
 use Rattle.machine.specs.Views.{DataFile, ListedFile, View, key_of, same_content}
 use Rattle.machine.specs.Wanted.{is_held, wanted}
 use Rattle.store_state.specs.declared.view.Content.{Content}
@@ -61,7 +61,7 @@ IsCarriedOrFetched old before after view file =
     × IsFrom (Matches entry.list entry.size) target before after file.bytes)
     view.application.files
 
--- so are all files of a view that an install brings to a store
-pub record IsBrought (old : Store) (before after : LinksState) (view : View) : Type 0 where
+-- so are all files of a view that an install brings to a session
+pub record IsBrought (old : Session) (before after : LinksState) (view : View) : Type 0 where
   pub files : All (IsHeldOrFetched (shape_of old) before after view) view.program_files
-  pub data_files : All (IsCarriedOrFetched old before after view) view.data_files
+  pub data_files : All (IsCarriedOrFetched old.store before after view) view.data_files

@@ -1,5 +1,5 @@
 -- Which data files a new view has, and where they come from.
-use Rattle.std.specs.Prelude.{◌≡◌, ℕ, List, [], AllPairs, map, not, Option, Some, None, if◌then◌else◌, sum_by}
+use Rattle.std.specs.Prelude.{◌≡◌, ℕ, List, [], All, AllPairs, map, not, Option, Some, None, if◌then◌else◌, sum_by}
 use Rattle.std.specs.List.Sorted.{IsPermutation}
 use Rattle.std.specs.declared.cmp.Ordering.TheVariants.{Less}
 use Rattle.identity.specs.Printed.{text_cmp}
@@ -12,7 +12,7 @@ use Rattle.store_state.specs.declared.view.View.{View}
 use Rattle.store_state.specs.Rows.{current_row}
 use Rattle.store_state.specs.Tables.{Tables}
 use Rattle.data_migration.specs.declared.plan.LocalPlan.{LocalPlan}
-use Rattle.data_migration.specs.Migration.{AreApart, IsMigration}
+use Rattle.data_migration.specs.Migration.{AreApart, HasSource, IsMigration}
 use Rattle.data_migration.specs.Plans.{local_names, plan_name}
 use Rattle.install_plan.specs.declared.plan.Plan.{Plan}
 
@@ -40,11 +40,12 @@ pub record ArePlans (row : Option View) (files : List FileEntry) (plans : List L
   pub names : IsPermutation (migrated_names (local_names (row_locals row)) (row_files row) files)
       (map plan_name plans)
   pub once : AreApart (row_locals row) files → Rise plans
+  pub sources : All (HasSource (row_locals row) files) plans
 
--- so are those of a plan, beside the view that was current in the tables
-abbrev pub HasLocals : Tables → Plan → Type 0
-HasLocals tables plan =
-    ArePlans (current_row plan.deployment.identity.key tables) plan.application.files plan.locals
+-- so are they for a plan, beside the view that was current in the tables
+abbrev pub ArePlansFor : Tables → Plan → List LocalPlan → Type 0
+ArePlansFor tables plan plans =
+    ArePlans (current_row plan.deployment.identity.key tables) plan.application.files plans
 
 -- ---- blocks
 

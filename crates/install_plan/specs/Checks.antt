@@ -1,5 +1,5 @@
 -- What a check comes to: a change of the tables and a reply, or a reply alone.
-use Rattle.std.specs.Prelude.{◌≡◌, ◌≢◌, ◌⊎◌, ℕ, Bool, true, false, List, Some}
+use Rattle.std.specs.Prelude.{◌≡◌, ◌≢◌, ◌⊎◌, ℕ, Bool, true, false, List, [], Some}
 use Rattle.small_types.specs.declared.room.Room.{Room}
 use Rattle.identity.specs.declared.key.Key.{Key}
 use Rattle.machine.specs.declared.app.AppState.{AppState}
@@ -20,6 +20,8 @@ use Rattle.store_state.specs.Tables.{Tables, table_shape}
 use Rattle.links.specs.Links.{LinksState}
 use Rattle.fetcher.specs.Fetched.{Kept}
 use Rattle.install_plan.specs.declared.checking.Offered.{Offered}
+use Rattle.install_plan.specs.declared.prepared.Prepared.{Prepared}
+use Rattle.install_plan.specs.declared.prepared.Prepared.TheVariants as to
 use Rattle.install_plan.specs.Leading.{LeadsIn}
 use Rattle.install_plan.specs.Offers.{OfferServed}
 
@@ -35,14 +37,20 @@ checked_of offered app =
 
 -- a change with its reply, where it makes another entry of the application's
 pub record IsNoted (f : AppState → AppState) (app : AppState) (change : Change) (reply : Reply)
-    (made : Change × Reply) : Type 0 where
-  pub change_is : made.0 ≡ change
-  pub reply_is : made.1 ≡ reply
+    (made : Change) (due : Reply) : Type 0 where
+  pub change_is : made ≡ change
+  pub reply_is : due ≡ reply
   pub other : f app ≢ app
 
 -- a reply alone, where it makes none, or where there was no memory
 abbrev pub IsUnnoted : (AppState → AppState) → AppState → Reply → Reply → Type 0
 IsUnnoted f app reply result = (result ≡ says.Memory) ⊎ ((result ≡ reply) × (f app ≡ app))
+
+-- one of both
+abbrev pub NotesTo : (AppState → AppState) → AppState → Change → Reply → Prepared → Type 0
+NotesTo f app change reply (to.Change made due) = IsNoted f app change reply made due
+NotesTo f app change reply (to.Reply result) = IsUnnoted f app reply result
+NotesTo f app change reply to.DiskFault = ⊥
 
 -- the reply names a target that no link gave
 abbrev pub is_missing : Reply → Bool
@@ -50,14 +58,20 @@ is_missing (says.AllLinks target reasons) = true
 is_missing _ = false
 
 -- That is noted, unless it is already; of any other reply there is nothing to note.
-pub record IsMissed (key : Key) (app : AppState) (reply : Reply) (made : Change × Reply)
+pub record IsMissed (key : Key) (app : AppState) (reply : Reply) (made : Change) (due : Reply)
     : Type 0 where
   pub missing : is_missing reply ≡ true
-  pub noted : IsNoted unheard_app app (Unheard key) reply made
+  pub noted : IsNoted unheard_app app (Unheard key) reply made due
 
 abbrev pub IsUnmissed : AppState → Reply → Reply → Type 0
 IsUnmissed app reply result =
     (result ≡ says.Memory) ⊎ ((result ≡ reply) × (is_missing reply ≡ true → unheard_app app ≡ app))
+
+-- one of both
+abbrev pub MissesTo : Key → AppState → Reply → Prepared → Type 0
+MissesTo key app reply (to.Change made due) = IsMissed key app reply made due
+MissesTo key app reply (to.Reply result) = IsUnmissed app reply result
+MissesTo key app reply to.DiskFault = ⊥
 
 -- ---- steps
 
@@ -66,15 +80,15 @@ pub record CheckStep (key : Key) (texts : List (List ℕ)) (before after : Links
     (reply : Reply) (old : Session) (Leaves : Store → Type 0) : Type 0 where
   pub new : Session
   pub step : Answers now texts old (Check key) reply new
-  pub served : OfferServed key (shape_of old.store) texts before after reply
+  pub served : OfferServed key (shape_of old) texts before after reply
   pub leaves : Leaves new.store
 
--- for each session over a valid store that the tables show there is one
+-- for each session without jobs over a valid store that the tables show there is one
 abbrev pub ChecksTo : Room → Tables → Key → List (List ℕ) → LinksState → LinksState → ℕ → Reply
     → (Store → Store → Type 0) → Type 0
 ChecksTo room tables key texts before after now reply Leaves =
-    (image : List ℕ) (old : Session) → Shows room tables image old.store → Valid old.store
-    → CheckStep key texts before after now reply old (Leaves old.store)
+    (image : List ℕ) (old : Session) → old.jobs ≡ [] → Shows room tables image old.store
+    → Valid old.store → CheckStep key texts before after now reply old (Leaves old.store)
 
 -- another store, to which the change leads
 pub record LedBy (room : Room) (tables : Tables) (change : Change) (old new : Store) : Type 0 where

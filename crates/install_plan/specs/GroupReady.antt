@@ -110,16 +110,17 @@ pub record GroupStep (lease : ℕ) (group : List ℕ) (before after : LinksState
     (reply : Reply) (old : Session) (Leaves : Store → Type 0) : Type 0 where
   pub new : Session
   pub step : Answers now [] old (command.Group lease group) reply new
-  pub served : GroupServed lease group (shape_of old.store) before after reply
-  pub brought : AreBrought lease group (shape_of old.store) before after new.store
+  pub served : GroupServed lease group (shape_of old) before after reply
+  pub brought : AreBrought lease group (shape_of old) before after new.store
   pub leaves : Leaves new.store
 
--- for each session over a sound store that the tables show there is one
+-- for each session without jobs over a sound store that the tables show there is one
 abbrev pub GroupsTo : Room → Tables → ℕ → List ℕ → LinksState → LinksState → Reply
     → (Store → Store → Type 0) → Type 0
 GroupsTo room tables lease group before after reply Leaves =
-    (now : ℕ) (image : List ℕ) (old : Session) → Shows room tables image old.store
-    → Sound old.store → GroupStep lease group before after now reply old (Leaves old.store)
+    (now : ℕ) (image : List ℕ) (old : Session) → old.jobs ≡ []
+    → Shows room tables image old.store → Sound old.store
+    → GroupStep lease group before after now reply old (Leaves old.store)
 
 -- it brings this group, with as many contents as a release may have files
 abbrev pub IsOfGroup : List ℕ → Change → Type 0

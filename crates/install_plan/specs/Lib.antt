@@ -13,6 +13,7 @@ pub mod Leading
 pub mod Offers
 pub mod Parts
 pub mod Plans
+pub mod Prepared
 pub mod Ready
 pub mod Replies
 pub mod Stages

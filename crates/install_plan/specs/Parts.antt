@@ -1,5 +1,5 @@
 -- What was fetched, one after the other, and the data file that a plan makes of it.
-use Rattle.std.specs.Prelude.{ℕ, List, [], Option, Some, None, option_and_then, slice_get}
+use Rattle.std.specs.Prelude.{ℕ, List, [], Option, Some, None, IsSome, option_and_then, slice_get}
 use Rattle.manifests.specs.declared.facts.FileEntry.{FileEntry}
 use Rattle.store_state.specs.declared.view.LocalFile.{LocalFile}
 use Rattle.store_state.specs.Locals.{local_named}
@@ -21,6 +21,11 @@ local_in (Some file) = given_bytes file.held
 
 abbrev pub local_bytes : List LocalFile → List ℕ → List ℕ
 local_bytes files name = local_in (local_named name files)
+
+-- what a plan takes is among the old data files or among those that were fetched
+abbrev pub IsThere : List LocalFile → List LocalFile → LocalPlan → Type 0
+IsThere old fetched (Copy from to) = IsSome (local_named from old)
+IsThere old fetched (Fresh name) = IsSome (local_named name fetched)
 
 -- the data file that a plan makes of the old ones and of those that were fetched
 abbrev pub moved_local : List LocalFile → List LocalFile → LocalPlan → LocalFile

@@ -39,7 +39,7 @@ pub record IsStep (room : Room) (tables : Tables) (url : List ℕ) (texts : List
   pub installs : InstallEffect install_replies url texts now old reply new
   pub leads : LeadsIn room change tables old.store new.store
   pub brought : (view : View) → new.store.views ≡ old.store.views ++ view ∷ []
-      → IsBrought old.store before after view
+      → IsBrought old before after view
 
 pub record IsReady (room : Room) (tables : Tables) (url : List ℕ) (texts : List (List ℕ))
     (before after : LinksState) (now : ℕ) (change : Change) (reply : Reply) : Type 0 where
@@ -51,6 +51,6 @@ pub record IsReady (room : Room) (tables : Tables) (url : List ℕ) (texts : Lis
   pub served : Served (table_shape room tables) url texts before after reply
   pub fits : Fits tables change
   pub few : HasFew change
-  pub step : (image : List ℕ) (old : Session) → Shows room tables image old.store
-      → Sound old.store
+  pub step : (image : List ℕ) (old : Session) → old.jobs ≡ []
+      → Shows room tables image old.store → Sound old.store
       → IsStep room tables url texts before after now change reply old

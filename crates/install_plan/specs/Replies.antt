@@ -1,4 +1,5 @@
 -- The replies that faults come to.
+use Rattle.std.specs.Prelude.{◌≡◌}
 use Rattle.addresses.specs.declared.fault.UrlFault.{UrlFault}
 use Rattle.addresses.specs.declared.fault.UrlFault.TheVariants as no_address
 use Rattle.manifest_parts.specs.declared.fault.ManifestFault.{ManifestFault}
@@ -17,8 +18,8 @@ abbrev pub manifest_reply : ManifestFault → Reply
 manifest_reply fault.Memory = says.Memory
 manifest_reply reason = says.Manifest reason
 
--- the basket of a fetch never fails
-abbrev pub fetch_reply : FetchFault → Reply
-fetch_reply (fetch.AllLinks target causes) = says.AllLinks target causes
-fetch_reply fetch.BasketFault = says.Memory
-fetch_reply fetch.Memory = says.Memory
+-- a basket that failed has no reply
+abbrev pub IsFetchReply : FetchFault → Reply → Type 0
+IsFetchReply (fetch.AllLinks target causes) reply = reply ≡ says.AllLinks target causes
+IsFetchReply fetch.BasketFault reply = ⊥
+IsFetchReply fetch.Memory reply = reply ≡ says.Memory

@@ -1,18 +1,42 @@
 // The files that an install or a group fetches.
-ghost use Rattle.std.specs.Prelude.{◌≡◌, ◌<◌, ◌^◌, IfOk, IfErr};
-ghost use Rattle.fetcher.specs.Fetched.{Kept};
+ghost use Rattle.std.specs.Prelude.{◌≡◌, ◌≢◌, ◌≤◌, ◌<◌, ◌^◌, IfOk, IfErr, OnOk, Err};
+ghost use Rattle.fetcher.specs.declared.fault.FetchFault.TheVariants as fetch;
+ghost use Rattle.fetcher.specs.Fetched.{IsFile, IsFileFault, Kept};
 ghost use Rattle.install_plan.specs.Fetching.{ArePlaces, HasFetched, IsFetched, IsLack, IsStopped};
 
 use crate::WantedFile;
 use crate::basket::ByteBasket;
 use crate::replies::fetch_reply;
-use fetcher::fetch_file;
-use links::Links;
+use fetcher::{FetchFault, fetch_file};
+use links::{Basket, Links};
 use machine::Reply;
 use manifests::FileEntry;
-use small_types::{Bytes, Duplicate, List, Target};
-use std::alloc::Global;
+use small_types::{Bytes, CopyFault, Duplicate, List, Target};
+use std::alloc::{AllocFailed, Global};
 use store_state::Content;
+
+/// Fetches a wanted file into the basket: the bytes at the target that match what is listed. They are
+/// hashed once, and go to the basket piece by piece. An `Err` says that no link gave them, that the
+/// basket failed, or that there was no memory.
+pub fn fetch_file_into<L: Links, B: Basket>(
+    alloc: Global,
+    links: &mut L,
+    target: &Target,
+    entry: &FileEntry,
+    basket: &mut B,
+) -> Result<(), FetchFault>
+    requires below { entry.now.size < 2 ^ 61 }
+    ensures file { OnOk result (IsFile entry.now.list entry.now.size target.now
+        (L.links links.old) (L.links links.new) B.tells (B.taken basket.new)) }
+    ensures fault { IfErr result (IsFileFault entry.now.list entry.now.size target.now
+        (L.links links.old) (L.links links.new) (B.count basket.old) (B.count basket.new)) }
+    ensures kept { Kept (L.links links.old) (L.links links.new) }
+    ensures later { B.count basket.old ≤ B.count basket.new }
+    ensures quiet { result ≢ Err fetch.BasketFault → B.count basket.new ≡ B.count basket.old }
+    ensures turned { B.turns_to basket.old basket.new }
+{
+    fetch_file(alloc, links, target, entry.size, &entry.list, basket)
+}
 
 // The content of a file: the bytes at the target that match what is listed. It is hashed once, and
 // no piece is copied but into the content.
@@ -29,11 +53,12 @@ fn fetch_content<L: Links>(
         (L.links links.old) (L.links links.new)) }
     ensures kept { Kept (L.links links.old) (L.links links.new) }
 {
-    let Ok(list) = entry.list.copy(alloc) else {
-        return Err(Reply::Memory);
+    let list = match entry.list.copy(alloc) {
+        Ok(list) => list,
+        Err(CopyFault::Memory) => return Err(Reply::Memory),
     };
     let mut basket = ByteBasket::new(alloc, entry.size);
-    match fetch_file(alloc, links, target, entry.size, &entry.list, &mut basket) {
+    match fetch_file_into(alloc, links, target, entry, &mut basket) {
         Ok(()) => Ok(Content {
             size: entry.size,
             list,
@@ -64,9 +89,9 @@ pub(crate) fn fetch_wanted<L: Links>(
             Ok(content) => content,
             Err(reply) => return Err(reply),
         };
-        let Ok(()) = contents.push(content) else {
+        if let Err(AllocFailed { .. }) = contents.push(content) {
             return Err(Reply::Memory);
-        };
+        }
     }
     Ok(List::from_vec(contents))
 }

@@ -1,10 +1,11 @@
 // Which data files a new view has, and the blocks of those that it carries over.
-ghost use Rattle.std.specs.Prelude.{◌≡◌, ◌↔◌, ◌<◌, ℕ, IfErr, IfOk, IsTrue, None, count_by, not};
+ghost use Rattle.std.specs.Prelude.{◌≡◌, ◌↔◌, ◌<◌, ◌≤◌, ◌^◌, ℕ, IfErr, IfOk, IsTrue, None, count_by, not, if◌then◌else◌};
 ghost use Rattle.small_types.specs.declared.room.Room.{Room};
 ghost use Rattle.small_types.specs.declared.limits.TheConstants as limits;
 ghost use Rattle.manifests.specs.Applications.{is_below_pre};
 ghost use Rattle.machine.specs.Current.{bare_data_of, current_bare};
 ghost use Rattle.machine.specs.Wanted.{copied_need};
+ghost use Rattle.store_state.specs.Locals.{outside_locals};
 ghost use Rattle.store_state.specs.Rows.{current_row};
 ghost use Rattle.store_state.specs.Tables.{table_shape};
 ghost use Rattle.data_migration.specs.Plans.{plan_name};
@@ -12,7 +13,7 @@ ghost use Rattle.install_plan.specs.Carried.{ArePlans, copied_blocks_of, copied_
 ghost use Rattle.install_plan.specs.Judging.{Judges, local_checks};
 
 use crate::wanting::blocks_of;
-use data_migration::{LocalPlan, migrate};
+use data_migration::{LocalPlan, MigrateFault, migrate};
 use identity::Key;
 use machine::Reply;
 use manifests::{Application, Deployment, FileEntry};
@@ -30,12 +31,13 @@ fn first_plans(alloc: Global, files: &List<FileEntry>) -> Result<List<LocalPlan>
     let old_files = List::from_vec(Vec::new(alloc));
     match migrate(alloc, &old, &old_files, files) {
         Ok(plans) => Ok(plans),
-        Err(_) => Err(Reply::Memory),
+        Err(MigrateFault::Memory) => Err(Reply::Memory),
     }
 }
 
-// The plans of the data files of the new view, where its application lists these files.
-fn plans_of(
+// The plans of the data files of the new view, in order of their names, where its application lists
+// these files.
+pub(crate) fn plans_of(
     alloc: Global,
     state: &StoreState,
     key: &Key,
@@ -50,7 +52,7 @@ fn plans_of(
     };
     match migrate(alloc, &view.locals, &view.application.files, files) {
         Ok(plans) => Ok(plans),
-        Err(_) => Err(Reply::Memory),
+        Err(MigrateFault::Memory) => Err(Reply::Memory),
     }
 }
 
@@ -83,18 +85,14 @@ fn are_many(plans: &[LocalPlan]) -> bool
     count_outside(plans) > LOCAL_COUNT_LIMIT
 }
 
-// Whether there is a place for the data files of the new view. What it gives is where they come
-// from.
+// Whether there is a place for the data files of the new view.
 pub(crate) fn judge_locals(
     alloc: Global,
     state: &StoreState,
     d: &Deployment,
     a: &Application,
-) -> Result<List<LocalPlan>, Reply>
-    ensures plans { IfOk result
-        (ArePlans (current_row d.now.identity.key state.now) a.now.files) }
-    ensures judged { (room : Room)
-        → Judges (local_checks (table_shape room state.now) d.now a.now) result }
+) -> Result<(), Reply>
+    ensures { (room : Room) → Judges (local_checks (table_shape room state.now) d.now a.now) result }
 {
     let plans = match plans_of(alloc, state, &d.identity.key, &a.files) {
         Ok(plans) => plans,
@@ -106,12 +104,13 @@ pub(crate) fn judge_locals(
             limit: LOCAL_COUNT_LIMIT as u64,
         });
     }
-    Ok(plans)
+    Ok(())
 }
 
 // The blocks of the data file, where it is carried over.
 fn copied_blocks_of(file: &LocalFile) -> u64
-    ensures { result ≡ copied_blocks_of file.now }
+    ensures value { result ≡ copied_blocks_of file.now }
+    ensures few { result ≤ (if not (is_below_pre file.now.name) then 2 ^ 52 else 0) }
 {
     if lies_outside(&file.name) {
         return blocks_of(file.length);
@@ -119,32 +118,28 @@ fn copied_blocks_of(file: &LocalFile) -> u64
     0
 }
 
-// The blocks of those of the data files that are carried over, as far as a number goes.
-fn copied_in(files: &[LocalFile]) -> Result<u64, Reply>
-    ensures sum { IfOk result (λ sum. sum ≡ copied_in files.now) }
-    ensures memory { IfErr result (λ reply. reply ≡ Reply.Memory) }
+// The blocks of those of the data files that are carried over. So few are that a number tells them.
+fn copied_in(files: &[LocalFile]) -> u64
+    requires few { outside_locals files.now ≤ limits.LOCAL_COUNT_LIMIT }
+    ensures sum { result ≡ copied_in files.now }
+    ensures few { result ≤ 2 ^ 60 }
 {
     let mut sum: u64 = 0;
     for file in files {
-        let Some(more) = sum.checked_add(copied_blocks_of(file)) else {
-            return Err(Reply::Memory);
-        };
-        sum = more;
+        sum += copied_blocks_of(file);
     }
-    Ok(sum)
+    sum
 }
 
 // The blocks of the data files that are carried over from the view that is current for the key.
-pub(crate) fn copied_blocks(state: &StoreState, key: &Key) -> Result<u64, Reply>
-    ensures sum { (room : Room) → IfOk result (λ sum. sum
-        ≡ copied_need (bare_data_of (current_bare key.now (table_shape room state.now)))) }
-    ensures memory { IfErr result (λ reply. reply ≡ Reply.Memory) }
+pub(crate) fn copied_blocks(state: &StoreState, key: &Key) -> u64
+    ensures sum { (room : Room) → result
+        ≡ copied_need (bare_data_of (current_bare key.now (table_shape room state.now))) }
+    ensures few { result ≤ 2 ^ 60 }
 {
+    state.are_tables();
     match state.current(key) {
-        Some(view) => match copied_in(view.locals.as_slice()) {
-            Ok(sum) => Ok(sum),
-            Err(reply) => Err(reply),
-        },
-        None => Ok(0),
+        Some(view) => copied_in(view.locals.as_slice()),
+        None => 0,
     }
 }

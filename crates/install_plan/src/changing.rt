@@ -4,20 +4,19 @@ ghost use Rattle.small_types.specs.declared.limits.TheConstants.{NUMBER_LIMIT};
 ghost use Rattle.machine.specs.declared.reply.Reply.TheVariants.{Memory};
 ghost use Rattle.store_state.specs.declared.change.Change.TheVariants as change;
 ghost use Rattle.store_state.specs.Rows.{current_row};
-ghost use Rattle.store_state.specs.Tables.{table_shape};
 ghost use Rattle.install_plan.specs.Carried.{row_locals};
-ghost use Rattle.install_plan.specs.Changes.{AreShort, change_of_plan, installed_of, plan_locals, view_of};
+ghost use Rattle.install_plan.specs.Changes.{HasContents, IsChangeOf, installed_of, view_of};
 ghost use Rattle.install_plan.specs.Fetching.{ArePlaces, HasFetched, IsStopped};
-ghost use Rattle.install_plan.specs.Plans.{IsRefused};
-ghost use Rattle.install_plan.specs.Ready.{IsReady};
+ghost use Rattle.install_plan.specs.Prepared.{IsPrepared};
 
 use crate::bringing::fetch_wanted;
+use crate::carrying::plans_of;
 use crate::migrating::{moved_locals, parts_of};
-use crate::{Plan, hear};
+use crate::{Plan, Prepared, hear};
 use identity::Key;
 use links::Links;
 use machine::{Heard, Reply};
-use small_types::{Bytes, Duplicate, List, Room};
+use small_types::{Bytes, CopyFault, Duplicate, List, Room};
 use std::alloc::Global;
 use store_state::{
     Change, Content, LocalFile, StoreState, View, installs_show_the_view, shapes_are_shown,
@@ -61,7 +60,7 @@ fn change_with(
 }
 
 // The change that the plan comes to with the contents of its wanted files: those of data files
-// become data files.
+// become data files. Where the others come from is planned here.
 fn change_of(
     alloc: Global,
     state: &StoreState,
@@ -69,8 +68,8 @@ fn change_of(
     contents: List<Content>,
     now: u64,
 ) -> Result<Change, Reply>
-    ensures made { IfOk result (λ made. made ≡ change_of_plan state.now plan contents now) }
-    ensures short { IfOk result (λ made. AreShort (plan_locals state.now plan contents)) }
+    requires contents { HasContents state.now plan contents }
+    ensures made { IfOk result (IsChangeOf state.now plan contents now) }
     ensures memory { IfErr result (λ reply. reply ≡ Memory) }
 {
     let files = plan.application.files.as_slice();
@@ -78,9 +77,14 @@ fn change_of(
         Ok(parts) => parts,
         Err(reply) => return Err(reply),
     };
+    let listed = &plan.application.files;
+    let plans = match plans_of(alloc, state, &plan.deployment.identity.key, listed) {
+        Ok(plans) => plans,
+        Err(reply) => return Err(reply),
+    };
     let old = old_locals(state, &plan.deployment.identity.key);
     let fetched = parts.locals.as_slice();
-    let locals = match moved_locals(alloc, old, fetched, plan.locals.as_slice()) {
+    let locals = match moved_locals(alloc, old, fetched, plans.as_slice()) {
         Ok(locals) => locals,
         Err(reply) => return Err(reply),
     };
@@ -99,7 +103,7 @@ fn installed_reply(alloc: Global, state: &StoreState, plan: &Plan) -> Result<Rep
             version: plan.deployment.identity.version,
             view: state.next_view,
         }),
-        Err(_) => Err(Reply::Memory),
+        Err(CopyFault::Memory) => Err(Reply::Memory),
     }
 }
 
@@ -119,10 +123,34 @@ fn fetch_planned<L: Links>(
     fetch_wanted(alloc, links, files, plan.wanted.as_slice())
 }
 
+/// The change that the plan comes to with the contents of its wanted files, in their order, and the
+/// reply that is due once it is made. Data files come to the new view as the migration says. An
+/// `Err` is the reply: there was no memory.
+pub fn install_change(
+    alloc: Global,
+    state: &StoreState,
+    plan: Plan,
+    contents: List<Content>,
+    now: u64,
+) -> Result<(Change, Reply), Reply>
+    requires contents { HasContents state.now plan contents }
+    ensures made { IfOk result (λ made. IsChangeOf state.now plan contents now made.0) }
+    ensures replied { IfOk result (λ made. made.1 ≡ installed_of state.now plan) }
+    ensures memory { IfErr result (λ reply. reply ≡ Memory) }
+{
+    let reply = match installed_reply(alloc, state, &plan) {
+        Ok(reply) => reply,
+        Err(reply) => return Err(reply),
+    };
+    match change_of(alloc, state, plan, contents, now) {
+        Ok(change) => Ok((change, reply)),
+        Err(refusal) => Err(refusal),
+    }
+}
+
 /// Hears the manifests of the release at the address, judges them, and fetches the files that no
-/// kept view has. Data files come to the new view as the migration says. What it gives is the change
-/// of the tables, which fits them, and the reply that is then due. An `Err` is the reply, and nothing
-/// is to be changed.
+/// kept view has. Data files come to the new view as the migration says. Where nothing refuses it,
+/// that is the change of the tables, which fits them, and the reply that is then due.
 pub fn prepare<L: Links>(
     alloc: Global,
     state: &StoreState,
@@ -131,32 +159,26 @@ pub fn prepare<L: Links>(
     now: u64,
     url: &Bytes,
     heard: &mut Heard,
-) -> Result<(Change, Reply), Reply>
+) -> Prepared
     requires empty { heard.old.texts ≡ [] }
     requires moment { now ≤ NUMBER_LIMIT }
-    ensures ready { IfOk result (λ made. IsReady room state.now url.now heard.new.texts
-        (L.links links.old) (L.links links.new) now made.0 made.1) }
-    ensures refused { IfErr result (IsRefused (table_shape room state.now) url.now heard.new.texts
-        (L.links links.old) (L.links links.new)) }
+    ensures { IsPrepared room state.now url.now heard.new.texts
+        (L.links links.old) (L.links links.new) now result }
 {
     let plan = match hear(alloc, state, room, links, url, heard) {
         Ok(plan) => plan,
-        Err(reply) => return Err(reply),
+        Err(reply) => return Prepared::Reply { reply },
     };
     let contents = match fetch_planned(alloc, links, &plan) {
         Ok(contents) => contents,
-        Err(reply) => return Err(reply),
+        Err(reply) => return Prepared::Reply { reply },
     };
-    let reply = match installed_reply(alloc, state, &plan) {
-        Ok(reply) => reply,
-        Err(reply) => return Err(reply),
-    };
-    let change = match change_of(alloc, state, plan, contents, now) {
-        Ok(change) => change,
-        Err(reply) => return Err(reply),
+    let (change, reply) = match install_change(alloc, state, plan, contents, now) {
+        Ok(made) => made,
+        Err(reply) => return Prepared::Reply { reply },
     };
     state.are_tables();
     shapes_are_shown();
     installs_show_the_view();
-    Ok((change, reply))
+    Prepared::Change { change, reply }
 }

@@ -1,16 +1,18 @@
 // The change that a check makes.
-ghost use Rattle.std.specs.Prelude.{◌≡◌, ◌≤◌, ◌↔◌, ℕ, [], IfErr, IfOk, IsTrue, Some};
+ghost use Rattle.std.specs.Prelude.{◌≡◌, ◌≤◌, ◌↔◌, ℕ, [], IsTrue, Some};
 ghost use Rattle.small_types.specs.declared.room.Room.{Room};
 ghost use Rattle.small_types.specs.declared.limits.TheConstants.{NUMBER_LIMIT};
 ghost use Rattle.machine.specs.Installed.{above, raised_by};
 ghost use Rattle.store_state.specs.declared.change.Change.TheVariants as change;
-ghost use Rattle.install_plan.specs.Checks.{IsCheckOver, IsCheckReady, IsMissed, IsNoted, IsUnmissed, IsUnnoted, checked_of, heard_of, is_missing};
+ghost use Rattle.install_plan.specs.Checks.{MissesTo, NotesTo, checked_of, heard_of, is_missing};
+ghost use Rattle.install_plan.specs.Prepared.{IsCheckPrepared};
 
+use crate::Prepared;
 use crate::offers::hear_offer;
 use identity::{Key, Version};
 use links::Links;
 use machine::{AppState, Heard, Reply};
-use small_types::Duplicate;
+use small_types::{CopyFault, Duplicate};
 use std::alloc::Global;
 use store_state::{Change, StoreState};
 
@@ -86,33 +88,30 @@ fn checked_reply(app: &AppState, offered: Offered) -> Reply
     }
 }
 
-// The change that notes what was heard, with the reply.
-fn heard_change(
-    alloc: Global,
-    key: &Key,
-    app: &AppState,
-    offered: Offered,
-) -> Result<(Change, Reply), Reply>
-    ensures noted { IfOk result (IsNoted (heard_of offered) app.now
+// The change that notes what was heard, with the reply; or the reply alone, where it is known.
+fn heard_change(alloc: Global, key: &Key, app: &AppState, offered: Offered) -> Prepared
+    ensures { NotesTo (heard_of offered) app.now
         (change.Heard key.now offered.version offered.minimum offered.now)
-        (checked_of offered app.now)) }
-    ensures unnoted { IfErr result (IsUnnoted (heard_of offered) app.now
-        (checked_of offered app.now)) }
+        (checked_of offered app.now) result }
 {
     if is_known(app, offered) {
-        return Err(checked_reply(app, offered));
+        return Prepared::Reply {
+            reply: checked_reply(app, offered),
+        };
     }
     match key.copy(alloc) {
-        Ok(key) => Ok((
-            Change::Heard {
+        Ok(key) => Prepared::Change {
+            change: Change::Heard {
                 key,
                 version: offered.version,
                 minimum: offered.minimum,
                 now: offered.now,
             },
-            checked_reply(app, offered),
-        )),
-        Err(_) => Err(Reply::Memory),
+            reply: checked_reply(app, offered),
+        },
+        Err(CopyFault::Memory) => Prepared::Reply {
+            reply: Reply::Memory,
+        },
     }
 }
 
@@ -123,34 +122,34 @@ fn is_missing(reply: &Reply) -> bool
     matches!(reply, Reply::AllLinks { .. })
 }
 
-// The change that notes that no link gave the manifest, with the reply.
-fn unheard_change(
-    alloc: Global,
-    key: &Key,
-    app: &AppState,
-    reply: Reply,
-) -> Result<(Change, Reply), Reply>
-    ensures missed { IfOk result (IsMissed key.now app.now reply) }
-    ensures unmissed { IfErr result (IsUnmissed app.now reply) }
+// The change that notes that no link gave the manifest, with the reply; or the reply alone, where
+// that is noted, or where it says another thing.
+fn unheard_change(alloc: Global, key: &Key, app: &AppState, reply: Reply) -> Prepared
+    ensures { MissesTo key.now app.now reply result }
 {
     if !is_missing(&reply) {
-        return Err(reply);
+        return Prepared::Reply { reply };
     }
     if app.checked {
-        return Err(reply);
+        return Prepared::Reply { reply };
     }
     match key.copy(alloc) {
-        Ok(key) => Ok((Change::Unheard { key }, reply)),
-        Err(_) => {
+        Ok(key) => Prepared::Change {
+            change: Change::Unheard { key },
+            reply,
+        },
+        Err(CopyFault::Memory) => {
             drop(reply);
-            Err(Reply::Memory)
+            Prepared::Reply {
+                reply: Reply::Memory,
+            }
         }
     }
 }
 
-/// Hears what the application's provider offers. What it gives is the change of the tables, which
-/// fits them, and the reply that is then due: also where no link gives the manifest, since the
-/// check then counts as made. An `Err` is the reply, and nothing is to be changed.
+/// Hears what the application's provider offers. Where that is to be noted, it comes to the change of
+/// the tables, which fits them, and the reply that is then due: also where no link gives the
+/// manifest, since the check then counts as made.
 pub fn prepare_check<L: Links>(
     alloc: Global,
     state: &StoreState,
@@ -158,22 +157,26 @@ pub fn prepare_check<L: Links>(
     now: u64,
     key: &Key,
     heard: &mut Heard,
-) -> Result<(Change, Reply), Reply>
+) -> Prepared
     requires empty { heard.old.texts ≡ [] }
     requires moment { now ≤ NUMBER_LIMIT }
-    ensures ready { (room : Room) → IfOk result (λ made. IsCheckReady room state.now key.now
-        heard.new.texts (L.links links.old) (L.links links.new) now made.0 made.1) }
-    ensures over { (room : Room) → IfErr result (IsCheckOver room state.now key.now
-        heard.new.texts (L.links links.old) (L.links links.new) now) }
+    ensures { (room : Room) → IsCheckPrepared room state.now key.now heard.new.texts
+        (L.links links.old) (L.links links.new) now result }
 {
     let Some(view) = state.current(key) else {
-        return Err(Reply::NotInstalled);
+        return Prepared::Reply {
+            reply: Reply::NotInstalled,
+        };
     };
     let Some(app) = state.entry(key) else {
-        return Err(Reply::NotInstalled);
+        return Prepared::Reply {
+            reply: Reply::NotInstalled,
+        };
     };
     let Some(provider) = &app.provider else {
-        return Err(Reply::NotInstalled);
+        return Prepared::Reply {
+            reply: Reply::NotInstalled,
+        };
     };
     let d = match hear_offer(alloc, links, key, provider, heard) {
         Ok(d) => d,

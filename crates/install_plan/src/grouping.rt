@@ -3,16 +3,18 @@ ghost use Rattle.std.specs.Prelude.{◌≡◌, ◌≢◌, ◌<◌, ◌^◌, List
 ghost use Rattle.machine.specs.declared.reply.Reply.TheVariants as says;
 ghost use Rattle.machine.specs.Groups.{group_files};
 ghost use Rattle.manifests.specs.declared.facts.FileEntry.{FileEntry};
-ghost use Rattle.install_plan.specs.GroupReady.{HasBrought, IsGroupOver, IsGroupReady, IsNoFiles, IsNotBrought, group_reply, ungrouped};
+ghost use Rattle.install_plan.specs.GroupReady.{HasBrought, IsNoFiles, IsNotBrought, group_reply, ungrouped};
+ghost use Rattle.install_plan.specs.Prepared.{IsGroupPrepared};
 
+use crate::Prepared;
 use crate::bringing::fetch_wanted;
 use crate::release::{judge_room, wants};
 use file_groups::{GroupFault, plan};
 use links::Links;
 use machine::Reply;
 use manifests::FileEntry;
-use small_types::{Duplicate, List, Room, Text};
-use std::alloc::Global;
+use small_types::{CopyFault, Duplicate, List, Room, Text};
+use std::alloc::{AllocFailed, Global};
 use store_state::{Change, Content, StoreState, View, groups_show_the_files};
 
 // The reply to a group that has no plan.
@@ -34,9 +36,9 @@ fn without_group(alloc: Global, files: List<FileEntry>) -> Result<List<FileEntry
     for file in files.into_vec() {
         let mut file = file;
         file.group = None;
-        let Ok(()) = made.push(file) else {
+        if let Err(AllocFailed { .. }) = made.push(file) {
             return Err(Reply::Memory);
-        };
+        }
     }
     Ok(List::from_vec(made))
 }
@@ -87,9 +89,9 @@ fn fetch_lacking<L: Links>(
     }
 }
 
-/// Fetches the files of the group whose contents no kept view has. What it gives is the change of
-/// the tables by which they come to the leased view, and the reply that is then due. An `Err` is
-/// the reply, and nothing is to be changed: also where the group stands already.
+/// Fetches the files of the group whose contents no kept view has. It comes to the change of the
+/// tables by which they come to the leased view, and the reply that is then due; or to the reply
+/// alone, also where the group stands already.
 pub fn prepare_group<L: Links>(
     alloc: Global,
     state: &StoreState,
@@ -97,30 +99,37 @@ pub fn prepare_group<L: Links>(
     links: &mut L,
     lease: u64,
     group: &Text,
-) -> Result<(Change, Reply), Reply>
-    ensures ready { IfOk result (λ made. IsGroupReady room state.now lease group.now
-        (L.links links.old) (L.links links.new) made.0 made.1) }
-    ensures over { IfErr result (IsGroupOver room state.now lease group.now
-        (L.links links.old) (L.links links.new)) }
+) -> Prepared
+    ensures { IsGroupPrepared room state.now lease group.now (L.links links.old)
+        (L.links links.new) result }
 {
     let Some(view) = state.leased(lease) else {
-        return Err(Reply::NoLease);
+        return Prepared::Reply {
+            reply: Reply::NoLease,
+        };
     };
     let files = match files_of(alloc, view, group) {
         Ok(files) => files,
-        Err(reply) => return Err(reply),
+        Err(reply) => return Prepared::Reply { reply },
     };
     let count = files.as_slice().len() as u64;
     if view.has_group(group) {
-        return Err(Reply::Group { files: count });
+        return Prepared::Reply {
+            reply: Reply::Group { files: count },
+        };
     }
     state.are_tables();
     let contents = match fetch_lacking(alloc, state, room, links, view, files.as_slice()) {
         Ok(contents) => contents,
-        Err(reply) => return Err(reply),
+        Err(reply) => return Prepared::Reply { reply },
     };
-    let Ok(made) = group.copy(alloc) else {
-        return Err(Reply::Memory);
+    let made = match group.copy(alloc) {
+        Ok(made) => made,
+        Err(CopyFault::Memory) => {
+            return Prepared::Reply {
+                reply: Reply::Memory,
+            };
+        }
     };
     groups_show_the_files();
     let change = Change::Group {
@@ -128,5 +137,6 @@ pub fn prepare_group<L: Links>(
         group: made,
         contents,
     };
-    Ok((change, Reply::Group { files: count }))
+    let reply = Reply::Group { files: count };
+    Prepared::Change { change, reply }
 }

@@ -1,7 +1,8 @@
 // The manifests of an install.
-ghost use Rattle.std.specs.Prelude.{◌≡◌, [], IfErr, IfOk};
+ghost use Rattle.std.specs.Prelude.{◌≡◌, [], IfErr, IfOk, IfSome};
+ghost use Rattle.manifests.specs.Facts.{IsProvider};
+ghost use Rattle.addresses.specs.declared.fault.UrlFault.TheVariants as no_address;
 ghost use Rattle.machine.specs.Installed.{IsProvidedBy};
-ghost use Rattle.install_plan.specs.Carried.{HasLocals};
 ghost use Rattle.install_plan.specs.Plans.{IsPlanned, IsRefused};
 ghost use Rattle.store_state.specs.Tables.{table_shape};
 
@@ -9,29 +10,41 @@ use crate::Plan;
 use crate::judging::{given_address, judge_deployment};
 use crate::release::judge_release;
 use crate::texts::{hear_application, hear_deployment};
-use addresses::target_of;
+use addresses::{UrlFault, target_of};
 use links::Links;
 use machine::{Heard, Reply};
 use manifests::Deployment;
-use small_types::{Bytes, Duplicate, Room, Target};
+use small_types::{Bytes, CopyFault, Duplicate, Room, Target};
 use std::alloc::Global;
 use store_state::StoreState;
 
+// The reply where only want of memory can be the fault.
+fn memory_reply(fault: UrlFault) -> Reply
+    requires { fault ≡ no_address.Memory }
+    ensures { result ≡ Reply.Memory }
+{
+    match fault {
+        UrlFault::Memory => Reply::Memory,
+        UrlFault::BadUrl | UrlFault::NotHttp { .. } => unreachable!(),
+    }
+}
+
 // The address that updates come from: the manifest's, or the given one where the manifest gives
-// none. What a manifest gives was read as an address, so only want of memory is left to refuse it.
+// none. What a manifest gives was read as an address.
 fn provider_of(alloc: Global, target: &Target, d: &Deployment) -> Result<Target, Reply>
+    requires read { IfSome d.now.provider IsProvider }
     ensures provided { IfOk result (IsProvidedBy target.now d.now.provider) }
     ensures memory { IfErr result (λ reply. reply ≡ Reply.Memory) }
 {
     let Some(text) = &d.provider else {
         return match target.copy(alloc) {
             Ok(provider) => Ok(provider),
-            Err(_) => Err(Reply::Memory),
+            Err(CopyFault::Memory) => Err(Reply::Memory),
         };
     };
     match target_of(alloc, text.as_bytes()) {
         Ok(provider) => Ok(provider),
-        Err(_) => Err(Reply::Memory),
+        Err(fault) => Err(memory_reply(fault)),
     }
 }
 
@@ -49,7 +62,6 @@ pub fn hear<L: Links>(
     requires empty { heard.old.texts ≡ [] }
     ensures plan { IfOk result (IsPlanned (table_shape room state.now) url.now heard.new.texts
         (L.links links.old) (L.links links.new)) }
-    ensures locals { IfOk result (HasLocals state.now) }
     ensures refused { IfErr result (IsRefused (table_shape room state.now) url.now heard.new.texts
         (L.links links.old) (L.links links.new)) }
 {
@@ -69,8 +81,8 @@ pub fn hear<L: Links>(
         Ok(application) => application,
         Err(reply) => return Err(reply),
     };
-    let needs = match judge_release(alloc, state, room, &base, &deployment, &application) {
-        Ok(needs) => needs,
+    let wanted = match judge_release(alloc, state, room, &base, &deployment, &application) {
+        Ok(wanted) => wanted,
         Err(reply) => return Err(reply),
     };
     match provider_of(alloc, &target, &deployment) {
@@ -80,8 +92,7 @@ pub fn hear<L: Links>(
             url: target,
             base,
             provider,
-            wanted: needs.wanted,
-            locals: needs.locals,
+            wanted,
         }),
         Err(reply) => Err(reply),
     }

@@ -13,14 +13,17 @@ mod judging;
 mod migrating;
 mod offers;
 mod plan;
+mod prepared;
 mod release;
 mod replies;
 mod taken;
 mod texts;
 mod wanting;
 
-pub use changing::prepare;
+pub use bringing::fetch_file_into;
+pub use changing::{install_change, prepare};
 pub use checking::prepare_check;
 pub use grouping::prepare_group;
 pub use hearing::hear;
 pub use plan::{Plan, WantedFile};
+pub use prepared::Prepared;

@@ -1,17 +1,17 @@
 // The data files of a new view: what was fetched for it, and what it carries over.
-ghost use Rattle.std.specs.Prelude.{◌≡◌, ◌<◌, ◌^◌, [], ◌∷◌, ◌++◌, IfErr, IfOk, OnOk, bytes_eq, length, map};
+ghost use Rattle.std.specs.Prelude.{◌≡◌, ◌<◌, ◌^◌, [], ◌∷◌, ◌++◌, All, IfErr, IfOk, IsSome, OnOk, bytes_eq, length, map};
 ghost use Rattle.std.specs.Option.{option_copied};
 ghost use Rattle.store_state.specs.Locals.{local_named};
 ghost use Rattle.install_plan.specs.Changes.{AreShort, data_part, deployed_local, listed_at, local_of, original_of, program_part};
 ghost use Rattle.install_plan.specs.Held.{given_bytes};
-ghost use Rattle.install_plan.specs.Parts.{entry_for, local_bytes, moved_local};
+ghost use Rattle.install_plan.specs.Parts.{IsThere, entry_for, local_bytes, moved_local};
 
 use crate::WantedFile;
 use data_migration::LocalPlan;
 use machine::Reply;
 use manifests::FileEntry;
-use small_types::{Duplicate, List, Name};
-use std::alloc::Global;
+use small_types::{CopyFault, Duplicate, List, Name};
+use std::alloc::{AllocFailed, Global};
 use store_state::{Content, LocalFile, Stored};
 
 // What was fetched: contents of program files, and data files.
@@ -30,7 +30,7 @@ fn data_file(alloc: Global, name: &Name, held: Stored) -> Result<LocalFile, Repl
     let length = held.as_slice().len() as u64;
     match name.copy(alloc) {
         Ok(name) => Ok(LocalFile { name, length, held }),
-        Err(_) => Err(Reply::Memory),
+        Err(CopyFault::Memory) => Err(Reply::Memory),
     }
 }
 
@@ -84,7 +84,7 @@ impl Parts {
         };
         match self.locals.push(file) {
             Ok(()) => Ok(()),
-            Err(_) => Err(Reply::Memory),
+            Err(AllocFailed { .. }) => Err(Reply::Memory),
         }
     }
 
@@ -97,18 +97,19 @@ impl Parts {
     {
         match self.programs.push(content) {
             Ok(()) => Ok(()),
-            Err(_) => Err(Reply::Memory),
+            Err(AllocFailed { .. }) => Err(Reply::Memory),
         }
     }
 }
 
-// What was fetched of the wanted files, in their order.
+// What was fetched of the wanted files, in their order: a content for each.
 pub(crate) fn parts_of(
     alloc: Global,
     files: &[FileEntry],
     wanted: &[WantedFile],
     contents: List<Content>,
 ) -> Result<Parts, Reply>
+    requires each { length contents ≡ length wanted.now }
     ensures programs { IfOk result (λ parts. parts.programs.items
         ≡ program_part (listed_at files.now wanted.now) contents) }
     ensures locals { IfOk result (λ parts. parts.locals.items
@@ -125,10 +126,7 @@ pub(crate) fn parts_of(
         if let Err(reply) = parts.add(alloc, entry, content) {
             return Err(reply);
         }
-        let Some(next) = place.checked_add(1) else {
-            return Err(Reply::Memory);
-        };
-        place = next;
+        place += 1;
     }
     Ok(parts)
 }
@@ -148,22 +146,23 @@ fn is_named(file: &LocalFile, name: &Name) -> bool
 }
 
 // A copy of the data file of that name under another one. A journal's number tells fewer than 2^32
-// bytes, so a data file of more is want of memory. So is one that is not there, of which no plan is
-// made.
+// bytes, so a data file of more is want of memory.
 fn copy_as(alloc: Global, files: &[LocalFile], from: &Name, to: &Name) -> Result<LocalFile, Reply>
+    requires there { IsSome (local_named from.now files.now) }
     ensures made { IfOk result (λ file. file
         ≡ local_of (record { name = to.now; bytes = local_bytes files.now from.now })) }
     ensures short { IfOk result (λ file. length file.held < 2 ^ 32) }
     ensures memory { IfErr result (λ reply. reply ≡ Reply.Memory) }
 {
     let Some(file) = find(files, from) else {
-        return Err(Reply::Memory);
+        unreachable!();
     };
     if file.held.as_slice().len() > u32::MAX as usize {
         return Err(Reply::Memory);
     }
-    let Ok(held) = file.held.copy(alloc) else {
-        return Err(Reply::Memory);
+    let held = match file.held.copy(alloc) {
+        Ok(held) => held,
+        Err(CopyFault::Memory) => return Err(Reply::Memory),
     };
     match data_file(alloc, to, held) {
         Ok(made) => Ok(made),
@@ -178,6 +177,7 @@ fn moved(
     fetched: &[LocalFile],
     plan: &LocalPlan,
 ) -> Result<LocalFile, Reply>
+    requires there { IsThere old.now fetched.now plan.now }
     ensures made { IfOk result (λ file. file ≡ moved_local old.now fetched.now plan.now) }
     ensures short { IfOk result (λ file. length file.held < 2 ^ 32) }
     ensures memory { IfErr result (λ reply. reply ≡ Reply.Memory) }
@@ -195,6 +195,7 @@ pub(crate) fn moved_locals(
     fetched: &[LocalFile],
     plans: &[LocalPlan],
 ) -> Result<List<LocalFile>, Reply>
+    requires there { All (IsThere old.now fetched.now) plans.now }
     ensures made { IfOk result (λ files. files
         ≡ map (moved_local old.now fetched.now) plans.now) }
     ensures short { IfOk result AreShort }
@@ -206,9 +207,9 @@ pub(crate) fn moved_locals(
             Ok(file) => file,
             Err(reply) => return Err(reply),
         };
-        let Ok(()) = files.push(file) else {
+        if let Err(AllocFailed { .. }) = files.push(file) {
             return Err(Reply::Memory);
-        };
+        }
     }
     Ok(List::from_vec(files))
 }

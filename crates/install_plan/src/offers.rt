@@ -8,7 +8,7 @@ use identity::Key;
 use links::Links;
 use machine::{Heard, Reply};
 use manifests::Deployment;
-use small_types::{Duplicate, Target};
+use small_types::{CopyFault, Duplicate, Target};
 use std::alloc::Global;
 
 // The refusal of a manifest of another key.
@@ -17,7 +17,7 @@ fn other_key(alloc: Global, found: &Key) -> Reply
 {
     match found.copy(alloc) {
         Ok(found) => Reply::IdentityDiffers { found },
-        Err(_) => Reply::Memory,
+        Err(CopyFault::Memory) => Reply::Memory,
     }
 }
 

@@ -1,5 +1,4 @@
 // What an install comes to.
-use data_migration::LocalPlan;
 use manifests::{Application, Deployment};
 use small_types::{List, Target};
 
@@ -24,6 +23,4 @@ pub struct Plan {
     pub provider: Target,
     /// The files that are fetched, in their order.
     pub wanted: List<WantedFile>,
-    /// Where its data files come from, in order of their names.
-    pub locals: List<LocalPlan>,
 }

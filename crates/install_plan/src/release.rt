@@ -8,20 +8,18 @@ ghost use Rattle.machine.specs.Blocks.{blocks_of, free_blocks, standing_files};
 ghost use Rattle.machine.specs.Fields.{IsApplication};
 ghost use Rattle.machine.specs.InstallRow.{base_of};
 ghost use Rattle.machine.specs.Wanted.{wanted, wanted_beside};
-ghost use Rattle.store_state.specs.Rows.{current_row, listed_files};
+ghost use Rattle.store_state.specs.Rows.{listed_files};
 ghost use Rattle.store_state.specs.Tables.{bare_row, table_shape};
-ghost use Rattle.install_plan.specs.Carried.{ArePlans};
 ghost use Rattle.install_plan.specs.Judging.{Judges, file_checks, identity_checks, release_checks, room_checks};
 
 use crate::WantedFile;
 use crate::carrying::{copied_blocks, judge_locals};
 use crate::wanting::{blocks_needed, wanted_files, wanted_places};
-use data_migration::LocalPlan;
 use identity::Key;
 use machine::Reply;
 use manifests::{Application, Deployment, FileEntry, ReleaseFault};
 use small_types::limits::FILE_COUNT_LIMIT;
-use small_types::{Duplicate, Limit, List, Room, Target};
+use small_types::{CopyFault, Duplicate, Limit, List, Room, Target};
 use std::alloc::Global;
 use store_state::StoreState;
 
@@ -30,14 +28,15 @@ fn other_key(alloc: Global, listed: &Key, found: &Key) -> Reply
     ensures { (result ≡ Reply.Memory)
         ⊎ (result ≡ Reply.Release (ReleaseFault.IdentityDiffers listed.now found.now)) }
 {
-    let Ok(listed) = listed.copy(alloc) else {
-        return Reply::Memory;
+    let listed = match listed.copy(alloc) {
+        Ok(listed) => listed,
+        Err(CopyFault::Memory) => return Reply::Memory,
     };
     match found.copy(alloc) {
         Ok(found) => Reply::Release {
             fault: ReleaseFault::IdentityDiffers { listed, found },
         },
-        Err(_) => Reply::Memory,
+        Err(CopyFault::Memory) => Reply::Memory,
     }
 }
 
@@ -69,18 +68,14 @@ fn lists_too_many(state: &StoreState, a: &Application) -> bool
     listed > FILE_COUNT_LIMIT || more > FILE_COUNT_LIMIT - listed
 }
 
-// Whether there is a place for the files of the application. What it gives is where the data files
-// of the new view come from.
+// Whether there is a place for the files of the application.
 pub(crate) fn judge_files(
     alloc: Global,
     state: &StoreState,
     d: &Deployment,
     a: &Application,
-) -> Result<List<LocalPlan>, Reply>
-    ensures plans { IfOk result
-        (ArePlans (current_row d.now.identity.key state.now) a.now.files) }
-    ensures judged { (room : Room)
-        → Judges (file_checks (table_shape room state.now) d.now a.now) result }
+) -> Result<(), Reply>
+    ensures { (room : Room) → Judges (file_checks (table_shape room state.now) d.now a.now) result }
 {
     if lists_too_many(state, a) {
         return Err(Reply::TooMany {
@@ -89,7 +84,7 @@ pub(crate) fn judge_files(
         });
     }
     match judge_locals(alloc, state, d, a) {
-        Ok(plans) => Ok(plans),
+        Ok(()) => Ok(()),
         Err(reply) => Err(reply),
     }
 }
@@ -142,26 +137,7 @@ pub(crate) fn wants(
     }
 }
 
-// What is fetched of a release that passes, and where its data files come from.
-#[derive(Drop)]
-pub(crate) struct ReleaseNeeds {
-    pub(crate) wanted: List<WantedFile>,
-    pub(crate) locals: List<LocalPlan>,
-}
-
-// The blocks of the wanted files and of the data files that are copied, as far as a number goes.
-fn sum_needed(wanted: u64, copied: u64) -> Result<u64, Reply>
-    ensures sum { IfOk result (λ need. need ≡ wanted + copied) }
-    ensures memory { IfErr result (λ reply. reply ≡ Reply.Memory) }
-{
-    match wanted.checked_add(copied) {
-        Some(need) => Ok(need),
-        None => Err(Reply::Memory),
-    }
-}
-
-// Judges the release that was heard, and answers the files that are wanted, and where its data files
-// come from.
+// Judges the release that was heard, and answers the files that are wanted.
 pub(crate) fn judge_release(
     alloc: Global,
     state: &StoreState,
@@ -169,41 +145,29 @@ pub(crate) fn judge_release(
     base: &Target,
     d: &Deployment,
     a: &Application,
-) -> Result<ReleaseNeeds, Reply>
-    ensures places { IfOk result (λ w. map (λ file. slice_get a.now.files file.place) w.wanted
+) -> Result<List<WantedFile>, Reply>
+    ensures places { IfOk result (λ files. map (λ file. slice_get a.now.files file.place) files
         ≡ map Some (wanted (map bare_row state.now.views) a.now)) }
-    ensures targets { IfOk result (λ w.
+    ensures targets { IfOk result (λ files.
         map (λ entry. file_target_of base.now d.now.mapped entry.name)
-        (wanted (map bare_row state.now.views) a.now) ≡ map (λ file. Ok file.target) w.wanted) }
-    ensures locals { IfOk result (λ w.
-        ArePlans (current_row d.now.identity.key state.now) a.now.files w.locals) }
+        (wanted (map bare_row state.now.views) a.now) ≡ map (λ file. Ok file.target) files) }
     ensures judged { (url : List ℕ) → base_of url d.now ≡ Ok base.now → IsApplication a.now
         → Judges (release_checks url (table_shape room state.now) d.now a.now) result }
 {
     if let Err(reply) = judge_identity(alloc, d, a) {
         return Err(reply);
     }
-    let locals = match judge_files(alloc, state, d, a) {
-        Ok(locals) => locals,
-        Err(reply) => return Err(reply),
-    };
+    if let Err(reply) = judge_files(alloc, state, d, a) {
+        return Err(reply);
+    }
     let wants = match wants(alloc, state, base, d.mapped, a.files.as_slice()) {
         Ok(wants) => wants,
         Err(reply) => return Err(reply),
     };
-    let copied = match copied_blocks(state, &d.identity.key) {
-        Ok(copied) => copied,
-        Err(reply) => return Err(reply),
-    };
-    let need = match sum_needed(wants.need, copied) {
-        Ok(need) => need,
-        Err(reply) => return Err(reply),
-    };
+    let copied = copied_blocks(state, &d.identity.key);
+    let need = wants.need.saturating_add(copied);
     match judge_room(state, room, need) {
-        Ok(()) => Ok(ReleaseNeeds {
-            wanted: wants.files,
-            locals,
-        }),
+        Ok(()) => Ok(wants.files),
         Err(reply) => Err(reply),
     }
 }

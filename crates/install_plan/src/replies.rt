@@ -1,10 +1,12 @@
 // The replies that faults come to.
-ghost use Rattle.std.specs.Prelude.{◌≡◌, Result, Err};
+ghost use Rattle.std.specs.Prelude.{◌≡◌, ◌≢◌, Result, Err};
 ghost use Rattle.small_types.specs.declared.target.Target.{Target};
 ghost use Rattle.addresses.specs.declared.fault.UrlFault.{UrlFault};
 ghost use Rattle.addresses.specs.Address.{Gives};
 ghost use Rattle.install_plan.specs.Judging.{Refused, address_checks};
-ghost use Rattle.install_plan.specs.Replies.{fetch_reply, manifest_reply, url_reply};
+ghost use Rattle.fetcher.specs.declared.fault.FetchFault.{FetchFault};
+ghost use Rattle.fetcher.specs.declared.fault.FetchFault.TheVariants as fetch;
+ghost use Rattle.install_plan.specs.Replies.{IsFetchReply, manifest_reply, url_reply};
 
 use addresses::UrlFault;
 use fetcher::FetchFault;
@@ -34,13 +36,14 @@ pub(crate) fn manifest_reply(fault: ManifestFault) -> Reply
     }
 }
 
-// The reply where nothing was fetched. A basket that never fails leaves want of memory alone beside
-// the links.
+// The reply where nothing was fetched, and no basket failed.
 pub(crate) fn fetch_reply(fault: FetchFault) -> Reply
-    ensures { result ≡ fetch_reply fault }
+    requires { ◌≢◌ {A = FetchFault} fault fetch.BasketFault }
+    ensures { IsFetchReply fault result }
 {
     match fault {
         FetchFault::AllLinks { target, causes } => Reply::AllLinks { target, causes },
-        FetchFault::BasketFault | FetchFault::Memory => Reply::Memory,
+        FetchFault::Memory => Reply::Memory,
+        FetchFault::BasketFault => unreachable!(),
     }
 }

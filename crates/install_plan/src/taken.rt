@@ -10,8 +10,8 @@ use data_migration::same_content;
 use digest_list::Digest;
 use machine::Reply;
 use manifests::FileEntry;
-use small_types::List;
-use std::alloc::Global;
+use small_types::{List, PrintFault};
+use std::alloc::{AllocError, AllocFailed, Global};
 use std::collections::BTreeMap;
 
 // The digest as it stands in the text of a content.
@@ -19,14 +19,15 @@ fn digest_text(alloc: Global, digest: &Digest) -> Result<String, Reply>
     ensures text { IfOk result (λ text. string_bytes text ≡ spec.digest_text digest.now) }
     ensures memory { IfErr result (λ reply. reply ≡ Reply.Memory) }
 {
-    let Ok(value) = digest.print(alloc) else {
-        return Err(Reply::Memory);
+    let value = match digest.print(alloc) {
+        Ok(value) => value,
+        Err(PrintFault::Memory) => return Err(Reply::Memory),
     };
     let name = digest.algorithm.name();
     let value = value.as_str();
     match format!(in alloc; " {name}{value}") {
         Ok(text) => Ok(text),
-        Err(_) => Err(Reply::Memory),
+        Err(AllocError) => Err(Reply::Memory),
     }
 }
 
@@ -35,17 +36,18 @@ fn content_text(alloc: Global, size: u64, list: &[Digest]) -> Result<String, Rep
     ensures text { IfOk result (λ text. string_bytes text ≡ spec.content_text size list.now) }
     ensures memory { IfErr result (λ reply. reply ≡ Reply.Memory) }
 {
-    let Ok(mut text) = format!(in alloc; "{size}") else {
-        return Err(Reply::Memory);
+    let mut text = match format!(in alloc; "{size}") {
+        Ok(text) => text,
+        Err(AllocError) => return Err(Reply::Memory),
     };
     for digest in list {
         let part = match digest_text(alloc, digest) {
             Ok(part) => part,
             Err(reply) => return Err(reply),
         };
-        let Ok(()) = text.push_str(part.as_str()) else {
+        if let Err(AllocError) = text.push_str(part.as_str()) {
             return Err(Reply::Memory);
-        };
+        }
     }
     Ok(text)
 }
@@ -74,12 +76,13 @@ fn with_place(
         Some(places) => places.as_slice(),
         None => &[],
     };
-    let Ok(mut places) = Vec::from_slice(alloc, old) else {
-        return Err(Reply::Memory);
+    let mut places = match Vec::from_slice(alloc, old) {
+        Ok(places) => places,
+        Err(AllocError) => return Err(Reply::Memory),
     };
     match places.push(place) {
         Ok(()) => Ok(List::from_vec(places)),
-        Err(_) => Err(Reply::Memory),
+        Err(AllocFailed { .. }) => Err(Reply::Memory),
     }
 }
 
@@ -101,7 +104,7 @@ pub(crate) fn note(
     };
     match table.insert(text, places) {
         Ok(_) => Ok(()),
-        Err(_) => Err(Reply::Memory),
+        Err(AllocFailed { .. }) => Err(Reply::Memory),
     }
 }
 

@@ -20,7 +20,7 @@ use machine::{Heard, Reply};
 use manifests::{Application, Deployment, read_application, read_deployment};
 use small_types::limits::MANIFEST_LIMIT;
 use small_types::{Bytes, Target};
-use std::alloc::Global;
+use std::alloc::{AllocFailed, Global};
 
 // Hears the deployment manifest at the target.
 pub(crate) fn hear_deployment<L: Links>(
@@ -42,9 +42,9 @@ pub(crate) fn hear_deployment<L: Links>(
         Err(fault) => return Err(fetch_reply(fault)),
     };
     let read = read_deployment(alloc, text.as_slice());
-    let Ok(()) = heard.texts.push(text) else {
+    if let Err(AllocFailed { .. }) = heard.texts.push(text) {
         return Err(Reply::Memory);
-    };
+    }
     match read {
         Ok(deployment) => Ok(deployment),
         Err(fault) => Err(manifest_reply(fault)),
@@ -97,9 +97,9 @@ pub(crate) fn hear_application<L: Links>(
         Err(reply) => return Err(reply),
     };
     let read = read_application(alloc, text.as_slice());
-    let Ok(()) = heard.texts.push(text) else {
+    if let Err(AllocFailed { .. }) = heard.texts.push(text) {
         return Err(Reply::Memory);
-    };
+    }
     match read {
         Ok(application) => Ok(application),
         Err(fault) => Err(manifest_reply(fault)),

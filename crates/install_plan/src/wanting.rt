@@ -1,5 +1,5 @@
 // The files that an install fetches.
-ghost use Rattle.std.specs.Prelude.{◌≡◌, ◌⊎◌, ◌<◌, ◌-◌, ◌^◌, ◌∷◌, [], ◌++◌, All, Any, Err, IfErr, IfOk, List, Ok, OnOk, Some, length, map, min, slice_get, sum_by, if◌then◌else◌};
+ghost use Rattle.std.specs.Prelude.{◌≡◌, ◌⊎◌, ◌<◌, ◌≤◌, ◌-◌, ◌^◌, ◌∷◌, [], ◌++◌, All, Any, Err, IfErr, IfOk, List, Ok, OnOk, Some, length, map, min, slice_get, sum_by, if◌then◌else◌};
 ghost use Rattle.std.specs.List.{HoldsAt};
 ghost use Rattle.manifests.specs.declared.facts.FileEntry.{FileEntry};
 ghost use Rattle.addresses.specs.declared.fault.UrlFault.TheVariants as no_address;
@@ -16,7 +16,7 @@ use machine::Reply;
 use manifests::FileEntry;
 use small_types::limits::BLOCK_SIZE;
 use small_types::{List, Target};
-use std::alloc::Global;
+use std::alloc::{AllocFailed, Global};
 use std::collections::BTreeMap;
 use store_state::StoreState;
 
@@ -68,7 +68,7 @@ fn add_place(places: &mut Vec<usize>, place: usize, wanted: bool) -> Result<(), 
     }
     match places.push(place) {
         Ok(()) => Ok(()),
-        Err(_) => Err(Reply::Memory),
+        Err(AllocFailed { .. }) => Err(Reply::Memory),
     }
 }
 
@@ -141,16 +141,17 @@ pub(crate) fn wanted_files(
             Ok(file) => file,
             Err(reply) => return Err(reply),
         };
-        let Ok(()) = wanted.push(file) else {
+        if let Err(AllocFailed { .. }) = wanted.push(file) {
             return Err(Reply::Memory);
-        };
+        }
     }
     Ok(List::from_vec(wanted))
 }
 
 // The blocks of so many bytes.
 pub(crate) fn blocks_of(bytes: u64) -> u64
-    ensures { result ≡ blocks_of bytes }
+    ensures value { result ≡ blocks_of bytes }
+    ensures few { result ≤ 2 ^ 52 }
 {
     let block = BLOCK_SIZE as u64;
     if bytes % block == 0 {

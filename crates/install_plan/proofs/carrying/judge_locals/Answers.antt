@@ -7,14 +7,14 @@ use Rattle.install_plan.proofs.Planned.{counted_as}
 use Rattle.install_plan.proofs.Judged.{not_so}
 use Rattle.install_plan.proofs.carrying.judge_locals.Goals as goal
 
-pub returns-then-are_many-clause-judged : goal.returns-then-are_many-clause-judged
-returns-then-are_many-clause-judged c = λ room.
+pub returns-then-are_many : goal.returns-then-are_many
+returns-then-are_many c = λ room.
     let same = counted_as c.args.d.now.identity.key c.args.state.now room c.args.a.now.files c.in-Ok.plans c.in-Ok.ensures.plans c.as_slice.result.now c.as_slice.ensures
     (count_by (λ (p : LocalPlan). not (is_below_pre (plan_name p))) c.as_slice.result.now) refl in
     inr (λ old. inl ((subst (λ (n : ℕ). 256 < n) same (c.are_many.ensures.0 c.if-are_many.true), refl), refl))
 
-pub returns-clause-judged : goal.returns-clause-judged
-returns-clause-judged c = λ room.
+pub returns : goal.returns
+returns c = λ room.
     let same = counted_as c.args.d.now.identity.key c.args.state.now room c.args.a.now.files c.in-Ok.plans c.in-Ok.ensures.plans c.as_slice.result.now c.as_slice.ensures
     (count_by (λ (p : LocalPlan). not (is_below_pre (plan_name p))) c.as_slice.result.now) refl in (
       (λ many. not_so c.are_many.result (256 < count_by (λ (p : LocalPlan). not (is_below_pre (plan_name p))) c.as_slice.result.now) c.are_many.ensures c.if-are_many.false

@@ -1,5 +1,5 @@
 use Rattle.store_state.specs.Tables.{table_shape}
-use Rattle.install_plan.proofs.Readying.{plan_places, ready_with, refused_behind}
+use Rattle.install_plan.proofs.Readying.{has_contents, plan_places, ready_of, refused_behind}
 use Rattle.install_plan.proofs.Serving.{refused_at_files}
 use Rattle.install_plan.proofs.changing.prepare.Goals as goal
 
@@ -9,32 +9,34 @@ fetch_planned-requires g c = record {
       c.in-Ok.plan c.in-Ok.ensures.plan.is;
 }
 
-pub returns-in-Err-fetch_planned-clause-refused : goal.returns-in-Err-fetch_planned-clause-refused
-returns-in-Err-fetch_planned-clause-refused g c =
+pub install_change-requires : goal.install_change-requires
+install_change-requires g c =
+    let state = g.L.Links.links in
+    record {
+      contents = has_contents c.args.room c.args.state.now c.args.url.now c.hear.new.heard.texts
+          (state c.args.links.now) (state c.hear.new.links) (state c.fetch_planned.new.links) c.in-Ok.plan c.in-Ok.ensures.plan
+          c.in-Ok-fetch_planned.contents c.in-Ok-fetch_planned.ensures.fetched;
+    }
+
+pub returns-in-Err-fetch_planned : goal.returns-in-Err-fetch_planned
+returns-in-Err-fetch_planned g c =
     let state = g.L.Links.links in
     refused_at_files (table_shape c.args.room c.args.state.now) c.args.url.now c.hear.new.heard.texts
     (state c.args.links.now) (state c.hear.new.links) (state c.fetch_planned.new.links) c.in-Ok.plan c.in-Ok.ensures.plan
     c.in-Err-fetch_planned.ensures.stopped.kept c.in-Err-fetch_planned.reply c.in-Err-fetch_planned.ensures.stopped
 
-pub returns-in-Err-installed_reply-clause-refused : goal.returns-in-Err-installed_reply-clause-refused
-returns-in-Err-installed_reply-clause-refused g c =
+pub returns-in-Err-install_change : goal.returns-in-Err-install_change
+returns-in-Err-install_change g c =
     let state = g.L.Links.links in
     refused_behind c.args.room c.args.state.now c.args.url.now c.hear.new.heard.texts
     (state c.args.links.now) (state c.hear.new.links) (state c.fetch_planned.new.links) c.in-Ok.plan c.in-Ok.ensures.plan
-    c.in-Ok-fetch_planned.contents c.in-Ok-fetch_planned.ensures.fetched c.in-Err-installed_reply.reply c.in-Err-installed_reply.ensures.memory
+    c.in-Ok-fetch_planned.contents c.in-Ok-fetch_planned.ensures.fetched c.in-Err-install_change.reply c.in-Err-install_change.ensures.memory
 
-pub returns-in-Err-change_of-clause-refused : goal.returns-in-Err-change_of-clause-refused
-returns-in-Err-change_of-clause-refused g c =
+pub returns : goal.returns
+returns g c =
     let state = g.L.Links.links in
-    refused_behind c.args.room c.args.state.now c.args.url.now c.hear.new.heard.texts
-    (state c.args.links.now) (state c.hear.new.links) (state c.fetch_planned.new.links) c.in-Ok.plan c.in-Ok.ensures.plan
-    c.in-Ok-fetch_planned.contents c.in-Ok-fetch_planned.ensures.fetched c.in-Err-change_of.reply c.in-Err-change_of.ensures.memory
-
-pub returns-clause-ready : goal.returns-clause-ready
-returns-clause-ready g c =
-    let state = g.L.Links.links in
-    ready_with c.args.room c.args.state.now c.args.url.now c.hear.new.heard.texts
+    ready_of c.args.room c.args.state.now c.args.url.now c.hear.new.heard.texts
     (state c.args.links.now) (state c.hear.new.links) (state c.fetch_planned.new.links) c.in-Ok.plan c.in-Ok.ensures.plan
     c.in-Ok-fetch_planned.contents c.in-Ok-fetch_planned.ensures.fetched c.args.now c.are_tables.ensures c.requires.moment
-    c.shapes_are_shown.ensures c.installs_show_the_view.ensures c.in-Ok.ensures.locals c.in-Ok-change_of.ensures.short
-    c.in-Ok-change_of.change c.in-Ok-installed_reply.reply c.in-Ok-change_of.ensures.made c.in-Ok-installed_reply.ensures.made
+    c.shapes_are_shown.ensures c.installs_show_the_view.ensures
+    c.in-Ok-install_change.made.0 c.in-Ok-install_change.made.1 c.in-Ok-install_change.ensures.made c.in-Ok-install_change.ensures.replied

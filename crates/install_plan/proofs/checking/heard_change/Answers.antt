@@ -5,12 +5,12 @@ use Rattle.install_plan.specs.Checks.{heard_of}
 use Rattle.install_plan.proofs.Judged.{not_so}
 use Rattle.install_plan.proofs.checking.heard_change.Goals as goal
 
-pub returns-then-is_known-clause-unnoted : goal.returns-then-is_known-clause-unnoted
-returns-then-is_known-clause-unnoted c =
+pub returns-then-is_known : goal.returns-then-is_known
+returns-then-is_known c =
     inr (c.checked_reply.ensures, c.is_known.ensures.0 c.if-is_known.true)
 
-pub returns-in-Ok-clause-noted : goal.returns-in-Ok-clause-noted
-returns-in-Ok-clause-noted c =
+pub returns-in-Ok : goal.returns-in-Ok
+returns-in-Ok c =
     let offered = c.args.offered in
     record {
       change_is = ap (λ (key : Key). change.Heard key offered.version offered.minimum offered.now)

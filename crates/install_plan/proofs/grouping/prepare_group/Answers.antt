@@ -12,21 +12,21 @@ use Rattle.install_plan.proofs.LeasedRows.{IsLeased}
 use Rattle.install_plan.proofs.Ungrouping.{small_files}
 use Rattle.install_plan.proofs.grouping.prepare_group.Goals as goal
 
-pub returns-in_default-clause-over : goal.returns-in_default-clause-over
-returns-in_default-clause-over g c =
+pub returns-in_default : goal.returns-in_default
+returns-in_default g c =
     let a = g.L.Links.links c.args.links.now in
     no_lease_over c.args.room c.args.state.now c.args.lease c.args.group.now a a
     (record { kept = kept_same a; same = refl }) (sym c.in_default.ensures.row)
 
-pub returns-in-Err-clause-over : goal.returns-in-Err-clause-over
-returns-in-Err-clause-over g c =
+pub returns-in-Err : goal.returns-in-Err
+returns-in-Err g c =
     let a = g.L.Links.links c.args.links.now in
     no_files_over c.args.room c.args.state.now c.args.lease c.args.group.now c.in-Some.view.now
     (record { row = sym c.in-Some.ensures.row; bare = sym (c.in-Some.ensures.bare c.args.room) })
     a a c.in-Err.reply (record { kept = kept_same a; same = refl }) c.in-Err.ensures.refused
 
-pub returns-then-has_group-clause-over : goal.returns-then-has_group-clause-over
-returns-then-has_group-clause-over g c =
+pub returns-then-has_group : goal.returns-then-has_group
+returns-then-has_group g c =
     let a = g.L.Links.links c.args.links.now in
     let files = group_files c.args.group.now c.in-Some.view.now.application in
     subst (λ (count : ℕ). IsGroupOver c.args.room c.args.state.now c.args.lease c.args.group.now
@@ -50,8 +50,8 @@ fetch_lacking-requires g c =
           c.are_tables.ensures leased));
     }
 
-pub returns-in-Err-fetch_lacking-clause-over : goal.returns-in-Err-fetch_lacking-clause-over
-returns-in-Err-fetch_lacking-clause-over g c =
+pub returns-in-Err-fetch_lacking : goal.returns-in-Err-fetch_lacking
+returns-in-Err-fetch_lacking g c =
     let state = g.L.Links.links in
     let tables = c.args.state.now in
     let view = c.in-Some.view.now in
@@ -63,8 +63,8 @@ returns-in-Err-fetch_lacking-clause-over g c =
     (state c.args.links.now) (state c.fetch_lacking.new.links) c.in-Err-fetch_lacking.reply)
     (c.as_slice-2.ensures ∙ c.in-Ok.ensures.files) c.in-Err-fetch_lacking.ensures.refused)
 
-pub returns-in_default-copy-clause-over : goal.returns-in_default-copy-clause-over
-returns-in_default-copy-clause-over g c =
+pub returns-in-Err-Memory : goal.returns-in-Err-Memory
+returns-in-Err-Memory g c =
     let state = g.L.Links.links in
     let tables = c.args.state.now in
     let view = c.in-Some.view.now in
@@ -76,8 +76,8 @@ returns-in_default-copy-clause-over g c =
     (state c.args.links.now) (state c.fetch_lacking.new.links) c.in-Ok-fetch_lacking.contents)
     (c.as_slice-2.ensures ∙ c.in-Ok.ensures.files) c.in-Ok-fetch_lacking.ensures.brought)
 
-pub returns-clause-ready : goal.returns-clause-ready
-returns-clause-ready g c =
+pub returns : goal.returns
+returns g c =
     let state = g.L.Links.links in
     let tables = c.args.state.now in
     let view = c.in-Some.view.now in

@@ -1,9 +1,7 @@
 use Rattle.std.proofs.Common.{List, ℕ, refl, subst, sym}
 use Rattle.digest_list.specs.Matches.{Matches}
-use Rattle.fetcher.specs.Causes.{IsFileCause}
-use Rattle.machine.specs.declared.reply.Reply.{Reply}
-use Rattle.install_plan.specs.Stages.{IsGot, StopsOne}
-use Rattle.install_plan.proofs.Stops.{file_got, file_stops}
+use Rattle.install_plan.specs.Stages.{IsGot}
+use Rattle.install_plan.proofs.Stops.{file_fault, file_got, file_stops}
 use Rattle.install_plan.proofs.texts.fetch_listed.Goals as goal
 
 pub returns-in-Ok-clause-got : goal.returns-in-Ok-clause-got
@@ -20,5 +18,9 @@ returns-in-Err-clause-stopped g c = λ facts texts.
     let d = c.args.d.now in
     let a = g.L.Links.links c.args.links.now in
     let b = g.L.Links.links c.fetch_file.new.links in
-    subst (λ (reply : Reply). StopsOne facts (IsFileCause d.app_list d.app_size t) (Matches d.app_list d.app_size) t a b texts texts reply) (sym c.fetch_reply.ensures)
-    (file_stops t a b facts texts texts refl d.app_list d.app_size c.in-Err.fault c.in-Err.ensures.fault)
+    file_stops t a b facts texts texts refl d.app_list d.app_size c.in-Err.fault c.fetch_reply.result c.in-Err.ensures.fault c.fetch_reply.ensures
+
+pub fetch_reply-requires : goal.fetch_reply-requires
+fetch_reply-requires g c =
+    let d = c.args.d.now in
+    file_fault c.args.base.now (g.L.Links.links c.args.links.now) (g.L.Links.links c.fetch_file.new.links) d.app_list d.app_size c.in-Err.fault c.in-Err.ensures.fault
