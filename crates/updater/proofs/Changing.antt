@@ -1,5 +1,5 @@
 -- Changes of the tables lead from one valid store that they show to another.
-use Rattle.std.proofs.Common.{◌≡◌, ◌≤◌, ◌<◌, ◌-◌, ◌^◌, min, ℕ, List, None, length, map, sym, ap, subst, arith}
+use Rattle.std.proofs.Common.{◌≡◌, ◌≤◌, ◌<◌, ◌-◌, ◌^◌, min, ℕ, List, None, length, map, refl, sym, ap, subst, arith}
 use Rattle.small_types.specs.declared.room.Room.{Room}
 use Rattle.small_types.specs.declared.limits.TheConstants.{APPLICATION_LIMIT, BLOCK_LIMIT, NUMBER_LIMIT}
 use Rattle.identity.specs.declared.key.Key.{Key}
@@ -9,7 +9,7 @@ use Rattle.machine.specs.Blocks.{used_blocks}
 use Rattle.machine.specs.Entries.{entry_of}
 use Rattle.machine.specs.RequireRow.{required}
 use Rattle.machine.specs.Shape.{Shape, bare_view}
-use Rattle.machine.specs.Store.{Store, booted}
+use Rattle.machine.specs.Store.{Store, booted, session_over}
 use Rattle.machine.specs.Valid.{Valid}
 use Rattle.machine.proofs.Keeping.{booted_valid, required_valid}
 use Rattle.store_state.specs.declared.change.Change.TheVariants.{Boot, Require}
@@ -26,16 +26,16 @@ use Rattle.updater.proofs.Loading.{changes_in, loads_replays}
 
 module _ {room : Room} {tables : Tables} {image : List ℕ} {store : Store} (shows : Shows room tables image store) where
   pub apps_shown : store.apps ≡ tables.apps
-  apps_shown = ap (λ (s : Shape). s.apps) (shape_shown shows)
+  apps_shown = ap (λ (s : Store). s.apps) shows.is
 
   pub boot_shown : store.boot ≡ tables.boot
-  boot_shown = ap (λ (s : Shape). s.boot) (shape_shown shows)
+  boot_shown = ap (λ (s : Store). s.boot) shows.is
 
   pub blocks_shown : store.room ≡ room
-  blocks_shown = ap (λ (s : Shape). s.room) (shape_shown shows)
+  blocks_shown = ap (λ (s : Store). s.room) shows.is
 
   pub views_shown : map bare_view store.views ≡ map bare_row tables.views
-  views_shown = ap (λ (s : Shape). s.views) (shape_shown shows)
+  views_shown = ap (λ (s : Shape). s.views) (shape_shown (session_over store) refl shows)
 
 -- the blocks in use of a valid store are a number that the code can hold
 pub used_shown : (room : Room) (tables : Tables) (image : List ℕ) (store : Store) (used : ℕ) → Shows room tables image store → Valid store → used ≡ min (used_blocks (map bare_row tables.views)) (2 ^ 64 - 1) → used ≡ used_blocks (map bare_view store.views)

@@ -37,7 +37,7 @@ module _ (now : ℕ) (key : Key) (heard : List (List ℕ)) (before after : Links
       → (old : Session) → Shown image (Check key) updater old
       → Rests now heard (Check key) before after old reply
   over_rests reply over old s =
-      let step = over.step image old s.shows s.valid in
+      let step = over.step image old s.jobs s.shows s.valid in
       record { new = step.new; step = step.step; same = step.leaves; served = step.served }
 
   module _ (change : Change) (reply : Reply)
@@ -46,7 +46,7 @@ module _ (now : ℕ) (key : Key) (heard : List (List ℕ)) (before after : Links
     step_of : (old : Session) → Shown image (Check key) updater old
         → CheckStep key heard before after now reply old
         (LedBy (room_of updater) (tables_of updater) change old.store)
-    step_of old s = ready.step image old s.shows s.valid
+    step_of old s = ready.step image old s.jobs s.shows s.valid
 
     leads_by : (old : Session) (s : Shown image (Check key) updater old)
         → Leads change (tables_of updater) old.store (step_of old s).new.store

@@ -48,18 +48,22 @@ filter_whole {X} p (x ∷ xs) same = by (p x) refl (filter_whole p xs)
         absurd (omega (arith, ap length gone, same, within))
 
 module _ (now : ℕ) (room : Room) (tables : Tables) (image : List ℕ) (before after : LinksState)
-    (old : Session) (shows : Shows room tables image old.store) (valid : Valid old.store)
+    (old : Session) (no_jobs : old.jobs ≡ []) (shows : Shows room tables image old.store) (valid : Valid old.store)
     (moment : now ≤ NUMBER_LIMIT) (views : ℕ)
     (is : views ≡ length (removable (table_shape room tables))) where
   abbrev new : Session
   new = record old { store = cleaned old.store }
 
-  gone : views ≡ length (removable (shape_of old.store))
-  gone = is ∙ sym (ap (λ (s : Shape). length (removable s)) (shape_shown shows))
+  gone : views ≡ length (removable (shape_of old))
+  gone = is ∙ sym (ap (λ (s : Shape). length (removable s)) (shape_shown old no_jobs shows))
 
   step : Answers now [] old command.Clean (says.Cleaned views) new
-  step = effect_answers now [] room tables old (shape_shown shows) command.Clean
+  step = effect_answers now [] room tables old (shape_shown old no_jobs shows) command.Clean
       (says.Cleaned views) new tt (ap says.Cleaned gone, refl)
+
+  all : length (removable (shape_of old)) + length (cleaned old.store).views
+      ≡ length old.store.views
+  all = gone_count old.store
 
   -- where no view goes the store stays as it was
   pub cleaned_rests : views ≡ 0 → Rests now [] command.Clean before after old (says.Cleaned views)
@@ -69,7 +73,7 @@ module _ (now : ℕ) (room : Room) (tables : Tables) (image : List ℕ) (before 
     same = ap (λ (vs : List View). record old.store { views = vs })
         (filter_whole (λ (v : View). is_in_use v.number old.store.apps old.store.leases)
         old.store.views
-        (let all = gone_count old.store in omega (arith, all, gone, none)));
+        (omega (arith, all, gone, none)));
     served = tt;
   }
 
@@ -96,7 +100,6 @@ module _ (now : ℕ) (room : Room) (tables : Tables) (image : List ℕ) (before 
     step = step;
     leads = leads;
     other = λ same. some
-        (let all = gone_count old.store in
-        let long = ap (λ (s : Store). length s.views) same in omega (arith, all, gone, long));
+        (let long = ap (λ (s : Store). length s.views) same in omega (arith, all, gone, long));
     served = tt;
   }

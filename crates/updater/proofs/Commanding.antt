@@ -1,15 +1,17 @@
 -- How commands end.
-use Rattle.std.proofs.Common.{◌≡◌, ◌≢◌, ◌≤◌, ℕ, List, [], Some, Result, Ok, Err, inl, inr, refl, sym, subst, arith}
+use Rattle.std.proofs.Common.{◌≡◌, ◌≢◌, ◌+◌, ◌≤◌, ◌++◌, ◌∙◌, ℕ, List, [], length, append-nil, Some, Result, Ok, Err, inl, inr, refl, sym, subst, arith}
 use Rattle.small_types.specs.declared.room.Room.{Room}
 use Rattle.small_types.specs.declared.limits.TheConstants.{NUMBER_LIMIT}
 use Rattle.outside.specs.declared.failed.Failed.{Failed}
 use Rattle.disks.specs.declared.disk.Disk.{Ghosts}
+use Rattle.disks.proofs.MomentLemmas.{untouched_start}
 use Rattle.links.specs.declared.links.Links.{Ghosts as LinksGhosts}
 use Rattle.links.specs.Links.{LinksState}
 use Rattle.fetcher.specs.Fetched.{Kept}
 use Rattle.fetcher.proofs.Sequence.{kept_same}
 use Rattle.machine.specs.declared.command.Command.{Command}
 use Rattle.machine.specs.declared.command.Command.TheVariants.{At, Check, Group, Install}
+use Rattle.machine.specs.declared.event.Event.TheVariants.{Line}
 use Rattle.machine.specs.declared.reply.Reply.{Reply}
 use Rattle.machine.specs.declared.reply.Reply.TheVariants as says
 use Rattle.machine.specs.Machine.{Answers, Hears, effect, moment_after, refusals}
@@ -18,6 +20,9 @@ use Rattle.machine.specs.Shape.{Shape, shape_of}
 use Rattle.machine.specs.Store.{Session, Store}
 use Rattle.machine.specs.Valid.{Valid}
 use Rattle.machine.specs.Words.{IsCommand}
+use Rattle.machine.proofs.Sessions.{step_jobs}
+use Rattle.store_log.specs.declared.piece.TheConstants.{AROUND}
+use Rattle.record_codec.specs.Codec.{change_text}
 use Rattle.store_state.specs.declared.change.Change.{Change}
 use Rattle.store_state.specs.Shows.{Shows}
 use Rattle.store_state.specs.Tables.{Tables, table_shape}
@@ -27,9 +32,10 @@ use Rattle.updater.specs.declared.fault.StepFault.TheVariants.{Memory, DiskFault
 use Rattle.updater.specs.declared.updater.Updater.{Updater}
 use Rattle.updater.specs.Answer.{IsAnswer}
 use Rattle.updater.specs.Commanded.{Commanded, LeavesLinks, Serves, SoundFor}
+use Rattle.updater.specs.Costs.{Costs}
 use Rattle.updater.specs.Keeps.{Keeps, Leads}
 use Rattle.updater.specs.Updater.{Holds, room_of, tables_of}
-use Rattle.updater.proofs.Standing.{still_stands}
+use Rattle.updater.proofs.Standing.{holds_as, still_stands}
 
 -- ---- commands that ask for nothing
 
@@ -51,7 +57,7 @@ nothing_left (Check key) links = tt
 nothing_left (Group lease group) links = tt
 nothing_left _ links = refl
 
-nothing_served : (command : Command) (heard : List (List ℕ)) (before after : LinksState) (old : Store) (reply : Reply) (new : Store) → IsPlain command → Serves command heard before after old reply new
+nothing_served : (command : Command) (heard : List (List ℕ)) (before after : LinksState) (old : Session) (reply : Reply) (new : Session) → IsPlain command → Serves command heard before after old reply new
 nothing_served (Install url) heard before after old reply new plain = absurd plain
 nothing_served (Check key) heard before after old reply new plain = absurd plain
 nothing_served (Group lease group) heard before after old reply new plain = absurd plain
@@ -64,7 +70,7 @@ pub record Rests (now : ℕ) (heard : List (List ℕ)) (command : Command) (befo
   pub new : Session
   pub step : Answers now heard old command reply new
   pub same : new.store ≡ old.store
-  pub served : Serves command heard before after old.store reply new.store
+  pub served : Serves command heard before after old reply new
 
 -- what a change is to a session: a step to another store, to which it leads
 pub record Does (now : ℕ) (heard : List (List ℕ)) (command : Command) (before after : LinksState) (change : Change) (tables : Tables) (old : Session) (reply : Reply) : Type 0 where
@@ -72,7 +78,7 @@ pub record Does (now : ℕ) (heard : List (List ℕ)) (command : Command) (befor
   pub step : Answers now heard old command reply new
   pub leads : Leads change tables old.store new.store
   pub other : new.store ≢ old.store
-  pub served : Serves command heard before after old.store reply new.store
+  pub served : Serves command heard before after old reply new
 
 -- what was heard of the links, and what is left of them
 pub record Linked {L : Type 0} (net : LinksGhosts L) (heard : List (List ℕ)) (command : Command) (updater : Updater) (links_old links_new : L) : Type 0 where
@@ -88,9 +94,10 @@ unlinked net command updater links = record {
   hears = hears_nothing (table_shape (room_of updater) (tables_of updater)) command;
 }
 
--- what the tables say of a session whose store is held
+-- what the tables say of a session that is held
 pub record Shown (image : List ℕ) (command : Command) (updater : Updater) (old : Session) : Type 0 where
-  pub shape : shape_of old.store ≡ table_shape (room_of updater) (tables_of updater)
+  pub jobs : old.jobs ≡ []
+  pub shape : shape_of old ≡ table_shape (room_of updater) (tables_of updater)
   pub shows : Shows (room_of updater) (tables_of updater) image old.store
   pub room : room_of updater ≡ old.store.room
   pub valid : Valid old.store
@@ -98,7 +105,7 @@ pub record Shown (image : List ℕ) (command : Command) (updater : Updater) (old
 
 -- ---- answers
 
-module _ (now : ℕ) (heard : List (List ℕ)) (room : Room) (tables : Tables) (old : Session) (shape : shape_of old.store ≡ table_shape room tables) (command : Command) where
+module _ (now : ℕ) (heard : List (List ℕ)) (room : Room) (tables : Tables) (old : Session) (shape : shape_of old ≡ table_shape room tables) (command : Command) where
   -- a refusal that the tables give is one of the session
   pub refused_answers : (reply : Reply) (new : Session) → Refuses (refusals now heard (table_shape room tables) command) old reply new → Answers now heard old command reply new
   refused_answers reply new refuses = inl (inr (tt, subst (λ (s : Shape). Refuses (refusals now heard s command) old reply new) (sym shape) refuses))
@@ -112,32 +119,40 @@ ok_no_fault done e = cc
 
 module _ {D L : Type 0} (on : Ghosts D) (net : LinksGhosts L) (now : ℕ) (heard : List (List ℕ)) (command : Command) (updater : Updater) (disk : D) (links_old links_new : L)
     (seen_left : on.left_at disk (on.moment disk) (on.seen disk)) (moment : now ≤ NUMBER_LIMIT) (linked : Linked net heard command updater links_old links_new) where
-  shown : (old : Session) → Holds on updater disk old.store → SoundFor command old.store → Shown (on.seen disk) command updater old
+  shown : (old : Session) → Holds on updater disk old → SoundFor command old.store → Shown (on.seen disk) command updater old
   shown old holds sound =
       let shows = subst (λ (n : Room). Shows n (tables_of updater) (on.seen disk) old.store) (sym holds.room) (holds.shows (on.seen disk) seen_left) in
-      record { shape = shape_shown shows; shows = shows; room = holds.room; valid = holds.valid; sound = sound }
+      record { jobs = holds.jobs; shape = shape_shown old holds.jobs shows; shows = shows; room = holds.room; valid = holds.valid; sound = sound }
 
-  heard_by : (old : Session) → Shown (on.seen disk) command updater old → Hears (shape_of old.store) command heard
+  heard_by : (old : Session) → Shown (on.seen disk) command updater old → Hears (shape_of old) command heard
   heard_by old s = subst (λ (shape : Shape). Hears shape command heard) (sym s.shape) linked.hears
+
+  -- no command opens a job
+  jobs_stay : (old : Session) → Shown (on.seen disk) command updater old → (reply : Reply) (new : Session) → Answers now heard old command reply new → new.jobs ≡ []
+  jobs_stay old s reply new step =
+      step_jobs now old (Line command now (record { texts = heard })) (Some reply) new
+      (record { moment = refl; hears = heard_by old s; answer = reply; replied = refl; answers = step }) ∙ s.jobs
 
   -- the disk is not touched
   pub rested : (reply : Reply) → moment_after now (Some reply) ≤ NUMBER_LIMIT → ((old : Session) → Shown (on.seen disk) command updater old → Rests now heard command (net.links links_old) (net.links links_new) old reply)
       → Commanded on net now heard command updater disk links_old (Ok reply) updater disk links_new
   rested reply few rests = record {
-    answered = λ old holds sound. let s = shown old holds sound in let r = rests old s in record {
+    answered = λ told old holds sound. let s = shown old holds sound in let r = rests old s in record {
       new = r.new;
       hears = heard_by old s;
       step = r.step;
-      stored = subst (λ (store : Store). Holds on updater disk store) (sym r.same) holds;
-      stop = still_stands on updater disk old.store r.new.store holds;
-      quiet = λ same. refl;
-      tick = λ other. absurd (other r.same);
+      stored = holds_as on updater disk old r.new holds r.same (jobs_stay old s reply r.new r.step);
+      stop = still_stands on updater disk old r.new.store holds;
+      quiet = λ same. record { untouched = untouched_start on disk; total = refl };
+      marked = λ other. absurd (other r.same);
+      bytes = 0;
+      costs = inl (r.same, refl);
+      written = omega arith;
       served = r.served;
     };
-    fault = λ old holds sound. tt;
+    fault = λ told old holds sound. tt;
     later = omega arith;
     told = λ tells. tells;
-    numbered = tt;
     cause = record { later = omega arith; rose = tt; quiet = refl };
     kept = linked.kept;
     left = linked.left;
@@ -148,24 +163,42 @@ module _ {D L : Type 0} (on : Ghosts D) (net : LinksGhosts L) (now : ℕ) (heard
   module _ (change : Change) (reply : Reply) (few : moment_after now (Some reply) ≤ NUMBER_LIMIT)
       (does : (old : Session) → Shown (on.seen disk) command updater old → Does now heard command (net.links links_old) (net.links links_new) change (tables_of updater) old reply)
       (missed : Commanded on net now heard command updater disk links_old (Ok says.Memory) updater disk links_new) (updater_new : Updater) (disk_new : D) where
+    -- what the step may write
+    costs_of : {T : Type 0} (tried : Result T StepFault) → Keeps on change updater disk tried updater_new disk_new
+        → (old : Session) (s : Shown (on.seen disk) command updater old) → Costs old.store (does old s).new.store (AROUND + length (change_text change))
+    costs_of tried keeps old s = inr (
+      change,
+      record {
+        tables = tables_of updater;
+        image = on.seen disk;
+        shows = subst (λ (n : Room). Shows n (tables_of updater) (on.seen disk) old.store) s.room s.shows;
+        fits = keeps.fits;
+        has = keeps.has;
+        leads = (does old s).leads;
+      },
+      refl,
+    )
+
     -- a change that was tried, whatever came of it
     pub kept : {T : Type 0} (tried : Result T StepFault) (result : Result Reply Failed) → Keeps on change updater disk tried updater_new disk_new → IsAnswer reply tried result → Commanded on net now heard command updater disk links_old result updater_new disk_new links_new
     kept (Ok done) result keeps is = subst (λ (r : Result Reply Failed). Commanded on net now heard command updater disk links_old r updater_new disk_new links_new) (sym is) (record {
-      answered = λ old holds sound. let s = shown old holds sound in let d = does old s in record {
+      answered = λ told old holds sound. let s = shown old holds sound in let d = does old s in record {
         new = d.new;
         hears = heard_by old s;
         step = d.step;
-        stored = keeps.stored old.store d.new.store d.leads holds;
-        stop = keeps.stop old.store d.new.store d.leads holds;
+        stored = holds_as on updater_new disk_new (record old { store = d.new.store }) d.new (keeps.stored told old d.new.store d.leads holds) refl (jobs_stay old s reply d.new d.step);
+        stop = keeps.stop told old d.new.store d.leads holds;
         quiet = λ same. absurd (d.other same);
-        tick = λ other. keeps.tick;
+        marked = λ other. keeps.marked;
+        bytes = AROUND + length (change_text change);
+        costs = costs_of (Ok done) keeps old s;
+        written = keeps.spends.total_within;
         served = d.served;
       };
-      fault = λ old holds sound. tt;
-      later = keeps.later;
-      told = keeps.told;
-      numbered = tt;
-      cause = record { later = keeps.count; rose = tt; quiet = keeps.undisturbed (ok_no_fault done) };
+      fault = λ told old holds sound. tt;
+      later = keeps.spends.later;
+      told = keeps.spends.told;
+      cause = record { later = keeps.spends.count; rose = tt; quiet = keeps.spends.quiet (ok_no_fault done) };
       kept = linked.kept;
       left = linked.left;
       hears = linked.hears;
@@ -173,19 +206,21 @@ module _ {D L : Type 0} (on : Ghosts D) (net : LinksGhosts L) (now : ℕ) (heard
     })
     kept (Err Memory) result keeps is = let same = keeps.memory refl in rw (is, same.0, same.1) missed
     kept (Err DiskFault) result keeps is = subst (λ (r : Result Reply Failed). Commanded on net now heard command updater disk links_old r updater_new disk_new links_new) (sym is) (record {
-      answered = λ old holds sound. tt;
-      fault = λ old holds sound. let s = shown old holds sound in let d = does old s in record {
+      answered = λ told old holds sound. tt;
+      fault = λ told old holds sound. let s = shown old holds sound in let d = does old s in record {
         new = d.new;
         reply = reply;
         hears = heard_by old s;
         step = d.step;
-        stop = keeps.stop old.store d.new.store d.leads holds;
+        stop = keeps.stop told old d.new.store d.leads holds;
+        bytes = AROUND + length (change_text change);
+        costs = costs_of (Err DiskFault) keeps old s;
+        written = keeps.spends.total_within;
         served = d.served;
       };
-      later = keeps.later;
-      told = keeps.told;
-      numbered = keeps.numbered refl;
-      cause = record { later = keeps.count; rose = keeps.cause refl; quiet = tt };
+      later = keeps.spends.later;
+      told = keeps.spends.told;
+      cause = record { later = keeps.spends.count; rose = keeps.spends.cause refl; quiet = tt };
       kept = linked.kept;
       left = linked.left;
       hears = linked.hears;
@@ -199,7 +234,7 @@ module _ {D L : Type 0} (on : Ghosts D) (net : LinksGhosts L) (now : ℕ) (comma
   asked_none : Linked net [] command updater links links
   asked_none = unlinked net command updater links
 
-  served_none : (old : Store) (reply : Reply) (new : Store) → Serves command [] (net.links links) (net.links links) old reply new
+  served_none : (old : Session) (reply : Reply) (new : Session) → Serves command [] (net.links links) (net.links links) old reply new
   served_none old reply new = nothing_served command [] (net.links links) (net.links links) old reply new plain
 
   -- the tables give a refusal, which changes nothing
@@ -211,7 +246,7 @@ module _ {D L : Type 0} (on : Ghosts D) (net : LinksGhosts L) (now : ℕ) (comma
     new = old;
     step = refused_answers now [] (room_of updater) (tables_of updater) old s.shape command reply old (refuses old s);
     same = refl;
-    served = served_none old.store reply old.store;
+    served = served_none old reply old;
   })
 
   -- no memory was found, at any place
@@ -220,7 +255,7 @@ module _ {D L : Type 0} (on : Ghosts D) (net : LinksGhosts L) (now : ℕ) (comma
     new = old;
     step = inl (inl (refl, refl));
     same = refl;
-    served = served_none old.store says.Memory old.store;
+    served = served_none old says.Memory old;
   })
 
 -- the moment is shown

@@ -164,7 +164,7 @@ file_encodes name bytes file named few is =
 -- ---- steps
 
 module _ (now lease : ℕ) (room : Room) (name bytes : List ℕ) (tables : Tables) (image : List ℕ)
-    (before after : LinksState) (old : Session) (shows : Shows room tables image old.store)
+    (before after : LinksState) (old : Session) (no_jobs : old.jobs ≡ []) (shows : Shows room tables image old.store)
     (valid : Valid old.store)
     (words : (lease ≤ NUMBER_LIMIT) × IsName name × (length bytes ≤ PIECE_LIMIT))
     (moment : now ≤ NUMBER_LIMIT) (putting : Putting)
@@ -183,7 +183,7 @@ module _ (now lease : ℕ) (room : Room) (name bytes : List ℕ) (tables : Table
       ∙ ap (option_map (shown_view room image tables.contents)) of.leased
 
   step : Answers now [] old (command.Put lease name bytes) says.Put new
-  step = effect_answers now [] room tables old (shape_shown shows) (command.Put lease name bytes)
+  step = effect_answers now [] room tables old (shape_shown old no_jobs shows) (command.Put lease name bytes)
       says.Put new of.passes
       (record { view = shown; leased = found; replied = refl; is = refl })
 

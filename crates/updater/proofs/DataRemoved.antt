@@ -69,7 +69,7 @@ removal_fits lease name tables number of =
     (is_row lease name (plain_room 0) tables of.row of.leased))) of.there
 
 module _ (now lease : ℕ) (room : Room) (name : List ℕ) (tables : Tables) (image : List ℕ)
-    (before after : LinksState) (old : Session) (shows : Shows room tables image old.store)
+    (before after : LinksState) (old : Session) (no_jobs : old.jobs ≡ []) (shows : Shows room tables image old.store)
     (valid : Valid old.store) (words : (lease ≤ NUMBER_LIMIT) × IsName name)
     (moment : now ≤ NUMBER_LIMIT) (number : ℕ) (of : IsRemoval lease name tables number)
     (rest : RemovalsShowTheRest) (gone : RemovedFilesAreGone) where
@@ -77,7 +77,7 @@ module _ (now lease : ℕ) (room : Room) (name : List ℕ) (tables : Tables) (im
   new = record old { store = removed_in of.row.number name old.store }
 
   step : Answers now [] old (command.Remove lease name) says.Removed new
-  step = effect_answers now [] room tables old (shape_shown shows) (command.Remove lease name)
+  step = effect_answers now [] room tables old (shape_shown old no_jobs shows) (command.Remove lease name)
       says.Removed new (local_passes lease name room tables of.row of.leased of.there) (record {
         view = shown_view room image tables.contents of.row;
         leased = leased_shown shows lease

@@ -36,7 +36,7 @@ skipped_same : (app : AppState) → app.skipped ≡ app.offer → skipped_app ap
 skipped_same app is = ap (λ v. record app { skipped = v }) (sym is)
 
 module _ (now : ℕ) (key : Key) (room : Room) (tables : Tables) (image : List ℕ)
-    (before after : LinksState) (old : Session) (shows : Shows room tables image old.store)
+    (before after : LinksState) (old : Session) (no_jobs : old.jobs ≡ []) (shows : Shows room tables image old.store)
     (valid : Valid old.store) (is_key : IsKey key) (moment : now ≤ NUMBER_LIMIT)
     (skipping : Skipping) (is : IsSkipping key now tables skipping) where
   abbrev reply : Reply
@@ -57,7 +57,7 @@ module _ (now : ℕ) (key : Key) (room : Room) (tables : Tables) (image : List �
   in_order = subst AreInOrder same_apps valid.ordered.order
 
   step : Answers now [] old (command.Skip key) reply new
-  step = effect_answers now [] room tables old (shape_shown shows) (command.Skip key) reply new
+  step = effect_answers now [] room tables old (shape_shown old no_jobs shows) (command.Skip key) reply new
       (is.passes room) (record {
         offer = skipping.offer;
         offered = ap (offer_of key) same_apps ∙ offered;

@@ -36,14 +36,14 @@ finished_fits tables lease passes = by (lease_of lease tables.leases) (passes 0 
     by (Some found) some = refl
 
 module _ (now lease : ℕ) (room : Room) (tables : Tables) (image : List ℕ) (before after : LinksState)
-    (old : Session) (shows : Shows room tables image old.store) (valid : Valid old.store)
+    (old : Session) (no_jobs : old.jobs ≡ []) (shows : Shows room tables image old.store) (valid : Valid old.store)
     (few : lease ≤ NUMBER_LIMIT) (moment : now ≤ NUMBER_LIMIT)
     (passes : PassesAll (refusals now [] (table_shape room tables) (command.Finish lease))) where
   abbrev new : Session
   new = record old { store = finished lease old.store }
 
   step : Answers now [] old (command.Finish lease) (says.Finished lease) new
-  step = effect_answers now [] room tables old (shape_shown shows) (command.Finish lease)
+  step = effect_answers now [] room tables old (shape_shown old no_jobs shows) (command.Finish lease)
       (says.Finished lease) new passes (refl, refl)
 
   leads : Leads (change.Finish lease) tables old.store new.store

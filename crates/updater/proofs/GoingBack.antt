@@ -35,7 +35,7 @@ use Rattle.updater.specs.Keeps.{Leads}
 use Rattle.updater.proofs.Commanding.{Does, effect_answers}
 
 module _ (now : ℕ) (key : Key) (room : Room) (tables : Tables) (image : List ℕ)
-    (before after : LinksState) (old : Session) (shows : Shows room tables image old.store)
+    (before after : LinksState) (old : Session) (no_jobs : old.jobs ≡ []) (shows : Shows room tables image old.store)
     (valid : Valid old.store) (is_key : IsKey key) (moment : now ≤ NUMBER_LIMIT)
     (going : GoingBack) (is : IsGoingBack key tables going) where
   abbrev reply : Reply
@@ -50,14 +50,14 @@ module _ (now : ℕ) (key : Key) (room : Room) (tables : Tables) (image : List �
   in_order : AreInOrder tables.apps
   in_order = subst AreInOrder same_apps valid.ordered.order
 
-  earlier : previous_version key (shape_of old.store) ≡ Some going.version
-  earlier = ap (previous_version key) (shape_shown shows) ∙ is.previous room
+  earlier : previous_version key (shape_of old) ≡ Some going.version
+  earlier = ap (previous_version key) (shape_shown old no_jobs shows) ∙ is.previous room
 
   step : Answers now [] old (command.Rollback key) reply new
-  step = effect_answers now [] room tables old (shape_shown shows) (command.Rollback key) reply new
+  step = effect_answers now [] room tables old (shape_shown old no_jobs shows) (command.Rollback key) reply new
       (is.passes now room) (record {
         have = is.have;
-        current = ap (current_version key) (shape_shown shows) ∙ is.current room;
+        current = ap (current_version key) (shape_shown old no_jobs shows) ∙ is.current room;
         version = going.version;
         previous = earlier;
         replied = refl;

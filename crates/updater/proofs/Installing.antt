@@ -36,13 +36,13 @@ use Rattle.updater.specs.Updater.{room_of, tables_of}
 use Rattle.updater.proofs.Commanding.{Does, Linked, Rests, Shown, effect_answers, kept, refused_answers, rested}
 
 -- no list is one item longer than itself
-one_more : {X : Type 0} (xs : List X) (x : X) → xs ≡ xs ++ x ∷ [] → ⊥
+pub one_more : {X : Type 0} (xs : List X) (x : X) → xs ≡ xs ++ x ∷ [] → ⊥
 one_more xs x same = let long : length xs ≡ length (xs ++ x ∷ []) = ap length same in omega (arith, length-append xs (x ∷ []))
 
 -- a step that leaves the store brings no view
-serves_same : (url : List ℕ) (heard : List (List ℕ)) (before after : LinksState) (shape : Shape) (store : Store) (reply : Reply) → shape_of store ≡ shape → Served shape url heard before after reply → Serves (Install url) heard before after store reply store
-serves_same url heard before after shape store reply same served =
-    (subst (λ (s : Shape). Served s url heard before after reply) (sym same) served, λ view more. absurd (one_more store.views view more))
+serves_same : (url : List ℕ) (heard : List (List ℕ)) (before after : LinksState) (shape : Shape) (old : Session) (reply : Reply) → shape_of old ≡ shape → Served shape url heard before after reply → Serves (Install url) heard before after old reply old
+serves_same url heard before after shape old reply same served =
+    (subst (λ (s : Shape). Served s url heard before after reply) (sym same) served, λ view more. absurd (one_more old.store.views view more))
 
 -- no refusal sets the moment
 refused_moment : (now : ℕ) (url : List ℕ) (heard : List (List ℕ)) (shape : Shape) (reply : Reply) → now ≤ NUMBER_LIMIT
@@ -66,7 +66,7 @@ module _ (now : ℕ) (url : List ℕ) (heard : List (List ℕ)) (before after : 
     new = old;
     step = by refused.refused;
     same = refl;
-    served = serves_same url heard before after (table_shape (room_of updater) (tables_of updater)) old.store reply s.shape refused.served;
+    served = serves_same url heard before after (table_shape (room_of updater) (tables_of updater)) old reply s.shape refused.served;
   }
     where
       by : (reply ≡ says.Memory) ⊎ ((old : Session) → Refuses (install_refusals install_replies LOCAL_COUNT_LIMIT url heard (table_shape (room_of updater) (tables_of updater))) old reply old) → Answers now heard old (Install url) reply old
@@ -79,15 +79,15 @@ module _ (now : ℕ) (url : List ℕ) (heard : List (List ℕ)) (before after : 
     new = old;
     step = inl (inl (refl, refl));
     same = refl;
-    served = serves_same url heard before after (table_shape (room_of updater) (tables_of updater)) old.store says.Memory s.shape served;
+    served = serves_same url heard before after (table_shape (room_of updater) (tables_of updater)) old says.Memory s.shape served;
   }
 
   module _ (change : Change) (reply : Reply) (ready : IsReady (room_of updater) (tables_of updater) url heard before after now change reply) where
     -- the step of a session
     step_of : (old : Session) → Shown image (Install url) updater old → IsStep (room_of updater) (tables_of updater) url heard before after now change reply old
-    step_of old s = ready.step image old s.shows s.sound
+    step_of old s = ready.step image old s.jobs s.shows s.sound
 
-    passes_by : (old : Session) → Shown image (Install url) updater old → PassesAll (install_refusals install_replies LOCAL_COUNT_LIMIT url heard (shape_of old.store))
+    passes_by : (old : Session) → Shown image (Install url) updater old → PassesAll (install_refusals install_replies LOCAL_COUNT_LIMIT url heard (shape_of old))
     passes_by old s = subst (λ (shape : Shape). PassesAll (install_refusals install_replies LOCAL_COUNT_LIMIT url heard shape)) (sym s.shape) ready.passes
 
     leads_by : (old : Session) (s : Shown image (Install url) updater old) → Leads change (tables_of updater) old.store (step_of old s).new.store

@@ -37,7 +37,7 @@ use Rattle.updater.specs.Start.{IsStart}
 use Rattle.updater.proofs.Commanding.{Does, effect_answers}
 
 module _ (now : ℕ) (key : Key) (room : Room) (tables : Tables) (image : List ℕ)
-    (before after : LinksState) (old : Session) (shows : Shows room tables image old.store)
+    (before after : LinksState) (old : Session) (no_jobs : old.jobs ≡ []) (shows : Shows room tables image old.store)
     (valid : Valid old.store) (is_key : IsKey key) (moment : now ≤ NUMBER_LIMIT)
     (start : Start) (is : IsStart key now tables start) where
   abbrev view : KeptView
@@ -63,13 +63,13 @@ module _ (now : ℕ) (key : Key) (room : Room) (tables : Tables) (image : List �
   in_order = subst (λ (s : Store). AreInOrder s.apps) shows.is valid.ordered.order
 
   step : Answers now [] old (command.Launch key) reply new
-  step = effect_answers now [] room tables old (shape_shown shows) (command.Launch key) reply new
+  step = effect_answers now [] room tables old (shape_shown old no_jobs shows) (command.Launch key) reply new
       (is.passes room) (record {
         view = view;
         current = is_current;
         check_due = start.check_due;
         clear = subst (λ (s : Shape). due key s now ≡ Some (Clear start.check_due))
-            (sym (shape_shown shows)) (is.clear room);
+            (sym (shape_shown old no_jobs shows)) (is.clear room);
         replied =
             ap (λ (n : ℕ). says.Lease n start.version start.check_due) (is.lease ∙ sym next_shown)
             ∙ ap (λ (v : Version). says.Lease old.store.next_lease v start.check_due) is.version;

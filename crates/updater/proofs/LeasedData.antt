@@ -133,14 +133,14 @@ module _ (lease : ℕ) (name : List ℕ) (room : Room) (tables : Tables) where
   -- ---- what is read
 
   pub data_rests : (now from count : ℕ) (image : List ℕ) (before after : LinksState)
-      (old : Session) → Shows room tables image old.store → (file : LocalFile)
+      (old : Session) → old.jobs ≡ [] → Shows room tables image old.store → (file : LocalFile)
       → IsLocalOf lease name tables file → (size : ℕ) (shown : List ℕ)
       → size ≡ length (data_bytes room image file) → shown
       ≡ part from count (data_bytes room image file)
       → Rests now [] (command.Local lease name from count) before after old (says.Read size shown)
-  data_rests now from count image before after old shows file of size shown long is = record {
+  data_rests now from count image before after old no_jobs shows file of size shown long is = record {
     new = old;
-    step = effect_answers now [] room tables old (shape_shown shows)
+    step = effect_answers now [] room tables old (shape_shown old no_jobs shows)
         (command.Local lease name from count) (says.Read size shown) old
         (local_passes of.row of.leased (there_some (local_named name of.row.locals) file of.found))
         (record {

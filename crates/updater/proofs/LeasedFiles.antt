@@ -142,12 +142,12 @@ module _ (number : ℕ) (name : List ℕ) (tables : Tables) where
   -- ---- what is read
 
   pub read_rests : (now : ℕ) (room : Room) (from count : ℕ) (image : List ℕ) (before after : LinksState)
-      (old : Session) → Shows room tables image old.store → (content : Content) (shown : List ℕ)
+      (old : Session) → old.jobs ≡ [] → Shows room tables image old.store → (content : Content) (shown : List ℕ)
       (size : ℕ) → IsLeasedFile number name tables content
       → size ≡ length (content_bytes room image content)
       → shown ≡ part from count (content_bytes room image content)
       → Rests now [] (command.Read number name from count) before after old (says.Read size shown)
-  read_rests now room from count image before after old shows content shown size file long is =
+  read_rests now room from count image before after old no_jobs shows content shown size file long is =
       record { new = old; step = step; same = refl; served = tt }
     where
       replied : says.Read size shown
@@ -160,7 +160,7 @@ module _ (number : ℕ) (name : List ℕ) (tables : Tables) where
           (part from count (bytes_in room image o))) (sym file.is)
 
       step : Answers now [] old (command.Read number name from count) (says.Read size shown) old
-      step = effect_answers now [] room tables old (shape_shown shows)
+      step = effect_answers now [] room tables old (shape_shown old no_jobs shows)
           (command.Read number name from count) (says.Read size shown) old
           (file_passes now room from count content file) (record {
             view = shown_view room image tables.contents file.row;

@@ -1,3 +1,4 @@
+pub mod Applying
 pub mod BackTables
 pub mod Changing
 pub mod Checking

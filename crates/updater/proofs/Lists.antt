@@ -27,7 +27,7 @@ pub not_shown : (key : Key) (room : Room) (tables : Tables) (old : Session)
 not_shown key room tables old none = inl ((none, refl), refl)
 
 module _ (now : ℕ) (room : Room) (tables : Tables) (image : List ℕ) (before after : LinksState)
-    (old : Session) (shows : Shows room tables image old.store) where
+    (old : Session) (no_jobs : old.jobs ≡ []) (shows : Shows room tables image old.store) where
   same_apps : tables.apps ≡ old.store.apps
   same_apps = sym (ap (λ (s : Store). s.apps) shows.is)
 
@@ -36,11 +36,11 @@ module _ (now : ℕ) (room : Room) (tables : Tables) (image : List ℕ) (before 
       → Rests now [] command.List before after old (says.Listed rows)
   listed_rests rows is = record {
     new = old;
-    step = effect_answers now [] room tables old (shape_shown shows) command.List
+    step = effect_answers now [] room tables old (shape_shown old no_jobs shows) command.List
         (says.Listed rows) old tt (
           ap says.Listed (is
               ∙ ap (map (list_row (table_shape room tables))) same_apps
-              ∙ ap (λ (s : Shape). map (list_row s) old.store.apps) (sym (shape_shown shows))),
+              ∙ ap (λ (s : Shape). map (list_row s) old.store.apps) (sym (shape_shown old no_jobs shows))),
           refl,
         );
     same = refl;
@@ -52,14 +52,14 @@ module _ (now : ℕ) (room : Room) (tables : Tables) (image : List ℕ) (before 
       → Rests now [] (command.Show key) before after old (says.Shown row)
   shown_rests key app row known is = record {
     new = old;
-    step = effect_answers now [] room tables old (shape_shown shows) (command.Show key)
+    step = effect_answers now [] room tables old (shape_shown old no_jobs shows) (command.Show key)
         (says.Shown row) old
         ((λ none. none-some app (sym none ∙ known)), tt)
         (record {
           app = app;
           known = ap (entry_of key) (sym same_apps) ∙ known;
           replied = ap says.Shown (is
-              ∙ ap (λ (s : Shape). show_row s app) (sym (shape_shown shows)));
+              ∙ ap (λ (s : Shape). show_row s app) (sym (shape_shown old no_jobs shows)));
           is = refl;
         });
     same = refl;

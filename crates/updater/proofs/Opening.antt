@@ -1,17 +1,21 @@
 -- How an opening ends, from what reading the store found and from what became of the boot number.
-use Rattle.std.proofs.Common.{◌≡◌, ◌≢◌, ◌+◌, ◌≤◌, ◌==◌, ℕ, List, [], Bool, true, false, cond, Result, Ok, Err, inl, inr, refl, sym, ap, subst, ◌∙◌, arith}
+use Rattle.std.proofs.Common.{◌≡◌, ◌≢◌, ◌+◌, ◌≤◌, ◌==◌, ℕ, List, [], Bool, true, false, cond, length, Result, Ok, Err, inl, inr, refl, sym, ap, subst, ◌∙◌, arith}
 use Rattle.std.proofs.lemmas.Bool.{eq-eqb}
 use Rattle.std.specs.Prelude.{IfOk, OnOk}
 use Rattle.small_types.specs.declared.limits.TheConstants.{NUMBER_LIMIT}
-use Rattle.outside.specs.Streams.{Rose}
 use Rattle.disks.specs.declared.disk.Disk.{Ghosts}
-use Rattle.machine.specs.Store.{Store, booted}
+use Rattle.disks.specs.Spends.{Spends}
+use Rattle.disks.proofs.Books.{no_bytes, spends_as, spends_then, spends_within}
+use Rattle.machine.specs.Store.{Store, booted, session_over}
+use Rattle.store_log.specs.declared.piece.TheConstants.{AROUND}
+use Rattle.record_codec.specs.Codec.{change_text}
 use Rattle.store_state.specs.declared.change.Change.TheVariants.{Boot}
 use Rattle.updater.specs.declared.fault.RecoverFault.{RecoverFault}
 use Rattle.updater.specs.declared.fault.RecoverFault.TheVariants.{NotAStore, DiskFault, Memory}
 use Rattle.updater.specs.declared.fault.StepFault.{StepFault}
 use Rattle.updater.specs.declared.fault.StepFault.TheVariants as step
 use Rattle.updater.specs.declared.updater.Updater.{Updater}
+use Rattle.updater.specs.Costs.{Costs}
 use Rattle.updater.specs.Keeps.{Keeps, Leads}
 use Rattle.updater.specs.Loaded.{Loaded, IsLoaded}
 use Rattle.updater.specs.Moments.{LeavesSince}
@@ -61,11 +65,30 @@ false_true e = cc
 true_false : ◌≢◌ {A = Bool} true false
 true_false e = cc
 
-module _ {D : Type 0} (on : Ghosts D) (boot : ℕ) (disk_old : D) (read : Result Updater RecoverFault) (mid : D) (loaded : Loaded on disk_old read mid) where
+-- the most bytes that a boot writes
+abbrev boot_bytes : ℕ → ℕ
+boot_bytes boot = AROUND + length (change_text (Boot boot))
+
+-- what a boot costs
+boot_costs : (image : List ℕ) (boot : ℕ) (old : Store) → boot ≤ NUMBER_LIMIT → Stands image old → Costs old (booted boot old) (boot_bytes boot)
+boot_costs image boot old few stands = inr (
+  Boot boot,
+  record {
+    tables = stands.tables;
+    image = image;
+    shows = stands.shows;
+    fits = few;
+    has = omega arith;
+    leads = booted_leads old.room stands.tables image old boot stands.shows few stands.valid;
+  },
+  refl,
+)
+
+module _ {D : Type 0} (on : Ghosts D) (boot : ℕ) (few : boot ≤ NUMBER_LIMIT) (disk_old : D) (read : Result Updater RecoverFault) (mid : D) (loaded : Loaded on disk_old read mid) where
   -- from the sync on a stop leaves what was read
   read_stands : read ≢ Err DiskFault → (old : Store) → Stands (on.seen disk_old) old → LeavesSince on (on.moment disk_old + 1) mid (λ image. Stands image old)
   read_stands other old stands t image from to left =
-      let now : t ≡ on.moment mid = omega (arith, loaded.tick other) in
+      let now : t ≡ on.moment mid = omega (arith, loaded.synced other, loaded.spends.within) in
       let is : image ≡ on.seen disk_old = loaded.durable other image (subst (λ (n : ℕ). on.left_at mid n image) now left) in
       subst (λ (bytes : List ℕ). Stands bytes old) (sym is) stands
 
@@ -79,21 +102,23 @@ module _ {D : Type 0} (on : Ghosts D) (boot : ℕ) (disk_old : D) (read : Result
     not_a_store = λ told e. loaded.not_a_store told (is ∙ ap Err (err_is e));
     past = loaded.stop.past;
     stop = λ told old stands other t image from to left. inl (read_stands (fine other) old stands t image from to left);
-    stop_fault = λ told old stands t image from to left. inr (omega (arith, loaded.within), loaded.stop.each t image (omega arith) to left);
+    stop_fault = λ told old stands t image from to left. inr (omega (arith, loaded.spends.within), loaded.stop.each t image (omega arith) to left);
     stop_memory = λ old stands e t image from to left. read_stands (fine (λ f. memory_fault {X = Updater × Bool} (sym e ∙ f))) old stands t image from to left;
     seen = λ other. loaded.seen;
-    within = λ other. loaded.within;
-    unwritten = λ e. loaded.written;
+    within = λ other. loaded.spends.within;
+    unwritten = λ e. no_bytes on 1 disk_old mid _ loaded.spends;
     synced = tt;
     quiet = tt;
-    tick = tt;
-    later = loaded.stop.later;
-    told = loaded.told;
-    count = loaded.count;
-    cause = λ e. loaded.cause (is ∙ ap Err (err_is e));
-    undisturbed = λ other. loaded.undisturbed (fine other);
+    marked = tt;
+    bytes = boot_bytes boot;
+    costs = λ told old stands. boot_costs (on.seen disk_old) boot old few stands;
+    spends = spends_within on 1 0 5 (boot_bytes boot) disk_old mid _ (omega arith) (omega arith)
+        (spends_as on 1 0 disk_old mid (read ≡ Err DiskFault) _ (λ e. as_fault (sym is ∙ e)) (λ e. is ∙ ap Err (err_is e)) loaded.spends);
   }
     where
+      as_fault : ◌≡◌ {A = Result Updater RecoverFault} (Err fault) (Err DiskFault) → ◌≡◌ {A = Result (Updater × Bool) RecoverFault} (Err fault) (Err DiskFault)
+      as_fault e = cc
+
       err_is : {other : RecoverFault} → ◌≡◌ {A = Result (Updater × Bool) RecoverFault} (Err fault) (Err other) → fault ≡ other
       err_is e = cc
 
@@ -110,17 +135,21 @@ module _ {D : Type 0} (on : Ghosts D) (boot : ℕ) (disk_old : D) (read : Result
     got : on.tells mid → IsLoaded on disk_old updater mid
     got told = subst (λ (r : Result Updater RecoverFault). IfOk r (λ u. IsLoaded on disk_old u mid)) is (loaded.found told)
 
-    held : on.tells mid → (old : Store) → Stands (on.seen disk_old) old → Holds on updater mid old
-    held told old stands = let l = got told in subst (λ (s : Store). Holds on updater mid s) (one_stands (on.seen disk_old) l.store old l.stands stands) l.holds
+    held : on.tells mid → (old : Store) → Stands (on.seen disk_old) old → Holds on updater mid (session_over old)
+    held told old stands = let l = got told in subst (λ (s : Store). Holds on updater mid (session_over s)) (one_stands (on.seen disk_old) l.store old l.stands stands) l.holds
 
     kept_boot : on.tells mid → (old : Store) → Stands (on.seen disk_old) old → old.boot ≡ (tables_of updater).boot
     kept_boot told old stands = boot_shown ((held told old stands).shows (on.seen mid) seen_left)
+
+    -- what was spent where that is not the end
+    read_by : {X : Type 0} (end : Result X RecoverFault) → end ≢ Err DiskFault → Spends on 1 0 disk_old mid (end ≡ Err DiskFault)
+    read_by end other = spends_as on 1 0 disk_old mid (read ≡ Err DiskFault) (end ≡ Err DiskFault) (λ e. absurd (fine e)) (λ e. absurd (other e)) loaded.spends
 
     -- the boot number is the kept one
     pub same : (tables_of updater).boot ≡ boot → Opened on boot disk_old (Ok (updater, false)) mid
     same at = record {
       found = λ told. let l = got told in (l.store, l.stands);
-      stored = λ told old stands. subst (λ (s : Store). Holds on updater mid s) (sym (booted_same old boot (kept_boot told old stands ∙ at))) (held told old stands);
+      stored = λ told old stands. subst (λ (s : Store). Holds on updater mid (session_over s)) (sym (booted_same old boot (kept_boot told old stands ∙ at))) (held told old stands);
       same_boot = λ told old stands answer. kept_boot told old stands ∙ at;
       other_boot = λ told old stands answer. absurd (false_true answer);
       not_a_store = λ told e. absurd (ok_none (updater, false) e);
@@ -130,15 +159,13 @@ module _ {D : Type 0} (on : Ghosts D) (boot : ℕ) (disk_old : D) (read : Result
       stop_memory = λ old stands e. absurd (ok_memory (updater, false) e);
       seen = tt;
       within = tt;
-      unwritten = λ e. loaded.written;
-      synced = omega (arith, loaded.tick fine);
-      quiet = λ answer. loaded.tick fine;
-      tick = λ answer. absurd (false_true answer);
-      later = loaded.stop.later;
-      told = loaded.told;
-      count = loaded.count;
-      cause = λ e. absurd (ok_fault (updater, false) e);
-      undisturbed = λ other. loaded.undisturbed fine;
+      unwritten = λ e. absurd (ok_none (updater, false) e);
+      synced = loaded.synced fine;
+      quiet = λ answer. (loaded.spends.within, no_bytes on 1 disk_old mid _ loaded.spends);
+      marked = λ answer. absurd (false_true answer);
+      bytes = 0;
+      costs = λ told old stands. inl (booted_same old boot (kept_boot told old stands ∙ at), refl);
+      spends = spends_within on 1 0 5 0 disk_old mid _ (omega arith) (omega arith) (read_by (Ok (updater, false)) (ok_fault (updater, false)));
     }
 
     -- there was no memory for the boot number
@@ -154,55 +181,60 @@ module _ {D : Type 0} (on : Ghosts D) (boot : ℕ) (disk_old : D) (read : Result
       stop_fault = λ told old stands t image from to left. inl (inl (read_stands fine old stands t image from to left));
       stop_memory = λ old stands e t image from to left. read_stands fine old stands t image from to left;
       seen = λ other. loaded.seen;
-      within = λ other. loaded.within;
-      unwritten = λ e. loaded.written;
+      within = λ other. loaded.spends.within;
+      unwritten = λ e. absurd (memory_none e);
       synced = tt;
       quiet = tt;
-      tick = tt;
-      later = loaded.stop.later;
-      told = loaded.told;
-      count = loaded.count;
-      cause = λ e. absurd (memory_fault e);
-      undisturbed = λ other. loaded.undisturbed fine;
+      marked = tt;
+      bytes = boot_bytes boot;
+      costs = λ told old stands. boot_costs (on.seen disk_old) boot old few stands;
+      spends = spends_within on 1 0 5 (boot_bytes boot) disk_old mid _ (omega arith) (omega arith) (read_by {X = Updater × Bool} (Err Memory) memory_fault);
     }
 
-    module _ (few : boot ≤ NUMBER_LIMIT) {T : Type 0} (tried : Result T StepFault) (updater_new : Updater) (disk_new : D) (keeps : Keeps on (Boot boot) updater mid tried updater_new disk_new) where
+    module _ {T : Type 0} (tried : Result T StepFault) (updater_new : Updater) (disk_new : D) (keeps : Keeps on (Boot boot) updater mid tried updater_new disk_new) where
       leads : on.tells mid → (old : Store) → Stands (on.seen disk_old) old → Leads (Boot boot) (tables_of updater) old (booted boot old)
       leads told old stands = let holds = held told old stands in booted_leads old.room (tables_of updater) (on.seen mid) old boot (holds.shows (on.seen mid) seen_left) few holds.valid
 
-      since : on.tells mid → (old : Store) → Stands (on.seen disk_old) old → LeavesSince on (on.moment disk_old + 1) disk_new (StandsForEither old (booted boot old))
+      since : on.tells disk_new → (old : Store) → Stands (on.seen disk_old) old → LeavesSince on (on.moment disk_old + 1) disk_new (StandsForEither old (booted boot old))
       since told old stands t image from to left =
-          (keeps.stop old (booted boot old) (leads told old stands) (held told old stands)).each t image (omega (arith, loaded.tick fine)) to left
+          (keeps.stop told (session_over old) (booted boot old) (leads (keeps.spends.told told) old stands) (held (keeps.spends.told told) old stands)).each t image
+          (omega (arith, loaded.synced fine, loaded.spends.within)) to left
 
       before : (t : ℕ) (image : List ℕ) → t ≤ on.moment disk_old → on.left_at disk_new t image → on.left_at disk_old t image
       before t image le left = loaded.stop.past t image le (keeps.past t image (omega (arith, loaded.stop.later)) left)
 
+      -- what both cost
+      both : {X : Type 0} (end : Result X RecoverFault) → (tried ≡ Err step.DiskFault → end ≡ Err DiskFault) → (end ≡ Err DiskFault → tried ≡ Err step.DiskFault)
+          → Spends on 5 (boot_bytes boot) disk_old disk_new (end ≡ Err DiskFault)
+      both end to from = spends_within on (1 + 4) (0 + boot_bytes boot) 5 (boot_bytes boot) disk_old disk_new (end ≡ Err DiskFault) (omega arith) (omega arith)
+          (spends_as on (1 + 4) (0 + boot_bytes boot) disk_old disk_new (tried ≡ Err step.DiskFault) (end ≡ Err DiskFault) to from
+          (spends_then on 1 0 4 (boot_bytes boot) disk_old mid disk_new (tried ≡ Err step.DiskFault)
+          (spends_as on 1 0 disk_old mid (read ≡ Err DiskFault) ⊥ fine (λ no. absurd no) loaded.spends) keeps.spends))
+
       -- it was made durable
       pub other : (done : T) → tried ≡ Ok done → (tables_of updater).boot ≢ boot → Opened on boot disk_old (Ok (updater_new, true)) disk_new
       other done ok differs =
-          let ticks : on.moment disk_new ≡ on.moment mid + 4 = subst (λ (r : Result T StepFault). OnOk r (on.moment disk_new ≡ on.moment mid + 4)) ok keeps.tick in
+          let marks : on.moment mid + 1 ≤ on.moment disk_new = subst (λ (r : Result T StepFault). OnOk r (on.moment mid + 1 ≤ on.moment disk_new)) ok keeps.marked in
           record {
-            found = λ told. let l = got (keeps.told told) in (l.store, l.stands);
-            stored = λ told old stands. subst (λ (r : Result T StepFault). OnOk r (Holds on updater_new disk_new (booted boot old))) ok
-                (keeps.stored old (booted boot old) (leads (keeps.told told) old stands) (held (keeps.told told) old stands));
+            found = λ told. let l = got (keeps.spends.told told) in (l.store, l.stands);
+            stored = λ told old stands. subst (λ (r : Result T StepFault). OnOk r (Holds on updater_new disk_new (session_over (booted boot old)))) ok
+                (keeps.stored told (session_over old) (booted boot old) (leads (keeps.spends.told told) old stands) (held (keeps.spends.told told) old stands));
             same_boot = λ told old stands answer. absurd (true_false answer);
-            other_boot = λ told old stands answer e. differs (sym (kept_boot (keeps.told told) old stands) ∙ e);
+            other_boot = λ told old stands answer e. differs (sym (kept_boot (keeps.spends.told told) old stands) ∙ e);
             not_a_store = λ told e. absurd (ok_none (updater_new, true) e);
             past = before;
-            stop = λ told old stands fault. since (keeps.told told) old stands;
-            stop_fault = λ told old stands t image from to left. inl (since (keeps.told told) old stands t image from to left);
+            stop = λ told old stands fault. since told old stands;
+            stop_fault = λ told old stands t image from to left. inl (since told old stands t image from to left);
             stop_memory = λ old stands e. absurd (ok_memory (updater_new, true) e);
             seen = tt;
             within = tt;
             unwritten = λ e. absurd (ok_none (updater_new, true) e);
-            synced = omega (arith, ticks, loaded.tick fine);
+            synced = omega (arith, marks, loaded.synced fine);
             quiet = λ answer. absurd (true_false answer);
-            tick = λ answer. omega (arith, ticks, loaded.tick fine);
-            later = omega (arith, ticks, loaded.tick fine);
-            told = λ told. loaded.told (keeps.told told);
-            count = omega (arith, keeps.count, loaded.count);
-            cause = λ e. absurd (ok_fault (updater_new, true) e);
-            undisturbed = λ fault. keeps.undisturbed (λ e. step_ok done (sym ok ∙ e)) ∙ loaded.undisturbed fine;
+            marked = λ answer. omega (arith, marks, loaded.synced fine);
+            bytes = boot_bytes boot;
+            costs = λ told old stands. boot_costs (on.seen disk_old) boot old few stands;
+            spends = both (Ok (updater_new, true)) (λ e. absurd (step_ok done (sym ok ∙ e))) (λ e. absurd (ok_fault (updater_new, true) e));
           }
 
       -- there was no memory for it
@@ -219,21 +251,15 @@ module _ {D : Type 0} (on : Ghosts D) (boot : ℕ) (disk_old : D) (read : Result
         not_a_store = λ told e. absurd (fault_none e);
         past = before;
         stop = λ told old stands other. absurd (other refl);
-        stop_fault = λ told old stands t image from to left. inl (since (keeps.told told) old stands t image from to left);
+        stop_fault = λ told old stands t image from to left. inl (since told old stands t image from to left);
         stop_memory = λ old stands e. absurd (fault_memory e);
         seen = λ other. absurd (other refl);
         within = λ other. absurd (other refl);
         unwritten = λ e. absurd (fault_none e);
         synced = tt;
         quiet = tt;
-        tick = tt;
-        later = omega (arith, keeps.later, loaded.tick fine);
-        told = λ told. loaded.told (keeps.told told);
-        count = omega (arith, keeps.count, loaded.count);
-        cause = λ e. rose (keeps.cause is);
-        undisturbed = λ other. absurd (other refl);
+        marked = tt;
+        bytes = boot_bytes boot;
+        costs = λ told old stands. boot_costs (on.seen disk_old) boot old few stands;
+        spends = both {X = Updater × Bool} (Err DiskFault) (λ e. refl) (λ e. is);
       }
-        where
-          rose : Rose (on.count mid) (on.count disk_new) → Rose (on.count disk_old) (on.count disk_new)
-          rose (inl less) = inl (omega (arith, loaded.count))
-          rose (inr full) = inr (omega (arith, loaded.undisturbed fine))

@@ -1,13 +1,19 @@
 -- What reading a store finds.
-use Rattle.std.proofs.Common.{◌≡◌, ◌↔◌, ◌≤◌, ◌+◌, ℕ, Bool, true, false, List, Option, Some, None, Result, Err, map, sym, ap, subst, ◌∙◌, arith}
+use Rattle.std.proofs.Common.{◌≡◌, ◌≢◌, ◌↔◌, ◌⊎◌, ◌≤◌, ◌+◌, inl, inr, ℕ, Bool, true, false, List, Option, Some, None, Result, Err, map, refl, sym, ap, subst, ◌∙◌, arith}
 use Rattle.std.specs.Prelude.{IfNone, IfSome, IsTrue}
 use Rattle.small_types.specs.declared.room.Room.{Room}
 use Rattle.disks.specs.declared.disk.Disk.{Ghosts}
 use Rattle.disks.specs.Disk.{Only}
 use Rattle.disks.specs.Moments.{LeavesOnly}
+use Rattle.disks.specs.Spends.{Spends}
+use Rattle.disks.proofs.Books.{spends_as}
 use Rattle.machine.specs.Blocks.{used_blocks}
 use Rattle.machine.specs.Shape.{bare_view}
-use Rattle.store_log.specs.Log.{head_of, IsOpen}
+use Rattle.store_log.specs.declared.fault.LogFault.{LogFault}
+use Rattle.store_log.specs.declared.fault.LogFault.TheVariants as log
+use Rattle.store_log.specs.declared.log.Log.{Log}
+use Rattle.store_log.specs.declared.log.Recovered.{Recovered}
+use Rattle.store_log.specs.Log.{IsOpen, NoStore, head_of}
 use Rattle.store_state.specs.Shows.{Shows}
 use Rattle.store_state.specs.Tables.{Tables, bare_row, empty}
 use Rattle.store_state.proofs.Images.{images_have}
@@ -26,14 +32,10 @@ use Rattle.updater.proofs.Standing.{one_journal}
 -- what reading a journal to its end does to a disk
 pub record Reads {D : Type 0} (on : Ghosts D) (disk_old disk_new : D) : Type 0 where
   pub seen : on.seen disk_new ≡ on.seen disk_old
-  pub written : on.total disk_new ≡ on.total disk_old
   pub stop : LeavesOnly on disk_old disk_new (on.left_at disk_old (on.moment disk_old))
   pub durable : Only (on.seen disk_old) (on.left_at disk_new (on.moment disk_new))
-  pub tick : on.moment disk_new ≡ on.moment disk_old + 1
-  pub within : on.moment disk_new ≤ on.moment disk_old + 1
-  pub told : on.tells disk_new → on.tells disk_old
-  pub count : on.count disk_old ≤ on.count disk_new
-  pub quiet : on.count disk_new ≡ on.count disk_old
+  pub synced : on.moment disk_old + 1 ≤ on.moment disk_new
+  pub spends : Spends on 1 0 disk_old disk_new ⊥
 
 -- a journal whose changes lead to these tables stands for a store that they show, and an updater over them holds it, where
 -- its files have room
@@ -64,6 +66,7 @@ found_holds on disk_old updater disk_new changes journal loads opened within =
         room = sym same;
         shows = λ image left. shows_same image (images_have shown.store.room (tables_of updater) (on.seen disk_old) image) shows;
         valid = shown.valid within;
+        jobs = refl;
       };
     }
 
@@ -113,27 +116,49 @@ settled_by loaded room tables texts within loads is tests holds = settled_from l
 
 -- ---- openings that end without a store
 
+err_is : {X : Type 0} {fault told : RecoverFault} → ◌≡◌ {A = Result X RecoverFault} (Err fault) (Err told) → fault ≡ told
+err_is e = cc
+
+module _ {D : Type 0} (on : Ghosts D) (disk_old disk_new : D) where
+  -- all was read, and there is no store
+  pub unfound : (fault : RecoverFault) → fault ≢ DiskFault → (on.tells disk_new → fault ≡ NotAStore → StandsForNone (on.seen disk_old)) → Reads on disk_old disk_new → Loaded on disk_old (Err fault) disk_new
+  unfound fault other none reads = record {
+    found = λ told. tt;
+    not_a_store = λ told e. none told (err_is e);
+    seen = reads.seen;
+    stop = reads.stop;
+    durable = λ fine. reads.durable;
+    synced = λ fine. reads.synced;
+    spends = spends_as on 1 0 disk_old disk_new ⊥ _ (λ no. absurd no) (λ e. other (err_is e)) reads.spends;
+  }
+
+  -- the disk failed
+  pub faulted : {fault : Type 0} → fault → on.seen disk_new ≡ on.seen disk_old → LeavesOnly on disk_old disk_new (on.left_at disk_old (on.moment disk_old)) → Spends on 1 0 disk_old disk_new fault → Loaded on disk_old (Err DiskFault) disk_new
+  faulted {fault = fault} failed seen stop spends = record {
+    found = λ told. tt;
+    not_a_store = λ told e. absurd (let clash : DiskFault ≡ NotAStore = err_is e in cc);
+    seen = seen;
+    stop = stop;
+    durable = λ fine. absurd (fine refl);
+    synced = λ fine. absurd (fine refl);
+    spends = spends_as on 1 0 disk_old disk_new fault _ (λ f. refl) (λ e. failed) spends;
+  }
+
+-- what is no journal stands for no store
+pub no_journal : (image : List ℕ) → NoStore image → StandsForNone image
+no_journal image none store stands = none store.room.blocks stands.reads.changes stands.reads.journal.store
+
+-- the only fault that is left
+pub the_fault : (fault : LogFault) → (fault ≡ log.DiskFault) ⊎ ((fault ≡ log.NotALog) ⊎ (fault ≡ log.Memory)) → fault ≢ log.NotALog → fault ≢ log.Memory → fault ≡ log.DiskFault
+the_fault fault (inl is) journal memory = is
+the_fault fault (inr (inl is)) journal memory = absurd (journal is)
+the_fault fault (inr (inr is)) journal memory = absurd (memory is)
+
 module _ {D : Type 0} (on : Ghosts D) (disk_old disk_new : D) (room : Room) (changes : List (List ℕ)) where
   -- the journal was read, and its changes lead to no tables
   pub unsettled : (fault : RecoverFault) → Settled room changes (Err fault) → (on.tells disk_new → IsJournal room changes (on.seen disk_old)) → Reads on disk_old disk_new → Loaded on disk_old (Err fault) disk_new
-  unsettled fault settled journal reads = record {
-    found = λ told. tt;
-    not_a_store = λ told e. by fault settled (err_is e) told;
-    seen = reads.seen;
-    written = reads.written;
-    stop = reads.stop;
-    durable = λ fine. reads.durable;
-    tick = λ fine. reads.tick;
-    within = reads.within;
-    told = reads.told;
-    count = reads.count;
-    cause = λ e. absurd (never fault settled (err_is e));
-    undisturbed = λ fine. reads.quiet;
-  }
+  unsettled fault settled journal reads = unfound on disk_old disk_new fault (never fault settled) (λ told is. by fault settled is told) reads
     where
-      err_is : {told : RecoverFault} → ◌≡◌ {A = Result Updater RecoverFault} (Err fault) (Err told) → fault ≡ told
-      err_is e = cc
-
       by : (f : RecoverFault) → Settled room changes (Err f) → f ≡ NotAStore → on.tells disk_new → StandsForNone (on.seen disk_old)
       by NotAStore none is told = none_settled (on.seen disk_old) room changes (journal told) none
       by DiskFault none is told = absurd none

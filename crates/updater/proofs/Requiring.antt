@@ -94,9 +94,9 @@ required_fits now tables key version is_key is_version passes = (short_key is_ke
 
 -- ---- the effect of the row
 
-module _ (now : ℕ) (key : Key) (version : Version) (room : Room) (tables : Tables) (image : List ℕ) (before after : LinksState) (old : Session) (shows : Shows room tables image old.store) (passes : PassesAll (refusals now [] (table_shape room tables) (command.Require key version))) where
+module _ (now : ℕ) (key : Key) (version : Version) (room : Room) (tables : Tables) (image : List ℕ) (before after : LinksState) (old : Session) (no_jobs : old.jobs ≡ []) (shows : Shows room tables image old.store) (passes : PassesAll (refusals now [] (table_shape room tables) (command.Require key version))) where
   answers_with : (minimum : Version) → raised (minimum_of key tables.apps) version ≡ minimum → Answers now [] old (command.Require key version) (says.Minimum minimum) (record old { store = record old.store { apps = required key version old.store.apps } })
-  answers_with minimum is = effect_answers now [] room tables old (shape_shown shows) (command.Require key version) (says.Minimum minimum) (record old { store = record old.store { apps = required key version old.store.apps } }) passes
+  answers_with minimum is = effect_answers now [] room tables old (shape_shown old no_jobs shows) (command.Require key version) (says.Minimum minimum) (record old { store = record old.store { apps = required key version old.store.apps } }) passes
       (ap says.Minimum (sym (ap (λ (apps : List AppState). raised (minimum_of key apps) version) (apps_shown shows) ∙ is)), refl)
 
   pub required_rests : (minimum : Version) → Stays key version minimum tables.apps → Rests now [] (command.Require key version) before after old (says.Minimum minimum)

@@ -5,7 +5,8 @@ use Rattle.disks.specs.declared.disk.Disk.{Ghosts}
 use Rattle.disks.specs.Moments.{Each, LeavesOnly}
 use Rattle.disks.proofs.MomentLemmas.{started}
 use Rattle.machine.specs.Store as stores
-use Rattle.machine.specs.Store.{Store}
+use Rattle.machine.specs.Store.{Session, Store}
+use Rattle.machine.specs.Valid.{Valid}
 use Rattle.machine.proofs.Keeping.{empty_valid}
 use Rattle.store_log.proofs.Store.{unique}
 use Rattle.store_state.specs.Shows.{Shows}
@@ -13,13 +14,13 @@ use Rattle.store_state.specs.Tables.{Tables, empty}
 use Rattle.store_state.proofs.Showing.{one_shown, shows_empty}
 use Rattle.updater.specs.declared.updater.Updater.{Updater}
 use Rattle.updater.specs.Stands.{IsJournal, Loads, Stands, StandsForEither}
-use Rattle.updater.specs.Updater.{Holds, tables_of}
+use Rattle.updater.specs.Updater.{Holds, IsOpenAs, tables_of}
 use Rattle.updater.proofs.Loading.{loads_same}
 
 module _ {D : Type 0} (on : Ghosts D) (updater : Updater) (disk : D) where
   -- each image that a stop may leave now stands for the store
-  pub stored_stands : (store : Store) → Holds on updater disk store → Each on disk (λ image. Stands image store)
-  stored_stands store holds image left = record {
+  pub stored_stands : (session : Session) → Holds on updater disk session → Each on disk (λ image. Stands image session.store)
+  stored_stands session holds image left = record {
     tables = tables_of updater;
     reads = record {
       changes = holds.log.changes;
@@ -34,8 +35,18 @@ module _ {D : Type 0} (on : Ghosts D) (updater : Updater) (disk : D) where
   }
 
   -- where the disk is as it was
-  pub still_stands : (store other : Store) → Holds on updater disk store → LeavesOnly on disk disk (StandsForEither store other)
-  still_stands store other holds = started on disk (StandsForEither store other) (λ image left. inl (stored_stands store holds image left))
+  pub still_stands : (session : Session) (other : Store) → Holds on updater disk session → LeavesOnly on disk disk (StandsForEither session.store other)
+  still_stands session other holds = started on disk (StandsForEither session.store other) (λ image left. inl (stored_stands session holds image left))
+
+  -- it holds each session without jobs over the same store
+  pub holds_as : (old new : Session) → Holds on updater disk old → new.store ≡ old.store → new.jobs ≡ [] → Holds on updater disk new
+  holds_as old new holds same none = record {
+    log = subst (λ (s : Store). IsOpenAs on updater.log s.room (tables_of updater) disk) (sym same) holds.log;
+    room = holds.room ∙ ap (λ (s : Store). s.room) (sym same);
+    shows = subst (λ (s : Store). Each on disk (λ image. Shows s.room (tables_of updater) image s)) (sym same) holds.shows;
+    valid = subst Valid (sym same) holds.valid;
+    jobs = none;
+  }
 
 -- a room is told by its two numbers
 pub room_is : (a b : Room) → a.blocks ≡ b.blocks → a.half ≡ b.half → a ≡ b

@@ -4,7 +4,7 @@ use Rattle.outside.specs.declared.failed.Failed.{Failed}
 use Rattle.outside.specs.Streams.{Causes}
 use Rattle.small_types.specs.declared.limits.TheConstants.{NUMBER_LIMIT}
 use Rattle.disks.specs.declared.disk.Disk.{Ghosts}
-use Rattle.disks.specs.Moments.{LeavesOnly}
+use Rattle.disks.specs.Moments.{LeavesOnly, Rests}
 use Rattle.links.specs.declared.links.Links.{Ghosts as LinksGhosts}
 use Rattle.links.specs.Links.{LinksState}
 use Rattle.fetcher.specs.Fetched.{Kept}
@@ -23,8 +23,9 @@ use Rattle.machine.specs.Store.{Session, Store}
 use Rattle.machine.specs.Views.{View}
 use Rattle.store_state.specs.Tables.{table_shape}
 use Rattle.updater.specs.declared.updater.Updater.{Updater}
+use Rattle.updater.specs.Costs.{Costs}
 use Rattle.updater.specs.Stands.{StandsForEither}
-use Rattle.updater.specs.Updater.{Holds, TakesNumber, room_of, tables_of}
+use Rattle.updater.specs.Updater.{Holds, room_of, tables_of}
 
 -- ---- by the command
 
@@ -67,17 +68,17 @@ LeavesLinks Clean old new = new ≡ old
 LeavesLinks asks.List old new = new ≡ old
 LeavesLinks (Show key) old new = new ≡ old
 
--- What the links did for a step from one store to another. An install asked them for what it heard,
+-- What the links did for a step from one session to another. An install asked them for what it heard,
 -- for each program file of the new view whose content no kept view has, and for each data file that
 -- the release deploys. A check asked for the manifest that it heard, and a group for each of its
 -- files whose content no kept view has.
 abbrev pub Serves :
-    Command → List (List ℕ) → LinksState → LinksState → Store → Reply → Store → Type 0
+    Command → List (List ℕ) → LinksState → LinksState → Session → Reply → Session → Type 0
 Serves (At next) heard before after old reply new = Unit {0}
 Serves (Require key version) heard before after old reply new = Unit {0}
 Serves (Install url) heard before after old reply new =
     Served (shape_of old) url heard before after reply
-    × ((view : View) → new.views ≡ old.views ++ view ∷ []
+    × ((view : View) → new.store.views ≡ old.store.views ++ view ∷ []
     → IsBrought old before after view)
 Serves (Check key) heard before after old reply new =
     OfferServed key (shape_of old) heard before after reply
@@ -90,7 +91,7 @@ Serves (Put lease name bytes) heard before after old reply new = Unit {0}
 Serves (Remove lease name) heard before after old reply new = Unit {0}
 Serves (Group lease group) heard before after old reply new =
     GroupServed lease group (shape_of old) before after reply
-    × AreBrought lease group (shape_of old) before after new
+    × AreBrought lease group (shape_of old) before after new.store
 Serves (Finish lease) heard before after old reply new = Unit {0}
 Serves Clean heard before after old reply new = Unit {0}
 Serves asks.List heard before after old reply new = Unit {0}
@@ -98,55 +99,68 @@ Serves (Show key) heard before after old reply new = Unit {0}
 
 -- ---- what it did
 
--- It answered: a step of the machine, whose store is held from now on. A stop at any moment of the
--- call leaves the store before it or that after it. Where the store stays as it was the disk is not
--- touched, else it makes four calls.
+-- It answered: a step of the machine, whose session is held from now on. A stop at any moment of the
+-- call leaves the store before it or that after it. Where the store stays as it was, no call that
+-- changes the disk is made; else one is, at least. It writes at most what the step costs.
 pub record Answered {D L : Type 0} (on : Ghosts D) (net : LinksGhosts L) (now : ℕ)
     (heard : List (List ℕ)) (command : Command) (disk_old : D) (links_old : L) (old : Session)
     (reply : Reply) (updater_new : Updater) (disk_new : D) (links_new : L) : Type 0 where
   pub new : Session
-  pub hears : Hears (shape_of old.store) command heard
+  pub hears : Hears (shape_of old) command heard
   pub step : Answers now heard old command reply new
-  pub stored : Holds on updater_new disk_new new.store
+  pub stored : Holds on updater_new disk_new new
   pub stop : LeavesOnly on disk_old disk_new (StandsForEither old.store new.store)
-  pub quiet : new.store ≡ old.store → disk_new ≡ disk_old
-  pub tick : new.store ≢ old.store → on.moment disk_new ≡ on.moment disk_old + 4
-  pub served : Serves command heard (net.links links_old) (net.links links_new)
-      old.store reply new.store
+  pub quiet : new.store ≡ old.store → Rests on disk_old disk_new
+  pub marked : new.store ≢ old.store → on.moment disk_old + 1 ≤ on.moment disk_new
+  pub bytes : ℕ
+  pub costs : Costs old.store new.store bytes
+  pub written : on.total disk_new ≤ on.total disk_old + bytes
+  pub served : Serves command heard (net.links links_old) (net.links links_new) old reply new
 
--- The disk failed: a stop leaves the store before some step of the command or that after it.
+-- The disk failed: a stop leaves the store before some step of the command or that after it. No more
+-- is written than that step costs.
 pub record Faulted {D L : Type 0} (on : Ghosts D) (net : LinksGhosts L) (now : ℕ)
     (heard : List (List ℕ)) (command : Command) (disk_old : D) (links_old : L) (old : Session)
     (disk_new : D) (links_new : L) : Type 0 where
   pub new : Session
   pub reply : Reply
-  pub hears : Hears (shape_of old.store) command heard
+  pub hears : Hears (shape_of old) command heard
   pub step : Answers now heard old command reply new
   pub stop : LeavesOnly on disk_old disk_new (StandsForEither old.store new.store)
-  pub served : Serves command heard (net.links links_old) (net.links links_new)
-      old.store reply new.store
+  pub bytes : ℕ
+  pub costs : Costs old.store new.store bytes
+  pub written : on.total disk_new ≤ on.total disk_old + bytes
+  pub served : Serves command heard (net.links links_old) (net.links links_new) old reply new
 
--- What a command does, for each session whose store is held, and is sound where the command asks
--- it. What the disk tells afterwards it told before. A failed call is counted, save where the disk
--- had no number left. The count of faults rises exactly where the disk failed. The links and their
--- sites stay. What it heard, its tables let it hear; and the moment of the next command is within
--- its limit.
+-- What a command does, for each session that is held, and whose store is sound where the command
+-- asks it, where the disk tells afterwards. What it tells then it told before. The count of faults
+-- rises exactly where the disk failed. The links and their sites stay. What it heard, its tables let
+-- it hear; and the moment of the next command is within its limit.
 pub record Commanded {D L : Type 0} (on : Ghosts D) (net : LinksGhosts L) (now : ℕ)
     (heard : List (List ℕ)) (command : Command) (updater_old : Updater) (disk_old : D)
     (links_old : L) (result : Result Reply Failed) (updater_new : Updater) (disk_new : D)
     (links_new : L) : Type 0 where
-  pub answered : (old : Session) → Holds on updater_old disk_old old.store
+  pub answered : on.tells disk_new → (old : Session) → Holds on updater_old disk_old old
       → SoundFor command old.store
       → IfOk result (λ reply. Answered on net now heard command disk_old links_old old reply
       updater_new disk_new links_new)
-  pub fault : (old : Session) → Holds on updater_old disk_old old.store
+  pub fault : on.tells disk_new → (old : Session) → Holds on updater_old disk_old old
       → SoundFor command old.store
       → OnErr result (Faulted on net now heard command disk_old links_old old disk_new links_new)
   pub later : on.moment disk_old ≤ on.moment disk_new
   pub told : on.tells disk_new → on.tells disk_old
-  pub numbered : OnErr result (TakesNumber on disk_old disk_new)
   pub cause : Causes (on.count disk_old) (on.count disk_new) result
   pub kept : Kept (net.links links_old) (net.links links_new)
   pub left : LeavesLinks command links_old links_new
   pub hears : Hears (table_shape (room_of updater_old) (tables_of updater_old)) command heard
   pub few : IfOk result (λ reply. moment_after now (Some reply) ≤ NUMBER_LIMIT)
+
+-- The same of the manifest texts that it heard, which stand then behind those that stood there.
+pub record CommandedBehind {D L : Type 0} (on : Ghosts D) (net : LinksGhosts L) (now : ℕ)
+    (heard_old heard_new : List (List ℕ)) (command : Command) (updater_old : Updater)
+    (disk_old : D) (links_old : L) (result : Result Reply Failed) (updater_new : Updater)
+    (disk_new : D) (links_new : L) : Type 0 where
+  pub texts : List (List ℕ)
+  pub behind : heard_new ≡ heard_old ++ texts
+  pub commanded : Commanded on net now texts command updater_old disk_old links_old result
+      updater_new disk_new links_new

@@ -1,5 +1,6 @@
 pub mod Answer
 pub mod Commanded
+pub mod Costs
 pub mod DataFiles
 pub mod GoingBack
 pub mod Keeps

@@ -1,11 +1,12 @@
 -- What opening a store does, in one record.
 use Rattle.std.specs.Prelude.{◌≡◌, ◌≢◌, ◌+◌, ◌≤◌, ℕ, List, Bool, true, false, Result, Err, IfOk, IfErr, OnOk}
-use Rattle.outside.specs.Streams.{Rose}
 use Rattle.disks.specs.declared.disk.Disk.{Ghosts}
-use Rattle.machine.specs.Store.{Store, booted}
+use Rattle.disks.specs.Spends.{Spends}
+use Rattle.machine.specs.Store.{Store, booted, session_over}
 use Rattle.updater.specs.declared.fault.RecoverFault.{RecoverFault}
 use Rattle.updater.specs.declared.fault.RecoverFault.TheVariants.{NotAStore, DiskFault, Memory}
 use Rattle.updater.specs.declared.updater.Updater.{Updater}
+use Rattle.updater.specs.Costs.{Costs}
 use Rattle.updater.specs.Moments.{LeavesSince, LeavesSinceOrNot}
 use Rattle.updater.specs.Stands.{Stands, StandsForNone, StandsForEither}
 use Rattle.updater.specs.Updater.{Holds}
@@ -13,10 +14,10 @@ use Rattle.updater.specs.Updater.{Holds}
 pub record Opened {D : Type 0} (on : Ghosts D) (boot : ℕ) (disk_old : D)
     (result : Result (Updater × Bool) RecoverFault) (disk_new : D) : Type 0 where
   -- Where the disk tells, the store is the one that reads stand for, after a boot of that number
-  -- where its number was another. The answer is true exactly there.
+  -- where its number was another, and has no job. The answer is true exactly there.
   pub found : on.tells disk_new → OnOk result ((old : Store) × Stands (on.seen disk_old) old)
   pub stored : on.tells disk_new → (old : Store) → Stands (on.seen disk_old) old
-      → IfOk result (λ r. Holds on r.0 disk_new (booted boot old))
+      → IfOk result (λ r. Holds on r.0 disk_new (session_over (booted boot old)))
   pub same_boot : on.tells disk_new → (old : Store) → Stands (on.seen disk_old) old
       → IfOk result (λ r. r.1 ≡ false → old.boot ≡ boot)
   pub other_boot : on.tells disk_new → (old : Store) → Stands (on.seen disk_old) old
@@ -38,14 +39,15 @@ pub record Opened {D : Type 0} (on : Ghosts D) (boot : ℕ) (disk_old : D)
   pub within : IfErr result (λ fault. fault ≢ DiskFault
       → on.moment disk_new ≤ on.moment disk_old + 1)
   pub unwritten : result ≡ Err NotAStore → on.total disk_new ≡ on.total disk_old
-  -- It makes one call where the boot number is the kept one, and five where it is another.
+  -- It makes one call that may change the disk where the boot number is the kept one, and writes
+  -- nothing. It makes more of them where it is another, and writes at most what that boot costs.
   pub synced : OnOk result (on.moment disk_old + 1 ≤ on.moment disk_new)
-  pub quiet : IfOk result (λ r. r.1 ≡ false → on.moment disk_new ≡ on.moment disk_old + 1)
-  pub tick : IfOk result (λ r. r.1 ≡ true → on.moment disk_new ≡ on.moment disk_old + 5)
-  pub later : on.moment disk_old ≤ on.moment disk_new
+  pub quiet : IfOk result (λ r. r.1 ≡ false → (on.moment disk_new ≤ on.moment disk_old + 1)
+      × (on.total disk_new ≡ on.total disk_old))
+  pub marked : IfOk result (λ r. r.1 ≡ true → on.moment disk_old + 2 ≤ on.moment disk_new)
+  pub bytes : ℕ
+  pub costs : on.tells disk_new → (old : Store) → Stands (on.seen disk_old) old
+      → Costs old (booted boot old) bytes
   -- What the disk tells afterwards it told before. Its count of faults rises exactly where it
   -- failed.
-  pub told : on.tells disk_new → on.tells disk_old
-  pub count : on.count disk_old ≤ on.count disk_new
-  pub cause : result ≡ Err DiskFault → Rose (on.count disk_old) (on.count disk_new)
-  pub undisturbed : result ≢ Err DiskFault → on.count disk_new ≡ on.count disk_old
+  pub spends : Spends on 5 bytes disk_old disk_new (result ≡ Err DiskFault)

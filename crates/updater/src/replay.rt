@@ -76,8 +76,9 @@ pub(crate) fn settle(
     requires { room.blocks ≤ BLOCK_LIMIT }
     ensures { Settled room changes.now result }
 {
-    let Ok(loaded) = replay(alloc, changes) else {
-        return Err(RecoverFault::Memory);
+    let loaded = match replay(alloc, changes) {
+        Ok(loaded) => loaded,
+        Err(StateFault::Memory) => return Err(RecoverFault::Memory),
     };
     let Some(state) = loaded else {
         return Err(RecoverFault::NotAStore);

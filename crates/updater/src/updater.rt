@@ -6,10 +6,10 @@ ghost use Rattle.small_types.specs.Name.{IsName};
 ghost use Rattle.identity.specs.Key.{IsKey};
 ghost use Rattle.identity.specs.Version.{IsVersion};
 ghost use Rattle.machine.specs.declared.command.Command.TheVariants as command;
-ghost use Rattle.machine.specs.Machine.{refusals};
+ghost use Rattle.machine.specs.Machine.{Hears, refusals};
 ghost use Rattle.machine.specs.Blocks.{used_blocks};
 ghost use Rattle.machine.specs.Rows.{PassesAll};
-ghost use Rattle.machine.specs.Shape.{bare_view};
+ghost use Rattle.machine.specs.Shape.{Shape, bare_view};
 ghost use Rattle.machine.specs.Store.{Store};
 ghost use Rattle.machine.specs.Valid.{Valid};
 ghost use Rattle.machine.specs.Words.{IsCommand, IsGroup};
@@ -34,15 +34,16 @@ use crate::replay::settle;
 use crate::requirement::minimum_that_stays;
 use crate::skipping::skipping_of;
 use crate::start::start_of;
-use cleaner::removable;
+use cleaner::{CleanFault, removable};
 use disks::Disk;
 use identity::{Key, Version};
-use install_plan::{prepare, prepare_check, prepare_group};
+use install_plan::{Prepared, prepare, prepare_check, prepare_group};
 use links::Links;
 use machine::{Command, Heard, Reply, one_data_file_is_changed};
 use outside::Failed;
-use small_types::{Bytes, Duplicate, Name, Room, Text};
-use std::alloc::Global;
+use small_types::{Bytes, CopyFault, Duplicate, List, Name, Room, Text};
+use std::alloc::{AllocError, Global};
+use std::mem::replace;
 use store_log::{Log, LogFault};
 use store_state::{Change, LocalFile, StoreState, puts_show_the_file, removals_show_the_rest};
 
@@ -65,8 +66,20 @@ fn answer(kept: Result<(), StepFault>, reply: Reply) -> Result<Reply, Failed>
     }
 }
 
+// The most manifest texts that the command hears.
+fn most_texts(command: &Command) -> usize
+    ensures { (shape : Shape) (texts : List (List ℕ)) → Hears shape command.now texts
+        → length texts ≤ result }
+{
+    match command {
+        Command::Install { .. } => 2,
+        Command::Check { .. } => 1,
+        _ => 0,
+    }
+}
+
 impl Updater {
-    ghost use Rattle.updater.specs.Commanded.{Commanded};
+    ghost use Rattle.updater.specs.Commanded.{Commanded, CommandedBehind};
     ghost use Rattle.updater.specs.Keeps.{Keeps};
     ghost use Rattle.updater.specs.Loaded.{Loaded};
     ghost use Rattle.updater.specs.Opened.{Opened};
@@ -97,10 +110,43 @@ impl Updater {
     }
 
     /// Runs a command at a moment in seconds, at most 2^62. What it changes is durable once it is
-    /// answered. The manifest texts that it heard of the links are added. Want of memory is a
-    /// reply. `Failed`: the disk failed; the store is then that before or after the command, and is
-    /// to be recovered anew.
+    /// answered. The manifest texts that it heard of the links are added, behind those that stand
+    /// there. Want of memory is a reply. `Failed`: the disk failed; the store is then that before or
+    /// after the command, and is to be recovered anew.
     pub fn apply<D: Disk, L: Links>(
+        &mut self,
+        alloc: Global,
+        disk: &mut D,
+        links: &mut L,
+        now: u64,
+        command: &Command,
+        heard: &mut Heard,
+    ) -> Result<Reply, Failed>
+        requires command { IsCommand command.now }
+        requires moment { now ≤ NUMBER_LIMIT }
+        ensures { CommandedBehind D.Disk L.Links now heard.old.texts heard.new.texts command.now
+            self.old disk.old links.old result self.new disk.new links.new }
+    {
+        let mut texts = replace(&mut heard.texts, List::from_vec(Vec::new(alloc))).into_vec();
+        match texts.reserve(most_texts(command)) {
+            Ok(()) => {}
+            Err(AllocError) => {
+                heard.texts = List::from_vec(texts);
+                return Ok(Reply::Memory);
+            }
+        }
+        let mut fresh = Heard {
+            texts: List::from_vec(Vec::new(alloc)),
+        };
+        let answer = self.run(alloc, disk, links, now, command, &mut fresh);
+        let mut more = fresh.texts.into_vec();
+        texts.append(&mut more).unwrap();
+        heard.texts = List::from_vec(texts);
+        answer
+    }
+
+    // Runs the command, which hears its texts alone.
+    fn run<D: Disk, L: Links>(
         &mut self,
         alloc: Global,
         disk: &mut D,
@@ -197,8 +243,9 @@ impl Updater {
         requires { Fits (tables_of self.old) change × IsChange change }
         ensures { Keeps D.Disk change self.old disk.old result self.new disk.new }
     {
-        let Ok(mut piece) = piece_of(alloc, &change) else {
-            return Err(StepFault::Memory);
+        let mut piece = match piece_of(alloc, &change) {
+            Ok(piece) => piece,
+            Err(fault) => return Err(fault),
         };
         leases::make(alloc, &mut self.state, change)?;
         match self.log.append(disk, &mut piece) {
@@ -249,8 +296,9 @@ impl Updater {
         ensures { Commanded D.Disk L.Links _now [] (command.Require key.now version)
             self.old disk.old _links.now result self.new disk.new _links.now }
     {
-        let Ok(key) = key.copy(alloc) else {
-            return Ok(Reply::Memory);
+        let key = match key.copy(alloc) {
+            Ok(key) => key,
+            Err(CopyFault::Memory) => return Ok(Reply::Memory),
         };
         answer(
             self.keep(alloc, disk, Change::Require { key, version }),
@@ -273,11 +321,11 @@ impl Updater {
         ensures { Commanded D.Disk L.Links now heard.new.texts (command.Install url.now) self.old
             disk.old links.old result self.new disk.new links.new }
     {
-        let (change, reply) = match prepare(alloc, &self.state, self.room, links, now, url, heard) {
-            Ok(ready) => ready,
-            Err(reply) => return Ok(reply),
-        };
-        answer(self.keep(alloc, disk, change), reply)
+        match prepare(alloc, &self.state, self.room, links, now, url, heard) {
+            Prepared::Change { change, reply } => answer(self.keep(alloc, disk, change), reply),
+            Prepared::Reply { reply } => Ok(reply),
+            Prepared::DiskFault => unreachable!(),
+        }
     }
 
     // Asks the application's provider what it offers. Where no link gives the manifest, that is
@@ -297,11 +345,14 @@ impl Updater {
         ensures { Commanded D.Disk L.Links now heard.new.texts (command.Check key.now) self.old
             disk.old links.old result self.new disk.new links.new }
     {
-        let (noted, reply) = match prepare_check(alloc, &self.state, links, now, key, heard) {
-            Ok(ready) => ready,
-            Err(reply) => return Ok(reply),
-        };
-        answer(self.keep(alloc, disk, noted), reply)
+        match prepare_check(alloc, &self.state, links, now, key, heard) {
+            Prepared::Change {
+                change: noted,
+                reply,
+            } => answer(self.keep(alloc, disk, noted), reply),
+            Prepared::Reply { reply } => Ok(reply),
+            Prepared::DiskFault => unreachable!(),
+        }
     }
 
     // Notes that what is offered to the application is not wanted. The links are not asked.
@@ -409,7 +460,7 @@ impl Updater {
         let length = file.held.as_slice().len() as u64;
         match part_of(alloc, file.held.as_slice(), from, count) {
             Ok(bytes) => Ok(Reply::Read { length, bytes }),
-            Err(_) => Ok(Reply::Memory),
+            Err(AllocError) => Ok(Reply::Memory),
         }
     }
 
@@ -437,7 +488,7 @@ impl Updater {
         let length = held.len() as u64;
         match part_of(alloc, held, from, count) {
             Ok(bytes) => Ok(Reply::Read { length, bytes }),
-            Err(_) => Ok(Reply::Memory),
+            Err(AllocError) => Ok(Reply::Memory),
         }
     }
 
@@ -466,8 +517,9 @@ impl Updater {
         if putting.stands {
             return Ok(Reply::Put);
         }
-        let Ok(file) = local_file(alloc, name, bytes) else {
-            return Ok(Reply::Memory);
+        let file = match local_file(alloc, name, bytes) {
+            Ok(file) => file,
+            Err(CopyFault::Memory) => return Ok(Reply::Memory),
         };
         let change = Change::Put {
             view: putting.view,
@@ -498,8 +550,9 @@ impl Updater {
             Ok(view) => view,
             Err(reply) => return Ok(reply),
         };
-        let Ok(name) = name.copy(alloc) else {
-            return Ok(Reply::Memory);
+        let name = match name.copy(alloc) {
+            Ok(name) => name,
+            Err(CopyFault::Memory) => return Ok(Reply::Memory),
         };
         removals_show_the_rest();
         one_data_file_is_changed();
@@ -524,19 +577,15 @@ impl Updater {
         ensures { Commanded D.Disk L.Links now [] (command.Group lease group.now) self.old
             disk.old links.old result self.new disk.new links.new }
     {
-        let (brought, reply) = match prepare_group(
-            alloc,
-            &self.state,
-            self.room,
-            links,
-            lease,
-            group,
-        ) {
-            Ok(ready) => ready,
-            Err(reply) => return Ok(reply),
-        };
         self.state.are_tables();
-        answer(self.keep(alloc, disk, brought), reply)
+        match prepare_group(alloc, &self.state, self.room, links, lease, group) {
+            Prepared::Change {
+                change: brought,
+                reply,
+            } => answer(self.keep(alloc, disk, brought), reply),
+            Prepared::Reply { reply } => Ok(reply),
+            Prepared::DiskFault => unreachable!(),
+        }
     }
 
     // Ends the lease. The links are not asked.
@@ -575,8 +624,9 @@ impl Updater {
         ensures { Commanded D.Disk L.Links now [] command.Clean
             self.old disk.old _links.now result self.new disk.new _links.now }
     {
-        let Ok(numbers) = removable(alloc, &self.state) else {
-            return Ok(Reply::Memory);
+        let numbers = match removable(alloc, &self.state) {
+            Ok(numbers) => numbers,
+            Err(CleanFault::Memory) => return Ok(Reply::Memory),
         };
         let views = numbers.as_slice().len() as u64;
         if views == 0 {
@@ -602,7 +652,7 @@ impl Updater {
     {
         match list_rows(alloc, &self.state) {
             Ok(rows) => Ok(Reply::Listed { rows }),
-            Err(_) => Ok(Reply::Memory),
+            Err(CopyFault::Memory) => Ok(Reply::Memory),
         }
     }
 
@@ -624,7 +674,7 @@ impl Updater {
         };
         match show_row(alloc, &self.state, app) {
             Ok(row) => Ok(Reply::Shown { row }),
-            Err(_) => Ok(Reply::Memory),
+            Err(CopyFault::Memory) => Ok(Reply::Memory),
         }
     }
 }

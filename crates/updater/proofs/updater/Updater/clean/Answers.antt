@@ -15,7 +15,7 @@ returns-then-views-eq0 g c =
     (unlinked g.L.Links command.Clean c.args.self.now c.args._links.now)
     (says.Cleaned (length c.as_slice.result.now)) c.requires
     (λ old s. cleaned_rests c.args.now c.args.self.now.room c.args.self.now.state
-    _ _ _ old s.shows s.valid c.requires (length c.as_slice.result.now)
+    _ _ _ old s.jobs s.shows s.valid c.requires (length c.as_slice.result.now)
     (ap length (c.as_slice.ensures ∙ c.in-Ok.ensures c.args.self.now.room)) c.if-views-eq0.true)
 
 pub returns : goal.returns
@@ -26,7 +26,7 @@ returns g c =
     (unlinked g.L.Links command.Clean c.args.self.now c.args._links.now)
     change.Clean (says.Cleaned (length c.as_slice.result.now)) c.requires
     (λ old s. cleaned_does c.args.now c.args.self.now.room c.args.self.now.state
-    _ _ _ old s.shows s.valid c.requires (length c.as_slice.result.now)
+    _ _ _ old s.jobs s.shows s.valid c.requires (length c.as_slice.result.now)
     (ap length (c.as_slice.ensures ∙ c.in-Ok.ensures c.args.self.now.room)) c.if-views-eq0.false)
     (memory_missed g.D.Disk g.L.Links c.args.now command.Clean
     c.args.self.now c.args.disk.now c.args._links.now

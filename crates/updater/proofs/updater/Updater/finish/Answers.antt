@@ -31,7 +31,7 @@ returns g c =
     (unlinked g.L.Links command c.args.self.now c.args._links.now)
     (change.Finish c.args.lease) (says.Finished c.args.lease) c.requires.moment
     (λ old s. finished_does c.args.now c.args.lease c.args.self.now.room c.args.self.now.state
-    _ _ _ old s.shows s.valid c.requires.words c.requires.moment
+    _ _ _ old s.jobs s.shows s.valid c.requires.words c.requires.moment
     (c.in_default.ensures.none refl c.args.now c.args.self.now.room))
     (memory_missed g.D.Disk g.L.Links c.args.now command
     c.args.self.now c.args.disk.now c.args._links.now

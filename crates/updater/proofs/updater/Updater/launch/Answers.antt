@@ -27,7 +27,7 @@ returns g c =
     (change.Launch c.in-Ok.start.app)
     (says.Lease c.in-Ok.start.lease c.in-Ok.start.version c.in-Ok.start.check_due) c.requires.moment
     (λ old s. launched_does c.args.now c.args.key.now c.args.self.now.room c.args.self.now.state
-    _ _ _ old s.shows s.valid c.requires.words c.requires.moment
+    _ _ _ old s.jobs s.shows s.valid c.requires.words c.requires.moment
     c.in-Ok.start c.in-Ok.ensures.start)
     (memory_missed g.D.Disk g.L.Links c.args.now command
     c.args.self.now c.args.disk.now c.args._links.now

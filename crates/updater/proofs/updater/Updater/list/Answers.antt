@@ -13,4 +13,4 @@ returns-in-Ok g c =
     (unlinked g.L.Links command.List c.args.self.now c.args._links.now)
     (says.Listed c.in-Ok.rows) c.requires
     (λ old s. listed_rests c.args.now c.args.self.now.room c.args.self.now.state
-    _ _ _ old s.shows c.in-Ok.rows c.in-Ok.ensures)
+    _ _ _ old s.jobs s.shows c.in-Ok.rows c.in-Ok.ensures)

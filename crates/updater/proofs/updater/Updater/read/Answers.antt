@@ -27,7 +27,7 @@ returns-in-Ok-part_of g c =
     (unlinked g.L.Links command c.args.self.now c.args._links.now)
     (says.Read (length c.as_slice.result.now) c.in-Ok-part_of.bytes) c.requires
     (λ old s. read_rests c.args.lease c.args.name.now c.args.self.now.state
-    c.args.now c.args.self.now.room c.args.from c.args.count _ _ _ old s.shows
+    c.args.now c.args.self.now.room c.args.from c.args.count _ _ _ old s.jobs s.shows
     c.in-Ok.file.now c.in-Ok-part_of.bytes (length c.as_slice.result.now)
     c.in-Ok.ensures.file (ap length c.as_slice.ensures)
     (◌∙◌ {b = part c.args.from c.args.count c.as_slice-2.result.now} c.in-Ok-part_of.ensures

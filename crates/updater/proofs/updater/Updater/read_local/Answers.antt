@@ -27,7 +27,7 @@ returns-in-Ok-part_of g c =
     (unlinked g.L.Links command c.args.self.now c.args._links.now)
     (says.Read (length c.as_slice-held.result.now) c.in-Ok-part_of.bytes) c.requires
     (λ old s. data_rests c.args.lease c.args.name.now c.args.self.now.room c.args.self.now.state
-    c.args.now c.args.from c.args.count _ _ _ old s.shows
+    c.args.now c.args.from c.args.count _ _ _ old s.jobs s.shows
     c.in-Ok.file.now c.in-Ok.ensures.file (length c.as_slice-held.result.now) c.in-Ok-part_of.bytes
     (ap length c.as_slice-held.ensures)
     (◌∙◌ {b = part c.args.from c.args.count c.as_slice-held.result.now} c.in-Ok-part_of.ensures

@@ -46,7 +46,7 @@ returns g c =
     (g.L.Links.links c.args._links.now) (change.Remove c.in-Ok.view name) c.args.self.now.state old
     says.Removed) (sym c.in-Ok-copy.ensures)
     (removal_does c.args.now c.args.lease c.args.self.now.room c.args.name.now
-    c.args.self.now.state _ _ _ old s.shows s.valid c.requires.words c.requires.moment
+    c.args.self.now.state _ _ _ old s.jobs s.shows s.valid c.requires.words c.requires.moment
     c.in-Ok.view c.in-Ok.ensures.removal c.removals_show_the_rest.ensures
     c.one_data_file_is_changed.ensures.removed))
     (memory_missed g.D.Disk g.L.Links c.args.now command

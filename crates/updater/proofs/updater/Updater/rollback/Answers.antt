@@ -28,7 +28,7 @@ returns g c =
     (unlinked g.L.Links command c.args.self.now c.args._links.now)
     (change.Rollback c.in-Ok.going.app) (says.Current c.in-Ok.going.version) c.requires.moment
     (λ old s. rolled_back_does c.args.now c.args.key.now c.args.self.now.room
-    c.args.self.now.state _ _ _ old s.shows s.valid c.requires.words c.requires.moment
+    c.args.self.now.state _ _ _ old s.jobs s.shows s.valid c.requires.words c.requires.moment
     c.in-Ok.going c.in-Ok.ensures.going)
     (memory_missed g.D.Disk g.L.Links c.args.now command
     c.args.self.now c.args.disk.now c.args._links.now

@@ -21,5 +21,5 @@ returns-in-Ok g c =
     (unlinked g.L.Links (command.Show c.args.key.now) c.args.self.now c.args._links.now)
     (says.Shown c.in-Ok.row) c.requires
     (λ old s. shown_rests c.args.now c.args.self.now.room c.args.self.now.state
-    _ _ _ old s.shows c.args.key.now c.in-Some.app.now c.in-Ok.row
+    _ _ _ old s.jobs s.shows c.args.key.now c.in-Some.app.now c.in-Ok.row
     (sym c.in-Some.ensures) c.in-Ok.ensures)

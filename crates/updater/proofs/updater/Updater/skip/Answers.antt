@@ -26,7 +26,7 @@ returns-then-skipping g c =
     (unlinked g.L.Links command c.args.self.now c.args._links.now)
     (says.Skipped c.in-Ok.skipping.offer) c.requires.moment
     (λ old s. skipped_rests c.args.now c.args.key.now c.args.self.now.room c.args.self.now.state
-    _ _ _ old s.shows s.valid c.requires.words c.requires.moment
+    _ _ _ old s.jobs s.shows s.valid c.requires.words c.requires.moment
     c.in-Ok.skipping c.in-Ok.ensures.skipping c.if-skipping.true)
 
 pub returns : goal.returns
@@ -38,7 +38,7 @@ returns g c =
     (unlinked g.L.Links command c.args.self.now c.args._links.now)
     (change.Skip c.in-Ok.skipping.app) (says.Skipped c.in-Ok.skipping.offer) c.requires.moment
     (λ old s. skipped_does c.args.now c.args.key.now c.args.self.now.room c.args.self.now.state
-    _ _ _ old s.shows s.valid c.requires.words c.requires.moment
+    _ _ _ old s.jobs s.shows s.valid c.requires.words c.requires.moment
     c.in-Ok.skipping c.in-Ok.ensures.skipping c.if-skipping.false)
     (memory_missed g.D.Disk g.L.Links c.args.now command
     c.args.self.now c.args.disk.now c.args._links.now
