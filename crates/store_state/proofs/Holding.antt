@@ -165,6 +165,16 @@ pub cut_back : {X : Type 0} (xs ys added left : List X) (n : ℕ) → n ≡ leng
 cut_back xs ys added left n long is cut =
     cut ∙ ap (λ k. take k added) long ∙ ap (λ zs. take (length xs) zs) is ∙ take-append_seam xs ys
 
+-- the application of the view that is read is that of the view that was added
+pub made_apps : (view read : View) (provider : Target) (now : ℕ) (apps new : List AppState)
+    → read ≡ view
+    → new ≡ with_entry read.deployment.identity.key
+    (installed_app read.number read.deployment provider now) apps
+    → new ≡ with_entry view.deployment.identity.key
+    (installed_app view.number view.deployment provider now) apps
+made_apps view read provider now apps new is changed =
+    changed ∙ ap (λ (v : View). with_entry v.deployment.identity.key (installed_app v.number v.deployment provider now) apps) is
+
 pub same_tables : (tables : Tables) (views : List View) (apps : List AppState)
     (contents : List Content) → views ≡ tables.views → apps ≡ tables.apps
     → contents ≡ tables.contents → AreTables tables

@@ -109,7 +109,7 @@ fn installed_entry(key: Key, view: &View, provider: Target, now: u64) -> AppStat
 
 // The view becomes the current one of its application, which gets an entry where it has none. An
 // `Err` changes nothing.
-pub(crate) fn install_app(
+fn install_app(
     alloc: Global,
     keys: &mut List<Text>,
     apps: &mut List<AppState>,
@@ -191,7 +191,7 @@ fn add_view(
 }
 
 // Adds the view with its index and the contents, all or nothing.
-pub(crate) fn add_rows(
+fn add_rows(
     alloc: Global,
     views: &mut List<View>,
     names: &mut List<List<usize>>,
@@ -215,6 +215,49 @@ pub(crate) fn add_rows(
         Err(StateFault::Memory) => {
             cut(alloc, views, count);
             cut(alloc, names, count);
+            Err(StateFault::Memory)
+        }
+    }
+}
+
+// Adds the view with its index and the contents, as the current one of its application, all or
+// nothing.
+pub(crate) fn add_installed(
+    alloc: Global,
+    views: &mut List<View>,
+    names: &mut List<List<usize>>,
+    contents: &mut List<Content>,
+    keys: &mut List<Text>,
+    apps: &mut List<AppState>,
+    view: View,
+    index: List<usize>,
+    new: List<Content>,
+    provider: Target,
+    now: u64,
+) -> Result<(), StateFault>
+    requires long { length names.old ≡ length views.old }
+    requires kept { AreKept keys.old apps.old }
+    ensures views { OnOk result (views.new ≡ views.old ++ view ∷ []) }
+    ensures names { OnOk result (names.new ≡ names.old ++ index ∷ []) }
+    ensures contents { OnOk result (contents.new ≡ contents.old ++ new) }
+    ensures apps { OnOk result (apps.new ≡ with_entry view.deployment.identity.key
+        (installed_app view.number view.deployment provider now) apps.old) }
+    ensures kept { AreKept keys.new apps.new }
+    ensures same_views { OnErr result (views.new ≡ views.old) }
+    ensures same_names { OnErr result (names.new ≡ names.old) }
+    ensures same_contents { OnErr result (contents.new ≡ contents.old) }
+    ensures same_apps { OnErr result (apps.new ≡ apps.old) }
+{
+    let count = views.as_slice().len();
+    let held = contents.as_slice().len();
+    add_rows(alloc, views, names, contents, view, index, new)?;
+    let added = &views.as_slice()[count];
+    match install_app(alloc, keys, apps, added, provider, now) {
+        Ok(()) => Ok(()),
+        Err(StateFault::Memory) => {
+            cut(alloc, views, count);
+            cut(alloc, names, count);
+            cut(alloc, contents, held);
             Err(StateFault::Memory)
         }
     }

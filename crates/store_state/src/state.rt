@@ -1,21 +1,24 @@
 // The tables in memory.
-ghost use Rattle.std.specs.Prelude.{◌≡◌, ◌<◌, length, None, IfOk, OnOk, OnErr};
+ghost use Rattle.std.specs.Prelude.{◌≡◌, ◌<◌, ◌≤◌, ◌+◌, length, vec_capacity, vec_len, AllPairs, None, IfOk, OnOk, OnErr};
+ghost use Rattle.manifests.specs.declared.facts.FileEntry.{FileEntry};
 ghost use Rattle.small_types.specs.declared.limits.TheConstants as limits;
 ghost use Rattle.machine.specs.Entries.{entry_of, with_entry};
 ghost use Rattle.machine.specs.Installed.{installed_app};
 ghost use Rattle.machine.specs.RequireRow.{required};
 ghost use Rattle.store_state.specs.declared.change.Change.TheVariants as change;
 ghost use Rattle.store_state.specs.Change.{Fits, IsPlain, TakesMemory, effect};
+ghost use Rattle.store_state.specs.Named.{IsNameIndex};
 ghost use Rattle.store_state.specs.Tables.{empty};
 
 use crate::entries::{insert_both, new_entry, place_of, raise_at};
-use crate::installing::{add_rows, cut, install_app};
+use crate::installing::add_installed;
 use crate::marks::MarkList;
 use crate::names::index_names;
 use crate::sign::add_places;
 use crate::{Change, Content, LeaseList, View};
 use identity::{Key, Version};
 use machine::AppState;
+use manifests::FileEntry;
 use small_types::{CopyFault, List, PrintFault, Target, Text};
 use std::alloc::{AllocError, AllocFailed, Global};
 use std::marker::Model;
@@ -240,29 +243,49 @@ impl StoreState {
             ≡ effect (change.Install view contents provider now) self.old) }
         ensures err { OnErr result (self.new ≡ self.old) }
     {
-        let count = self.views.as_slice().len();
         let held = self.contents.as_slice().len();
-        let names = index_names(alloc, view.application.files.as_slice())?;
-        self.index.reserve(contents.as_slice().len())?;
-        add_rows(
+        let files = view.application.files.as_slice();
+        let more = contents.as_slice().len();
+        let names = match room_and_names(alloc, &mut self.index, more, files) {
+            Ok(names) => names,
+            Err(StateFault::Memory) => {
+                drop(view);
+                drop(contents);
+                drop(provider);
+                return Err(StateFault::Memory);
+            }
+        };
+        add_installed(
             alloc,
             &mut self.views,
             &mut self.names,
             &mut self.contents,
+            &mut self.keys,
+            &mut self.apps,
             view,
             names,
             contents,
+            provider,
+            now,
         )?;
-        let added = &self.views.as_slice()[count];
-        let done = install_app(alloc, &mut self.keys, &mut self.apps, added, provider, now);
-        if let Err(fault) = done {
-            cut(alloc, &mut self.views, count);
-            cut(alloc, &mut self.names, count);
-            cut(alloc, &mut self.contents, held);
-            return Err(fault);
-        }
         add_places(self.contents.as_slice(), &mut self.index, held);
         self.next_view += 1;
         Ok(())
     }
+}
+
+// The room for so many places more, and the index of files whose names differ.
+fn room_and_names(
+    alloc: Global,
+    places: &mut Vec<usize>,
+    more: usize,
+    files: &[FileEntry],
+) -> Result<List<usize>, StateFault>
+    requires { AllPairs (λ (e f : FileEntry). ¬ (e.name ≡ f.name)) files.now }
+    ensures names { IfOk result (λ index. IsNameIndex files.now index) }
+    ensures room { OnOk result (vec_len places.new + more ≤ vec_capacity places.new) }
+    ensures same { places.new.items ≡ places.old.items }
+{
+    places.reserve(more)?;
+    index_names(alloc, files)
 }

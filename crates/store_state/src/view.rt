@@ -1,5 +1,5 @@
 // What the tables have of views and of their files.
-ghost use Rattle.std.specs.Prelude.{◌≡◌, ◌≢◌, ◌↔◌, [], List, IsTrue, bytes_eq};
+ghost use Rattle.std.specs.Prelude.{◌≡◌, ◌≢◌, ◌↔◌, [], List, IfOk, IsTrue, bytes_eq};
 ghost use Rattle.std.specs.List.{list_any};
 ghost use Rattle.std.specs.Option.{option_copied};
 ghost use Rattle.manifests.specs.declared.facts.FileEntry.{FileEntry};
@@ -68,15 +68,38 @@ pub struct View {
     pub locals: List<LocalFile>,
 }
 
+impl View {
+    // Copies of its manifests.
+    fn copy_manifests(&self, alloc: Global) -> Result<(Deployment, Application), CopyFault>
+        ensures { IfOk result (λ made. (made.0 ≡ self.now.deployment)
+            × (made.1 ≡ self.now.application)) }
+    {
+        let deployment = self.deployment.copy(alloc)?;
+        Ok((deployment, self.application.copy(alloc)?))
+    }
+
+    // Copies of its address, its groups and its data files.
+    fn copy_files(&self, alloc: Global) -> Result<(Target, List<Text>, List<LocalFile>), CopyFault>
+        ensures { IfOk result (λ made. (made.0 ≡ self.now.base) × (made.1 ≡ self.now.groups)
+            × (made.2 ≡ self.now.locals)) }
+    {
+        let base = self.base.copy(alloc)?;
+        let groups = self.groups.copy(alloc)?;
+        Ok((base, groups, self.locals.copy(alloc)?))
+    }
+}
+
 impl Duplicate for View {
     fn copy(&self, alloc: Global) -> Result<Self, CopyFault> {
+        let (deployment, application) = self.copy_manifests(alloc)?;
+        let (base, groups, locals) = self.copy_files(alloc)?;
         Ok(View {
             number: self.number,
-            deployment: self.deployment.copy(alloc)?,
-            application: self.application.copy(alloc)?,
-            base: self.base.copy(alloc)?,
-            groups: self.groups.copy(alloc)?,
-            locals: self.locals.copy(alloc)?,
+            deployment,
+            application,
+            base,
+            groups,
+            locals,
         })
     }
 }
