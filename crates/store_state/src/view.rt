@@ -75,7 +75,13 @@ impl View {
             × (made.1 ≡ self.now.application)) }
     {
         let deployment = self.deployment.copy(alloc)?;
-        Ok((deployment, self.application.copy(alloc)?))
+        match self.application.copy(alloc) {
+            Ok(application) => Ok((deployment, application)),
+            Err(CopyFault::Memory) => {
+                drop(deployment);
+                Err(CopyFault::Memory)
+            }
+        }
     }
 
     // Copies of its address, its groups and its data files.
@@ -87,20 +93,45 @@ impl View {
         let groups = self.groups.copy(alloc)?;
         Ok((base, groups, self.locals.copy(alloc)?))
     }
-}
 
-impl Duplicate for View {
-    fn copy(&self, alloc: Global) -> Result<Self, CopyFault> {
-        let (deployment, application) = self.copy_manifests(alloc)?;
-        let (base, groups, locals) = self.copy_files(alloc)?;
-        Ok(View {
+    // The view of its number with these manifests, and with this address, these groups and these
+    // data files.
+    fn of_copies(
+        &self,
+        manifests: (Deployment, Application),
+        files: (Target, List<Text>, List<LocalFile>),
+    ) -> View
+        ensures { result ≡ record self.now {
+          deployment = manifests.0;
+          application = manifests.1;
+          base = files.0;
+          groups = files.1;
+          locals = files.2;
+        } }
+    {
+        let (deployment, application) = manifests;
+        let (base, groups, locals) = files;
+        View {
             number: self.number,
             deployment,
             application,
             base,
             groups,
             locals,
-        })
+        }
+    }
+}
+
+impl Duplicate for View {
+    fn copy(&self, alloc: Global) -> Result<Self, CopyFault> {
+        let manifests = self.copy_manifests(alloc)?;
+        match self.copy_files(alloc) {
+            Ok(files) => Ok(self.of_copies(manifests, files)),
+            Err(CopyFault::Memory) => {
+                drop(manifests);
+                Err(CopyFault::Memory)
+            }
+        }
     }
 }
 
