@@ -1,4 +1,4 @@
-use Rattle.std.proofs.Common.{◌∙◌, List, ap, length, subst, sym}
+use Rattle.std.proofs.Common.{◌∙◌, List, ap, length, sym}
 use Rattle.store_state.specs.declared.view.Content.{Content}
 use Rattle.store_state.specs.declared.view.View.{View}
 use Rattle.store_state.proofs.Holding.{cut_back, made_apps, read_last}
