@@ -4,7 +4,6 @@ use connections::{Door, MemDoor, MemWire, Wire};
 use outside::Failed;
 use small_types::{Bytes, List, Text};
 use std::alloc::{AllocError, Global};
-use std::process::Abort;
 use std::test::Fail;
 
 // A call of a client's or of a host's connections.
@@ -67,27 +66,33 @@ fn call_wire<W: Wire>(wire: &mut W, host: &Text, call: &Call) -> Result<usize, F
     }
 }
 
-fn assert_wire(rt: &(impl Abort + AllocGlobal), case: &Case) -> Result<(), AllocError> {
-    let alloc = rt.alloc();
+// Whether each call of a client's connections answers what it is to.
+fn wire_answers<W: Wire>(wire: &mut W, host: &Text, case: &Case) -> bool {
+    for (number, call) in case.calls.iter().enumerate() {
+        let got = call_wire(wire, host, call);
+        if !is_answer(case.answers, number, got) {
+            return false;
+        }
+    }
+    true
+}
+
+// Whether the wire has sent what it is to, failed so often, and never for want of memory.
+fn is_wire_left(alloc: Global, wire: &MemWire, case: &Case) -> Result<bool, AllocError> {
+    let sent = are_joined(alloc, wire.sent(), case.sent)?;
+    Ok(sent && wire.faults() == case.faults && wire.starved() == 0)
+}
+
+// Whether the case comes to what it is to on a client's connections.
+fn is_wire(alloc: Global, case: &Case) -> Result<bool, AllocError> {
     let host = Text::from_string(String::from_str(alloc, "host")?);
     let failing = numbers(alloc, &[case.failing])?;
     let mut wire = MemWire::new(alloc, texts(alloc, case.coming)?, failing);
-    for (number, call) in case.calls.iter().enumerate() {
-        let got = call_wire(&mut wire, &host, call);
-        assert!(rt;
-            is_answer(case.answers, number, got),
-            "{}: call {number}",
-            case.failing
-        );
-    }
-    assert!(rt;
-        are_joined(alloc, wire.sent(), case.sent)?,
-        "{}: sent",
-        case.failing
-    );
-    assert!(rt; wire.faults() == case.faults, "{}: faults", case.failing);
-    assert!(rt; wire.starved() == 0, "{}: memory", case.failing);
-    Ok(())
+    let answered = wire_answers(&mut wire, &host, case);
+    drop(host);
+    let left = is_wire_left(alloc, &wire, case);
+    drop(wire);
+    Ok(left? && answered)
 }
 
 fn call_door<D: Door>(door: &mut D, call: &Call) -> Result<usize, Failed> {
@@ -101,27 +106,32 @@ fn call_door<D: Door>(door: &mut D, call: &Call) -> Result<usize, Failed> {
     }
 }
 
-fn assert_door(rt: &(impl Abort + AllocGlobal), case: &Case) -> Result<(), AllocError> {
-    let alloc = rt.alloc();
+// Whether each call of a host's connections answers what it is to.
+fn door_answers<D: Door>(door: &mut D, case: &Case) -> bool {
+    for (number, call) in case.calls.iter().enumerate() {
+        let got = call_door(door, call);
+        if !is_answer(case.answers, number, got) {
+            return false;
+        }
+    }
+    true
+}
+
+// Whether the door has sent what it is to, missed and failed so often, and never for want of memory.
+fn is_door_left(alloc: Global, door: &MemDoor, case: &Case) -> Result<bool, AllocError> {
+    let sent = are_joined(alloc, door.sent(), case.sent)?;
+    let counted = door.missed() == case.missed && door.faults() == case.faults;
+    Ok(sent && counted && door.starved() == 0)
+}
+
+// Whether the case comes to what it is to on a host's connections.
+fn is_door(alloc: Global, case: &Case) -> Result<bool, AllocError> {
     let failing = numbers(alloc, &[case.failing])?;
     let mut door = MemDoor::new(alloc, texts(alloc, case.coming)?, failing);
-    for (number, call) in case.calls.iter().enumerate() {
-        let got = call_door(&mut door, call);
-        assert!(rt;
-            is_answer(case.answers, number, got),
-            "{}: call {number}",
-            case.failing
-        );
-    }
-    assert!(rt;
-        are_joined(alloc, door.sent(), case.sent)?,
-        "{}: sent",
-        case.failing
-    );
-    assert!(rt; door.missed() == case.missed, "{}: missed", case.failing);
-    assert!(rt; door.faults() == case.faults, "{}: faults", case.failing);
-    assert!(rt; door.starved() == 0, "{}: memory", case.failing);
-    Ok(())
+    let answered = door_answers(&mut door, case);
+    let left = is_door_left(alloc, &door, case);
+    drop(door);
+    Ok(left? && answered)
 }
 
 const TWO: &[&[u8]] = &[b"abcdef", b"xyz"];
@@ -256,16 +266,21 @@ const DOORS: &[Case] = &[
 ];
 
 #[test]
-fn connections_work_and_fail_by_number(rt: HostRuntime) -> Result<(), Fail> {
-    for case in BOTH {
-        assert_wire(&rt, case)?;
-        assert_door(&rt, case)?;
+fn wires_work_and_fail_by_number(rt: HostRuntime) -> Result<(), Fail> {
+    for cases in [BOTH, WIRES] {
+        for case in cases {
+            assert!(rt; is_wire(rt.alloc(), case)?, "{}", case.failing);
+        }
     }
-    for case in WIRES {
-        assert_wire(&rt, case)?;
-    }
-    for case in DOORS {
-        assert_door(&rt, case)?;
+    Ok(())
+}
+
+#[test]
+fn doors_work_and_fail_by_number(rt: HostRuntime) -> Result<(), Fail> {
+    for cases in [BOTH, DOORS] {
+        for case in cases {
+            assert!(rt; is_door(rt.alloc(), case)?, "{}", case.failing);
+        }
     }
     Ok(())
 }

@@ -1,9 +1,8 @@
 // What no clause says of disks in memory: that calls succeed, and worked values.
-use crate::made::{bytes, numbers, same};
+use crate::made::{all_right, bytes, numbers, same};
 use disks::{Disk, MemDisk, Pick, StopFault};
 use outside::Failed;
 use std::alloc::{AllocError, Global};
-use std::process::Abort;
 use std::test::Fail;
 
 // A call of a disk and what it answers, or what the disk then has.
@@ -62,25 +61,27 @@ fn answers(alloc: Global, disk: &mut MemDisk, step: &Step) -> bool {
     }
 }
 
-// Asserts each step.
-fn go(rt: &(impl Abort + AllocGlobal), name: &str, disk: &mut MemDisk, steps: &[Step]) {
+// The number of the first step that answers something else.
+fn first_wrong(alloc: Global, disk: &mut MemDisk, steps: &[Step]) -> Option<usize> {
     for (number, step) in steps.iter().enumerate() {
-        assert!(rt; answers(rt.alloc(), disk, step), "{name}: step {number}");
+        if !answers(alloc, disk, step) {
+            return Some(number);
+        }
     }
+    None
 }
 
-// Asserts each step of a disk that begins with those bytes, where the calls with those numbers fail.
+// The same of a disk that begins with those bytes, where the calls with those numbers fail.
 fn begin_and_go(
-    rt: &(impl Abort + AllocGlobal),
-    name: &str,
+    alloc: Global,
     begin: &[u8],
     failing: &[u64],
     steps: &[Step],
-) -> Result<(), AllocError> {
-    let alloc = rt.alloc();
+) -> Result<Option<usize>, AllocError> {
     let mut disk = MemDisk::new(alloc, bytes(alloc, begin)?, numbers(alloc, failing)?);
-    go(rt, name, &mut disk, steps);
-    Ok(())
+    let wrong = first_wrong(alloc, &mut disk, steps);
+    drop(disk);
+    Ok(wrong)
 }
 
 const WORKS: &[Step] = &[
@@ -147,11 +148,20 @@ const STOPS: &[Step] = &[
     Step::TooLate(7, StopFault::LaterThanNow { calls: 6 }),
 ];
 
+// The name, the bytes at the beginning, the calls that fail, and the steps.
+type Case = (&'static str, &'static [u8], &'static [u64], &'static [Step]);
+
+const CASES: &[Case] = &[
+    ("works", b"abc", &[], WORKS),
+    ("fails", b"abc", &[1, 3, 5, 7, 9], FAILS),
+    ("stops", b"abcd", &[6], STOPS),
+];
+
 #[test]
 fn disk_answers_step_by_step(rt: HostRuntime) -> Result<(), Fail> {
-    begin_and_go(&rt, "works", b"abc", &[], WORKS)?;
-    begin_and_go(&rt, "fails", b"abc", &[1, 3, 5, 7, 9], FAILS)?;
-    begin_and_go(&rt, "stops", b"abcd", &[6], STOPS)?;
+    for (name, begin, failing, steps) in CASES {
+        all_right(&rt, name, begin_and_go(rt.alloc(), begin, failing, steps)?);
+    }
     Ok(())
 }
 
@@ -163,13 +173,31 @@ const LEFT: &[Step] = &[
     Step::Left(1, Pick::Kept, b"dc"),
 ];
 
+// Whether a stop of the disk behind its first write leaves one that answers those steps.
+fn leaves_synced(alloc: Global, disk: &mut MemDisk) -> bool {
+    if disk.write_at(1, b"c").is_err() {
+        return false;
+    }
+    match disk.stop(alloc, 1, Pick::Kept) {
+        Ok(mut left) => {
+            let wrong = first_wrong(alloc, &mut left, LEFT);
+            drop(left);
+            wrong.is_none()
+        }
+        Err(_) => false,
+    }
+}
+
+// The same of a new disk, which keeps what it has.
+fn is_left(alloc: Global) -> Result<bool, AllocError> {
+    let mut disk = MemDisk::new(alloc, bytes(alloc, b"ab")?, numbers(alloc, &[])?);
+    let left = leaves_synced(alloc, &mut disk) && same(disk.bytes(), b"ac");
+    drop(disk);
+    Ok(left)
+}
+
 #[test]
 fn a_stopped_disk_begins_synced(rt: HostRuntime) -> Result<(), Fail> {
-    let alloc = rt.alloc();
-    let mut disk = MemDisk::new(alloc, bytes(alloc, b"ab")?, numbers(alloc, &[])?);
-    disk.write_at(1, b"c")?;
-    let mut left = disk.stop(alloc, 1, Pick::Kept)?;
-    go(&rt, "left", &mut left, LEFT);
-    assert!(rt; same(disk.bytes(), b"ac"));
+    assert!(rt; is_left(rt.alloc())?);
     Ok(())
 }

@@ -1,9 +1,8 @@
 // What no clause says of the folder in memory: that calls succeed, and worked values.
-use crate::made::{bytes, numbers, same};
+use crate::made::{all_right, bytes, numbers, same};
 use folders::{Folder, FolderFault, Found, Held, MemFolder, are_distinct};
 use small_types::{Bytes, List, Name};
 use std::alloc::Global;
-use std::process::Abort;
 use std::test::Fail;
 
 // A call of a folder and what it answers, or what is then found.
@@ -114,25 +113,41 @@ fn answers<F: Folder>(alloc: Global, folder: &mut F, buffer: &mut Bytes, step: &
     }
 }
 
-// Asserts each step of a folder with two files, of which the calls with those numbers fail.
-fn run(
-    rt: &(impl Abort + AllocGlobal),
-    name: &str,
+// The number of the first step that answers something else.
+fn first_wrong<F: Folder>(
+    alloc: Global,
+    folder: &mut F,
+    buffer: &mut Bytes,
+    steps: &[Step],
+) -> Option<usize> {
+    for (number, step) in steps.iter().enumerate() {
+        if !answers(alloc, folder, buffer, step) {
+            return Some(number);
+        }
+    }
+    None
+}
+
+// A folder with two files, of which the calls with those numbers fail.
+fn folder_of(alloc: Global, failing: &[u64]) -> Result<MemFolder, FolderFault> {
+    let files = two_files(alloc)?;
+    if !are_distinct(files.as_slice()) {
+        return Err(FolderFault::Memory);
+    }
+    Ok(MemFolder::new(alloc, files, numbers(alloc, failing)?))
+}
+
+// The number of the first step that answers something else in such a folder.
+fn begin_and_go(
+    alloc: Global,
     failing: &[u64],
     steps: &[Step],
-) -> Result<(), FolderFault> {
-    let alloc = rt.alloc();
-    let files = two_files(alloc)?;
-    assert!(rt; are_distinct(files.as_slice()));
-    let mut folder = MemFolder::new(alloc, files, numbers(alloc, failing)?);
+) -> Result<Option<usize>, FolderFault> {
     let mut buffer = bytes(alloc, b"before")?;
-    for (number, step) in steps.iter().enumerate() {
-        assert!(rt;
-            answers(alloc, &mut folder, &mut buffer, step),
-            "{name}: step {number}"
-        );
-    }
-    Ok(())
+    let mut folder = folder_of(alloc, failing)?;
+    let wrong = first_wrong(alloc, &mut folder, &mut buffer, steps);
+    drop(folder);
+    Ok(wrong)
 }
 
 const FAILED: FolderFault = FolderFault::Failed;
@@ -182,11 +197,18 @@ const FAILS: &[Step] = &[
     Step::Faults(3),
 ];
 
+// The name, the calls that fail, and the steps.
+const CASES: &[(&str, &[u64], &[Step])] = &[
+    ("works", &[], WORKS),
+    ("buffer", &[3], READS_INTO_A_BUFFER),
+    ("limit", &[5], READS_WITHIN_A_LIMIT),
+    ("fails", &[1, 3, 5], FAILS),
+];
+
 #[test]
 fn folder_answers_step_by_step(rt: HostRuntime) -> Result<(), Fail> {
-    run(&rt, "works", &[], WORKS)?;
-    run(&rt, "buffer", &[3], READS_INTO_A_BUFFER)?;
-    run(&rt, "limit", &[5], READS_WITHIN_A_LIMIT)?;
-    run(&rt, "fails", &[1, 3, 5], FAILS)?;
+    for (name, failing, steps) in CASES {
+        all_right(&rt, name, begin_and_go(rt.alloc(), failing, steps)?);
+    }
     Ok(())
 }

@@ -2,13 +2,12 @@
 ghost use Rattle.std.specs.Prelude.{◌<◌, length, take, IfOk, Ok};
 ghost use Rattle.links.specs.Asked.{AskedOnce};
 
-use crate::made::{bytes, numbers, same};
+use crate::made::{all_right, bytes, numbers, same};
 use links::{
     Basket, BasketFault, Link, LinkFault, Links, MemBasket, MemLink, Page, Single, are_distinct,
 };
 use small_types::{CopyFault, List, Target, Text};
 use std::alloc::{AllocError, Global};
-use std::process::Abort;
 use std::test::Fail;
 
 fn target(alloc: Global, path: &str) -> Result<Target, AllocError> {
@@ -58,13 +57,18 @@ fn ask_and_take<K: Link>(
     Ok((length, n))
 }
 
+// Whether a link that is asked for the page gives it.
+fn is_asked_once(alloc: Global) -> Result<bool, LinkFault> {
+    let target = target(alloc, "/a")?;
+    let mut link = two_pages(alloc, 0)?;
+    let got = ask_and_take(alloc, &mut link, &target, &mut [b'.'; 4]);
+    drop(link);
+    Ok(got == Ok((5, 4)))
+}
+
 #[test]
 fn link_is_asked_once(rt: HostRuntime) -> Result<(), Fail> {
-    let alloc = rt.alloc();
-    let mut link = two_pages(alloc, 0)?;
-    let target = target(alloc, "/a")?;
-    let got = ask_and_take(alloc, &mut link, &target, &mut [b'.'; 4]);
-    assert!(rt; got == Ok((5, 4)));
+    assert!(rt; is_asked_once(rt.alloc())?);
     Ok(())
 }
 
@@ -75,7 +79,7 @@ enum Call {
     Piece,
 }
 
-const CALLS: [Call; 6] = [
+const CALLS: &[Call] = &[
     Call::Ask("/a"),
     Call::Piece,
     Call::Piece,
@@ -101,38 +105,64 @@ fn answer_of<K: Link>(alloc: Global, link: &mut K, call: &Call) -> Result<u64, L
     }
 }
 
-// Asserts what six calls answer where the one of that number fails, and the count of faults by then.
-fn assert_link(
-    rt: &(impl Abort + AllocGlobal),
-    failing: u64,
-    answers: &[Result<u64, LinkFault>; 6],
-    faults: u64,
-) -> Result<(), LinkFault> {
-    let alloc = rt.alloc();
-    let mut link = two_pages(alloc, failing)?;
-    for number in 0..6 {
-        let got = answer_of(alloc, &mut link, &CALLS[number]);
-        assert!(rt; got == answers[number], "{failing}: call {number}");
+// Whether the answer of that number is this one.
+fn is_answer(
+    answers: &[Result<u64, LinkFault>],
+    number: usize,
+    got: Result<u64, LinkFault>,
+) -> bool {
+    match answers.get(number) {
+        Some(want) => got == *want,
+        None => false,
     }
-    assert!(rt; link.faults() == faults, "{failing}: faults");
-    Ok(())
 }
+
+// Whether the six calls answer so.
+fn calls_answer<K: Link>(alloc: Global, link: &mut K, answers: &[Result<u64, LinkFault>]) -> bool {
+    for (number, call) in CALLS.iter().enumerate() {
+        let got = answer_of(alloc, link, call);
+        if !is_answer(answers, number, got) {
+            return false;
+        }
+    }
+    true
+}
+
+// Whether six calls answer so where the one of that number fails, and the link then failed so often.
+fn is_link(
+    alloc: Global,
+    failing: u64,
+    answers: &[Result<u64, LinkFault>],
+    faults: u64,
+) -> Result<bool, LinkFault> {
+    let mut link = two_pages(alloc, failing)?;
+    let is_link = calls_answer(alloc, &mut link, answers) && link.faults() == faults;
+    drop(link);
+    Ok(is_link)
+}
+
+const DOWN: Result<u64, LinkFault> = Err(LinkFault::Down);
+
+const MISSING: Result<u64, LinkFault> = Err(LinkFault::Missing);
+
+// The number of the call that fails, what the calls answer, and how often the link then failed.
+const LINKS: &[(u64, &[Result<u64, LinkFault>], u64)] = &[
+    (0, &[Ok(5), Ok(4), Ok(1), Ok(0), Ok(0), MISSING], 0),
+    (1, &[DOWN, Ok(0), Ok(0), Ok(0), Ok(0), MISSING], 1),
+    (2, &[Ok(5), DOWN, Ok(0), Ok(0), Ok(0), MISSING], 1),
+    (3, &[Ok(5), Ok(4), DOWN, Ok(0), Ok(0), MISSING], 1),
+    (4, &[Ok(5), Ok(4), Ok(1), DOWN, Ok(0), MISSING], 1),
+    (5, &[Ok(5), Ok(4), Ok(1), Ok(0), DOWN, MISSING], 1),
+    (6, &[Ok(5), Ok(4), Ok(1), Ok(0), Ok(0), DOWN], 1),
+];
 
 #[test]
 fn link_works_and_fails_by_number(rt: HostRuntime) -> Result<(), Fail> {
-    let down = Err(LinkFault::Down);
-    let missing = Err(LinkFault::Missing);
-    let table = [
-        (0, [Ok(5), Ok(4), Ok(1), Ok(0), Ok(0), missing], 0),
-        (1, [down, Ok(0), Ok(0), Ok(0), Ok(0), missing], 1),
-        (2, [Ok(5), down, Ok(0), Ok(0), Ok(0), missing], 1),
-        (3, [Ok(5), Ok(4), down, Ok(0), Ok(0), missing], 1),
-        (4, [Ok(5), Ok(4), Ok(1), down, Ok(0), missing], 1),
-        (5, [Ok(5), Ok(4), Ok(1), Ok(0), down, missing], 1),
-        (6, [Ok(5), Ok(4), Ok(1), Ok(0), Ok(0), down], 1),
-    ];
-    for (failing, answers, faults) in &table {
-        assert_link(&rt, *failing, answers, *faults)?;
+    for (failing, answers, faults) in LINKS {
+        assert!(rt;
+            is_link(rt.alloc(), *failing, answers, *faults)?,
+            "{failing}"
+        );
     }
     Ok(())
 }
@@ -166,29 +196,49 @@ fn was_asked(asked: &List<Target>, place: usize, path: &str) -> bool {
     }
 }
 
-#[test]
-fn one_link_is_links(rt: HostRuntime) -> Result<(), Fail> {
-    let alloc = rt.alloc();
+// A path that the first link is asked for, and the lengths that come.
+const ASKED: &[(&str, Result<(u64, usize), LinkFault>)] = &[
+    ("/a", Ok((5, 4))),
+    ("/a", Err(LinkFault::Down)),
+    ("/c", Err(LinkFault::Missing)),
+];
+
+// Whether the first link answers those paths so.
+fn first_answers<L: Links>(alloc: Global, links: &mut L) -> bool {
+    for (path, want) in ASKED {
+        if ask_first(alloc, links, path) != *want {
+            return false;
+        }
+    }
+    true
+}
+
+// Whether the links were asked for those paths and for no other.
+fn were_asked(asked: &List<Target>) -> bool {
+    for (place, (path, _)) in ASKED.iter().enumerate() {
+        if !was_asked(asked, place, path) {
+            return false;
+        }
+    }
+    asked.as_slice().len() == ASKED.len()
+}
+
+// Whether one link does as links what it is to.
+fn is_links(alloc: Global) -> Result<bool, LinkFault> {
     let mut links = Single {
         link: two_pages(alloc, 3)?,
         asked: List::from_vec(Vec::new(alloc)),
     };
-    let table = [
-        ("/a", Ok((5, 4))),
-        ("/a", Err(LinkFault::Down)),
-        ("/c", Err(LinkFault::Missing)),
-    ];
-    for (path, want) in table {
-        assert!(rt; ask_first(alloc, &mut links, path) == want, "{path}");
-    }
-    assert!(rt; failures_of(&mut links) == (1, 1, 1));
-    for place in 0..3 {
-        assert!(rt;
-            was_asked(&links.asked, place, table[place].0),
-            "asked {place}"
-        );
-    }
-    assert!(rt; links.asked.as_slice().len() == 3);
+    let answered = first_answers(alloc, &mut links);
+    let counted = failures_of(&mut links) == (1, 1, 1);
+    let asked = were_asked(&links.asked);
+    drop(links);
+    Ok(answered && counted && asked)
+}
+
+#[test]
+fn one_link_is_links(rt: HostRuntime) -> Result<(), Fail> {
+    assert!(rt; is_links(rt.alloc())?);
     Ok(())
 }
 
@@ -229,13 +279,31 @@ const BASKET: &[Step] = &[
     Step::Bytes(b"eg"),
 ];
 
+// The number of the first step that answers something else.
+fn first_wrong(basket: &mut MemBasket) -> Option<usize> {
+    for (number, step) in BASKET.iter().enumerate() {
+        if !answers(basket, step) {
+            return Some(number);
+        }
+    }
+    None
+}
+
+// The same of a basket whose third call fails, or the count of steps where it failed more than once.
+fn begin_and_go(alloc: Global) -> Result<Option<usize>, AllocError> {
+    let mut basket = MemBasket::new(alloc, bytes(alloc, b"ab")?, numbers(alloc, &[3])?);
+    let wrong = first_wrong(&mut basket);
+    let faults = basket.faults();
+    drop(basket);
+    Ok(if faults == 1 {
+        wrong
+    } else {
+        Some(BASKET.len())
+    })
+}
+
 #[test]
 fn basket_works_and_fails_by_number(rt: HostRuntime) -> Result<(), Fail> {
-    let alloc = rt.alloc();
-    let mut basket = MemBasket::new(alloc, bytes(alloc, b"ab")?, numbers(alloc, &[3])?);
-    for (number, step) in BASKET.iter().enumerate() {
-        assert!(rt; answers(&mut basket, step), "step {number}");
-    }
-    assert!(rt; basket.faults() == 1);
+    all_right(&rt, "basket", begin_and_go(rt.alloc())?);
     Ok(())
 }

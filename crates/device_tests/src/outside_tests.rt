@@ -1,7 +1,7 @@
 // What no clause says of sources and sinks in memory: that calls succeed, and worked values.
 ghost use Rattle.outside.specs.MemSink.{sink_taken, sink_faults};
 
-use crate::made::{bytes, numbers, same};
+use crate::made::{all_right, bytes, numbers, same};
 use outside::{Failed, MemSink, MemSource, Sink, Source, read_all, write_all};
 use std::alloc::{AllocError, Global};
 use std::test::Fail;
@@ -23,15 +23,27 @@ const READINGS: &[Reading] = &[
     (Err(Failed), b"", 2),
 ];
 
+// Whether the source gives that and is then so.
+fn is_reading(source: &mut MemSource, reading: &Reading) -> bool {
+    let (want, left, faults) = reading;
+    read_four(source) == *want && same(source.left(), left) && source.faults() == *faults
+}
+
+// The number of the first reading that the source does not give.
+fn wrong_reading(source: &mut MemSource) -> Option<usize> {
+    for (number, reading) in READINGS.iter().enumerate() {
+        if !is_reading(source, reading) {
+            return Some(number);
+        }
+    }
+    None
+}
+
 #[test]
 fn source_gives_its_bytes_and_fails_by_number(rt: HostRuntime) -> Result<(), Fail> {
     let alloc = rt.alloc();
     let mut source = MemSource::new(alloc, bytes(alloc, b"abcdef")?, numbers(alloc, &[2, 5])?);
-    for (number, (want, left, faults)) in READINGS.iter().enumerate() {
-        assert!(rt; read_four(&mut source) == *want, "read {number}");
-        assert!(rt; same(source.left(), left), "left {number}");
-        assert!(rt; source.faults() == *faults, "faults {number}");
-    }
+    all_right(&rt, "read", wrong_reading(&mut source));
     Ok(())
 }
 
@@ -68,15 +80,27 @@ const WRITINGS: &[Writing] = &[
     (b"fg", Ok(()), b"abcfg", 1),
 ];
 
+// Whether the sink takes that and is then so.
+fn is_writing(sink: &mut MemSink, writing: &Writing) -> bool {
+    let (piece, want, taken, faults) = writing;
+    write_all(sink, piece) == *want && same(sink.taken(), taken) && sink.faults() == *faults
+}
+
+// The number of the first writing that the sink does not take so.
+fn wrong_writing(sink: &mut MemSink) -> Option<usize> {
+    for (number, writing) in WRITINGS.iter().enumerate() {
+        if !is_writing(sink, writing) {
+            return Some(number);
+        }
+    }
+    None
+}
+
 #[test]
 fn sink_keeps_what_it_takes_and_fails_by_number(rt: HostRuntime) -> Result<(), Fail> {
     let alloc = rt.alloc();
     let mut sink = MemSink::new(alloc, bytes(alloc, b"a")?, numbers(alloc, &[2])?);
-    for (number, (piece, want, taken, faults)) in WRITINGS.iter().enumerate() {
-        assert!(rt; write_all(&mut sink, piece) == *want, "write {number}");
-        assert!(rt; same(sink.taken(), taken), "taken {number}");
-        assert!(rt; sink.faults() == *faults, "faults {number}");
-    }
+    all_right(&rt, "write", wrong_writing(&mut sink));
     Ok(())
 }
 
@@ -107,14 +131,19 @@ fn writes(sink: &mut Narrow, piece: &[u8], want: Result<(), Failed>) -> bool {
     write_all(sink, piece) == want
 }
 
+// Whether a sink whose sixth call fails keeps what it took before.
+fn keeps_pieces(sink: &mut Narrow) -> bool {
+    writes(sink, b"abc", Ok(()))
+        && writes(sink, b"defg", Err(Failed))
+        && same(sink.inner.taken(), b"abcde")
+        && sink.faults() == 1
+}
+
 #[test]
 fn writing_all_stops_at_a_failed_piece(rt: HostRuntime) -> Result<(), Fail> {
     let alloc = rt.alloc();
     let inner = MemSink::new(alloc, bytes(alloc, b"")?, numbers(alloc, &[6])?);
     let mut sink = Narrow { inner };
-    assert!(rt; writes(&mut sink, b"abc", Ok(())));
-    assert!(rt; writes(&mut sink, b"defg", Err(Failed)));
-    assert!(rt; same(sink.inner.taken(), b"abcde"));
-    assert!(rt; sink.faults() == 1);
+    assert!(rt; keeps_pieces(&mut sink));
     Ok(())
 }
