@@ -14,7 +14,7 @@ use std::fmt;
 
 /// Why a publish is refused, in the order in which the refusals are judged. Names of input files
 /// are those below `from`.
-#[derive(Drop, Debug, PartialEq, Eq)]
+#[derive(Drop)]
 pub enum PublishFault {
     /// The word is `name` or `entry` where that is empty, has more than 100 bytes or a byte that is no letter, digit,
     /// `.`, `_`, `-` or space; `to` where `from` and `to` are equal or one lies below the other; `entry` where the name
@@ -53,50 +53,74 @@ pub enum PublishFault {
     Memory,
 }
 
+// Writes the words around what a fault names.
+fn around<W: fmt::Write>(
+    f: &mut fmt::Formatter<W>,
+    before: &str,
+    named: &str,
+    behind: &str,
+) -> fmt::Result {
+    write!(f, "{before}{named}{behind}")
+}
+
+// Writes what a minimum above the version is.
+fn minimum_above<W: fmt::Write>(f: &mut fmt::Formatter<W>, minimum: &Version) -> fmt::Result {
+    let Version { a, b, c, d } = minimum;
+    write!(f, "the minimum {a}.{b}.{c}.{d} is above the version")
+}
+
+// Writes how long what is too long is.
+fn too_long<W: fmt::Write>(f: &mut fmt::Formatter<W>, named: &str, length: u64) -> fmt::Result {
+    write!(f, "{named} is too long, {length} bytes")
+}
+
+impl PublishFault {
+    // The words of a fault that names nothing.
+    fn words(&self) -> &'static str {
+        match self {
+            PublishFault::ReadFault => "the folder failed at a reading",
+            PublishFault::EmptyInput => "there is no file to publish",
+            PublishFault::TooMany {
+                what: Limit::Locals,
+            } => "too many data files",
+            PublishFault::TooMany { .. } => "too many files",
+            PublishFault::NoEntryPoint => {
+                "the file that is started is not published, or has a mark"
+            }
+            PublishFault::WriteFault => "the folder failed at a writing",
+            _ => "out of memory",
+        }
+    }
+}
+
 impl fmt::Display for PublishFault {
     fn fmt<W: fmt::Write>(&self, f: &mut fmt::Formatter<W>) -> fmt::Result {
         match self {
             PublishFault::BadName { word } => {
-                write!(f, "the option {} can't be published", word.as_str())
+                around(f, "the option ", word.as_str(), " can't be published")
             }
-            PublishFault::MinimumAbove { minimum } => write!(
-                f,
-                "the minimum {}.{}.{}.{} is above the version",
-                minimum.a, minimum.b, minimum.c, minimum.d
-            ),
-            PublishFault::ReadFault => write!(f, "the folder failed at a reading"),
+            PublishFault::MinimumAbove { minimum } => minimum_above(f, minimum),
             PublishFault::VersionExists { file } => {
-                write!(f, "the version has a file, {}", file.as_str())
+                around(f, "the version has a file, ", file.as_str(), "")
             }
-            PublishFault::EmptyInput => write!(f, "there is no file to publish"),
-            PublishFault::BadInput { file } => write!(f, "{} can't be written", file.as_str()),
-            PublishFault::TooMany {
-                what: Limit::Locals,
-            } => write!(f, "too many data files"),
-            PublishFault::TooMany { .. } => write!(f, "too many files"),
-            PublishFault::NoEntryPoint => {
-                write!(
-                    f,
-                    "the file that is started is not published, or has a mark"
-                )
-            }
-            PublishFault::BadMark { file } => {
-                write!(
-                    f,
-                    "a mark names {}, which is no file, or is marked",
-                    file.as_str()
-                )
-            }
-            PublishFault::FileTooLong { file, length } => {
-                write!(f, "{} is too long, {length} bytes", file.as_str())
-            }
-            PublishFault::ManifestTooLong { length } => {
-                write!(f, "a manifest is too long, {length} bytes")
-            }
-            PublishFault::WriteFault => write!(f, "the folder failed at a writing"),
-            PublishFault::Changed { file, .. } => write!(f, "{} changed", file.as_str()),
-            PublishFault::Memory => write!(f, "out of memory"),
+            PublishFault::BadInput { file } => around(f, "", file.as_str(), " can't be written"),
+            PublishFault::BadMark { file } => around(
+                f,
+                "a mark names ",
+                file.as_str(),
+                ", which is no file, or is marked",
+            ),
+            PublishFault::FileTooLong { file, length } => too_long(f, file.as_str(), *length),
+            PublishFault::ManifestTooLong { length } => too_long(f, "a manifest", *length),
+            PublishFault::Changed { file, .. } => around(f, "", file.as_str(), " changed"),
+            _ => f.write_str(self.words()),
         }
+    }
+}
+
+impl fmt::Debug for PublishFault {
+    fn fmt<W: fmt::Write>(&self, f: &mut fmt::Formatter<W>) -> fmt::Result {
+        fmt::Display::fmt(self, f)
     }
 }
 

@@ -18,7 +18,7 @@ use crate::PublishFault;
 use crate::copies::{copy_files, put_file, put_new};
 use crate::entries::read_entries;
 use crate::names::list_names;
-use crate::release::{ReleaseTexts, manifests_of};
+use crate::release::{ReleaseTexts, key_of, manifests_of};
 use folders::Folder;
 use identity::{Key, Version};
 use publish_plan::{Options, Plan, check_options, plan};
@@ -26,7 +26,7 @@ use small_types::Name;
 use std::alloc::Global;
 
 /// What was published.
-#[derive(Drop, Debug, PartialEq, Eq)]
+#[derive(Drop)]
 pub struct Published {
     /// The key of the deployment.
     pub key: Key,
@@ -92,7 +92,7 @@ fn publish_names<F: Folder>(
     let release = manifests_of(alloc, options, entries)?;
     write_release(alloc, &plan, &release, folder)?;
     Ok(Published {
-        key: release.key,
+        key: key_of(release),
         version: options.version,
         files: plan.files.as_slice().len() as u64,
     })

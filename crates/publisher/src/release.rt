@@ -6,14 +6,16 @@ ghost use Rattle.manifests.specs.FileLists.{AreFiles};
 ghost use Rattle.manifest_writer.specs.Applications.{application_text as application_text_of};
 ghost use Rattle.manifests.specs.Facts.{AreApplicationFacts, IsFile};
 ghost use Rattle.publish_plan.specs.Early.{early_of};
+ghost use Rattle.publish_plan.specs.Places.{codebase};
 ghost use Rattle.publisher.specs.declared.fault.PublishFault.TheVariants.{Memory};
 ghost use Rattle.publisher.specs.Faults.{IsManifestFault};
 ghost use Rattle.publisher.specs.Options.{IsPublishable};
 ghost use Rattle.publisher.specs.Outcome.{Gives};
-ghost use Rattle.publisher.specs.Publication.{application_identity as application_identity_of, application_of as application_with, deployment_identity as deployment_identity_of, deployment_of as deployment_with, deployment_key as deployment_key_of, deployment_manifest_of, key_named as key_with, limited, manifests_of as manifests_with};
+ghost use Rattle.publisher.specs.Publication.{application_identity as application_identity_of, application_of as application_with, deployment_identity as deployment_identity_of, deployment_of as deployment_with, deployment_key as deployment_key_of, deployment_manifest_of, digests_of as digests_in, key_named as key_with, limited, manifests_of as manifests_with};
 
 use crate::PublishFault;
 use crate::entries::digests_of;
+use digest_list::DigestList;
 use identity::{Identity, Key, Version};
 use manifest_writer::{write_application, write_deployment};
 use manifests::{Application, Deployment, FileEntry};
@@ -124,6 +126,32 @@ fn application_manifest(alloc: Global, application: &Application) -> Result<Byte
     Ok(write_application(alloc, application)?)
 }
 
+// The address that updates come from, and that of the application manifest in that of the
+// deployment.
+fn places_of(alloc: Global, options: &Options) -> Result<(Option<Text>, Text), PublishFault>
+    ensures provider { IfOk result (λ places. places.0 ≡ options.now.provider) }
+    ensures codebase { IfOk result (λ places. places.1 ≡ codebase options.now) }
+    ensures memory { OnErr result (result ≡ Err Memory) }
+{
+    let provider = options.provider.copy(alloc)?;
+    Ok((provider, codebase_of(alloc, options)?))
+}
+
+// The identity of the application, and the digests of its manifest with this text.
+fn app_of(
+    alloc: Global,
+    options: &Options,
+    text: &[u8],
+) -> Result<(Identity, DigestList), PublishFault>
+    ensures identity { IfOk result (λ app. app.0 ≡ application_identity_of options.now) }
+    ensures digests { IfOk result (λ app. app.1 ≡ digests_in text.now) }
+    ensures sized { IfOk result (λ app. All IsSized app.1) }
+    ensures memory { OnErr result (result ≡ Err Memory) }
+{
+    let identity = application_identity(alloc, options)?;
+    Ok((identity, digests_of(alloc, text)?))
+}
+
 // The deployment of the application manifest with this text.
 fn deployment_of(alloc: Global, options: &Options, text: &[u8]) -> Result<Deployment, PublishFault>
     ensures deployment { IfOk result
@@ -132,18 +160,28 @@ fn deployment_of(alloc: Global, options: &Options, text: &[u8]) -> Result<Deploy
     ensures numbers { IfOk result (λ deployment. IsVersion deployment.identity.version) }
     ensures memory { OnErr result (result ≡ Err Memory) }
 {
+    let identity = deployment_identity(alloc, options)?;
+    let (provider, codebase) = places_of(alloc, options)?;
+    let (app, app_list) = app_of(alloc, options, text)?;
     Ok(Deployment {
-        identity: deployment_identity(alloc, options)?,
+        identity,
         install: true,
         minimum: options.minimum,
         mapped: options.mapped,
         rule: options.rule,
-        provider: options.provider.copy(alloc)?,
-        codebase: codebase_of(alloc, options)?,
-        app: application_identity(alloc, options)?,
+        provider,
+        codebase,
+        app,
         app_size: text.len() as u64,
-        app_list: digests_of(alloc, text)?,
+        app_list,
     })
+}
+
+// The key of the deployment.
+fn into_key(deployment: Deployment) -> Key
+    ensures { result ≡ deployment.identity.key }
+{
+    deployment.identity.key
 }
 
 // The text of the deployment manifest, and the key that it names.
@@ -161,8 +199,38 @@ fn deployment_manifest(
     ensures fault { IfErr result IsManifestFault }
 {
     let deployment = deployment_of(alloc, options, text)?;
-    let text = write_deployment(alloc, &deployment, &options.publisher, &options.name)?;
-    Ok((text, deployment.identity.key))
+    match write_deployment(alloc, &deployment, &options.publisher, &options.name) {
+        Ok(text) => Ok((text, into_key(deployment))),
+        Err(fault) => Err(PublishFault::from(fault)),
+    }
+}
+
+// The files of the application.
+fn into_files(application: Application) -> List<FileEntry>
+    ensures { result ≡ application.files }
+{
+    application.files
+}
+
+// The text of the application manifest of these files, and the files.
+fn application_text(
+    alloc: Global,
+    options: &Options,
+    entries: List<FileEntry>,
+) -> Result<(Bytes, List<FileEntry>), PublishFault>
+    requires fit { early_of options.now ≡ None }
+    requires files { AreFiles entries }
+    requires each { All IsFile entries }
+    ensures exact { Gives (λ made. made.0) result
+        (limited (application_text_of (application_with options.now entries))) }
+    ensures entries { IfOk result (λ made. made.1 ≡ entries) }
+    ensures fault { IfErr result IsManifestFault }
+{
+    let application = application_of(alloc, options, entries)?;
+    match application_manifest(alloc, &application) {
+        Ok(text) => Ok((text, into_files(application))),
+        Err(fault) => Err(fault),
+    }
 }
 
 /// The manifests of an application that has these files.
@@ -180,13 +248,19 @@ pub(crate) fn manifests_of(
     ensures entries { IfOk result (λ release. release.entries ≡ entries) }
     ensures fault { IfErr result IsManifestFault }
 {
-    let application = application_of(alloc, options, entries)?;
-    let text = application_manifest(alloc, &application)?;
-    let (deployment, key) = deployment_manifest(alloc, options, text.as_slice())?;
+    let (application, entries) = application_text(alloc, options, entries)?;
+    let (deployment, key) = deployment_manifest(alloc, options, application.as_slice())?;
     Ok(ReleaseTexts {
         key,
-        entries: application.files,
-        application: text,
+        entries,
+        application,
         deployment,
     })
+}
+
+/// The key that the deployment manifest of a release names.
+pub(crate) fn key_of(release: ReleaseTexts) -> Key
+    ensures { result ≡ release.key }
+{
+    release.key
 }

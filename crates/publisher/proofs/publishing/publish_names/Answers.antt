@@ -127,4 +127,4 @@ returns-clause-told g c = λ told.
     }
 
 pub returns-clause-answer : goal.returns-clause-answer
-returns-clause-answer g c = record { key = c.in_ok-release.ensures.key; version = refl }
+returns-clause-answer g c = record { key = c.key_of.ensures ∙ c.in_ok-release.ensures.key; version = refl }
