@@ -64,9 +64,27 @@ fn read_install(alloc: Global, bytes: &[u8], place: usize) -> Result<(Change, us
     ensures fault { IfErr result (IsWithin (length bytes.now)) }
 {
     let (view, next) = view_here(alloc, bytes, place)?;
-    let (contents, next) = read_list::<ContentField>(alloc, bytes, next, FILE_COUNT_LIMIT)?;
-    let (provider, next) = read_target(alloc, bytes, next)?;
-    let (now, next) = read_u64(bytes, next)?;
+    let (contents, next) = match read_list::<ContentField>(alloc, bytes, next, FILE_COUNT_LIMIT) {
+        Ok(found) => found,
+        Err(fault) => {
+            drop(view);
+            return Err(fault);
+        }
+    };
+    let (provider, next) = match read_target(alloc, bytes, next) {
+        Ok(found) => found,
+        Err(fault) => {
+            drop(view);
+            return Err(fault);
+        }
+    };
+    let (now, next) = match read_u64(bytes, next) {
+        Ok(found) => found,
+        Err(fault) => {
+            drop(view);
+            return Err(fault);
+        }
+    };
     let change = Change::Install {
         view,
         contents,
@@ -241,6 +259,7 @@ fn read_all(alloc: Global, bytes: &[u8]) -> Result<Change, CodecFault>
 {
     let (change, next) = read_change(alloc, bytes)?;
     if next != bytes.len() {
+        drop(change);
         return Err(bad(next));
     }
     Ok(change)

@@ -86,10 +86,37 @@ pub(crate) fn view_here(
 {
     let (number, next) = read_u64(bytes, place)?;
     let (deployment, next) = read_deployment(alloc, bytes, next)?;
-    let (application, next) = read_application(alloc, bytes, next)?;
-    let (base, next) = read_target(alloc, bytes, next)?;
-    let (groups, next) = read_list::<TextField>(alloc, bytes, next, FILE_COUNT_LIMIT)?;
-    let (locals, next) = read_list::<LocalField>(alloc, bytes, next, FILE_COUNT_LIMIT)?;
+    let (application, next) = match read_application(alloc, bytes, next) {
+        Ok(found) => found,
+        Err(fault) => {
+            drop(deployment);
+            return Err(fault);
+        }
+    };
+    let (base, next) = match read_target(alloc, bytes, next) {
+        Ok(found) => found,
+        Err(fault) => {
+            drop(application);
+            drop(deployment);
+            return Err(fault);
+        }
+    };
+    let (groups, next) = match read_list::<TextField>(alloc, bytes, next, FILE_COUNT_LIMIT) {
+        Ok(found) => found,
+        Err(fault) => {
+            drop(application);
+            drop(deployment);
+            return Err(fault);
+        }
+    };
+    let (locals, next) = match read_list::<LocalField>(alloc, bytes, next, FILE_COUNT_LIMIT) {
+        Ok(found) => found,
+        Err(fault) => {
+            drop(application);
+            drop(deployment);
+            return Err(fault);
+        }
+    };
     let view = View {
         number,
         deployment,
