@@ -32,7 +32,9 @@ fn deployment_lines(alloc: Global, bytes: &[u8]) -> Result<(Bytes, End), PrintFa
         Err(fault) => refused(alloc, &fault),
         Ok(deployment) => {
             let mut out = Bytes::from_vec(Vec::new(alloc));
-            write_deployment(alloc, &mut out, &deployment)?;
+            let written = write_deployment(alloc, &mut out, &deployment);
+            drop(deployment);
+            written?;
             Ok((out, End::Done))
         }
     }
@@ -45,7 +47,9 @@ fn application_lines(alloc: Global, bytes: &[u8]) -> Result<(Bytes, End), PrintF
         Err(fault) => refused(alloc, &fault),
         Ok(application) => {
             let mut out = Bytes::from_vec(Vec::new(alloc));
-            write_application(alloc, &mut out, &application)?;
+            let written = write_application(alloc, &mut out, &application);
+            drop(application);
+            written?;
             Ok((out, End::Done))
         }
     }
