@@ -12,7 +12,7 @@ use crate::stopped::{PIECE, Stopped, add_cause, all_links, stopped_basket, stopp
 use causes::Cause;
 use digest_list::{Checker, Difference, DigestList};
 use links::{Basket, Links};
-use small_types::Target;
+use small_types::{CopyFault, Target};
 use std::alloc::Global;
 
 // Takes a piece of the link at the place, checks it, and hands it to the basket. Zero is the end.
@@ -128,8 +128,9 @@ fn file_of<L: Links, B: Basket>(
             found: length,
         })));
     }
-    let Ok(mut checker) = Checker::new(alloc, list, size) else {
-        return Err(Stopped::Memory);
+    let mut checker = match Checker::new(alloc, list, size) {
+        Ok(checker) => checker,
+        Err(CopyFault::Memory) => return Err(Stopped::Memory),
     };
     basket.restart();
     if let Err(stop) = pour(links, place, size, &mut checker, basket) {

@@ -17,9 +17,9 @@ returns-in-None-clause-file g c =
     let same : c.in-Ok.length ≡ c.args.size = omega arith in
     file_given c.args.list.now c.args.size c.in-Ok.length c.args.target.now first asked left c.in-Ok-new.checker c.pour.new.checker
     g.B.Basket.tells (g.B.Basket.taken c.restart.new.self) (g.B.Basket.taken c.pour.new.basket)
-    c.in-Ok.ensures.asks.opens same c.in-Ok.ensures.asks.site c.in_default-pour.ensures.poured c.restart.ensures.empty c.in-Ok-new.ensures.fresh
+    c.in-Ok.ensures.asks.opens same c.in-Ok.ensures.asks.site c.in_default.ensures.poured c.restart.ensures.empty c.in-Ok-new.ensures.fresh
     (λ bytes fed. (c.in-None.ensures.matches c.args.list.now c.args.size bytes fed).0 refl)
-    (c.in_default-pour.ensures.quiet ∙ c.in-Ok.ensures.asks.counts.quiet)
+    (c.in_default.ensures.quiet ∙ c.in-Ok.ensures.asks.counts.quiet)
 
 pub returns-in-Some-clause-stop : goal.returns-in-Some-clause-stop
 returns-in-Some-clause-stop g c =
@@ -29,6 +29,6 @@ returns-in-Some-clause-stop g c =
     let same : c.in-Ok.length ≡ c.args.size = omega arith in
     other_given c.args.list.now c.args.size c.in-Ok.length c.args.target.now first asked left c.in-Ok-new.checker c.pour.new.checker
     g.B.Basket.tells (g.B.Basket.taken c.restart.new.self) (g.B.Basket.taken c.pour.new.basket) c.in-Some.difference
-    c.in-Ok.ensures.asks.opens same c.in-Ok.ensures.asks.site c.in_default-pour.ensures.poured c.in-Ok-new.ensures.fresh
+    c.in-Ok.ensures.asks.opens same c.in-Ok.ensures.asks.site c.in_default.ensures.poured c.in-Ok-new.ensures.fresh
     (λ bytes fed. c.in-Some.ensures.exact c.args.list.now c.args.size bytes fed)
     c.in-Some.ensures.shown
