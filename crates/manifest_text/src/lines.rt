@@ -123,9 +123,7 @@ pub(crate) fn identity_line(
 fn digest_line(alloc: Global, out: &mut Bytes, digest: &Digest) -> Result<(), PrintFault>
     ensures { OnOk result (out.new ≡ out.old ++ spec.digest_line digest.now) }
 {
-    let Ok(value) = digest.print(alloc) else {
-        return Err(PrintFault::Memory);
-    };
+    let value = digest.print(alloc)?;
     begin(out, b"digest")?;
     begin(out, digest.algorithm.name().as_bytes())?;
     out.extend(value.as_bytes())?;

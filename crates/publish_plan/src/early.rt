@@ -19,7 +19,7 @@ fn bad_name(alloc: Global, word: &str) -> PlanFault
         Ok(word) => PlanFault::BadName {
             word: Text::from_string(word),
         },
-        Err(_) => PlanFault::Memory,
+        Err(AllocError) => PlanFault::Memory,
     }
 }
 
