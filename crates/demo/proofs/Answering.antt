@@ -1,5 +1,5 @@
 -- A line of the run: what its command did, and to what it leads.
-use Rattle.std.proofs.Common.{◌≡◌, ◌++◌, ℕ, List, [], ◌∷◌, length, map, Some, Ok, Err, refl, ap, subst, ◌∙◌, arith}
+use Rattle.std.proofs.Common.{◌≡◌, ◌++◌, ℕ, List, [], ◌∷◌, length, map, Some, Ok, Err, Result, IfErr, OnOk, refl, sym, ap, subst, ◌∙◌, arith}
 use Rattle.outside.specs.declared.failed.Failed.{Failed}
 use Rattle.disks.specs.declared.disk.Disk.{Ghosts}
 use Rattle.links.specs.declared.links.Links.{Ghosts as LinksGhosts}
@@ -21,17 +21,18 @@ use Rattle.machine.specs.Words.{IsCommand}
 use Rattle.machine.proofs.Stepping.{step_sound}
 use Rattle.store_state.specs.Shows.{Shows}
 use Rattle.updater.specs.declared.updater.Updater.{Updater}
-use Rattle.updater.specs.Commanded.{Answered, Commanded, SoundFor}
+use Rattle.updater.specs.Commanded.{Answered, Commanded, CommandedBehind, SoundFor}
 use Rattle.updater.specs.Updater.{tables_of}
 use Rattle.generated_release.specs.declared.release.Release.{Release}
 use Rattle.generated_release.specs.Options.{number_of, url_of, version_of}
 use Rattle.generated_release.specs.Published.{ArePublished}
+use Rattle.demo.specs.declared.fault.DemoFault.{DemoFault}
 use Rattle.demo.specs.declared.fault.DemoFault.TheVariants.{DiskFault}
 use Rattle.demo.specs.declared.site.Site.{Site}
 use Rattle.demo.specs.declared.summary.Installed.{Installed}
-use Rattle.demo.specs.Parts.{Goes, IsAsPublished, Reaches, Replies}
+use Rattle.demo.specs.Parts.{Goes, IsAsPublished, IsOther, Reaches, Replies}
 use Rattle.demo.specs.Steps.{Answers, Installs, IsSite, event_of, installed_reply}
-use Rattle.demo.proofs.Touching.{with_answer}
+use Rattle.demo.proofs.Touching.{fails, with_answer, with_other}
 use Rattle.demo.proofs.Urls.{is_url}
 
 -- a sound store is one for each command
@@ -43,18 +44,31 @@ sound_for _ store sound = tt
 module _ {D L : Type 0} (on : Ghosts D) (net : LinksGhosts L) (command : Command)
     (updater : Updater) (disk : D) (links : L) (updater_new : Updater) (disk_new : D)
     (links_new : L) where
+  -- it heard its texts behind none
+  pub alone : (none heard : List (List ℕ)) (result : Result Reply Failed) → none ≡ []
+      → CommandedBehind on net 0 none heard command updater disk links result updater_new disk_new
+      links_new
+      → Commanded on net 0 heard command updater disk links result updater_new disk_new links_new
+  alone none heard result empty there =
+      let same : heard ≡ there.texts = there.behind
+      ∙ ap (λ (before : List (List ℕ)). before ++ there.texts) empty in
+      subst (λ (texts : List (List ℕ)). Commanded on net 0 texts command updater disk links result
+      updater_new disk_new links_new) (sym same) there.commanded
+
   pub replied : (heard : Heard) (reply : Reply)
       → Commanded on net 0 heard.texts command updater disk links (Ok reply)
       updater_new disk_new links_new
       → Replies on net command updater disk links (Ok (heard, reply)) updater_new disk_new links_new
   replied heard reply commanded = record {
-    line = λ old holds sound. commanded.answered old holds (sound_for command old.store sound);
+    line = λ tells old holds sound.
+        commanded.answered tells old holds (sound_for command old.store sound);
     touches = record {
       told = commanded.told;
       later = commanded.later;
       count = commanded.cause.later;
       cause = λ is. absurd (cc (is));
       quiet = λ other. commanded.cause.quiet;
+      store = λ tells is. cc (is);
     };
   }
 
@@ -62,13 +76,14 @@ module _ {D L : Type 0} (on : Ghosts D) (net : LinksGhosts L) (command : Command
       → Commanded on net 0 heard command updater disk links (Err why) updater_new disk_new links_new
       → Replies on net command updater disk links (Err DiskFault) updater_new disk_new links_new
   failed heard why commanded = record {
-    line = λ old holds sound. tt;
+    line = λ tells old holds sound. tt;
     touches = record {
       told = commanded.told;
       later = commanded.later;
       count = commanded.cause.later;
       cause = λ is. commanded.cause.rose;
       quiet = λ other. absurd (other refl);
+      store = λ tells is. cc (is);
     };
   }
 
@@ -100,19 +115,19 @@ module _ {D L : Type 0} (on : Ghosts D) (net : LinksGhosts L) (command : Command
     (updater : Updater) (disk : D) (links : L) (updater_new : Updater) (disk_new : D)
     (links_new : L) where
   -- a command that hears nothing was answered so
-  pub goes : {T : Type 0} (x : T) (wanted : Command) (heard : Heard) (reply said : Reply)
+  goes : {T : Type 0} (x : T) (wanted : Command) (heard : Heard) (reply said : Reply)
       → ((shape : Shape) (texts : List (List ℕ)) → Hears shape command texts → texts ≡ [])
       → IsCommand command → command ≡ wanted
       → Replies on net command updater disk links (Ok (heard, reply)) updater_new disk_new links_new
       → reply ≡ said
       → Goes on (λ (_ : T). Answers wanted [] said) updater disk (Ok x) updater_new disk_new
   goes x wanted heard reply said none is same replies says_so = record {
-    leads = λ old holds sound.
+    leads = λ tells old holds sound.
         let done : Answered on net 0 heard.texts command disk links old reply updater_new disk_new
-        links_new = replies.line old holds sound in
+        links_new = replies.line tells old holds sound in
         let bare : Answered on net 0 [] command disk links old reply updater_new disk_new links_new =
         subst (λ (texts : List (List ℕ)). Answered on net 0 texts command disk links old reply
-        updater_new disk_new links_new) (none (shape_of old.store) heard.texts done.hears) done in
+        updater_new disk_new links_new) (none (shape_of old) heard.texts done.hears) done in
         let asked : Answered on net 0 [] wanted disk links old reply updater_new disk_new links_new =
         subst (λ (c : Command). Answered on net 0 [] c disk links old reply updater_new disk_new
         links_new) same bare in
@@ -123,6 +138,23 @@ module _ {D L : Type 0} (on : Ghosts D) (net : LinksGhosts L) (command : Command
         (subst IsCommand same is) sound;
     touches = with_answer on x replies.touches;
   }
+
+module _ {D L : Type 0} (on : Ghosts D) (net : LinksGhosts L) (command : Command)
+    (updater : Updater) (disk : D) (links : L) (updater_new : Updater) (disk_new : D)
+    (links_new : L) where
+  -- it was answered so, or the line ends by a fault that says how it was answered
+  pub judged : {T : Type 0} (result : Result T DemoFault) (wanted : Command) (heard : Heard)
+      (reply said : Reply)
+      → ((shape : Shape) (texts : List (List ℕ)) → Hears shape command texts → texts ≡ [])
+      → IsCommand command → command ≡ wanted
+      → Replies on net command updater disk links (Ok (heard, reply)) updater_new disk_new links_new
+      → OnOk result (reply ≡ said) → IfErr result IsOther
+      → Goes on (λ (_ : T). Answers wanted [] said) updater disk result updater_new disk_new
+  judged (Ok x) wanted heard reply said none is same replies says_so other =
+      goes on net command updater disk links updater_new disk_new links_new x wanted heard reply said
+      none is same replies says_so
+  judged (Err fault) wanted heard reply said none is same replies says_so other =
+      fails on (with_other on fault other replies.touches)
 
 module _ {D L : Type 0} (on : Ghosts D) (net : LinksGhosts L) (seed : ℕ) (release : Release)
     (updater : Updater) (disk : D) (links : L) (updater_new : Updater) (disk_new : D)
@@ -175,10 +207,10 @@ module _ {D L : Type 0} (on : Ghosts D) (net : LinksGhosts L) (seed : ℕ) (rele
       → on.left_at disk_new (on.moment disk_new) (on.seen disk_new)
       → Goes on (Installs seed release) updater disk (Ok installed) updater_new disk_new
   installs site said installed is unasked replies heard asked blocks seen = record {
-    leads = λ old holds sound.
+    leads = λ tells old holds sound.
         let texts = site.deployment ∷ site.application ∷ [] in
         let done : Answered on net 0 said.0.texts (Install (url_of release)) disk links old said.1
-        updater_new disk_new links_new = replies.line old holds sound in
+        updater_new disk_new links_new = replies.line tells old holds sound in
         let told : Answered on net 0 texts (Install (url_of release)) disk links old said.1
         updater_new disk_new links_new = subst (λ (ts : List (List ℕ)).
         Answered on net 0 ts (Install (url_of release)) disk links old said.1 updater_new

@@ -29,10 +29,11 @@ module _ {D : Type 0} (on : Ghosts D) where
       → Goes on (λ (_ : S). Launches) v b (Ok done) w c
       → Goes on (Begun seed) u a (Ok installed) w c
   begun seed installed done u v w a b c one launch = record {
-    leads = λ old holds sound.
-        let first : Reaches on (Installs seed One installed old) v b = one.leads old holds sound in
+    leads = λ tells old holds sound.
+        let first : Reaches on (Installs seed One installed old) v b =
+        one.leads (launch.touches.told tells) old holds sound in
         let then : Reaches on (Launches first.session) w c =
-        launch.leads first.session first.holds first.sound in
+        launch.leads tells first.session first.holds first.sound in
         record {
           session = then.session;
           is = record { first = first.session; one = first.is; launch = then.is };
@@ -49,12 +50,14 @@ module _ {D : Type 0} (on : Ghosts D) where
       → Goes on (λ (_ : S). Cleans 1) w c (Ok three) x d
       → Goes on (λ (_ : S). Left) u a (Ok three) x d
   left one two three u v w x a b c d clean finish again = record {
-    leads = λ old holds sound.
-        let first : Reaches on (Cleans 0 old) v b = clean.leads old holds sound in
+    leads = λ tells old holds sound.
+        let before = again.touches.told tells in
+        let first : Reaches on (Cleans 0 old) v b =
+        clean.leads (finish.touches.told before) old holds sound in
         let second : Reaches on (Finishes first.session) w c =
-        finish.leads first.session first.holds first.sound in
+        finish.leads before first.session first.holds first.sound in
         let third : Reaches on (Cleans 1 second.session) x d =
-        again.leads second.session second.holds second.sound in
+        again.leads tells second.session second.holds second.sound in
         record {
           session = third.session;
           is = record {
@@ -76,11 +79,11 @@ module _ {D : Type 0} (on : Ghosts D) where
       → Goes on (λ (_ : S). Left) v b (Ok done) w c
       → Goes on (Ended seed) u a (Ok installed) w c
   ended seed installed done u v w a b c three leave = record {
-    leads = λ old holds sound.
+    leads = λ tells old holds sound.
         let first : Reaches on (Installs seed Three installed old) v b =
-        three.leads old holds sound in
+        three.leads (leave.touches.told tells) old holds sound in
         let then : Reaches on (Left first.session) w c =
-        leave.leads first.session first.holds first.sound in
+        leave.leads tells first.session first.holds first.sound in
         record {
           session = then.session;
           is = record { third = first.session; three = first.is; left = then.is };
@@ -91,8 +94,8 @@ module _ {D : Type 0} (on : Ghosts D) where
   }
 
   -- the whole run
-  pub demonstrates : (seed : ℕ) (s : Summary) (u v w x : Updater) (a b c d : D) → s.seed ≡ seed
-      → Reaches on (Step 0 start (Boot 1) None) u a
+  pub demonstrates : (seed : ℕ) (s : Summary) (u v w x : Updater) (a b c d : D) → on.tells d
+      → s.seed ≡ seed → Reaches on (Step 0 start (Boot 1) None) u a
       → Goes on (Begun seed) u a (Ok s.one) v b
       → Goes on (Installs seed Two) v b (Ok s.two) w c
       → Goes on (Ended seed) w c (Ok s.three) x d
@@ -101,13 +104,14 @@ module _ {D : Type 0} (on : Ghosts D) where
       → Valid store → s.blocks ≡ used_blocks (map bare_view store.views))
       → on.left_at d (on.moment d) (on.seen d)
       → Demonstrates on seed s d
-  demonstrates seed s u v w x a b c d shown opened begins updates ends keeps blocks seen =
+  demonstrates seed s u v w x a b c d tells shown opened begins updates ends keeps blocks seen =
+      let before = ends.touches.told tells in
       let one : Reaches on (Begun seed s.one opened.session) v b =
-      begins.leads opened.session opened.holds opened.sound in
+      begins.leads (updates.touches.told before) opened.session opened.holds opened.sound in
       let two : Reaches on (Installs seed Two s.two one.session) w c =
-      updates.leads one.session one.holds one.sound in
+      updates.leads before one.session one.holds one.sound in
       let three : Reaches on (Ended seed s.three two.session) x d =
-      ends.leads two.session two.holds two.sound in
+      ends.leads tells two.session two.holds two.sound in
       let first = one.is in
       let second = two.is in
       let third = three.is in
@@ -168,7 +172,7 @@ module _ {D : Type 0} (on : Ghosts D) where
             ),
           ),
         );
-        stands = stored_stands on x d three.session.store three.holds (on.seen d) seen;
+        stands = stored_stands on x d three.session three.holds (on.seen d) seen;
         files = keeps_shown seed three.session.store.room (tables_of x) (on.seen d)
             three.session.store shows (keeps three.session.store.room (on.seen d));
       }

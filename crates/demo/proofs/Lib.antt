@@ -1,5 +1,6 @@
 pub mod Answering
 pub mod Composing
+pub mod Keys
 pub mod Pairs
 pub mod ShownViews
 pub mod Starting

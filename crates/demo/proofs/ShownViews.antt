@@ -1,5 +1,5 @@
 -- The files of the views, as tables have them and as the store that they show has them.
-use Rattle.std.proofs.Common.{◌≡◌, ◌+◌, ◌<◌, ◌++◌, ◌∙◌, ℕ, false, List, [], ◌∷◌, length, take, get_or, map, Some, None, refl, sym, ap, subst}
+use Rattle.std.proofs.Common.{◌≡◌, ◌+◌, ◌<◌, ◌++◌, ◌∙◌, ℕ, Bool, false, List, [], ◌∷◌, length, take, get_or, map, Some, None, Result, Ok, Err, IfOk, IsTrue, refl, sym, ap, subst}
 use Rattle.std.proofs.lemmas.List.{map-append, take_more}
 use Rattle.std.proofs.lemmas.List.Elements.{All-map, filter-append}
 use Rattle.std.proofs.lemmas.Simd.{map-map}
@@ -19,6 +19,12 @@ use Rattle.generated_release.proofs.Growing.{files_more}
 use Rattle.demo.specs.Kept.{IsGenerated, KeepsGenerated, TablesKeep, held_in, held_of, standing_of}
 
 -- ---- one file
+
+-- what an answer says has a consequence
+pub where_so : {E P Q : Type 0} (result : Result Bool E) → (P → Q)
+    → IfOk result (λ same. IsTrue same → P) → IfOk result (λ same. IsTrue same → Q)
+where_so (Ok same) then so = λ yes. then (so yes)
+where_so (Err e) then so = tt
 
 pub generated : (room : Room) (image : List ℕ) (contents : List Content) (seed version file : ℕ)
     (entry : FileEntry) (content : Content) → entry.local ≡ false → entry.group ≡ None

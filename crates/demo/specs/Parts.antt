@@ -1,5 +1,5 @@
 -- What the parts of a generated run do.
-use Rattle.std.specs.Prelude.{◌≡◌, ◌≤◌, ℕ, [], ◌∷◌, None, Result, Err, IfOk}
+use Rattle.std.specs.Prelude.{◌≡◌, ◌≢◌, ◌≤◌, ℕ, [], ◌∷◌, None, Result, Err, IfOk}
 use Rattle.outside.specs.Streams.{Rose}
 use Rattle.disks.specs.declared.disk.Disk.{Ghosts}
 use Rattle.links.specs.declared.links.Links.{Ghosts as LinksGhosts}
@@ -15,7 +15,7 @@ use Rattle.updater.specs.declared.updater.Updater.{Updater}
 use Rattle.updater.specs.Commanded.{Answered}
 use Rattle.updater.specs.Updater.{Holds}
 use Rattle.demo.specs.declared.fault.DemoFault.{DemoFault}
-use Rattle.demo.specs.declared.fault.DemoFault.TheVariants.{DiskFault}
+use Rattle.demo.specs.declared.fault.DemoFault.TheVariants.{DiskFault, NotAStore}
 use Rattle.generated_release.specs.declared.release.Release.{Release}
 use Rattle.generated_release.specs.declared.release.Release.TheVariants.{One, Three}
 use Rattle.generated_release.specs.Options.{number_of, version_of}
@@ -27,32 +27,37 @@ use Rattle.demo.specs.Steps.{Cleans, Finishes, Installs, Launches}
 -- ---- the disk
 
 -- What the disk tells afterwards it told before, and its moment goes on. Its count of faults rises
--- exactly where the call ends by its fault.
+-- exactly where the call ends by its fault. Where it tells, the new store reads as one.
 pub record Touches {D T : Type 0} (on : Ghosts D) (old : D) (result : Result T DemoFault) (new : D)
     : Type 0 where
   pub told : on.tells new → on.tells old
   pub later : on.moment old ≤ on.moment new
   pub count : on.count old ≤ on.count new
   pub cause : result ≡ Err DiskFault → Rose (on.count old) (on.count new)
-  pub quiet : (result ≡ Err DiskFault → ⊥) → on.count new ≡ on.count old
+  pub quiet : result ≢ Err DiskFault → on.count new ≡ on.count old
+  pub store : on.tells new → result ≢ Err NotAStore
+
+-- a fault that stands for neither
+abbrev pub IsOther : DemoFault → Type 0
+IsOther fault = (fault ≢ DiskFault) × (fault ≢ NotAStore)
 
 -- ---- lines
 
--- a sound session whose store is held, and of which P holds
+-- a sound session that is held, and of which P holds
 pub record Reaches {D : Type 0} (on : Ghosts D) (P : Session → Type 0) (updater : Updater)
     (disk : D) : Type 0 where
   pub session : Session
   pub is : P session
-  pub holds : Holds on updater disk session.store
+  pub holds : Holds on updater disk session
   pub sound : Sound session.store
 
--- From each sound session whose store is held a part of the run leads to another one, so that P
--- holds of what it answers and of the two.
+-- Where the disk tells, a part of the run leads from each sound session that is held to another one,
+-- so that P holds of what it answers and of the two.
 pub record Goes {D T : Type 0} (on : Ghosts D) (P : T → Session → Session → Type 0)
     (updater_old : Updater) (disk_old : D) (result : Result T DemoFault) (updater_new : Updater)
     (disk_new : D) : Type 0 where
-  pub leads : (old : Session) → Holds on updater_old disk_old old.store → Sound old.store
-      → IfOk result (λ x. Reaches on (P x old) updater_new disk_new)
+  pub leads : on.tells disk_new → (old : Session) → Holds on updater_old disk_old old
+      → Sound old.store → IfOk result (λ x. Reaches on (P x old) updater_new disk_new)
   pub touches : Touches on disk_old result disk_new
 
 -- a new store was made and opened
@@ -87,7 +92,8 @@ pub record Replies {D L : Type 0} (on : Ghosts D) (net : LinksGhosts L) (command
     (updater_old : Updater) (disk_old : D) (links_old : L)
     (result : Result (Heard × Reply) DemoFault) (updater_new : Updater) (disk_new : D)
     (links_new : L) : Type 0 where
-  pub line : (old : Session) → Holds on updater_old disk_old old.store → Sound old.store
+  pub line : on.tells disk_new → (old : Session) → Holds on updater_old disk_old old
+      → Sound old.store
       → IfOk result (λ r. Answered on net 0 r.0.texts command disk_old links_old old r.1
       updater_new disk_new links_new)
   pub touches : Touches on disk_old result disk_new

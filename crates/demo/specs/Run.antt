@@ -1,6 +1,5 @@
 -- A generated run.
 use Rattle.std.specs.Prelude.{◌≡◌, ℕ, false, List, [], ◌∷◌, Option, Some, None}
-use Rattle.small_types.specs.declared.limits.TheConstants.{BLOCK_LIMIT}
 use Rattle.disks.specs.declared.disk.Disk.{Ghosts}
 use Rattle.machine.specs.declared.command.Command.TheVariants.{Clean, Finish, Install, Launch}
 use Rattle.machine.specs.declared.event.Event.{Event}
@@ -11,6 +10,7 @@ use Rattle.machine.specs.Machine.{Run, Step}
 use Rattle.machine.specs.Store.{Session, empty, plain_room, session_over}
 use Rattle.updater.specs.Stands.{Stands}
 use Rattle.generated_release.specs.declared.release.Release.TheVariants.{One, Two, Three}
+use Rattle.demo.specs.declared.run.TheConstants.{STORE_BLOCKS}
 use Rattle.demo.specs.declared.summary.Summary.{Summary}
 use Rattle.generated_release.specs.Options.{demo_key, url_of, version_of}
 use Rattle.demo.specs.Kept.{KeepsGenerated}
@@ -20,7 +20,7 @@ use Rattle.demo.specs.Steps.{Cleans, Finishes, Installs, Launches, blocks_in, ev
 
 -- a session over the new store of 65,536 blocks
 abbrev pub start : Session
-start = session_over (empty (plain_room BLOCK_LIMIT))
+start = session_over (empty (plain_room STORE_BLOCKS))
 
 -- The seven lines behind the boot event, all at moment 0. Each install hears two texts.
 abbrev pub events_of : List (List ℕ) → List (List ℕ) → List (List ℕ) → List Event

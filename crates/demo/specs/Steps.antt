@@ -58,7 +58,7 @@ pub record Installs (seed : ℕ) (release : Release) (installed : Installed) (ol
       (installed_reply release) old new
   pub targets : List Target
   pub asks : AsksInstall install_replies LOCAL_COUNT_LIMIT (url_of release)
-      (deployment ∷ application ∷ []) (shape_of old.store) targets
+      (deployment ∷ application ∷ []) (shape_of old) targets
   pub asked : installed.asked ≡ length targets
   pub blocks : installed.blocks ≡ blocks_in new.store
 

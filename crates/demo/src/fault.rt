@@ -2,10 +2,35 @@
 ghost use Rattle.std.specs.Prelude.{◌≡◌};
 ghost use Rattle.demo.specs.declared.fault.DemoFault.TheVariants.{Memory};
 
+use generated_release::Release;
 use small_types::CopyFault;
 use std::alloc::{AllocError, AllocFailed};
 use std::error::Error;
 use std::fmt;
+
+/// What a line of the run asks for.
+#[derive(Clone, Copy, Debug, PartialEq, Eq)]
+pub enum Asked {
+    /// The install of the release.
+    Install { release: Release },
+    /// The launch of the application.
+    Launch,
+    /// The views that are not in use are to be taken away.
+    Clean,
+    /// The end of the lease.
+    Finish,
+}
+
+impl fmt::Display for Asked {
+    fn fmt<W: fmt::Write>(&self, f: &mut fmt::Formatter<W>) -> fmt::Result {
+        match self {
+            Asked::Install { release } => write!(f, "install {}", release.number()),
+            Asked::Launch => write!(f, "launch"),
+            Asked::Clean => write!(f, "clean"),
+            Asked::Finish => write!(f, "finish"),
+        }
+    }
+}
 
 /// Why a generated run ends early.
 #[derive(Clone, Copy, Debug, PartialEq, Eq)]
@@ -14,6 +39,16 @@ pub enum DemoFault {
     DiskFault,
     /// There was no memory.
     Memory,
+    /// The store that was just made does not read as one.
+    NotAStore,
+    /// The publisher refuses the generated files of the release.
+    NotPublished { release: Release },
+    /// A line was answered otherwise than it must be. These are the first words of its answer.
+    Answered { asked: Asked, came: &'static str },
+    /// The install of the release heard other texts than were published.
+    OtherTexts { release: Release },
+    /// A file that is kept is not the generated one.
+    OtherFiles,
 }
 
 impl fmt::Display for DemoFault {
@@ -21,6 +56,21 @@ impl fmt::Display for DemoFault {
         match self {
             DemoFault::DiskFault => write!(f, "the disk failed"),
             DemoFault::Memory => write!(f, "out of memory"),
+            DemoFault::NotAStore => write!(f, "the new store does not read as one"),
+            DemoFault::NotPublished { release } => {
+                write!(f, "release {} can't be published", release.number())
+            }
+            DemoFault::Answered { asked, came } => {
+                write!(f, "'{asked}' was answered '{came}', not as it must be")
+            }
+            DemoFault::OtherTexts { release } => {
+                write!(
+                    f,
+                    "'install {}' heard other texts than published",
+                    release.number()
+                )
+            }
+            DemoFault::OtherFiles => write!(f, "a kept file is not the generated one"),
         }
     }
 }

@@ -1,5 +1,5 @@
 // Whether the kept views have the generated files.
-ghost use Rattle.std.specs.Prelude.{◌≡◌, ◌<◌, ℕ, List, All, map, IsTrue};
+ghost use Rattle.std.specs.Prelude.{◌≡◌, ◌<◌, ℕ, List, All, map, IfOk, IsTrue};
 ghost use Rattle.std.specs.Option.{option_copied};
 ghost use Rattle.small_types.specs.declared.room.Room.{Room};
 ghost use Rattle.machine.specs.Views.{same_digest};
@@ -11,7 +11,7 @@ ghost use lib.Pointwise.{pointwise};
 use digest_list::Digest;
 use generated_release::{FILE_COUNT, file_bytes, file_name};
 use manifests::FileEntry;
-use std::alloc::Global;
+use std::alloc::{AllocError, Global};
 use store_state::{Content, StoreState, View};
 
 // Whether the digests are equal.
@@ -52,18 +52,22 @@ fn find_content<'a>(contents: &'a [Content], entry: &FileEntry) -> Option<&'a Co
         .find(|content| is_content_of(entry, content))
 }
 
-// Whether the bytes are those of the generated file. It is false, too, where there was no memory.
-fn are_bytes_of(alloc: Global, seed: u64, version: u16, file: u64, bytes: &[u8]) -> bool
-    ensures { IsTrue result → bytes.now ≡ file_text seed version file }
+// Whether the bytes are those of the generated file.
+fn are_bytes_of(
+    alloc: Global,
+    seed: u64,
+    version: u16,
+    file: u64,
+    bytes: &[u8],
+) -> Result<bool, AllocError>
+    ensures { IfOk result (λ same. IsTrue same → bytes.now ≡ file_text seed version file) }
 {
-    match file_bytes(alloc, seed, version, file) {
-        Ok(made) => bytes == made.as_slice(),
-        Err(_) => false,
-    }
+    let made = file_bytes(alloc, seed, version, file)?;
+    Ok(bytes == made.as_slice())
 }
 
 // Whether the file is a program file in no group that has the name and the bytes of the generated
-// one. It is false, too, where there was no memory.
+// one.
 fn is_generated(
     alloc: Global,
     seed: u64,
@@ -71,56 +75,60 @@ fn is_generated(
     contents: &[Content],
     file: u64,
     entry: &FileEntry,
-) -> bool
+) -> Result<bool, AllocError>
     requires { file < 1000 }
-    ensures { (room : Room) (image : List ℕ) → IsTrue result
-        → IsGenerated (held_in room image contents.now) seed version file entry.now }
+    ensures { (room : Room) (image : List ℕ) → IfOk result (λ same. IsTrue same
+        → IsGenerated (held_in room image contents.now) seed version file entry.now) }
 {
     if entry.local {
-        return false;
+        return Ok(false);
     }
     if entry.group.is_some() {
-        return false;
+        return Ok(false);
     }
     if entry.name.as_bytes() != file_name(file).as_slice() {
-        return false;
+        return Ok(false);
     }
     match find_content(contents, entry) {
         Some(content) => are_bytes_of(alloc, seed, version, file, content.held.as_slice()),
-        None => false,
+        None => Ok(false),
     }
 }
 
-// Whether the files are the generated ones of the version, in order. It is false, too, where there
-// was no memory.
+// Whether the files are the generated ones of the version, in order.
 fn are_generated(
     alloc: Global,
     seed: u64,
     version: u16,
     contents: &[Content],
     files: &[FileEntry],
-) -> bool
-    ensures { (room : Room) (image : List ℕ) → IsTrue result → (groups : List (List ℕ))
+) -> Result<bool, AllocError>
+    ensures { (room : Room) (image : List ℕ) → IfOk result (λ same. IsTrue same
+        → (groups : List (List ℕ))
         → map (held_in room image contents.now) (standing_of groups files.now)
-        ≡ generated_files seed version }
+        ≡ generated_files seed version) }
 {
     if files.len() != FILE_COUNT as usize {
-        return false;
+        return Ok(false);
     }
     for file in 0..FILE_COUNT {
         let entry = &files[file as usize];
-        if !is_generated(alloc, seed, version, contents, file, entry) {
-            return false;
+        if !is_generated(alloc, seed, version, contents, file, entry)? {
+            return Ok(false);
         }
     }
-    true
+    Ok(true)
 }
 
-// Whether the files of the view are the generated ones of its version. It is false, too, where
-// there was no memory.
-fn has_generated(alloc: Global, seed: u64, contents: &[Content], view: &View) -> bool
-    ensures { (room : Room) (image : List ℕ) → IsTrue result
-        → HasGenerated room image seed contents.now view.now }
+// Whether the files of the view are the generated ones of its version.
+fn has_generated(
+    alloc: Global,
+    seed: u64,
+    contents: &[Content],
+    view: &View,
+) -> Result<bool, AllocError>
+    ensures { (room : Room) (image : List ℕ) → IfOk result (λ same. IsTrue same
+        → HasGenerated room image seed contents.now view.now) }
 {
     let version = view.deployment.identity.version.a;
     are_generated(
@@ -133,23 +141,32 @@ fn has_generated(alloc: Global, seed: u64, contents: &[Content], view: &View) ->
 }
 
 // Whether those of each view are.
-fn each_has_generated(alloc: Global, seed: u64, contents: &[Content], views: &[View]) -> bool
-    ensures { (room : Room) (image : List ℕ) → IsTrue result
-        → All (HasGenerated room image seed contents.now) views.now }
+fn each_has_generated(
+    alloc: Global,
+    seed: u64,
+    contents: &[Content],
+    views: &[View],
+) -> Result<bool, AllocError>
+    ensures { (room : Room) (image : List ℕ) → IfOk result (λ same. IsTrue same
+        → All (HasGenerated room image seed contents.now) views.now) }
 {
     for view in views {
-        if !has_generated(alloc, seed, contents, view) {
-            return false;
+        if !has_generated(alloc, seed, contents, view)? {
+            return Ok(false);
         }
     }
-    true
+    Ok(true)
 }
 
-/// Whether the files of each view are the generated ones of its version. It is false, too, where
-/// there was no memory.
-pub(crate) fn keeps_generated(alloc: Global, seed: u64, state: &StoreState) -> bool
-    ensures { (room : Room) (image : List ℕ) → IsTrue result
-        → TablesKeep room image seed state.now }
+/// Whether the files of each view are the generated ones of its version. It fails only for want of
+/// memory.
+pub(crate) fn keeps_generated(
+    alloc: Global,
+    seed: u64,
+    state: &StoreState,
+) -> Result<bool, AllocError>
+    ensures { (room : Room) (image : List ℕ) → IfOk result (λ same. IsTrue same
+        → TablesKeep room image seed state.now) }
 {
     each_has_generated(
         alloc,

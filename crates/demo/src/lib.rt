@@ -8,7 +8,8 @@ mod lines;
 mod run;
 mod site;
 mod summary;
+mod words;
 
-pub use fault::DemoFault;
-pub use run::demo;
+pub use fault::{Asked, DemoFault};
+pub use run::{STORE_BLOCKS, demo};
 pub use summary::{Installed, Summary};

@@ -1,16 +1,17 @@
 // The lines of a generated run.
-ghost use Rattle.std.specs.Prelude.{◌≡◌, ℕ, [], ◌∷◌, false, length, IsTrue};
+ghost use Rattle.std.specs.Prelude.{◌≡◌, ℕ, [], ◌∷◌, false, length, IfErr, IsTrue, OnOk};
 ghost use Rattle.machine.specs.declared.command.Command.TheVariants as command;
 ghost use Rattle.machine.specs.declared.reply.Reply.TheVariants as says;
 ghost use Rattle.machine.specs.Words.{IsCommand};
 ghost use Rattle.identity.specs.Key.{IsKey};
 ghost use Rattle.generated_release.specs.declared.release.Release.TheVariants as releases;
 ghost use Rattle.generated_release.specs.Options.{demo_key, number_of, url_of, version_of};
-ghost use Rattle.demo.specs.Parts.{Goes, IsAsPublished, Replies};
+ghost use Rattle.demo.specs.Parts.{Goes, IsAsPublished, IsOther, Replies};
 ghost use Rattle.demo.specs.Steps.{Cleans, Finishes, Installs, IsSite, Launches};
 
 use crate::site::Site;
-use crate::{DemoFault, Installed};
+use crate::words::words_of;
+use crate::{Asked, DemoFault, Installed};
 use disks::Disk;
 use fetcher::FolderLink;
 use folders::MemFolder;
@@ -19,8 +20,8 @@ use identity::Key;
 use links::{Links, Single};
 use machine::{Command, Heard, Reply};
 use outside::Failed;
-use small_types::{Bytes, Duplicate, List};
-use std::alloc::Global;
+use small_types::{Bytes, CopyFault, Duplicate, List};
+use std::alloc::{AllocError, Global};
 use updater::Updater;
 
 // What a line heard before it is run.
@@ -64,6 +65,17 @@ fn answer_once<D: Disk, L: Links>(
         disk.new links.new }
 {
     answer(alloc, disk, links, updater, &command)
+}
+
+// The fault of a line that is answered so, and not as it must be.
+fn other_answer(asked: Asked, reply: &Reply) -> DemoFault
+    ensures { IsOther result }
+{
+    let came = words_of(reply);
+    match reply {
+        Reply::Memory => DemoFault::Memory,
+        _ => DemoFault::Answered { asked, came },
+    }
 }
 
 // Whether the release is installed, as the view of its number.
@@ -111,23 +123,30 @@ fn ask_install<D: Disk, L: Links>(
 {
     match Bytes::from_slice(alloc, release.url()) {
         Ok(url) => answer(alloc, disk, links, updater, &Command::Install { url }),
-        Err(_) => Err(DemoFault::Memory),
+        Err(AllocError) => Err(DemoFault::Memory),
     }
 }
 
-// Whether the release is installed as the view of its number, and the published texts were heard.
-fn is_as_published(said: &(Heard, Reply), release: Release, site: &Site) -> bool
-    ensures { IsTrue result → IsAsPublished said.now release site.now }
+// The release is installed as the view of its number, and the published texts were heard.
+fn judge_install(said: &(Heard, Reply), release: Release, site: &Site) -> Result<(), DemoFault>
+    ensures published { OnOk result (IsAsPublished said.now release site.now) }
+    ensures fault { IfErr result IsOther }
 {
-    is_installed(&said.1, &site.key, release)
-        && are_texts(said.0.texts.as_slice(), &site.deployment, &site.application)
+    if !is_installed(&said.1, &site.key, release) {
+        return Err(other_answer(Asked::Install { release }, &said.1));
+    }
+    if !are_texts(said.0.texts.as_slice(), &site.deployment, &site.application) {
+        return Err(DemoFault::OtherTexts { release });
+    }
+    Ok(())
 }
 
-// Whether it was answered so. What was answered is let go.
-fn as_published(said: (Heard, Reply), release: Release, site: &Site) -> bool
-    ensures { IsTrue result → IsAsPublished said release site.now }
+// It was answered so. What was answered is let go.
+fn as_published(said: (Heard, Reply), release: Release, site: &Site) -> Result<(), DemoFault>
+    ensures published { OnOk result (IsAsPublished said release site.now) }
+    ensures fault { IfErr result IsOther }
 {
-    is_as_published(&said, release, site)
+    judge_install(&said, release, site)
 }
 
 /// Installs the release from its site. It has the next number, and hears what was published.
@@ -143,16 +162,13 @@ pub(crate) fn install<D: Disk>(
     ensures key { site.new.key ≡ site.old.key }
 {
     match ask_install(alloc, release, disk, &mut site.links, updater) {
-        Ok(said) => {
-            if as_published(said, release, site) {
-                Ok(Installed {
-                    asked: asked_count(&site.links),
-                    blocks: updater.used_blocks(),
-                })
-            } else {
-                Err(DemoFault::Memory)
-            }
-        }
+        Ok(said) => match as_published(said, release, site) {
+            Ok(()) => Ok(Installed {
+                asked: asked_count(&site.links),
+                blocks: updater.used_blocks(),
+            }),
+            Err(fault) => Err(fault),
+        },
         Err(fault) => Err(fault),
     }
 }
@@ -171,11 +187,23 @@ fn is_leased(reply: &Reply) -> bool
     }
 }
 
-// Whether it was answered so. What was answered is let go.
-fn leased(said: (Heard, Reply)) -> bool
-    ensures { IsTrue result → said.1 ≡ says.Lease 1 (version_of releases.One) false }
+// It was answered so.
+fn judge_launch(reply: &Reply) -> Result<(), DemoFault>
+    ensures leased { OnOk result (reply.now ≡ says.Lease 1 (version_of releases.One) false) }
+    ensures fault { IfErr result IsOther }
 {
-    is_leased(&said.1)
+    if !is_leased(reply) {
+        return Err(other_answer(Asked::Launch, reply));
+    }
+    Ok(())
+}
+
+// It was answered so. What was answered is let go.
+fn leased(said: (Heard, Reply)) -> Result<(), DemoFault>
+    ensures leased { OnOk result (said.1 ≡ says.Lease 1 (version_of releases.One) false) }
+    ensures fault { IfErr result IsOther }
+{
+    judge_launch(&said.1)
 }
 
 // Asks for the launch of the application.
@@ -192,7 +220,7 @@ fn ask_launch<D: Disk, L: Links>(
 {
     match key.copy(alloc) {
         Ok(key) => answer_once(alloc, Command::Launch { key }, disk, links, updater),
-        Err(_) => Err(DemoFault::Memory),
+        Err(CopyFault::Memory) => Err(DemoFault::Memory),
     }
 }
 
@@ -203,20 +231,12 @@ pub(crate) fn launch<D: Disk>(
     disk: &mut D,
     updater: &mut Updater,
 ) -> Result<(), DemoFault>
-    ensures { site.old.key ≡ demo_key → Goes D.Disk (λ (_ : Unit {0}). Launches)
-        updater.old disk.old result updater.new disk.new }
+    requires { site.old.key ≡ demo_key }
+    ensures { Goes D.Disk (λ (_ : Unit {0}). Launches) updater.old disk.old result updater.new
+        disk.new }
 {
-    if !site.key.is_key() {
-        return Err(DemoFault::Memory);
-    }
     match ask_launch(alloc, &site.key, disk, &mut site.links, updater) {
-        Ok(said) => {
-            if leased(said) {
-                Ok(())
-            } else {
-                Err(DemoFault::Memory)
-            }
-        }
+        Ok(said) => leased(said),
         Err(fault) => Err(fault),
     }
 }
@@ -231,11 +251,23 @@ fn is_cleaned(reply: &Reply, count: u64) -> bool
     }
 }
 
-// Whether it was answered so. What was answered is let go.
-fn cleaned(said: (Heard, Reply), count: u64) -> bool
-    ensures { IsTrue result → said.1 ≡ says.Cleaned count }
+// It was answered so.
+fn judge_clean(reply: &Reply, count: u64) -> Result<(), DemoFault>
+    ensures cleaned { OnOk result (reply.now ≡ says.Cleaned count) }
+    ensures fault { IfErr result IsOther }
 {
-    is_cleaned(&said.1, count)
+    if !is_cleaned(reply, count) {
+        return Err(other_answer(Asked::Clean, reply));
+    }
+    Ok(())
+}
+
+// It was answered so. What was answered is let go.
+fn cleaned(said: (Heard, Reply), count: u64) -> Result<(), DemoFault>
+    ensures cleaned { OnOk result (said.1 ≡ says.Cleaned count) }
+    ensures fault { IfErr result IsOther }
+{
+    judge_clean(&said.1, count)
 }
 
 /// Takes away the views that are not in use, which are so many.
@@ -250,13 +282,7 @@ pub(crate) fn clean<D: Disk>(
         disk.new }
 {
     match answer_once(alloc, Command::Clean, disk, &mut site.links, updater) {
-        Ok(said) => {
-            if cleaned(said, count) {
-                Ok(())
-            } else {
-                Err(DemoFault::Memory)
-            }
-        }
+        Ok(said) => cleaned(said, count),
         Err(fault) => Err(fault),
     }
 }
@@ -271,11 +297,23 @@ fn is_finished(reply: &Reply) -> bool
     }
 }
 
-// Whether it was answered so. What was answered is let go.
-fn finished(said: (Heard, Reply)) -> bool
-    ensures { IsTrue result → said.1 ≡ says.Finished 1 }
+// It was answered so.
+fn judge_finish(reply: &Reply) -> Result<(), DemoFault>
+    ensures finished { OnOk result (reply.now ≡ says.Finished 1) }
+    ensures fault { IfErr result IsOther }
 {
-    is_finished(&said.1)
+    if !is_finished(reply) {
+        return Err(other_answer(Asked::Finish, reply));
+    }
+    Ok(())
+}
+
+// It was answered so. What was answered is let go.
+fn finished(said: (Heard, Reply)) -> Result<(), DemoFault>
+    ensures finished { OnOk result (said.1 ≡ says.Finished 1) }
+    ensures fault { IfErr result IsOther }
+{
+    judge_finish(&said.1)
 }
 
 /// Ends lease 1.
@@ -290,13 +328,7 @@ pub(crate) fn finish<D: Disk>(
 {
     let command = Command::Finish { lease: 1 };
     match answer_once(alloc, command, disk, &mut site.links, updater) {
-        Ok(said) => {
-            if finished(said) {
-                Ok(())
-            } else {
-                Err(DemoFault::Memory)
-            }
-        }
+        Ok(said) => finished(said),
         Err(fault) => Err(fault),
     }
 }

@@ -1,12 +1,12 @@
 // The generated run.
-ghost use Rattle.std.specs.Prelude.{ℕ, [], IfOk, None};
-ghost use Rattle.small_types.specs.declared.limits.TheConstants.{BLOCK_LIMIT as blocks};
+ghost use Rattle.std.specs.Prelude.{◌≡◌, ℕ, [], IfOk, None};
 ghost use Rattle.machine.specs.declared.event.Event.TheVariants.{Boot};
 ghost use Rattle.machine.specs.Machine.{Step};
 ghost use Rattle.store_log.specs.Log.{IsStore};
 ghost use Rattle.demo.specs.Parts.{Begun, Ended, Goes, Left, Opens, Reaches, Touches};
 ghost use Rattle.demo.specs.Run.{Demonstrates, start};
 ghost use Rattle.demo.specs.Steps.{Installs, IsSite};
+ghost use Rattle.generated_release.specs.Options.{demo_key};
 ghost use Rattle.generated_release.specs.declared.release.Release.TheVariants as releases;
 
 use crate::kept::keeps_generated;
@@ -15,19 +15,20 @@ use crate::site::{Site, open_site};
 use crate::{DemoFault, Installed, Summary};
 use disks::Disk;
 use generated_release::Release;
-use small_types::limits::BLOCK_LIMIT;
-use std::alloc::Global;
+use std::alloc::{AllocError, Global};
 use store_log::{Log, LogFault};
 use updater::{RecoverFault, Updater};
+
+/// How many blocks the store has.
+pub const STORE_BLOCKS: u64 = 65_536;
 
 // The number of the boot with which the store is opened.
 const BOOT: u64 = 1;
 
 // Opens the new store, which is there.
 fn open_new<D: Disk>(alloc: Global, disk: &mut D) -> Result<Updater, DemoFault>
-    ensures begins { D.tells disk.new → IsStore blocks [] (D.seen disk.old)
-        → IfOk result (λ updater. Reaches D.Disk (Step 0 start (Boot 1) None) updater disk.new) }
-    ensures touches { Touches D.Disk disk.old result disk.new }
+    requires { IsStore STORE_BLOCKS [] (D.seen disk.old) }
+    ensures { Opens D.Disk disk.old result disk.new }
 {
     match Updater::recover(alloc, disk, BOOT) {
         Ok(opened) => {
@@ -35,7 +36,7 @@ fn open_new<D: Disk>(alloc: Global, disk: &mut D) -> Result<Updater, DemoFault>
             Ok(updater)
         }
         Err(RecoverFault::DiskFault) => Err(DemoFault::DiskFault),
-        Err(RecoverFault::NotAStore) => Err(DemoFault::Memory),
+        Err(RecoverFault::NotAStore) => Err(DemoFault::NotAStore),
         Err(RecoverFault::Memory) => Err(DemoFault::Memory),
     }
 }
@@ -44,12 +45,11 @@ fn open_new<D: Disk>(alloc: Global, disk: &mut D) -> Result<Updater, DemoFault>
 fn open<D: Disk>(alloc: Global, disk: &mut D) -> Result<Updater, DemoFault>
     ensures { Opens D.Disk disk.old result disk.new }
 {
-    match Log::format(alloc, disk, BLOCK_LIMIT, 0, &[]) {
+    match Log::format(alloc, disk, STORE_BLOCKS, 0, &[]) {
         Ok(()) => open_new(alloc, disk),
         Err(LogFault::DiskFault) => Err(DemoFault::DiskFault),
-        Err(LogFault::NoRoom { .. }) => Err(DemoFault::Memory),
-        Err(LogFault::NotALog) => Err(DemoFault::Memory),
         Err(LogFault::Memory) => Err(DemoFault::Memory),
+        Err(LogFault::NoRoom { .. } | LogFault::NotALog) => unreachable!(),
     }
 }
 
@@ -60,6 +60,7 @@ fn begin_at<D: Disk>(
     disk: &mut D,
     updater: &mut Updater,
 ) -> Result<Installed, DemoFault>
+    requires { site.old.key ≡ demo_key }
     ensures { (seed : ℕ) → IsSite seed releases.One site.old → Goes D.Disk (Begun seed) updater.old
         disk.old result updater.new disk.new }
 {
@@ -84,7 +85,7 @@ fn begin<D: Disk>(
 {
     match open_site(alloc, seed, Release::One) {
         Ok(mut site) => begin_at(alloc, &mut site, disk, updater),
-        Err(_) => Err(DemoFault::Memory),
+        Err(fault) => Err(fault),
     }
 }
 
@@ -100,7 +101,7 @@ fn update<D: Disk>(
 {
     match open_site(alloc, seed, Release::Two) {
         Ok(mut site) => install(alloc, Release::Two, &mut site, disk, updater),
-        Err(_) => Err(DemoFault::Memory),
+        Err(fault) => Err(fault),
     }
 }
 
@@ -159,7 +160,7 @@ fn end<D: Disk>(
 {
     match open_site(alloc, seed, Release::Three) {
         Ok(mut site) => end_at(alloc, &mut site, disk, updater),
-        Err(_) => Err(DemoFault::Memory),
+        Err(fault) => Err(fault),
     }
 }
 
@@ -170,7 +171,7 @@ fn live<D: Disk>(
     disk: &mut D,
     updater: &mut Updater,
 ) -> Result<Summary, DemoFault>
-    ensures run { Reaches D.Disk (Step 0 start (Boot 1) None) updater.old disk.old
+    ensures run { D.tells disk.new → Reaches D.Disk (Step 0 start (Boot 1) None) updater.old disk.old
         → IfOk result (λ summary. Demonstrates D.Disk seed summary disk.new) }
     ensures touches { Touches D.Disk disk.old result disk.new }
 {
@@ -186,8 +187,10 @@ fn live<D: Disk>(
         Ok(installed) => installed,
         Err(fault) => return Err(fault),
     };
-    if !keeps_generated(alloc, seed, updater.state()) {
-        return Err(DemoFault::Memory);
+    match keeps_generated(alloc, seed, updater.state()) {
+        Ok(true) => {}
+        Ok(false) => return Err(DemoFault::OtherFiles),
+        Err(AllocError) => return Err(DemoFault::Memory),
     }
     Ok(Summary {
         seed,
@@ -198,7 +201,7 @@ fn live<D: Disk>(
     })
 }
 
-/// Makes a new store of 65,536 blocks on the disk, and lives a generated run over it, all at moment
+/// Makes a new store of `STORE_BLOCKS` blocks on the disk, and lives a generated run over it, all at moment
 /// 0, with boot number 1. It publishes the first release of 200 generated files in a folder in
 /// memory, and installs and launches it; it publishes and installs the second, and the third; it
 /// cleans, finishes the lease, and cleans again. Each answer is compared with what it must be, each
@@ -207,8 +210,10 @@ fn live<D: Disk>(
 ///
 /// # Errors
 ///
-/// `DiskFault`: the disk failed. `Memory`: there was no memory, or an answer was not what it must
-/// be. The disk then has what the steps up to then left.
+/// `DiskFault`: the disk failed. `Memory`: there was no memory. `NotPublished`: the publisher refused
+/// a release. `NotAStore`: the new store does not read as one. `Answered`, `OtherTexts` and
+/// `OtherFiles`: an answer, a heard text or a kept file was not what it must be. The disk then has what
+/// the steps up to then left.
 pub fn demo<D: Disk>(alloc: Global, seed: u64, disk: &mut D) -> Result<Summary, DemoFault>
     // Where the disk tells, its reads stand for the store that the run leads to, and the summary
     // has the numbers of this run.

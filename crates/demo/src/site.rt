@@ -1,11 +1,12 @@
 // Links to a release that is published in memory.
-ghost use Rattle.std.specs.Prelude.{◌≡◌, IfOk};
+ghost use Rattle.std.specs.Prelude.{◌≡◌, IfErr, IfOk};
+ghost use Rattle.demo.specs.Parts.{IsOther};
 ghost use Rattle.demo.specs.Steps.{IsSite};
 
 use crate::DemoFault;
 use fetcher::FolderLink;
 use folders::MemFolder;
-use generated_release::{PublishedRelease, Release, publish_release};
+use generated_release::{PublishedRelease, Release, ReleaseFault, publish_release};
 use identity::Key;
 use links::Single;
 use small_types::{Bytes, List};
@@ -23,10 +24,13 @@ pub(crate) struct Site {
 
 /// Publishes the generated files of the release in a folder in memory, and links to it.
 pub(crate) fn open_site(alloc: Global, seed: u64, release: Release) -> Result<Site, DemoFault>
-    ensures { IfOk result (IsSite seed release) }
+    ensures site { IfOk result (IsSite seed release) }
+    ensures fault { IfErr result IsOther }
 {
-    let Ok(published) = publish_release(alloc, seed, release) else {
-        return Err(DemoFault::Memory);
+    let published = match publish_release(alloc, seed, release) {
+        Ok(published) => published,
+        Err(ReleaseFault::Refused) => return Err(DemoFault::NotPublished { release }),
+        Err(ReleaseFault::Memory) => return Err(DemoFault::Memory),
     };
     let PublishedRelease {
         folder,

@@ -12,11 +12,11 @@ loop-file-init c = λ room image groups. sym (files_none [] c.args.seed c.args.v
 
 pub loop-file-preserved : goal.loop-file-preserved
 loop-file-preserved c = λ room image.
-    let yes : IsTrue c.is_generated.result = search rules in
+    let yes : IsTrue c.in_ok-is_generated.field-0 = search rules in
     one_more room image c.args.contents.now c.args.seed c.args.version c.loop-file.file
     c.args.files.now
     c.index-files-file.result (omega arith) c.index-files-file.is
-    (c.is_generated.ensures room image yes)
+    (c.in_ok-is_generated.ensures room image yes)
     (c.loop-file.invariant room image)
 
 pub returns : goal.returns

@@ -8,9 +8,9 @@ use Rattle.demo.proofs.kept.each_has_generated.Goals as goal
 
 pub loop-view-preserved : goal.loop-view-preserved
 loop-view-preserved c = λ room image.
-    let yes : IsTrue c.has_generated.result = search rules in
+    let yes : IsTrue c.in_ok-has_generated.field-0 = search rules in
     All-more (HasGenerated room image c.args.seed c.args.contents.now) c.args.views.now c.loop-view.view-index c.view-item.result (omega arith) (c.loop-view.invariant room image)
-    (subst (HasGenerated room image c.args.seed c.args.contents.now) c.view-item.is (c.has_generated.ensures room image yes))
+    (subst (HasGenerated room image c.args.seed c.args.contents.now) c.view-item.is (c.in_ok-has_generated.ensures room image yes))
 
 pub returns : goal.returns
 returns c = λ room image yes.

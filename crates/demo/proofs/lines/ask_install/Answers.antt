@@ -16,4 +16,4 @@ returns-in-Ok g c =
     (c.in-Ok.ensures ∙ c.url.ensures) c.answer.ensures
 
 pub returns-in-Err : goal.returns-in-Err
-returns-in-Err g c = record { line = λ old holds sound. tt; touches = untouched g.D.Disk c.args.disk.now (Err Memory) (λ is. cc (is)) }
+returns-in-Err g c = record { line = λ tells old holds sound. tt; touches = untouched g.D.Disk c.args.disk.now Memory (λ is. cc (is), λ is. cc (is)) }

@@ -15,5 +15,5 @@ returns-in-Ok g c =
     subst (λ (key : Key). Replies g.D.Disk g.L.Links (Launch key) c.args.updater.now c.args.disk.now c.args.links.now c.answer_once.result c.answer_once.new.updater c.answer_once.new.disk c.answer_once.new.links)
     c.in-Ok.ensures c.answer_once.ensures
 
-pub returns-in-Err : goal.returns-in-Err
-returns-in-Err g c = record { line = λ old holds sound. tt; touches = untouched g.D.Disk c.args.disk.now (Err Memory) (λ is. cc (is)) }
+pub returns-in-Err-Memory : goal.returns-in-Err-Memory
+returns-in-Err-Memory g c = record { line = λ tells old holds sound. tt; touches = untouched g.D.Disk c.args.disk.now Memory (λ is. cc (is), λ is. cc (is)) }

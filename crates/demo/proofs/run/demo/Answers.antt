@@ -3,7 +3,7 @@ use Rattle.demo.proofs.run.demo.Goals as goal
 
 pub returns-in-Ok : goal.returns-in-Ok
 returns-in-Ok g c = record {
-  run = λ tells. c.live.ensures.run (c.in-Ok.ensures.begins (c.live.ensures.touches.told tells));
+  run = λ tells. c.live.ensures.run tells (c.in-Ok.ensures.begins (c.live.ensures.touches.told tells));
   touches = after g.D.Disk c.in-Ok.ensures.touches c.live.ensures.touches;
 }
 

@@ -1,0 +1,47 @@
+// The first words of an answer, as a session writes them.
+use machine::Reply;
+
+/// The first words of the answer.
+pub(crate) fn words_of(reply: &Reply) -> &'static str {
+    match reply {
+        Reply::At { .. } => "ok at",
+        Reply::Minimum { .. } => "ok minimum",
+        Reply::Installed { .. } => "ok installed",
+        Reply::Checked { .. } => "ok checked",
+        Reply::Skipped { .. } => "ok skipped",
+        Reply::Current { .. } => "ok current",
+        Reply::Lease { .. } => "ok lease",
+        Reply::Read { .. } => "ok bytes",
+        Reply::Put => "ok put",
+        Reply::Removed => "ok removed",
+        Reply::Group { .. } => "ok group",
+        Reply::Finished { .. } => "ok finished",
+        Reply::Cleaned { .. } => "ok cleaned",
+        Reply::Listed { .. } => "ok list",
+        Reply::Shown { .. } => "ok show",
+        Reply::NotInstalled => "no not-installed",
+        Reply::NoLease => "no no-lease",
+        Reply::NoGroup => "no no-group",
+        Reply::NoPrevious => "no no-previous",
+        Reply::NothingOffered => "no nothing-offered",
+        Reply::NoFile => "no no-file",
+        Reply::BadName => "no bad-name",
+        Reply::CheckFirst => "no check-first",
+        Reply::Required { .. } => "no required",
+        Reply::Offered { .. } => "no offered",
+        Reply::LeasesFull => "no leases-full",
+        Reply::NotNewer { .. } => "no not-newer",
+        Reply::BelowMinimum { .. } => "no below-minimum",
+        Reply::TooMany { .. } => "no too-many",
+        Reply::Spent { .. } => "no spent",
+        Reply::Full { .. } => "no full",
+        Reply::AllLinks { .. } => "no links",
+        Reply::Manifest { .. } => "no manifest",
+        Reply::Release { .. } => "no release",
+        Reply::IdentityDiffers { .. } => "no identity",
+        Reply::BadUrl => "no bad-url",
+        Reply::NotHttp => "no not-http",
+        Reply::Line { .. } => "no line",
+        Reply::Memory => "no memory",
+    }
+}
