@@ -57,9 +57,10 @@ asked of the URL's host over HTTP.
     group:GROUP:FILE           FILE is only fetched once GROUP is asked for
 
 Status: 0 done, 1 other words, 2 input failed, 3 output failed, 4 disk failed,
-5 no store, 6 no memory, 7 refused manifest or publish, 8 more input than a
-session takes. For publish, 2 and 3 also where the folder failed. Where the
-status is neither 0 nor 7, one line on the standard error says why.
+5 no store, 6 no memory, or a demo that came out wrong, 7 refused manifest or
+publish, 8 more input than a session takes. For publish, 2 and 3 also where the
+folder failed. Where the status is neither 0 nor 7, one line on the standard
+error says why.
 ";
 
 // What the standard input and output are called.
@@ -68,6 +69,9 @@ const INPUT: &str = "standard input";
 const OUTPUT: &str = "standard output";
 
 const NO_MEMORY: &str = "no memory";
+
+// What is said of a generated run that ends early, and not for the disk.
+const NOT_AS_IT_MUST: &str = "no memory, or the generated run did not come out as it must";
 
 const VERSION: &[u8] = b"clickstore 0.1.0\n";
 
@@ -142,6 +146,14 @@ struct Failures<'a> {
     folder: Failure<'a>,
 }
 
+// Whether the words ask for a generated run.
+fn is_demo(words: &[Word]) -> bool {
+    match words.first() {
+        Some(word) => word.as_slice() == b"demo".as_slice(),
+        None => false,
+    }
+}
+
 // Says why a run of these words ended with this status, if it was not done.
 fn explain(rt: &HostRuntime, status: u8, words: &[Word], failures: &Failures) {
     match status {
@@ -153,6 +165,7 @@ fn explain(rt: &HostRuntime, status: u8, words: &[Word], failures: &Failures) {
             let path = failures.disk.name();
             say(rt, format_args!("{path}: no store; 'format' makes one"));
         }
+        6 if is_demo(words) => say(rt, NOT_AS_IT_MUST),
         6 => say(rt, NO_MEMORY),
         8 => say(rt, "more input than a session takes"),
         _ => {}

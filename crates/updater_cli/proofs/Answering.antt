@@ -29,11 +29,10 @@ module _ {K D L : Type 0} (to : SinkGhosts K) (on : Ghosts D) (net : LinksGhosts
       → LineAnswered to on net line (place_of sink disk links course) (Err Memory) (place_of sink disk links next)
   no_room sink disk seen_left same_now same_lines same_begun = record {
     keeps = record {
-      machine = λ start between. rw (same_lines, same_begun) (ended_at on net start 6 course disk links between ready.begun six_three seen_left);
+      machine = λ told start between. rw (same_lines, same_begun) (ended_at on net start 6 course disk links between ready.begun six_three seen_left);
       goes_on = tt;
       writes = rises_none _ (to.count sink) (to.count sink) (λ same. cc (same)) refl;
       asks = asks_none on _ disk (λ same. cc (same));
-      numbered = λ same. absurd (cc (same));
       kept = kept_same (net.links links);
     };
     ends = same_begun ∙ ready.begun;
@@ -48,11 +47,10 @@ module _ {K D L : Type 0} (to : SinkGhosts K) (on : Ghosts D) (net : LinksGhosts
       → LineAnswered to on net line (place_of sink disk links course) (Err DiskFault) (place_of sink disk_new links_new next)
   broken sink disk disk_new e is_begun same_now same_lines run = record {
     keeps = record {
-      machine = λ start between. rw (same_lines, is_begun) (ended_begun on net start course disk disk_new links links_new between e (run.fault between.session between.runs.settled between.stored));
+      machine = λ told start between. rw (same_lines, is_begun) (ended_begun on net start course disk disk_new links links_new between e (run.fault told between.session between.runs.settled between.stored));
       goes_on = tt;
       writes = rises_none _ (to.count sink) (to.count sink) (λ same. cc (same)) refl;
       asks = asks_err on (Event × Reply) Event e _ disk disk_new refl run.asks;
-      numbered = λ _. run.numbered;
       kept = run.kept;
     };
     ends = rw is_begun run.begun;
@@ -81,11 +79,10 @@ module _ {K D L : Type 0} (to : SinkGhosts K) (on : Ghosts D) (net : LinksGhosts
         → LineAnswered to on net line (place_of sink disk links course) (Ok tt) (place_of sink_new disk_new links_new next)
     written appends same_count = record {
       keeps = record {
-        machine = λ start between. goes_on on net start course disk disk_new links links_new between l reply next.updater (run.ran between.session between.runs.settled between.stored) is_reply is_mark is_failures next refl is_now grown;
+        machine = λ told start between. goes_on on net start course disk disk_new links links_new between l reply next.updater (run.ran told between.session between.runs.settled between.stored) is_reply is_mark is_failures next refl is_now grown;
         goes_on = record { begun = same_begun ∙ ready.begun; moment = subst (λ (n : ℕ). n ≤ NUMBER_LIMIT) (sym is_now) run.few };
         writes = rises_none _ (to.count sink) (to.count sink_new) (λ same. cc (same)) same_count;
         asks = asks_answered on (Event × Reply) Event (l.event, reply) _ disk disk_new (λ same. cc (same)) run.asks;
-        numbered = λ same. absurd (cc (same));
         kept = run.kept;
       };
       ends = tt;
@@ -100,12 +97,11 @@ module _ {K D L : Type 0} (to : SinkGhosts K) (on : Ghosts D) (net : LinksGhosts
         → LineAnswered to on net line (place_of sink disk links course) (Err SinkFault) (place_of sink_new disk_new links_new next)
     cut part counted rose seen_left = record {
       keeps = record {
-        machine = λ start between.
-            rw (grown, same_begun, ready.begun) (ended_cut on net start course disk disk_new links links_new between l reply next.updater (run.ran between.session between.runs.settled between.stored) is_reply is_mark is_failures seen_left);
+        machine = λ told start between.
+            rw (grown, same_begun, ready.begun) (ended_cut on net start course disk disk_new links links_new between l reply next.updater (run.ran told between.session between.runs.settled between.stored) is_reply is_mark is_failures seen_left);
         goes_on = tt;
         writes = record { later = counted; rose = λ _. rose; quiet = λ no. absurd (no refl) };
         asks = asks_answered on (Event × Reply) Event (l.event, reply) _ disk disk_new (λ same. cc (same)) run.asks;
-        numbered = λ same. absurd (cc (same));
         kept = run.kept;
       };
       ends = same_begun ∙ ready.begun;

@@ -1,12 +1,11 @@
 -- What is asked of devices, one call after another, and what each part of a session keeps.
-use Rattle.std.proofs.Common.{◌≡◌, ◌≢◌, ℕ, ◌≤◌, inl, inr, Result, Ok, Err, refl, subst, arith}
+use Rattle.std.proofs.Common.{◌≡◌, ◌≢◌, ℕ, ◌≤◌, Result, Ok, Err, refl, subst, arith}
 use Rattle.std.specs.Prelude.{IsErr}
 use Rattle.outside.specs.Streams.{Causes}
 use Rattle.outside.specs.declared.sink.Sink.{Ghosts as SinkGhosts}
 use Rattle.disks.specs.declared.disk.Disk.{Ghosts}
 use Rattle.links.specs.declared.links.Links.{Ghosts as LinksGhosts}
 use Rattle.fetcher.proofs.Sequence.{kept_same, kept_then}
-use Rattle.updater.specs.Updater.{TakesNumber}
 use Rattle.updater_cli.specs.declared.status.Status.{Status}
 use Rattle.updater_cli.specs.declared.status.Status.TheVariants.{SinkFault, DiskFault}
 use Rattle.updater_cli.specs.Devices.{RisesWith, Asks}
@@ -64,11 +63,6 @@ module _ {D : Type 0} (on : Ghosts D) where
   pub asks_call : {T E : Type 0} (old new : D) (result : Result T E) → (on.tells new → on.tells old) → on.moment old ≤ on.moment new → Causes (on.count old) (on.count new) result → Asks on (IsErr result) old new
   asks_call old new result told later causes = record { told = told; later = later; count = rises_call (on.count old) (on.count new) result causes }
 
-  -- the moment went on before
-  pub takes_then : (old mid new : D) → on.moment old ≤ on.moment mid → TakesNumber on mid new → TakesNumber on old new
-  takes_then old mid new later (inl counted) = inl (omega (arith, later, counted))
-  takes_then old mid new later (inr spent) = inr spent
-
 -- ---- a part of a session
 
 went_on : (status : Status) → let ok : Outcome = Ok tt in ok ≡ Err status → ⊥
@@ -78,22 +72,20 @@ module _ {K D L : Type 0} (to : SinkGhosts K) (on : Ghosts D) (net : LinksGhosts
   -- nothing was done
   pub keeps_none : (place : Place K D L) → IsReady place.course → Keeps to on net place (Ok tt) place
   keeps_none place ready = record {
-    machine = λ start between. between;
+    machine = λ told start between. between;
     goes_on = ready;
     writes = rises_none _ (to.count place.sink) (to.count place.sink) (went_on SinkFault) refl;
     asks = asks_none on _ place.disk (went_on DiskFault);
-    numbered = λ fault. absurd (went_on DiskFault fault);
     kept = kept_same (net.links place.links);
   }
 
   -- one part after another
   pub keeps_then : (old mid new : Place K D L) (result : Outcome) → Keeps to on net old (Ok tt) mid → Keeps to on net mid result new → Keeps to on net old result new
   keeps_then old mid new result first second = record {
-    machine = λ start between. second.machine start (first.machine start between);
+    machine = λ told start between. second.machine told start (first.machine (second.asks.told told) start between);
     goes_on = second.goes_on;
     writes = rises_from _ (to.count old.sink) (to.count mid.sink) (to.count new.sink) (first.writes.quiet (went_on SinkFault)) second.writes;
     asks = asks_then on _ _ old.disk mid.disk new.disk (went_on DiskFault) first.asks second.asks;
-    numbered = λ fault. takes_then on old.disk mid.disk new.disk first.asks.later (second.numbered fault);
     kept = kept_then (net.links old.links) (net.links mid.links) (net.links new.links) first.kept second.kept;
   }
 
@@ -101,11 +93,10 @@ module _ {K D L : Type 0} (to : SinkGhosts K) (on : Ghosts D) (net : LinksGhosts
   pub keeps_stop : (old new : Place K D L) (status : Status) → status ≢ SinkFault → status ≢ DiskFault → code_of status ≢ 3
       → on.left_at new.disk (on.moment new.disk) (on.seen new.disk) → Keeps to on net old (Ok tt) new → Keeps to on net old (Err status) new
   keeps_stop old new status no_sink no_disk other seen_left keeps = record {
-    machine = λ start between. ended_at on net start (code_of status) new.course new.disk new.links (keeps.machine start between) keeps.goes_on.begun other seen_left;
+    machine = λ told start between. ended_at on net start (code_of status) new.course new.disk new.links (keeps.machine told start between) keeps.goes_on.begun other seen_left;
     goes_on = tt;
     writes = rises_none _ (to.count old.sink) (to.count new.sink) (λ is. no_sink (err_is SinkFault is)) (keeps.writes.quiet (went_on SinkFault));
     asks = asks_ok on _ _ old.disk new.disk (went_on DiskFault) (λ is. no_disk (err_is DiskFault is)) keeps.asks;
-    numbered = λ is. absurd (no_disk (err_is DiskFault is));
     kept = keeps.kept;
   }
     where

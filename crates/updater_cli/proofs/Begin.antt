@@ -10,8 +10,9 @@ use Rattle.machine.specs.declared.reply.Reply.{Reply}
 use Rattle.machine.specs.declared.report.ReportLine.{ReportLine}
 use Rattle.machine.specs.Machine.{Step}
 use Rattle.machine.specs.Sound.{Sound}
-use Rattle.machine.specs.Store.{Store, booted, session_over}
+use Rattle.machine.specs.Store.{Session, Store, booted, session_over}
 use Rattle.machine.proofs.Sessions.{begins_sound}
+use Rattle.updater.specs.Costs.{Costs}
 use Rattle.updater.specs.Stands.{Stands, StandsForEither}
 use Rattle.updater.specs.Updater.{Holds}
 use Rattle.updater.specs.Moments.{LeavesSince, LeavesSinceOrNot}
@@ -35,7 +36,7 @@ pub runs_none : (now : ℕ) (store : Store) → Sound store → RunsTo (origin_o
 runs_none now store sound = record { steps = refl; settled = settled_first store sound }
 
 -- a boot asks the links for nothing
-pub boot_served : {L : Type 0} (net : LinksGhosts L) (links : L) (boot : ℕ) (event : Event) (reply : Option Reply) (old new : Store) → event ≡ Boot boot → IsServed net event reply links links old new
+pub boot_served : {L : Type 0} (net : LinksGhosts L) (links : L) (boot : ℕ) (event : Event) (reply : Option Reply) (old new : Session) → event ≡ Boot boot → IsServed net event reply links links old new
 boot_served net links boot event reply old new is =
     subst (λ (e : Event). IsServed net e reply links links old new) (sym is) (record { kept = kept_same (net.links links); left = refl; serves = tt })
 
@@ -49,20 +50,22 @@ booted_same store boot same =
     ∙ ap (λ (b : ℕ). let made : Store = record store { boot = b } in made) (sym same)
 
 module _ {D L : Type 0} (on : Ghosts D) (net : LinksGhosts L) (links : L) (old new : D) (boot now : ℕ) (store : Store) (sound : Sound store) (course : Course)
-    (is_now : course.now ≡ now) (stored : Holds on course.updater new (booted boot store))
+    (is_now : course.now ≡ now) (stored : Holds on course.updater new (session_over (booted boot store)))
     (stop : LeavesSince on (on.moment old + 1) new (StandsForEither store (booted boot store))) (started : on.moment old + 1 ≤ on.moment new)
     (past : (t : ℕ) (image : List ℕ) → t ≤ on.moment old → on.left_at new t image → on.left_at old t image) where
   none : RunsTo (origin_over now store) [] (session_over store)
   none = runs_none now store sound
 
   -- the boot number is the kept one
-  pub same : course.lines.items ≡ [] → store.boot ≡ boot → on.moment new ≡ on.moment old + 1 → Between on net (start_over now old links store) course new links
-  same no_lines kept once = record {
+  pub same : course.lines.items ≡ [] → store.boot ≡ boot → on.moment new ≡ on.moment old + 1 → on.total new ≤ on.total old → Between on net (start_over now old links store) course new links
+  same no_lines kept once unwritten = record {
     session = session_over store;
-    stored = subst (λ (s : Store). Holds on course.updater new s) (booted_same store boot kept) stored;
+    stored = subst (λ (s : Store). Holds on course.updater new (session_over s)) (booted_same store boot kept) stored;
     runs = rw no_lines none;
     moment = rw no_lines is_now;
-    counts = rw no_lines (refl, once);
+    bytes = 0;
+    counts = rw no_lines (refl, once, refl);
+    written = omega (arith, unwritten);
     served = rw no_lines (refl, refl);
     marks = rw no_lines tt;
     started = started;
@@ -76,7 +79,8 @@ module _ {D L : Type 0} (on : Ghosts D) (net : LinksGhosts L) (links : L) (old n
 
   -- it is another, which was made durable
   module _ (l : ReportLine) (lines : course.lines.items ≡ l ∷ []) (is_event : l.event ≡ Boot boot) (is_reply : l.reply ≡ None) (is_mark : l.mark ≡ on.moment new) (is_failures : l.failures ≡ failures_of (net.links links))
-      (small : boot ≤ NUMBER_LIMIT) (differs : store.boot ≢ boot) (calls : on.moment new ≡ on.moment old + 5) where
+      (small : boot ≤ NUMBER_LIMIT) (differs : store.boot ≢ boot) (marked : on.moment old + 2 ≤ on.moment new)
+      (own : ℕ) (costs : Costs store (booted boot store) own) (within : on.total new ≤ on.total old + own) where
     boots : Step now (session_over store) l.event l.reply (session_over (booted boot store))
     boots = rw is_event (is_reply, refl)
 
@@ -98,7 +102,7 @@ module _ {D L : Type 0} (on : Ghosts D) (net : LinksGhosts L) (links : L) (old n
     at t image first to left (inl early) = of (marked_by (l ∷ []) t) image (omega (arith, counts_early l t (omega (arith, is_mark)))) (stop t image first to left)
     at t image first to left (inr end) =
         all_lines (origin_over now store) (session_over (booted boot store)) (l ∷ []) None (marked_by (l ∷ []) t) image run.steps (inl (omega (arith, counts_late l t (omega (arith, is_mark, end)))))
-        (stored_stands on course.updater new (booted boot store) stored image (subst (λ (m : ℕ). on.left_at new m image) end left))
+        (stored_stands on course.updater new (session_over (booted boot store)) stored image (subst (λ (m : ℕ). on.left_at new m image) end left))
 
     pub other : Between on net (start_over now old links store) course new links
     other = record {
@@ -106,13 +110,15 @@ module _ {D L : Type 0} (on : Ghosts D) (net : LinksGhosts L) (links : L) (old n
       stored = stored;
       runs = rw lines run;
       moment = rw (lines, is_reply) is_now;
+      bytes = 0 + own;
       counts =
-          rw lines (subst (λ (m : ℕ). Counts (origin_over now store) (on.moment old + 1) (l ∷ []) (session_over (booted boot store)) m) is_mark
-          (counts_push (origin_over now store) (on.moment old + 1) [] (session_over store) (session_over (booted boot store)) (on.moment old + 1) l (refl, refl) boots
-          (record { same = λ equal. absurd (differs (ap (λ (s : Store). s.boot) (sym equal))); other = λ not. omega (arith, is_mark, calls) })));
+          rw lines (subst (λ (m : ℕ). Counts (origin_over now store) (on.moment old + 1) (l ∷ []) (session_over (booted boot store)) m (0 + own)) is_mark
+          (counts_push (origin_over now store) (on.moment old + 1) [] (session_over store) (session_over (booted boot store)) (on.moment old + 1) l 0 own (refl, refl, refl) boots
+          (record { same = λ equal. absurd (differs (ap (λ (s : Store). s.boot) (sym equal))); marked = λ not. omega (arith, is_mark, marked); costs = costs })));
+      written = omega (arith, within);
       served =
           rw lines (served_push net (origin_over now store) links [] (session_over store) (session_over (booted boot store)) links links l (refl, refl) boots
-          (boot_served net links boot l.event l.reply store (booted boot store) is_event) is_failures);
+          (boot_served net links boot l.event l.reply (session_over store) (session_over (booted boot store)) is_event) is_failures);
       marks = rw lines (omega (arith, is_mark), tt);
       started = started;
       past = past;

@@ -9,24 +9,24 @@ use Rattle.demo.specs.declared.summary.Summary.{Summary}
 use Rattle.demo.specs.Parts.{Touches}
 use Rattle.demo.specs.Run.{Demonstrates}
 use Rattle.demo.specs.Summary.{summary_line}
-use Rattle.updater_cli.specs.declared.status.Status.{Status}
-use Rattle.updater_cli.specs.declared.status.Status.TheVariants as exit
+use Rattle.updater_cli.specs.declared.demonstrating.DemoEnd.{DemoEnd}
+use Rattle.updater_cli.specs.declared.demonstrating.DemoEnd.TheVariants as end
 use Rattle.updater_cli.specs.Demonstration.{RunsDemo}
 use Rattle.updater_cli.specs.Devices.{Asks}
 
 -- what is asked of the disk
 pub asks_by : {D T : Type 0} (on : Ghosts D) (disk_old disk : D) (result : Result T DemoFault)
-    (status : Status) → Touches on disk_old result disk
-    → (status ≡ exit.DiskFault → result ≡ Err faults.DiskFault)
-    → (result ≡ Err faults.DiskFault → status ≡ exit.DiskFault)
-    → Asks on (status ≡ exit.DiskFault) disk_old disk
-asks_by on disk_old disk result status touches back there = record {
+    (is : DemoEnd) → Touches on disk_old result disk
+    → (is ≡ end.DiskFault → result ≡ Err faults.DiskFault)
+    → (result ≡ Err faults.DiskFault → is ≡ end.DiskFault)
+    → Asks on (is ≡ end.DiskFault) disk_old disk
+asks_by on disk_old disk result is touches back there = record {
   told = touches.told;
   later = touches.later;
   count = record {
     later = touches.count;
-    rose = λ is. touches.cause (back is);
-    quiet = λ other. touches.quiet (λ is. other (there is));
+    rose = λ fault. touches.cause (back fault);
+    quiet = λ other. touches.quiet (λ fault. other (there fault));
   };
 }
 
@@ -39,7 +39,7 @@ apart status (inr a) (inr b) = omega arith
 
 module _ {K D : Type 0} (to : SinkGhosts K) (on : Ghosts D) (seed : ℕ) (sink_old sink : K)
     (disk_old disk : D) where
-  -- by the disk, or for want of memory
+  -- by the disk, or for want of memory, or since it did not come out as it must
   pub by_disk : sink ≡ sink_old → RunsDemo to on seed 4 sink_old sink disk_old disk
   by_disk same = record {
     done = λ is. absurd (apart 4 is (inl refl));

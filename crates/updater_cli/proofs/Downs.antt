@@ -181,8 +181,8 @@ answer_other : (now : ℕ) (heard : List (List ℕ)) (old : Session) (command : 
     (new : Session) → AsksNothing command → Answers now heard old command reply new → IsOther reply
 answer_other now heard old command reply new none (inl (inl memory)) = ap is_all_links memory.0
 answer_other now heard old command reply new none (inl (inr refused)) =
-    given_reply IsOther (refusals now heard (shape_of old.store) command) old reply new
-    (refuse_other now heard (shape_of old.store) command none) refused.1
+    given_reply IsOther (refusals now heard (shape_of old) command) old reply new
+    (refuse_other now heard (shape_of old) command none) refused.1
 answer_other now heard old command reply new none (inr done) =
     effect_other now heard command old reply new none done.1
 
@@ -197,15 +197,15 @@ module _ (before after : LinksState) (kept : Kept before after) (now : ℕ) (hea
       (answer_other now heard old command reply new none answers))
 
   command_down : (command : Command) → Answers now heard old command reply new
-      → Serves command heard before after old.store reply new.store → Risen before after kept
+      → Serves command heard before after old reply new → Risen before after kept
   command_down (Install url) answers serves =
-      install_down before after kept (shape_of old.store) url heard serves.0.hearing.asked reply
+      install_down before after kept (shape_of old) url heard serves.0.hearing.asked reply
       serves.0.accounts there
   command_down (Check key) answers serves =
-      check_down before after kept key (shape_of old.store) serves.hearing.asked reply
+      check_down before after kept key (shape_of old) serves.hearing.asked reply
       serves.accounts there
   command_down (Group lease group) answers serves =
-      group_down before after kept lease group (shape_of old.store) serves.0.asked reply
+      group_down before after kept lease group (shape_of old) serves.0.asked reply
       serves.0.accounts there
   command_down (At next) answers serves = quiet (At next) tt answers
   command_down (Require key version) answers serves = quiet (Require key version) tt answers
@@ -223,7 +223,7 @@ module _ (before after : LinksState) (kept : Kept before after) (now : ℕ) (hea
 
 line_down : {L : Type 0} (net : LinksGhosts L) (before after : L) (now : ℕ) (old new : Session)
     (event : Event) (reply : Option Reply) → Step now old event reply new
-    → IsServed net event reply before after old.store new.store → IsSomeAnd reply SaysDown
+    → IsServed net event reply before after old new → IsSomeAnd reply SaysDown
     → Rose (failures_of (net.links before)) (failures_of (net.links after))
 line_down net before after now old new (Boot boot) reply step served down =
     absurd (subst (λ (r : Option Reply). IsSomeAnd r SaysDown) step.0 down)
@@ -233,7 +233,7 @@ line_down net before after now old new (Line command at heard) reply step served
     command_down (net.links before) (net.links after) served.kept now heard.texts old step.answer
     new (subst (λ (r : Option Reply). IsSomeAnd r SaysDown) step.replied down) command step.answers
     (subst (λ (r : Option Reply). IfSome r (λ answer.
-    Serves command heard.texts (net.links before) (net.links after) old.store answer new.store))
+    Serves command heard.texts (net.links before) (net.links after) old answer new))
     step.replied served.serves)
 
 -- the same of all lines

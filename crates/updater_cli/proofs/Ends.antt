@@ -19,14 +19,13 @@ use Rattle.machine.specs.Store.{Store, booted, session_over}
 use Rattle.command_text.specs.Lines.{AreEvents, IsEvent, texts_of}
 use Rattle.command_text.proofs.InputLemmas.{length_events}
 use Rattle.updater.specs.Stands.{Stands, StandsForNone}
-use Rattle.updater.specs.Updater.{IsSpent, TakesNumber}
 use Rattle.updater_cli.specs.declared.status.Status.{Status}
 use Rattle.updater_cli.specs.declared.status.Status.TheVariants.{Done, Words, SourceFault, SinkFault, DiskFault, NotAStore, Memory, TooMuchInput}
 use Rattle.updater_cli.specs.Devices.{devices_of}
 use Rattle.updater_cli.specs.Headline.{after_boot, ReadsLines, BeginsOnFault, MadeCalls, HeadlineLines, HeadlineRun}
 use Rattle.updater_cli.specs.Lines.{IsReady, Place, AreInputs, InputAnswered}
 use Rattle.updater_cli.specs.Opening.{Begun, IsNoBoot, IsNoBootFirst, IsLineOrNone, BootsFirst, HasBootLine, IsOpeningEnd, begun_by}
-use Rattle.updater_cli.specs.Report.{report_of, events_of, replies_of, moment_behind, IsRunAt, AreRunFrom, KeepsMoments, MarksRise, FailuresRise, IsBegunServed, Writes}
+use Rattle.updater_cli.specs.Report.{report_of, events_of, replies_of, moment_behind, CostsBegun, IsRunAt, AreRunFrom, KeepsMoments, MarksRise, FailuresRise, IsBegunServed, Writes}
 use Rattle.updater_cli.specs.Status.{Outcome, code_of, end_of, IsSessionEnd}
 use Rattle.updater_cli.proofs.Begin.{boot_served, runs_none}
 use Rattle.updater_cli.proofs.Runs.{rise_on, failures_on, run_from_append, moment-append}
@@ -124,7 +123,7 @@ begins_on_fault DiskFault begun end = record { none = λ other. absurd (other re
 begins_on_fault Words begun end = absurd end
 begins_on_fault NotAStore begun end = absurd end
 
--- no session that was opened ends with status 5, and status 4 is that of the disk
+-- no session that was opened ends with status 5
 not_five : (status : Status) (begun : Option Event) → IsSessionEnd status begun → code_of status ≢ 5
 not_five Done begun end same = omega (arith, same)
 not_five Memory begun end same = omega (arith, same)
@@ -134,16 +133,6 @@ not_five TooMuchInput begun end same = omega (arith, same)
 not_five DiskFault begun end same = omega (arith, same)
 not_five Words begun end same = end
 not_five NotAStore begun end same = end
-
-is_disk_fault : (status : Status) → code_of status ≡ 4 → status ≡ DiskFault
-is_disk_fault DiskFault four = refl
-is_disk_fault Done four = absurd (omega arith)
-is_disk_fault Words four = absurd (omega arith)
-is_disk_fault SourceFault four = absurd (omega arith)
-is_disk_fault SinkFault four = absurd (omega arith)
-is_disk_fault NotAStore four = absurd (omega arith)
-is_disk_fault Memory four = absurd (omega arith)
-is_disk_fault TooMuchInput four = absurd (omega arith)
 
 -- how the whole input ended
 session_end : (outcome : Outcome) (begun : Option Event) → OnOk outcome (begun ≡ None) → IfErr outcome (λ status. IsSessionEnd status begun) → IsSessionEnd (end_of outcome) begun
@@ -221,14 +210,6 @@ module _ {S K D L : Type 0} (source : SourceGhosts S) (to : SinkGhosts K) (on : 
     begun = subst (λ (n : ℕ). IfSome new.course.begun (IsRunAt n)) now_behind answered.trace.begun_at;
   }
 
-  called : TakesNumber on old.disk new.disk → (on.moment disk + 2 ≤ on.moment new.disk) ⊎ IsSpent on new.disk
-  called (inl counted) = inl (omega (arith, begun.synced, counted))
-  called (inr spent) = inr spent
-
-  err_is : (outcome : Outcome) → end_of outcome ≡ DiskFault → outcome ≡ Err DiskFault
-  err_is (Ok done) is = absurd (cc (is))
-  err_is (Err status) is = ap Err is
-
   -- the lines
   pub opened_lines : boot ≤ NUMBER_LIMIT → (on.tells new.disk → (store : Store) → Stands (on.seen disk) store → BootsFirst boot store.boot old.course.lines.items)
       → HeadlineLines source on net boot now (code_of (end_of outcome)) (devices_of source_old old.sink disk old.links) (devices_of source_new new.sink new.disk new.links)
@@ -259,7 +240,6 @@ module _ {S K D L : Type 0} (source : SourceGhosts S) (to : SinkGhosts K) (on : 
           subst (λ (ls : List ReportLine). BootsFirst boot store.boot ls) (sym answered.trace.grown)
           (boots_on boot (failures_of (net.links old.links)) (on.moment disk) (on.moment old.disk) store.boot old.course.lines.items answered.trace.more answered.inputs (option_to_list new.course.begun) begun.lines answered.trace.events (boots told store stands));
       begun = line_or_none answered.inputs (events_of answered.trace.more) new.course.begun answered.trace.events;
-      called = λ four. called (answered.keeps.numbered (err_is outcome (is_disk_fault (end_of outcome) four)));
     });
   }
 
@@ -316,17 +296,27 @@ module _ {S K D L : Type 0} (source : SourceGhosts S) (on : Ghosts D) (net : Lin
   unopened_lines SinkFault end = absurd end
   unopened_lines TooMuchInput end = absurd end
 
+-- what it wrote
+abbrev Spent : {D : Type 0} → Ghosts D → ℕ → ℕ → D → D → Store → Status → Type 0
+Spent on boot now old new store status = (more : ℕ) × CostsBegun now (session_over store) (begun_by boot status) more
+    × ((on.total new ≤ on.total old + 0 + more) ⊎ ((code_of status ≡ 6) × (◌≡◌ {A = List ReportLine} [] [])))
+
 -- and its run
 pub unopened_run : {S K D L : Type 0} (to : SinkGhosts K) (on : Ghosts D) (net : LinksGhosts L) (boot now : ℕ) (s : S) (k : K) (l : L) (old new : D) (status : Status) → IsOpeningEnd status
     → (on.tells new → status ≡ NotAStore → StandsForNone (on.seen old)) → (status ≢ DiskFault → on.moment new ≤ on.moment old + 1) → (status ≢ DiskFault → on.seen new ≡ on.seen old)
+    → (on.tells new → (store : Store) → Stands (on.seen old) store → status ≢ Memory → (more : ℕ) × CostsBegun now (session_over store) (begun_by boot status) more × (on.total new ≤ on.total old + more))
     → HeadlineRun to on net now (code_of status) (devices_of s k old l) (devices_of s k new l) (report_of [] (begun_by boot status))
-unopened_run to on net boot now s k l old new status end no_store within reads = record {
+unopened_run to on net boot now s k l old new status end no_store within reads costs = record {
   leads = λ told store stands. record {
     session = session_over store;
     runs = runs_none now store stands.sound;
     reads = λ other. subst (λ (image : List ℕ). Stands image store) (sym (reads (λ same. other (ap code_of same)))) stands.stands;
     last = on.moment old + 1;
-    counts = (refl, refl);
+    bytes = 0;
+    counts = (refl, refl, refl);
+    more = (spent store status end (costs told store stands.stands)).0;
+    begins = (spent store status end (costs told store stands.stands)).1;
+    written = (spent store status end (costs told store stands.stands)).2;
     calls = made status end (λ is. no_store told is store stands.stands) within;
     behind = l;
     served = (refl, refl);
@@ -337,6 +327,19 @@ unopened_run to on net boot now s k l old new status end no_store within reads =
   output = λ told. record { whole = λ other. sym (append-nil (to.taken k)); part = λ three. absurd (not_three status end three) };
 }
   where
+    by : (store : Store) (status : Status) → (status ≡ Memory → ⊥) → (status ≢ Memory → (more : ℕ) × CostsBegun now (session_over store) (begun_by boot status) more × (on.total new ≤ on.total old + more)) → Spent on boot now old new store status
+    by store status other costs = let c = costs other in (c.0, c.1, inl (omega (arith, c.2)))
+
+    spent : (store : Store) (status : Status) → IsOpeningEnd status → (status ≢ Memory → (more : ℕ) × CostsBegun now (session_over store) (begun_by boot status) more × (on.total new ≤ on.total old + more)) → Spent on boot now old new store status
+    spent store Memory end costs = (0, refl, inr (refl, refl))
+    spent store NotAStore end costs = by store NotAStore (λ is. cc (is)) costs
+    spent store DiskFault end costs = by store DiskFault (λ is. cc (is)) costs
+    spent store Done end costs = absurd end
+    spent store Words end costs = absurd end
+    spent store SourceFault end costs = absurd end
+    spent store SinkFault end costs = absurd end
+    spent store TooMuchInput end costs = absurd end
+
     not_three : (status : Status) → IsOpeningEnd status → code_of status ≡ 3 → ⊥
     not_three Memory end three = omega arith
     not_three NotAStore end three = omega arith
@@ -350,7 +353,7 @@ unopened_run to on net boot now s k l old new status end no_store within reads =
     begun : (status : Status) → IsOpeningEnd status → (store : Store) → IsBegunServed net now (session_over store) l (begun_by boot status) l
     begun Memory end store = refl
     begun NotAStore end store = refl
-    begun DiskFault end store = (session_over (booted boot store), None, (refl, refl), boot_served net l boot (Boot boot) None store (booted boot store) refl)
+    begun DiskFault end store = (session_over (booted boot store), None, (refl, refl), boot_served net l boot (Boot boot) None (session_over store) (session_over (booted boot store)) refl)
     begun Done end store = absurd end
     begun Words end store = absurd end
     begun SourceFault end store = absurd end

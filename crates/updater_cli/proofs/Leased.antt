@@ -140,7 +140,7 @@ module _ (from : Origin) (sound : Sound from.session.store) (lines : List Report
 pub launches_hold : (from : Origin) (lines : List ReportLine) → LaunchesHold from lines
 launches_hold from lines l old new key moment heard is asked may =
     let one = subst (λ (e : Event). Step (moment_behind from.now is.before) old e l.reply new) asked is.step in
-    let clear = subst (λ (now : ℕ). due key (shape_of old.store) now ≡ Some (Clear may.check_due)) one.moment may.clear in
+    let clear = subst (λ (now : ℕ). due key (shape_of old) now ≡ Some (Clear may.check_due)) one.moment may.clear in
     subst (λ (r : Option Reply). IsSomeAnd r IsLeaseOrMemory) (sym one.replied)
     (launch_granted (moment_behind from.now is.before) heard.texts old key may.check_due one.answer new clear may.few may.next one.answers)
 

@@ -97,20 +97,20 @@ module _ (Good : List ℕ → Type 0) where
       by v there false is = good v there
 
   -- a program file whose content a kept view has
-  held_good : (store : Store) (files : List ListedFile) (file : ListedFile) → All IsView store.views
-      → ShareBytes (program_files_of store ++ files) → GoodViews store.views → In file files
-      → is_held (standing_files (shape_of store).views) file.entry ≡ true → Good file.bytes
-  held_good store files file valid shared good there held =
-      let by = held_by file.entry store.views held in
+  held_good : (old : Session) (files : List ListedFile) (file : ListedFile) → All IsView old.store.views
+      → ShareBytes (program_files_of old.store ++ files) → GoodViews old.store.views → In file files
+      → is_held (standing_files (shape_of old).views) file.entry ≡ true → Good file.bytes
+  held_good old files file valid shared good there held =
+      let by = held_by file.entry old.store.views held in
       let view = by.0 in
       let listed : In by.1 (map (λ (f : ListedFile). f.entry) view.program_files) =
-      subst (λ (es : List FileEntry). In by.1 es) (sym (all_in IsView store.views view valid by.2).files) by.3 in
+      subst (λ (es : List FileEntry). In by.1 es) (sym (all_in IsView old.store.views view valid by.2).files) by.3 in
       let from = map_in (λ (f : ListedFile). f.entry) view.program_files by.1 listed in
-      let kept : In from.0 (program_files_of store) = in_flat_map (λ (v : View). v.program_files) store.views view from.0 by.2 from.1 in
+      let kept : In from.0 (program_files_of old.store) = in_flat_map (λ (v : View). v.program_files) old.store.views view from.0 by.2 from.1 in
       let key : content_key file.entry ≡ content_key from.0.entry =
       (content_decides file.entry by.1).0 by.4 ∙ ap content_key (sym from.2) in
       let same : file.bytes ≡ from.0.bytes =
-      each_alike (program_files_of store ++ files) shared file from.0 (in_right (program_files_of store) files file there) (in_left (program_files_of store) files from.0 kept) key in
+      each_alike (program_files_of old.store ++ files) shared file from.0 (in_right (program_files_of old.store) files file there) (in_left (program_files_of old.store) files from.0 kept) key in
       subst Good (sym same) ((good view by.2).program from.0 from.1)
 
   module _ (links : LinksState)
@@ -118,13 +118,13 @@ module _ (Good : List ℕ → Type 0) where
     of_site : (target : Target) (bytes : List ℕ) → IsOfSite links target bytes → Good bytes
     of_site target bytes is = have is.place target bytes is.within is.there
 
-    came_good : (store : Store) (wants : List FileEntry) (view : View) (files : List ListedFile)
-        (file : ListedFile) → All IsView store.views → ShareBytes (program_files_of store ++ files)
-        → GoodViews store.views → In file files → IsHeldOrOfSite links (shape_of store) wants view file
+    came_good : (old : Session) (wants : List FileEntry) (view : View) (files : List ListedFile)
+        (file : ListedFile) → All IsView old.store.views → ShareBytes (program_files_of old.store ++ files)
+        → GoodViews old.store.views → In file files → IsHeldOrOfSite links (shape_of old) wants view file
         → Good file.bytes
-    came_good store wants view files file valid shared good there (inl held) =
-        held_good store files file valid shared good there held
-    came_good store wants view files file valid shared good there (inr any) =
+    came_good old wants view files file valid shared good there (inl held) =
+        held_good old files file valid shared good there held
+    came_good old wants view files file valid shared good there (inr any) =
         let at = any.4 in of_site at.0 file.bytes at.3
 
     -- ---- data files that a new version has
@@ -150,7 +150,7 @@ module _ (Good : List ℕ → Type 0) where
 
     module _ (url : List ℕ) (heard : List (List ℕ)) (now : ℕ) (old : Session) (reply : Reply)
         (new : Session) (done : InstallEffect install_replies url heard now old reply new)
-        (sound : Sound old.store) (sites : IsOfSites links url heard old.store new.store)
+        (sound : Sound old.store) (sites : IsOfSites links url heard old new)
         (good : GoodViews old.store.views) where
       abbrev the_view : View
       the_view = new_view old.store.next_view done.base done.deployment done.application done.files done.installed.data_files
@@ -161,8 +161,8 @@ module _ (Good : List ℕ → Type 0) where
       new_good : GoodView the_view
       new_good = record {
         program = λ file there.
-            came_good old.store (wanted (shape_of old.store).views done.application) the_view done.files file sound.valid.ordered.views done.fetched.shared good there
-            (all_in (IsHeldOrOfSite links (shape_of old.store) (wanted (shape_of old.store).views done.application) the_view) done.files file (sites.brought the_view views) there);
+            came_good old (wanted (shape_of old).views done.application) the_view done.files file sound.valid.ordered.views done.fetched.shared good there
+            (all_in (IsHeldOrOfSite links (shape_of old) (wanted (shape_of old).views done.application) the_view) done.files file (sites.brought the_view views) there);
         local = λ file there.
             carried_good old.store the_view file good
             (all_in (IsCarriedOrOfSite links old.store the_view) done.installed.data_files file (sites.data_files the_view views) there);
@@ -182,7 +182,7 @@ module _ (Good : List ℕ → Type 0) where
 
     group_good : (lease : ℕ) (group : List ℕ) (old : Session) (reply : Reply) (new : Session)
         → GroupEffect lease group old reply new → Sound old.store
-        → GroupOfSites links lease group old.store new.store → GoodViews old.store.views
+        → GroupOfSites links lease group old new → GoodViews old.store.views
         → GoodViews new.store.views
     group_good lease group old reply new done sound sites good =
         by done.comes
@@ -215,8 +215,8 @@ module _ (Good : List ℕ → Type 0) where
                 split true came =
                     let there : In file grouped.files =
                     subst (λ (fs : List ListedFile). In file fs) grouped.among.came (in_filter (λ (f : ListedFile). is_in group f.entry) grouped.program_files file came stands) in
-                    came_good old.store (group_wanted (shape_of old.store).views group done.view.application) (with_group group grouped.program_files done.view) grouped.files file sound.valid.ordered.views grouped.fetched.shared good there
-                    (all_in (IsHeldOrOfSite links (shape_of old.store) (group_wanted (shape_of old.store).views group done.view.application) (with_group group grouped.program_files done.view)) grouped.program_files file
+                    came_good old (group_wanted (shape_of old).views group done.view.application) (with_group group grouped.program_files done.view) grouped.files file sound.valid.ordered.views grouped.fetched.shared good there
+                    (all_in (IsHeldOrOfSite links (shape_of old) (group_wanted (shape_of old).views group done.view.application) (with_group group grouped.program_files done.view)) grouped.program_files file
                     (sites (with_group group grouped.program_files done.view) leased) stands)
                 split false stayed =
                     let there : In file done.view.program_files =
@@ -233,7 +233,7 @@ module _ (p : Publication) (folder : List Held) (links : LinksState)
 
   effect_good : (now at : ℕ) (heard : Heard) (command : Command) (old : Session) (reply : Reply)
       (new : Session) → effect now heard.texts command old reply new → Sound old.store
-      → IsLineOfSites links (Line command at heard) old.store new.store
+      → IsLineOfSites links (Line command at heard) old new
       → PutsNoOthers p folder command → GoodViews Good old.store.views
       → GoodViews Good new.store.views
   effect_good now at heard (At next) old reply new done sound sites puts good = same_views Good old.store.views new.store.views (ap (λ (s : Session). s.store.views) done.1) good
@@ -278,7 +278,7 @@ module _ (p : Publication) (folder : List Held) (links : LinksState)
   effect_good now at heard (Show key) old reply new done sound sites puts good = same_views Good old.store.views new.store.views (ap (λ (s : Session). s.store.views) done.is) good
 
   step_good : (now : ℕ) (event : Event) (reply : Option Reply) (old new : Session)
-      → Step now old event reply new → Sound old.store → IsLineOfSites links event old.store new.store
+      → Step now old event reply new → Sound old.store → IsLineOfSites links event old new
       → EventPutsNoOthers p folder event → GoodViews Good old.store.views
       → GoodViews Good new.store.views
   step_good now (Boot boot) reply old new step sound sites puts good =
@@ -289,7 +289,7 @@ module _ (p : Publication) (folder : List Held) (links : LinksState)
       by (kept_or_effect now heard.texts old command step.answer new step.answers)
     where
       by : Kept command old step.answer new
-          ⊎ (PassesAll (refusals now heard.texts (shape_of old.store) command)
+          ⊎ (PassesAll (refusals now heard.texts (shape_of old) command)
           × effect now heard.texts command old step.answer new) → GoodViews Good new.store.views
       by (inl kept) = same_views Good old.store.views new.store.views kept.views good
       by (inr done) = effect_good now at heard command old step.answer new done.1 sound sites puts good

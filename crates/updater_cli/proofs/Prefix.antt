@@ -77,8 +77,12 @@ ended_at on net start status course disk links between none other seen_left =
       session = between.session;
       runs = between.runs;
       last = on.moment disk;
+      bytes = between.bytes;
       counts = between.counts;
       calls = λ not_four. refl;
+      more = 0;
+      begins = refl;
+      written = omega (arith, between.written);
       behind = links;
       served = between.served;
       begun = refl;
@@ -86,7 +90,7 @@ ended_at on net start status course disk links between none other seen_left =
       since = λ t image first to left.
           subst (λ (ls : List ReportLine). StandsForPrefix start.from (report_of course.lines.items None) (marked_by ls t) image)
           (sym (answered_all status course.lines.items other)) (between.since t image first to left);
-      reads = λ not_four. stored_stands on course.updater disk between.session.store between.stored (on.seen disk) seen_left;
+      reads = λ not_four. stored_stands on course.updater disk between.session between.stored (on.seen disk) seen_left;
     })
 
 module _ {D L : Type 0} (on : Ghosts D) (net : LinksGhosts L) (start : Start D L) (course : Course) (old new : D) (links_old links_new : L) (between : Between on net start course old links_old) where
@@ -128,8 +132,12 @@ module _ {D L : Type 0} (on : Ghosts D) (net : LinksGhosts L) (start : Start D L
     session = between.session;
     runs = between.runs;
     last = on.moment old;
+    bytes = between.bytes;
     counts = between.counts;
     calls = λ other. absurd (other refl);
+    more = broke.bytes;
+    begins = (broke.new, Some broke.reply, behind e (Some broke.reply) broke.new broke.step, broke.costs);
+    written = omega (arith, between.written, broke.written);
     behind = links_old;
     served = between.served;
     begun = (broke.new, Some broke.reply, behind e (Some broke.reply) broke.new broke.step, broke.served);
@@ -147,15 +155,18 @@ module _ {D L : Type 0} (on : Ghosts D) (net : LinksGhosts L) (start : Start D L
     runs : RunsTo start.from (course.lines.items ++ l ∷ []) ran.new
     runs = runs_push start.from between.session ran.new course.lines.items l between.runs step ran.settled
 
-    counts_on : Counts start.from (on.moment start.disk + 1) (course.lines.items ++ l ∷ []) ran.new (on.moment new)
+    counts_on : Counts start.from (on.moment start.disk + 1) (course.lines.items ++ l ∷ []) ran.new (on.moment new) (between.bytes + ran.bytes)
     counts_on =
-        subst (λ (m : ℕ). Counts start.from (on.moment start.disk + 1) (course.lines.items ++ l ∷ []) ran.new m) is_mark
-        (counts_push start.from (on.moment start.disk + 1) course.lines.items between.session ran.new (on.moment old) l between.counts step (rw is_mark ran.counted))
+        subst (λ (m : ℕ). Counts start.from (on.moment start.disk + 1) (course.lines.items ++ l ∷ []) ran.new m (between.bytes + ran.bytes)) is_mark
+        (counts_push start.from (on.moment start.disk + 1) course.lines.items between.session ran.new (on.moment old) l between.bytes ran.bytes between.counts step (rw is_mark ran.counted))
+
+    written_on : on.total new ≤ on.total start.disk + (between.bytes + ran.bytes)
+    written_on = omega (arith, between.written, ran.written)
 
     served : AreServed net start.from start.links (course.lines.items ++ l ∷ []) ran.new links_new
     served =
         served_push net start.from start.links course.lines.items between.session ran.new links_old links_new l between.served step
-        (subst (λ (r : Option Reply). IsServed net l.event r links_old links_new between.session.store ran.new.store) (sym is_reply) ran.served) is_failures
+        (subst (λ (r : Option Reply). IsServed net l.event r links_old links_new between.session ran.new) (sym is_reply) ran.served) is_failures
 
     size : length (course.lines.items ++ l ∷ []) ≡ length course.lines.items + 1
     size = length-append course.lines.items (l ∷ [])
@@ -179,7 +190,7 @@ module _ {D L : Type 0} (on : Ghosts D) (net : LinksGhosts L) (start : Start D L
         at_end is =
             subst (λ (m : ℕ). StandsForPrefix start.from (report_of (course.lines.items ++ l ∷ []) None) (count m) image) (sym is)
             (all_lines start.from ran.new (course.lines.items ++ l ∷ []) None (count (on.moment new)) image runs.steps (counted end)
-            (stored_stands on updater new ran.new.store ran.stored image (subst (λ (m : ℕ). on.left_at new m image) is left)))
+            (stored_stands on updater new ran.new ran.stored image (subst (λ (m : ℕ). on.left_at new m image) is left)))
 
         of : (k : ℕ) → k ≡ length course.lines.items → StandsForEither between.session.store ran.new.store image
             → StandsForPrefix start.from (report_of (course.lines.items ++ l ∷ []) None) k image
@@ -215,7 +226,9 @@ module _ {D L : Type 0} (on : Ghosts D) (net : LinksGhosts L) (start : Start D L
           moment-append start.from.now course.lines.items (l ∷ []) ∙ ap (λ (r : Option Reply). moment_after (moment_behind start.from.now course.lines.items) r) is_reply
           ∙ ap (λ (now : ℕ). moment_after now (Some reply)) (sym between.moment) in
           is_now ∙ sym behind_all ∙ ap (λ (ls : List ReportLine). moment_behind start.from.now ls) (sym grown);
+      bytes = between.bytes + ran.bytes;
       counts = rw grown counts_on;
+      written = written_on;
       served = rw grown served;
       marks = rw grown (marked_push course.lines.items l (on.moment new) (marked_later course.lines.items (on.moment old) (on.moment new) ran.stop.later between.marks) (omega (arith, is_mark)));
       started = omega (arith, between.started, ran.stop.later);
@@ -229,8 +242,12 @@ module _ {D L : Type 0} (on : Ghosts D) (net : LinksGhosts L) (start : Start D L
       session = ran.new;
       runs = runs;
       last = on.moment new;
+      bytes = between.bytes + ran.bytes;
       counts = counts_on;
       calls = λ other. refl;
+      more = 0;
+      begins = refl;
+      written = omega (arith, written_on);
       behind = links_new;
       served = served;
       begun = refl;
@@ -238,5 +255,5 @@ module _ {D L : Type 0} (on : Ghosts D) (net : LinksGhosts L) (start : Start D L
       since = λ t image first to left.
           subst (λ (ls : List ReportLine). StandsForPrefix start.from (report_of (course.lines.items ++ l ∷ []) None) (marked_by ls t) image) (sym (answered_cut course.lines.items l))
           (since_by (marked_by course.lines.items) (λ t less. refl) (inr (omega (arith, end_all))) t image first to left);
-      reads = λ other. stored_stands on updater new ran.new.store ran.stored (on.seen new) seen_left;
+      reads = λ other. stored_stands on updater new ran.new ran.stored (on.seen new) seen_left;
     }

@@ -158,7 +158,7 @@ install_done : (at : ℕ) (heard : List (List ℕ)) (old : Session) (url : List 
     → Answers at heard old (Install url) reply new → InstallEffect install_replies url heard at old reply new
 install_done at heard old url reply new is (inl (inl memory)) = absurd (not_other (is_installed reply) is (ap is_installed memory.0))
 install_done at heard old url reply new is (inl (inr refused)) =
-    absurd (not_other (is_installed reply) is (given_reply IsOther (install_refusals install_replies LOCAL_COUNT_LIMIT url heard (shape_of old.store)) old reply new (others url heard (shape_of old.store)) refused.1))
+    absurd (not_other (is_installed reply) is (given_reply IsOther (install_refusals install_replies LOCAL_COUNT_LIMIT url heard (shape_of old)) old reply new (others url heard (shape_of old)) refused.1))
 install_done at heard old url reply new is (inr done) = done.1
 
 number_is : (a b : _) (v w : _) (m n : ℕ) → says.Installed a v m ≡ says.Installed b w n → m ≡ n

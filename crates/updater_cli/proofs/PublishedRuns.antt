@@ -160,7 +160,7 @@ effect_uses now heard (Show key) old reply new done = unmoved old new done.is
 answer_uses : (now : ℕ) (heard : List (List ℕ)) (old : Session) (command : Command) (reply : Reply) (new : Session) → Answers now heard old command reply new → KeepsUses old.store new.store
 answer_uses now heard old command reply new (inl (inl memory)) = unmoved old new memory.1
 answer_uses now heard old command reply new (inl (inr refused)) =
-    left_uses (refusals now heard (shape_of old.store) command) old reply new (refusals_leave now heard (shape_of old.store) command) refused.1
+    left_uses (refusals now heard (shape_of old) command) old reply new (refusals_leave now heard (shape_of old) command) refused.1
 answer_uses now heard old command reply new (inr done) = effect_uses now heard command old reply new done.1
 
 step_uses : (now : ℕ) (old : Session) (event : Event) (reply : Option Reply) (new : Session) → Step now old event reply new → KeepsUses old.store new.store

@@ -1,5 +1,5 @@
 -- What running a line does.
-use Rattle.std.proofs.Common.{◌≤◌, ℕ, List, Some, Ok, Err, refl, ap}
+use Rattle.std.proofs.Common.{◌≡◌, ◌∙◌, ◌≤◌, ◌++◌, ℕ, List, [], Some, Result, Ok, Err, inl, refl, sym, ap, subst, arith}
 use Rattle.outside.specs.declared.failed.Failed.{Failed}
 use Rattle.disks.specs.declared.disk.Disk.{Ghosts}
 use Rattle.links.specs.declared.links.Links.{Ghosts as LinksGhosts}
@@ -20,7 +20,7 @@ use Rattle.command_text.specs.Lines.{Gives, command_of}
 use Rattle.command_text.proofs.InputLemmas.{command_event, unread_event}
 use Rattle.store_state.specs.Tables.{table_shape}
 use Rattle.updater.specs.declared.updater.Updater.{Updater}
-use Rattle.updater.specs.Commanded.{Answered, Commanded, Faulted, SoundFor}
+use Rattle.updater.specs.Commanded.{Answered, Commanded, CommandedBehind, Faulted, SoundFor}
 use Rattle.updater.specs.Updater.{room_of, tables_of}
 use Rattle.updater.proofs.Standing.{still_stands}
 use Rattle.updater_cli.specs.Lines.{LineRun}
@@ -41,67 +41,86 @@ module _ {D L : Type 0} (on : Ghosts D) (net : LinksGhosts L) (now : ℕ) (few :
     at = tt;
     begun = tt;
     few = few;
-    ran = λ old settled holds. record {
+    ran = λ told old settled holds. record {
       new = old;
       step = (refl, refl);
       stored = holds;
-      stop = still_stands on updater disk old.store old.store holds;
-      counted = record { same = λ _. refl; other = λ differs. absurd (differs refl) };
+      stop = still_stands on updater disk old old.store holds;
+      bytes = 0;
+      counted = record { same = λ _. refl; marked = λ differs. absurd (differs refl); costs = inl (refl, refl) };
+      written = omega arith;
       settled = settled;
       served = record { kept = kept_same (net.links links); left = refl; serves = tt };
     };
-    fault = λ old settled holds. tt;
+    fault = λ told old settled holds. tt;
     asks = asks_none on _ disk (λ is. cc (is));
-    numbered = tt;
     kept = kept_same (net.links links);
   }
 
-  module _ (command : Command) (heard : Heard) (gives : Gives (Ok command) (command_of line)) (is : IsCommand command) (updater_new : Updater) (disk_new : D) (links_new : L) where
-    -- the command was answered
-    pub answered : (reply : Reply) → Commanded on net now heard.texts command updater disk links (Ok reply) updater_new disk_new links_new
+  module _ (command : Command) (before : List (List ℕ)) (heard : Heard) (none : before ≡ []) (gives : Gives (Ok command) (command_of line)) (is : IsCommand command) (updater_new : Updater) (disk_new : D) (links_new : L) where
+    -- it heard nothing before
+    alone : (result : Result Reply Failed) → CommandedBehind on net now before heard.texts command updater disk links result updater_new disk_new links_new
+        → Commanded on net now heard.texts command updater disk links result updater_new disk_new links_new
+    alone result behind =
+        subst (λ (texts : List (List ℕ)). Commanded on net now texts command updater disk links result updater_new disk_new links_new)
+        (sym (behind.behind ∙ ap (λ (l : List (List ℕ)). l ++ behind.texts) none)) behind.commanded
+
+    done : (reply : Reply) → Commanded on net now heard.texts command updater disk links (Ok reply) updater_new disk_new links_new
         → LineRun on net now line updater disk links (Ok (Line command now heard, reply)) updater_new disk_new links_new
-    answered reply commanded = record {
+    done reply commanded = record {
       event = command_event now heard line command gives;
       at = (refl, few, is, (table_shape (room_of updater) (tables_of updater), commanded.hears));
       begun = tt;
       few = commanded.few;
-      ran = λ old settled holds.
-          let done : Answered on net now heard.texts command disk links old reply updater_new disk_new links_new = commanded.answered old holds (sound_for command old.store settled.sound.store) in
-          let step : Step now old (Line command now heard) (Some reply) done.new = record { moment = refl; hears = done.hears; answer = reply; replied = refl; answers = done.step } in
+      ran = λ told old settled holds.
+          let made : Answered on net now heard.texts command disk links old reply updater_new disk_new links_new = commanded.answered told old holds (sound_for command old.store settled.sound.store) in
+          let step : Step now old (Line command now heard) (Some reply) made.new = record { moment = refl; hears = made.hears; answer = reply; replied = refl; answers = made.step } in
           record {
-            new = done.new;
+            new = made.new;
             step = step;
-            stored = done.stored;
-            stop = done.stop;
-            counted = record { same = λ same. ap on.moment (done.quiet same); other = done.tick };
-            settled = step_settled now old (Line command now heard) (Some reply) done.new (is, few) step settled;
-            served = record { kept = commanded.kept; left = commanded.left; serves = done.served };
+            stored = made.stored;
+            stop = made.stop;
+            bytes = made.bytes;
+            counted = record { same = λ same. (made.quiet same).untouched.no_tick; marked = made.marked; costs = made.costs };
+            written = made.written;
+            settled = step_settled now old (Line command now heard) (Some reply) made.new (is, few) step settled;
+            served = record { kept = commanded.kept; left = commanded.left; serves = made.served };
           };
-      fault = λ old settled holds. tt;
+      fault = λ told old settled holds. tt;
       asks = asks_call on disk disk_new _ commanded.told commanded.later commanded.cause;
-      numbered = tt;
       kept = commanded.kept;
     }
 
-    -- the disk failed in it
-    pub faulted : (e : Failed) → Commanded on net now heard.texts command updater disk links (Err e) updater_new disk_new links_new
+    -- the command was answered
+    pub answered : (reply : Reply) → CommandedBehind on net now before heard.texts command updater disk links (Ok reply) updater_new disk_new links_new
+        → LineRun on net now line updater disk links (Ok (Line command now heard, reply)) updater_new disk_new links_new
+    answered reply behind = done reply (alone (Ok reply) behind)
+
+    broken : (e : Failed) → Commanded on net now heard.texts command updater disk links (Err e) updater_new disk_new links_new
         → LineRun on net now line updater disk links (Err (Line command now heard)) updater_new disk_new links_new
-    faulted e commanded = record {
+    broken e commanded = record {
       event = command_event now heard line command gives;
       at = (refl, few, is, (table_shape (room_of updater) (tables_of updater), commanded.hears));
       begun = tt;
       few = tt;
-      ran = λ old settled holds. tt;
-      fault = λ old settled holds.
-          let broke : Faulted on net now heard.texts command disk links old disk_new links_new = commanded.fault old holds (sound_for command old.store settled.sound.store) in
+      ran = λ told old settled holds. tt;
+      fault = λ told old settled holds.
+          let broke : Faulted on net now heard.texts command disk links old disk_new links_new = commanded.fault told old holds (sound_for command old.store settled.sound.store) in
           record {
             new = broke.new;
             reply = broke.reply;
             step = record { moment = refl; hears = broke.hears; answer = broke.reply; replied = refl; answers = broke.step };
             stop = broke.stop;
+            bytes = broke.bytes;
+            costs = broke.costs;
+            written = broke.written;
             served = record { kept = commanded.kept; left = commanded.left; serves = broke.served };
           };
       asks = asks_call on disk disk_new _ commanded.told commanded.later commanded.cause;
-      numbered = commanded.numbered;
       kept = commanded.kept;
     }
+
+    -- the disk failed in it
+    pub faulted : (e : Failed) → CommandedBehind on net now before heard.texts command updater disk links (Err e) updater_new disk_new links_new
+        → LineRun on net now line updater disk links (Err (Line command now heard)) updater_new disk_new links_new
+    faulted e behind = broken e (alone (Err e) behind)

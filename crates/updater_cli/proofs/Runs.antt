@@ -7,7 +7,7 @@ use Rattle.machine.specs.declared.event.Event.{Event}
 use Rattle.machine.specs.declared.reply.Reply.{Reply}
 use Rattle.machine.specs.declared.report.ReportLine.{ReportLine}
 use Rattle.machine.specs.Machine.{Step, Run, moment_after}
-use Rattle.machine.specs.declared.command.Command.TheVariants.{Group, Install, Put}
+use Rattle.machine.specs.declared.command.Command.TheVariants.{Group, Install}
 use Rattle.machine.specs.declared.event.Event.TheVariants.{Line}
 use Rattle.machine.specs.Laws.{FetchesWithoutJobs}
 use Rattle.machine.specs.Words.{IsEvent}
@@ -22,7 +22,6 @@ use Rattle.updater_cli.specs.Report.{Origin, origin_after, events_of, replies_of
 without_jobs : (event : Event) (old : Session) → old.jobs ≡ [] → FetchesWithoutJobs event old
 without_jobs (Line (Install url) now heard) old none = none
 without_jobs (Line (Group lease group) now heard) old none = none
-without_jobs (Line (Put lease name bytes) now heard) old none = none
 without_jobs _ old none = tt
 
 pub step_settled : (now : ℕ) (old : Session) (event : Event) (reply : Option Reply) (new : Session) → IsEvent event → Step now old event reply new → IsSettled old → IsSettled new
@@ -56,27 +55,37 @@ runs_push from s new lines l runs step settled = record {
   settled = settled;
 }
 
-pub counts_push : (from : Origin) (mark : ℕ) (lines : List ReportLine) (s new : Session) (last : ℕ) (l : ReportLine)
-    → Counts from mark lines s last → Step (moment_behind from.now lines) s l.event l.reply new → IsCounted s new last l.mark
-    → Counts from mark (lines ++ l ∷ []) new l.mark
-counts_push from mark [] s new last l so_far step counted = (
+pub counts_push : (from : Origin) (mark : ℕ) (lines : List ReportLine) (s new : Session) (last : ℕ) (l : ReportLine) (bytes own : ℕ)
+    → Counts from mark lines s last bytes → Step (moment_behind from.now lines) s l.event l.reply new → IsCounted s new last l.mark own
+    → Counts from mark (lines ++ l ∷ []) new l.mark (bytes + own)
+counts_push from mark [] s new last l bytes own so_far step counted = (
   new,
+  own,
+  0,
+  omega (arith, so_far.2),
   subst (λ (x : Session). Step from.now x l.event l.reply new) so_far.0 step,
-  subst (λ (x : Session). IsCounted x new mark l.mark) so_far.0 (subst (λ (n : ℕ). IsCounted s new n l.mark) so_far.1 counted),
-  (refl, refl),
+  subst (λ (x : Session). IsCounted x new mark l.mark own) so_far.0 (subst (λ (n : ℕ). IsCounted s new n l.mark own) so_far.1 counted),
+  (refl, refl, refl),
 )
-counts_push from mark (x ∷ lines) s new last l so_far step counted =
-    (so_far.0, so_far.1, so_far.2, counts_push (origin_after from x.reply so_far.0) x.mark lines s new last l so_far.3 step counted)
+counts_push from mark (x ∷ lines) s new last l bytes own so_far step counted = (
+  so_far.0,
+  so_far.1,
+  so_far.2 + own,
+  omega (arith, so_far.3),
+  so_far.4,
+  so_far.5,
+  counts_push (origin_after from x.reply so_far.0) x.mark lines s new last l so_far.2 own so_far.6 step counted,
+)
 
 -- and what the links did for it
 pub served_push : {L : Type 0} (net : LinksGhosts L) (from : Origin) (first : L) (lines : List ReportLine) (s new : Session) (last after : L) (l : ReportLine)
-    → AreServed net from first lines s last → Step (moment_behind from.now lines) s l.event l.reply new → IsServed net l.event l.reply last after s.store new.store
+    → AreServed net from first lines s last → Step (moment_behind from.now lines) s l.event l.reply new → IsServed net l.event l.reply last after s new
     → l.failures ≡ failures_of (net.links after) → AreServed net from first (lines ++ l ∷ []) new after
 served_push {L} net from first [] s new last after l so_far step served shown = (
   new,
   after,
   subst (λ (x : Session). Step from.now x l.event l.reply new) so_far.0 step,
-  subst (λ (x : Session). IsServed net l.event l.reply first after x.store new.store) so_far.0 (subst (λ (x : L). IsServed net l.event l.reply x after s.store new.store) so_far.1 served),
+  subst (λ (x : Session). IsServed net l.event l.reply first after x new) so_far.0 (subst (λ (x : L). IsServed net l.event l.reply x after s new) so_far.1 served),
   shown,
   (refl, refl),
 )

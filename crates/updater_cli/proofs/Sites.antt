@@ -41,9 +41,9 @@ module _ (first before after : LinksState) (kept : Kept first before) (tell : Al
         (λ text is. (is.0, is.1, is.2, is.3, (is.4.0, is.4.1, site_before first before is.4.0 text kept tell (is.4.2.site (tell_after first before kept tell))))) hearing.application;
   }
 
-  offer_of : (key : Key) (store : Store) (texts : List (List ℕ)) → OfferHearing key (shape_of store) texts before after → OfferOfSites first key texts store
-  offer_of key store texts hearing =
-      some_as (slice_get texts 0) (IsOfferText key (shape_of store) before after) _
+  offer_of : (key : Key) (old : Session) (texts : List (List ℕ)) → OfferHearing key (shape_of old) texts before after → OfferOfSites first key texts old.store
+  offer_of key old texts hearing =
+      some_as (slice_get texts 0) (IsOfferText key (shape_of old) before after) _
       (λ text is. (is.0, is.1, site_before first before is.0 text kept tell (is.2.site (tell_after first before kept tell)))) hearing.text
 
   -- what an install brought
@@ -67,12 +67,12 @@ module _ (first before after : LinksState) (kept : Kept first before) (tell : Al
       let from = came.4 in
       inr (came.0, came.1, came.2, came.3, (from.0, from.1, from.2, site_before first before from.0 file.bytes kept tell (from.3.site (tell_after first before kept tell))))
 
-  group_of : (lease : ℕ) (group : List ℕ) (old new : Store) → AreBrought lease group (shape_of old) before after new → GroupOfSites first lease group old new
+  group_of : (lease : ℕ) (group : List ℕ) (old new : Session) → AreBrought lease group (shape_of old) before after new.store → GroupOfSites first lease group old new
   group_of lease group old new brought = λ view leased.
       All-weaker (IsHeldOrCame group (shape_of old) before after view) (IsHeldOrOfSite first (shape_of old) (group_wanted (shape_of old).views group view.application) view) (came_of group (shape_of old) view)
       view.program_files (brought.files view leased)
 
-  served_of : (command : Command) (texts : List (List ℕ)) (old new : Store) (reply : Reply) (now : ℕ) → Serves command texts before after old reply new
+  served_of : (command : Command) (texts : List (List ℕ)) (old new : Session) (reply : Reply) (now : ℕ) → Serves command texts before after old reply new
       → IsLineOfSites first (Line command now (record { texts = texts })) old new
   served_of (Install url) texts old new reply now serves = record {
     heard = heard_of (shape_of old) url texts serves.0.hearing;
@@ -81,21 +81,21 @@ module _ (first before after : LinksState) (kept : Kept first before) (tell : Al
         All-weaker (IsHeldOrFetched (shape_of old) before after view) (IsHeldOrOfSite first (shape_of old) (wanted (shape_of old).views view.application) view) (file_of (shape_of old) view) view.program_files brought.files;
     data_files = λ view is.
         let brought : IsBrought old before after view = serves.1 view is in
-        All-weaker (IsCarriedOrFetched old before after view) (IsCarriedOrOfSite first old view) (carried_of old view) view.data_files brought.data_files;
+        All-weaker (IsCarriedOrFetched old.store before after view) (IsCarriedOrOfSite first old.store view) (carried_of old.store view) view.data_files brought.data_files;
   }
   served_of (Check key) texts old new reply now serves = offer_of key old texts serves.hearing
   served_of (Group lease group) texts old new reply now serves = group_of lease group old new serves.1
   served_of _ texts old new reply now serves = tt
 
 line_of : {L : Type 0} (net : LinksGhosts L) (first : LinksState) (before after : L) → Kept first (net.links before) → AllTell first
-    → (now : ℕ) (old new : Session) (event : Event) (reply : Option Reply) → Step now old event reply new → IsServed net event reply before after old.store new.store
-    → IsLineOfSites first event old.store new.store
+    → (now : ℕ) (old new : Session) (event : Event) (reply : Option Reply) → Step now old event reply new → IsServed net event reply before after old new
+    → IsLineOfSites first event old new
 line_of net first before after kept tell now old new (Boot boot) reply step served = tt
 line_of net first before after kept tell now old new (Unread fault) reply step served = tt
 line_of net first before after kept tell now old new (Line command at heard) reply step served =
-    let told : IfSome (Some step.answer) (λ answer. Serves command heard.texts (net.links before) (net.links after) old.store answer new.store) =
-    subst (λ (r : Option Reply). IfSome r (λ answer. Serves command heard.texts (net.links before) (net.links after) old.store answer new.store)) step.replied served.serves in
-    served_of first (net.links before) (net.links after) kept tell command heard.texts old.store new.store step.answer at told
+    let told : IfSome (Some step.answer) (λ answer. Serves command heard.texts (net.links before) (net.links after) old answer new) =
+    subst (λ (r : Option Reply). IfSome r (λ answer. Serves command heard.texts (net.links before) (net.links after) old answer new)) step.replied served.serves in
+    served_of first (net.links before) (net.links after) kept tell command heard.texts old new step.answer at told
 
 -- the same of all lines
 pub sites_of : {L : Type 0} (net : LinksGhosts L) (first : LinksState) (from : Origin) (links : L) (lines : List ReportLine) (new : Session) (last : L)

@@ -55,7 +55,7 @@ module _ {S K D L : Type 0} (from : SourceGhosts S) (to : SinkGhosts K) (on : Gh
       let stop : on.tells new → HeadlineStop on now (code_of status) old new (report_of [] (begun_by boot status)) = λ told store stands. opens.survives told store stands.stands in
       rw is_report (record {
         lines = lines;
-        run = unopened_run to on net boot now s k l old new status opens.ends (λ told is. opens.not_a_store told (ap Err is)) opens.within opens.reads;
+        run = unopened_run to on net boot now s k l old new status opens.ends (λ told is. opens.not_a_store told (ap Err is)) opens.within opens.reads opens.written;
         stop = stop;
         views = λ told store stands. views_hold (origin_over now store) stands.sound [] tt (session_over store) refl;
         launch = λ told store stands. launches_hold (origin_over now store) [];
@@ -114,7 +114,7 @@ module _ {S K D L : Type 0} (from : SourceGhosts S) (to : SinkGhosts K) (on : Gh
         → Ended on net (start_over now disk old.links store) (code_of (end_of outcome)) (report_of new.course.lines.items new.course.begun) new.disk new.links
     ended told store stands =
         ended_by on net (start_over now disk old.links store) outcome new.course new.disk new.links seen_left answered.keeps.goes_on
-        (answered.keeps.machine (start_over now disk old.links store) (opens.machine (answered.keeps.asks.told told) store stands))
+        (answered.keeps.machine told (start_over now disk old.links store) (opens.machine (answered.keeps.asks.told told) store stands))
 
     leads : on.tells new.disk → (store : Store) → StandsSound (on.seen disk) store
         → LeadsTo on net now (code_of (end_of outcome)) (devices_of source_old old.sink disk old.links) (devices_of source_new new.sink new.disk new.links) (report_of new.course.lines.items new.course.begun) store
@@ -125,7 +125,11 @@ module _ {S K D L : Type 0} (from : SourceGhosts S) (to : SinkGhosts K) (on : Gh
           runs = end.runs;
           reads = end.reads;
           last = end.last;
+          bytes = end.bytes;
           counts = end.counts;
+          more = end.more;
+          begins = end.begins;
+          written = inl end.written;
           calls = λ other. inl (end.calls other);
           behind = end.behind;
           served = end.served;

@@ -6,6 +6,16 @@ use Rattle.disks.specs.declared.disk.Disk.{Ghosts}
 use Rattle.demo.specs.declared.summary.Summary.{Summary}
 use Rattle.demo.specs.Run.{Demonstrates}
 use Rattle.demo.specs.Summary.{summary_line}
+use Rattle.updater_cli.specs.declared.demonstrating.DemoEnd.{DemoEnd}
+use Rattle.updater_cli.specs.declared.demonstrating.DemoEnd.TheVariants.{Done, SinkFault, DiskFault, Memory, Wrong}
+
+-- The exit status. A run that did not come out as it must ends as one for which there was no memory.
+abbrev pub demo_code : DemoEnd → ℕ
+demo_code Done = 0
+demo_code SinkFault = 3
+demo_code DiskFault = 4
+demo_code Memory = 6
+demo_code Wrong = 6
 
 -- The run was done to its end: where the disk tells, its reads stand for the store to which it
 -- leads, and the summary has its numbers. The line of the summary was written, or a first part of
@@ -20,7 +30,7 @@ pub record IsDone {K D : Type 0} (to : SinkGhosts K) (on : Ghosts D) (seed statu
       → AppendsPart (to.taken sink_old) (to.taken sink) (summary_line summary)
 
 -- It is done with status 0, and with status 3, where the sink failed. With 4 the disk failed, with
--- 6 there was no memory, and then nothing was written.
+-- 6 there was no memory or it did not come out as it must, and then nothing was written.
 pub record RunsDemo {K D : Type 0} (to : SinkGhosts K) (on : Ghosts D) (seed status : ℕ)
     (sink_old sink : K) (disk_old disk : D) : Type 0 where
   pub done : (status ≡ 0) ⊎ (status ≡ 3) → IsDone to on seed status sink_old sink disk

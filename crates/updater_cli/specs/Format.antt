@@ -2,6 +2,8 @@
 use Rattle.std.specs.Prelude.{◌≡◌, ◌⊎◌, ℕ, ◌+◌, ◌<◌, ◌≤◌, List, []}
 use Rattle.disks.specs.Disk.{Torn}
 use Rattle.disks.specs.declared.disk.Disk.{Ghosts}
+use Rattle.disks.specs.Spends.{Spends}
+use Rattle.store_log.specs.declared.form.TheConstants.{HEAD_SIZE}
 use Rattle.store_log.specs.Log.{IsStore, IsCutOrOld, IsClosedNew}
 use Rattle.machine.specs.Store as stores
 use Rattle.updater.specs.Stands.{Stands, StandsForNone}
@@ -12,8 +14,8 @@ pub record StandsForNew (blocks : ℕ) (image : List ℕ) : Type 0 where
   pub journal : IsStore blocks [] image
   pub stands : Stands image (stores.empty (stores.plain_room blocks))
 
--- What stops leave over a format. It makes six calls: a cut and a sync, the write of 4,097 bytes
--- and a sync, the write of the head gate and a sync. A stop leaves an old image or a cut one, until
+-- What stops leave over a format. Its calls are a cut and a sync, the write of a head block and a
+-- closed gate and a sync, the write of the head gate and a sync. A stop leaves an old image or a cut one, until
 -- the first sync is done; then nothing stands there, and at the write what it makes of nothing;
 -- once the second sync is done the new journal with its head gate closed, which stands for no
 -- store; and from then on the new store or none.
@@ -27,7 +29,7 @@ pub record Renews {D : Type 0} (on : Ghosts D) (old new : D) (blocks : ℕ) : Ty
   pub empty : (image : List ℕ) → on.moment old + 2 < on.moment new
       → on.left_at new (on.moment old + 2) image → image ≡ []
   pub second : (t : ℕ) (image : List ℕ) → on.moment old + 2 < t → t ≤ on.moment new
-      → t ≤ on.moment old + 4 → on.left_at new t image → Torn 0 4097 [] image
+      → t ≤ on.moment old + 4 → on.left_at new t image → Torn 0 (HEAD_SIZE + 1) [] image
   pub closed : (image : List ℕ) → on.moment old + 4 < on.moment new
       → on.left_at new (on.moment old + 4) image → IsClosedNew blocks image × StandsForNone image
   pub third : (t : ℕ) (image : List ℕ) → on.moment old + 4 < t → t ≤ on.moment new
@@ -39,12 +41,12 @@ pub record IsNew {D : Type 0} (on : Ghosts D) (blocks : ℕ) (disk : D) : Type 0
   pub images : (image : List ℕ) → on.left_at disk (on.moment disk) image → StandsForNew blocks image
   pub reads : StandsForNew blocks (on.seen disk)
 
--- A format of so many blocks. With status 0 it is done, by six calls that wrote 4,098 bytes;
--- without memory, which is status 6, it made none.
+-- A format of so many blocks. With status 0 it is done. At most those calls are made, which write a
+-- head block, the gate behind it and its own gate anew. The count of faults rises with status 4
+-- alone. Without memory, which is status 6, no call is made.
 pub record MakesStore {D : Type 0} (on : Ghosts D) (blocks status : ℕ) (old new : D) : Type 0 where
   pub done : status ≡ 0 → IsNew on blocks new
-  pub calls : status ≡ 0 → (on.moment new ≡ on.moment old + 6)
-      × (on.total new ≡ on.total old + 4098)
+  pub spends : Spends on 6 (HEAD_SIZE + 2) old new (status ≡ 4)
   pub stop : Renews on old new blocks
   pub memory : status ≡ 6 → new ≡ old
   pub statuses : (status ≡ 0) ⊎ ((status ≡ 4) ⊎ (status ≡ 6))

@@ -14,12 +14,11 @@ use Rattle.machine.specs.declared.report.ReportLine.{ReportLine}
 use Rattle.machine.specs.Store.{Session, Store}
 use Rattle.command_text.specs.Lines.{AreEvents}
 use Rattle.updater.specs.Stands.{Stands}
-use Rattle.updater.specs.Updater.{IsSpent}
 use Rattle.updater_cli.specs.declared.limits.TheConstants.{INPUT_LIMIT}
 use Rattle.updater_cli.specs.Devices.{Devices}
 use Rattle.updater_cli.specs.Downs.{DownsAreCounted}
 use Rattle.updater_cli.specs.Opening.{BootsFirst, IsLineOrNone, IsUnopened, Survives}
-use Rattle.updater_cli.specs.Report.{answered, marked_by, origin_over, events_of, moment_behind, AreServed, Counts, FailuresRise, IsBegunServed, KeepsMoments, MarksRise, RunsTo, StandsSound, Writes}
+use Rattle.updater_cli.specs.Report.{answered, marked_by, origin_over, events_of, moment_behind, AreServed, Counts, CostsBegun, FailuresRise, IsBegunServed, KeepsMoments, MarksRise, RunsTo, StandsSound, Writes}
 use Rattle.updater_cli.specs.Sites.{AreOfSites}
 use Rattle.updater_cli.specs.Status.{IsBegun}
 use Rattle.updater_cli.specs.Views.{KeepsViews, LaunchesHold, ViewsHold}
@@ -74,8 +73,7 @@ pub record IsNotOpened {S K D L : Type 0} (boot status : ℕ) (old new : Devices
   pub unasked : new.links ≡ old.links
 
 -- The store was opened, which took a call of the disk. A boot event stands first exactly where the
--- kept number differs from the given one. An event that was begun is a line's, for which a further
--- call was made, save where the disk had no number left for one.
+-- kept number differs from the given one. An event that was begun is a line's.
 pub record IsOpened {S K D L : Type 0} (on : Ghosts D) (boot status : ℕ)
     (old new : Devices S K D L) (report : Report) : Type 0 where
   pub store : status ≢ 5
@@ -83,7 +81,6 @@ pub record IsOpened {S K D L : Type 0} (on : Ghosts D) (boot status : ℕ)
   pub boots : on.tells new.disk → (store : Store) → Stands (on.seen old.disk) store
       → BootsFirst boot store.boot report.lines
   pub begun : IsLineOrNone report.begun
-  pub called : status ≡ 4 → (on.moment old.disk + 2 ≤ on.moment new.disk) ⊎ IsSpent on new.disk
 
 -- The report's lines are those of the input, one event after another, each at the moment that the
 -- session has by then. Their marks never fall, nor do their numbers of failures, which lie between
@@ -112,19 +109,28 @@ MadeCalls status old new lines last =
 
 -- The report's events and replies are a run from a new session over the store, and lead to this
 -- session, which is sound. Unless the disk failed, which is status 4, the reads then stand for its
--- store. Each line that changes the store makes four calls of the disk, any other line none, and
--- its mark is the disk's moment after them. For each line the links did what is said of it, one
--- line after another: what it asked for, what they gave, and why they gave nothing. Where a reply
--- says of a link that it failed, the number of failures rose with the line. Where the links tell,
--- each text that was heard and each file that was brought is of one link's site at its address.
+-- store. Each line that changes the store makes calls of the disk, any other line none that changes
+-- it, and its mark is the disk's moment after them. No more bytes are written than the changes of
+-- the lines take in the journal, and that of the event that was begun; where there was no memory
+-- before a line was run, nothing is said of it. For each line the links did
+-- what is said of it, one line after another: what it asked for, what they gave, and why they gave
+-- nothing. Where a reply says of a link that it failed, the number of failures rose with the line.
+-- Where the links tell, each text that was heard and each file that was brought is of one link's
+-- site at its address.
 pub record LeadsTo {S K D L : Type 0} (on : Ghosts D) (net : LinksGhosts L) (now status : ℕ)
     (old new : Devices S K D L) (report : Report) (store : Store) : Type 0 where
   pub session : Session
   pub runs : RunsTo (origin_over now store) report.lines session
   pub reads : status ≢ 4 → Stands (on.seen new.disk) session.store
   pub last : ℕ
+  pub bytes : ℕ
   pub counts : Counts (origin_over now store) (on.moment old.disk + 1) report.lines session last
+      bytes
   pub calls : MadeCalls status (on.moment old.disk) (on.moment new.disk) report.lines last
+  pub more : ℕ
+  pub begins : CostsBegun (moment_behind now report.lines) session report.begun more
+  pub written : (on.total new.disk ≤ on.total old.disk + bytes + more)
+      ⊎ ((status ≡ 6) × (report.lines ≡ []))
   pub behind : L
   pub served : AreServed net (origin_over now store) old.links report.lines session behind
   pub downs : DownsAreCounted (failures_of (net.links old.links)) report.lines

@@ -1,5 +1,5 @@
 -- What each part of a session promises: a line, a piece of the input, and the whole input.
-use Rattle.std.specs.Prelude.{◌≡◌, ◌⊎◌, ◌==◌, ℕ, ◌+◌, ◌-◌, ◌<◌, ◌≤◌, if◌then◌else◌, List, [], ◌∷◌, ◌++◌, length, take, map, count_by, Option, Some, None, option_to_list, IfSome, Result, Ok, Err, IfOk, IfErr, IsErr, OnOk, OnErr, MatchResult}
+use Rattle.std.specs.Prelude.{◌≡◌, ◌⊎◌, ◌==◌, ℕ, ◌+◌, ◌-◌, ◌<◌, ◌≤◌, if◌then◌else◌, List, [], ◌∷◌, ◌++◌, length, take, map, count_by, Option, Some, None, option_to_list, IfSome, Result, Ok, Err, IfOk, IfErr, IsErr, OnOk, MatchResult}
 use Rattle.std.specs.Str.Lines.{lines, strip_carriage_return}
 use Rattle.small_types.specs.declared.limits.TheConstants.{LINE_LIMIT, NUMBER_LIMIT}
 use Rattle.outside.specs.declared.source.Source.{Ghosts as SourceGhosts}
@@ -18,7 +18,8 @@ use Rattle.command_text.specs.Input.{Cut, HasNoFeed, IsRead}
 use Rattle.command_text.specs.Lines.{AreEvents, IsEvent}
 use Rattle.updater.specs.declared.updater.Updater.{Updater}
 use Rattle.updater.specs.Stands.{StandsForEither}
-use Rattle.updater.specs.Updater.{Holds, TakesNumber}
+use Rattle.updater.specs.Costs.{Costs}
+use Rattle.updater.specs.Updater.{Holds}
 use Rattle.updater_cli.specs.declared.course.Course.{Course}
 use Rattle.updater_cli.specs.declared.limits.TheConstants.{INPUT_LIMIT}
 use Rattle.updater_cli.specs.declared.status.Status.TheVariants.{SourceFault, SinkFault, DiskFault, Memory}
@@ -35,11 +36,13 @@ pub record Ran {D L : Type 0} (on : Ghosts D) (net : LinksGhosts L) (now : ℕ) 
     (links : L) : Type 0 where
   pub new : Session
   pub step : Step now old event (Some reply) new
-  pub stored : Holds on updater disk new.store
+  pub stored : Holds on updater disk new
   pub stop : LeavesOnly on disk_old disk (StandsForEither old.store new.store)
-  pub counted : IsCounted old new (on.moment disk_old) (on.moment disk)
+  pub bytes : ℕ
+  pub counted : IsCounted old new (on.moment disk_old) (on.moment disk) bytes
+  pub written : on.total disk ≤ on.total disk_old + bytes
   pub settled : IsSettled new
-  pub served : IsServed net event (Some reply) links_old links old.store new.store
+  pub served : IsServed net event (Some reply) links_old links old new
 
 -- the disk failed: a stop leaves the store before some step of the event or that after it
 pub record Broke {D L : Type 0} (on : Ghosts D) (net : LinksGhosts L) (now : ℕ) (disk_old : D)
@@ -48,10 +51,13 @@ pub record Broke {D L : Type 0} (on : Ghosts D) (net : LinksGhosts L) (now : ℕ
   pub reply : Reply
   pub step : Step now old event (Some reply) new
   pub stop : LeavesOnly on disk_old disk (StandsForEither old.store new.store)
-  pub served : IsServed net event (Some reply) links_old links old.store new.store
+  pub bytes : ℕ
+  pub costs : Costs old.store new.store bytes
+  pub written : on.total disk ≤ on.total disk_old + bytes
+  pub served : IsServed net event (Some reply) links_old links old new
 
--- The event is that of the line, at that moment. What it does, it does for each sound session whose
--- store is held.
+-- The event is that of the line, at that moment. What it does, it does for each sound session that
+-- is held, where the disk tells.
 pub record LineRun {D L : Type 0} (on : Ghosts D) (net : LinksGhosts L) (now : ℕ) (line : List ℕ)
     (updater_old : Updater) (disk_old : D) (links_old : L) (result : Result (Event × Reply) Event)
     (updater : Updater) (disk : D) (links : L) : Type 0 where
@@ -59,12 +65,11 @@ pub record LineRun {D L : Type 0} (on : Ghosts D) (net : LinksGhosts L) (now : �
   pub at : MatchResult result (λ r. IsRunAt now r.0) (λ event. IsRunAt now event)
   pub begun : IfErr result (λ event. IsBegun (Some event))
   pub few : IfOk result (λ r. moment_after now (Some r.1) ≤ NUMBER_LIMIT)
-  pub ran : (old : Session) → IsSettled old → Holds on updater_old disk_old old.store
+  pub ran : on.tells disk → (old : Session) → IsSettled old → Holds on updater_old disk_old old
       → IfOk result (λ r. Ran on net now disk_old links_old old r.0 r.1 updater disk links)
-  pub fault : (old : Session) → IsSettled old → Holds on updater_old disk_old old.store
+  pub fault : on.tells disk → (old : Session) → IsSettled old → Holds on updater_old disk_old old
       → IfErr result (λ event. Broke on net now disk_old links_old old event disk links)
   pub asks : Asks on (IsErr result) disk_old disk
-  pub numbered : OnErr result (TakesNumber on disk_old disk)
   pub kept : Kept (net.links links_old) (net.links links)
 
 -- ---- what is seen of a session
@@ -158,19 +163,18 @@ abbrev pub status_of : Outcome → ℕ
 status_of outcome = code_of (end_of outcome)
 
 -- Each part of a session keeps this, whatever it reads. Where the session stood between two lines,
--- it does so again, or has ended. The counts of the sink and of the disk rise with their own faults
--- alone. A call that failed was counted, save where the disk had no number left. The links and
--- their sites stay.
+-- and the disk tells, it does so again, or has ended. The counts of the sink and of the disk rise
+-- with their own faults alone. The links and their sites stay.
 pub record Keeps {K D L : Type 0} (to : SinkGhosts K) (on : Ghosts D) (net : LinksGhosts L)
     (old : Place K D L) (result : Outcome) (new : Place K D L) : Type 0 where
-  pub machine : (start : Start D L) → Between on net start old.course old.disk old.links
+  pub machine : on.tells new.disk → (start : Start D L)
+      → Between on net start old.course old.disk old.links
       → MatchResult result (λ _. Between on net start new.course new.disk new.links)
       (λ status. Ended on net start (code_of status)
       (report_of new.course.lines.items new.course.begun) new.disk new.links)
   pub goes_on : OnOk result (IsReady new.course)
   pub writes : RisesWith (result ≡ Err SinkFault) (to.count old.sink) (to.count new.sink)
   pub asks : Asks on (result ≡ Err DiskFault) old.disk new.disk
-  pub numbered : result ≡ Err DiskFault → TakesNumber on old.disk new.disk
   pub kept : Kept (net.links old.links) (net.links new.links)
 
 -- the line, which is not run where there is no memory for it

@@ -7,13 +7,13 @@ use Rattle.machine.specs.declared.event.Event.{Event}
 use Rattle.machine.specs.declared.event.Event.TheVariants.{Boot, Line, Unread}
 use Rattle.machine.specs.declared.report.Report.{Report}
 use Rattle.machine.specs.declared.report.ReportLine.{ReportLine}
-use Rattle.machine.specs.Store.{Store}
+use Rattle.machine.specs.Store.{Store, session_over}
 use Rattle.updater.specs.Stands.{Stands, StandsForNone}
 use Rattle.updater_cli.specs.declared.course.Course.{Course}
 use Rattle.updater_cli.specs.declared.status.Status.{Status}
 use Rattle.updater_cli.specs.declared.status.Status.TheVariants.{Done, Words, SourceFault, SinkFault, DiskFault, NotAStore, Memory, TooMuchInput}
 use Rattle.updater_cli.specs.Devices.{Asks}
-use Rattle.updater_cli.specs.Report.{Origin, StandsForPrefix, StandsSound, origin_over, report_of, marked_by, answered}
+use Rattle.updater_cli.specs.Report.{CostsBegun, Origin, StandsForPrefix, StandsSound, origin_over, report_of, marked_by, answered}
 use Rattle.updater_cli.specs.Session.{Between, start_over}
 use Rattle.updater_cli.specs.Status.{code_of}
 
@@ -113,7 +113,8 @@ pub record Begun {D : Type 0} (on : Ghosts D) (boot now failures : ℕ) (disk_ol
   pub synced : on.moment disk_old + 1 ≤ on.moment disk
 
 -- Where a sound store stands for the reads, the session goes on from it; where a store does, a stop
--- leaves it. Where none does, it is no store.
+-- leaves it, and what was written is that of a boot which was begun. Where none does, it is no
+-- store.
 pub record Opens {D L : Type 0} (on : Ghosts D) (net : LinksGhosts L) (boot now : ℕ) (links : L)
     (disk_old : D) (result : Result Course Status) (disk : D) : Type 0 where
   pub course : IfOk result (λ course.
@@ -128,6 +129,10 @@ pub record Opens {D L : Type 0} (on : Ghosts D) (net : LinksGhosts L) (boot now 
   pub survives : on.tells disk → (store : Store) → Stands (on.seen disk_old) store
       → IfErr result (λ status. Survives on disk_old disk (origin_over now store) (code_of status)
       (report_of [] (begun_by boot status)))
+  pub written : on.tells disk → (store : Store) → Stands (on.seen disk_old) store
+      → IfErr result (λ status. status ≢ Memory → (more : ℕ)
+      × CostsBegun now (session_over store) (begun_by boot status) more
+      × (on.total disk ≤ on.total disk_old + more))
   pub not_a_store : on.tells disk → result ≡ Err NotAStore → StandsForNone (on.seen disk_old)
   pub reads : IfErr result (λ status. status ≢ DiskFault → on.seen disk ≡ on.seen disk_old)
   pub within : IfErr result (λ status. status ≢ DiskFault → on.moment disk ≤ on.moment disk_old + 1)

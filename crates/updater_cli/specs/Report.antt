@@ -19,6 +19,7 @@ use Rattle.machine.specs.Store.{Session, Store, session_over}
 use Rattle.machine.specs.Words.{IsCommand}
 use Rattle.command_text.specs.Lines.{texts_of}
 use Rattle.updater.specs.Commanded.{LeavesLinks, Serves}
+use Rattle.updater.specs.Costs.{Costs}
 use Rattle.updater.specs.Stands.{Stands}
 
 abbrev pub events_of : List ReportLine → List Event
@@ -99,19 +100,29 @@ pub record RunsTo (from : Origin) (lines : List ReportLine) (s : Session) : Type
   pub steps : Run from.now from.session (events_of lines) (replies_of lines) s
   pub settled : IsSettled s
 
--- a line that changes the store makes four calls of the disk, and any other line none
-pub record IsCounted (old new : Session) (from mark : ℕ) : Type 0 where
+-- A line that changes the store makes calls of the disk, and any other line none that changes the
+-- disk. It may write so many bytes.
+pub record IsCounted (old new : Session) (from mark bytes : ℕ) : Type 0 where
   pub same : new.store ≡ old.store → mark ≡ from
-  pub other : new.store ≢ old.store → mark ≡ from + 4
+  pub marked : new.store ≢ old.store → from + 1 ≤ mark
+  pub costs : Costs old.store new.store bytes
 
 -- The lines lead to this session, and from one moment of the disk to the last. Each is marked after
--- its own calls.
-abbrev pub Counts : Origin → ℕ → List ReportLine → Session → ℕ → Type 0
-Counts from mark [] new last = (new ≡ from.session) × (last ≡ mark)
-Counts from mark (l ∷ lines) new last =
-    (mid : Session) × Step from.now from.session l.event l.reply mid
-    × IsCounted from.session mid mark l.mark
-    × Counts (origin_after from l.reply mid) l.mark lines new last
+-- its own calls. All together they may write so many bytes.
+abbrev pub Counts : Origin → ℕ → List ReportLine → Session → ℕ → ℕ → Type 0
+Counts from mark [] new last bytes = (new ≡ from.session) × (last ≡ mark) × (bytes ≡ 0)
+Counts from mark (l ∷ lines) new last bytes =
+    (mid : Session) × (own : ℕ) × (rest : ℕ) × (bytes ≡ own + rest)
+    × Step from.now from.session l.event l.reply mid
+    × IsCounted from.session mid mark l.mark own
+    × Counts (origin_after from l.reply mid) l.mark lines new last rest
+
+-- what a step of the event that was begun may write: nothing where none was
+abbrev pub CostsBegun : ℕ → Session → Option Event → ℕ → Type 0
+CostsBegun now s None bytes = bytes ≡ 0
+CostsBegun now s (Some event) bytes =
+    (new : Session) × (reply : Option Reply) × Step now s event reply new
+    × Costs s.store new.store bytes
 
 -- the lines, and then the event that was begun, may lead to s
 abbrev pub Begins : Origin → List ReportLine → Option Event → Session → Type 0
@@ -147,9 +158,9 @@ LeavesAsked (Boot boot) old new = new ≡ old
 LeavesAsked (Line command at heard) old new = LeavesLinks command old new
 LeavesAsked (Unread fault) old new = new ≡ old
 
--- what a line asked of them, heard and brought, from the store before it to the one after it
+-- what a line asked of them, heard and brought, from the session before it to the one after it
 abbrev pub ServesLine :
-    Event → Option Reply → LinksState → LinksState → Store → Store → Type 0
+    Event → Option Reply → LinksState → LinksState → Session → Session → Type 0
 ServesLine (Boot boot) reply before after old new = Unit {0}
 ServesLine (Line command at heard) reply before after old new =
     IfSome reply (λ answer. Serves command heard.texts before after old answer new)
@@ -157,7 +168,7 @@ ServesLine (Unread fault) reply before after old new = Unit {0}
 
 -- what the links did for a line; they and their sites stay
 pub record IsServed {L : Type 0} (net : LinksGhosts L) (event : Event) (reply : Option Reply)
-    (before after : L) (old new : Store) : Type 0 where
+    (before after : L) (old new : Session) : Type 0 where
   pub kept : Kept (net.links before) (net.links after)
   pub left : LeavesAsked event before after
   pub serves : ServesLine event reply (net.links before) (net.links after) old new
@@ -169,7 +180,7 @@ abbrev pub AreServed :
 AreServed net from first [] new last = (new ≡ from.session) × (last ≡ first)
 AreServed {L = L} net from first (l ∷ lines) new last =
     (mid : Session) × (after : L) × Step from.now from.session l.event l.reply mid
-    × IsServed net l.event l.reply first after from.session.store mid.store
+    × IsServed net l.event l.reply first after from.session mid
     × (l.failures ≡ failures_of (net.links after))
     × AreServed net (origin_after from l.reply mid) after lines new last
 
@@ -179,7 +190,7 @@ abbrev pub IsBegunServed :
 IsBegunServed net now s first None last = last ≡ first
 IsBegunServed net now s first (Some event) last =
     (new : Session) × (reply : Option Reply) × Step now s event reply new
-    × IsServed net event reply first last s.store new.store
+    × IsServed net event reply first last s new
 
 -- ---- marks, failures, and what was written
 

@@ -7,7 +7,7 @@ use Rattle.machine.specs.Store.{Session, Store}
 use Rattle.updater.specs.Stands.{Stands}
 use Rattle.updater.specs.Updater.{Holds}
 use Rattle.updater_cli.specs.declared.course.Course.{Course}
-use Rattle.updater_cli.specs.Report.{Origin, origin_over, RunsTo, AreServed, Counts, IsBegunServed, StandsForPrefix, AreMarkedBy, report_of, moment_behind, marked_by, answered}
+use Rattle.updater_cli.specs.Report.{Origin, origin_over, RunsTo, AreServed, Counts, CostsBegun, IsBegunServed, StandsForPrefix, AreMarkedBy, report_of, moment_behind, marked_by, answered}
 
 -- what a session began with: its disk before the first call and its links, and the session over
 -- the store that stood there
@@ -21,16 +21,19 @@ abbrev pub start_over : {D L : Type 0} → ℕ → D → L → Store → Start D
 start_over now disk links store =
     record { disk = disk; links = links; from = origin_over now store }
 
--- Between two lines. The lines so far lead to a session whose store the updater holds, and each was
--- answered. From the first call on each image that a stop may leave stands for a prefix of them.
+-- Between two lines. The lines so far lead to a session that the updater holds, and each was
+-- answered. From the first call on each image that a stop may leave stands for a prefix of them. No
+-- more bytes were written than they cost.
 pub record Between {D L : Type 0} (on : Ghosts D) (net : LinksGhosts L) (start : Start D L)
     (course : Course) (disk : D) (links : L) : Type 0 where
   pub session : Session
-  pub stored : Holds on course.updater disk session.store
+  pub stored : Holds on course.updater disk session
   pub runs : RunsTo start.from course.lines.items session
   pub moment : course.now ≡ moment_behind start.from.now course.lines.items
+  pub bytes : ℕ
   pub counts : Counts start.from (on.moment start.disk + 1) course.lines.items session
-      (on.moment disk)
+      (on.moment disk) bytes
+  pub written : on.total disk ≤ on.total start.disk + bytes
   pub served : AreServed net start.from start.links course.lines.items session links
   pub marks : AreMarkedBy course.lines.items (on.moment disk)
   pub started : on.moment start.disk + 1 ≤ on.moment disk
@@ -43,14 +46,18 @@ pub record Between {D L : Type 0} (on : Ghosts D) (net : LinksGhosts L) (start :
 
 -- At the end. From the first call on each image stands for a prefix of the lines and of the event
 -- that was begun. Where the disk did not fail, which is status 4, reads stand for the session that
--- the lines lead to.
+-- the lines lead to. No more bytes were written than they and that event cost.
 pub record Ended {D L : Type 0} (on : Ghosts D) (net : LinksGhosts L) (start : Start D L)
     (status : ℕ) (report : Report) (disk : D) (links : L) : Type 0 where
   pub session : Session
   pub runs : RunsTo start.from report.lines session
   pub last : ℕ
-  pub counts : Counts start.from (on.moment start.disk + 1) report.lines session last
+  pub bytes : ℕ
+  pub counts : Counts start.from (on.moment start.disk + 1) report.lines session last bytes
   pub calls : status ≢ 4 → on.moment disk ≡ last
+  pub more : ℕ
+  pub begins : CostsBegun (moment_behind start.from.now report.lines) session report.begun more
+  pub written : on.total disk ≤ on.total start.disk + bytes + more
   pub behind : L
   pub served : AreServed net start.from start.links report.lines session behind
   pub begun : IsBegunServed net (moment_behind start.from.now report.lines) session behind

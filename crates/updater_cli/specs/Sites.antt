@@ -71,32 +71,33 @@ IsCarriedOrOfSite links old view file =
     view.application.files
 
 -- what an install heard, and the files of the view that it brought, if it brought one
-pub record IsOfSites (links : LinksState) (url : List ℕ) (texts : List (List ℕ)) (old new : Store)
-    : Type 0 where
+pub record IsOfSites (links : LinksState) (url : List ℕ) (texts : List (List ℕ))
+    (old new : Session) : Type 0 where
   pub heard : HeardOfSites links url texts
-  pub brought : (view : View) → new.views ≡ old.views ++ view ∷ []
+  pub brought : (view : View) → new.store.views ≡ old.store.views ++ view ∷ []
       → All (IsHeldOrOfSite links (shape_of old) (wanted (shape_of old).views view.application)
       view) view.program_files
-  pub data_files : (view : View) → new.views ≡ old.views ++ view ∷ []
-      → All (IsCarriedOrOfSite links old view) view.data_files
+  pub data_files : (view : View) → new.store.views ≡ old.store.views ++ view ∷ []
+      → All (IsCarriedOrOfSite links old.store view) view.data_files
 
 -- all program files that stand in the leased view behind a group's line, those of the group among
 -- them
-abbrev pub GroupOfSites : LinksState → ℕ → List ℕ → Store → Store → Type 0
+abbrev pub GroupOfSites : LinksState → ℕ → List ℕ → Session → Session → Type 0
 GroupOfSites links lease group old new =
-    (view : View) → leased_view lease new ≡ Some view
+    (view : View) → leased_view lease new.store ≡ Some view
     → All (IsHeldOrOfSite links (shape_of old)
     (group_wanted (shape_of old).views group view.application) view) view.program_files
 
 -- ---- lines
 
 -- An install hears and brings, a check hears, and a group brings. Any other line does neither.
-abbrev pub IsLineOfSites : LinksState → Event → Store → Store → Type 0
+abbrev pub IsLineOfSites : LinksState → Event → Session → Session → Type 0
 IsLineOfSites links (Boot boot) old new = Unit {0}
 IsLineOfSites links (Line (At next) now heard) old new = Unit {0}
 IsLineOfSites links (Line (Require key version) now heard) old new = Unit {0}
 IsLineOfSites links (Line (Install url) now heard) old new = IsOfSites links url heard.texts old new
-IsLineOfSites links (Line (Check key) now heard) old new = OfferOfSites links key heard.texts old
+IsLineOfSites links (Line (Check key) now heard) old new =
+    OfferOfSites links key heard.texts old.store
 IsLineOfSites links (Line (Skip key) now heard) old new = Unit {0}
 IsLineOfSites links (Line (Rollback key) now heard) old new = Unit {0}
 IsLineOfSites links (Line (Launch key) now heard) old new = Unit {0}
@@ -117,5 +118,5 @@ abbrev pub AreOfSites : LinksState → Origin → List ReportLine → Session �
 AreOfSites links from [] new = new ≡ from.session
 AreOfSites links from (l ∷ lines) new =
     (mid : Session) × Step from.now from.session l.event l.reply mid
-    × IsLineOfSites links l.event from.session.store mid.store
+    × IsLineOfSites links l.event from.session mid
     × AreOfSites links (origin_after from l.reply mid) lines new

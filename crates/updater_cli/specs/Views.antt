@@ -75,18 +75,18 @@ pub record HandsOut (from : Origin) (before : List ReportLine) (key : Key) (leas
       → minimum_of key mid.store.apps ≡ Some minimum → ¬ IsBelow version minimum
 
 -- nothing is due for the application at that moment, and a lease is free
-pub record MayLaunch (key : Key) (at : ℕ) (store : Store) : Type 0 where
+pub record MayLaunch (key : Key) (at : ℕ) (s : Session) : Type 0 where
   pub check_due : Bool
-  pub clear : due key (shape_of store) at ≡ Some (Clear check_due)
-  pub few : length store.leases < LEASE_LIMIT
-  pub next : store.next_lease < NUMBER_LIMIT
+  pub clear : due key (shape_of s) at ≡ Some (Clear check_due)
+  pub few : length s.store.leases < LEASE_LIMIT
+  pub next : s.store.next_lease < NUMBER_LIMIT
 
--- Each launch in such a store is answered with a lease, or the line found no memory.
+-- Each launch in such a session is answered with a lease, or the line found no memory.
 abbrev pub LaunchesHold : Origin → List ReportLine → Type 0
 LaunchesHold from lines =
     (l : ReportLine) (old new : Session) (key : Key) (at : ℕ) (heard : Heard)
     → IsLineOf from lines l old new → l.event ≡ Line (Launch key) at heard
-    → MayLaunch key at old.store → IsSomeAnd l.reply IsLeaseOrMemory
+    → MayLaunch key at old → IsSomeAnd l.reply IsLeaseOrMemory
 
 -- ---- reads
 

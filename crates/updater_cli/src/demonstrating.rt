@@ -1,15 +1,43 @@
 // The generated run, and the line that says what it came to.
 ghost use Rattle.std.specs.Prelude.{◌≡◌};
-ghost use Rattle.updater_cli.specs.declared.status.Status.TheVariants as exit;
-ghost use Rattle.updater_cli.specs.Demonstration.{RunsDemo};
+ghost use Rattle.updater_cli.specs.declared.demonstrating.DemoEnd.TheVariants as end;
+ghost use Rattle.updater_cli.specs.Demonstration.{RunsDemo, demo_code};
 ghost use Rattle.updater_cli.specs.Devices.{Asks, RisesWith};
-ghost use Rattle.updater_cli.specs.Status.{code_of};
 
-use crate::status::Status;
 use demo::{DemoFault, demo};
 use disks::Disk;
 use outside::{Failed, Sink, write_all};
-use std::alloc::Global;
+use std::alloc::{AllocError, Global};
+
+/// How a generated run ends.
+#[derive(Clone, Copy, Debug, PartialEq, Eq)]
+pub(crate) enum DemoEnd {
+    /// It was done, and its line was written.
+    Done,
+    /// The sink failed.
+    SinkFault,
+    /// The disk failed.
+    DiskFault,
+    /// There was no memory.
+    Memory,
+    /// It did not come out as it must.
+    Wrong,
+}
+
+impl DemoEnd {
+    /// The exit status of the program.
+    pub fn code(self) -> u8
+        ensures { result ≡ demo_code self }
+    {
+        match self {
+            DemoEnd::Done => 0,
+            DemoEnd::SinkFault => 3,
+            DemoEnd::DiskFault => 4,
+            DemoEnd::Memory => 6,
+            DemoEnd::Wrong => 6,
+        }
+    }
+}
 
 /// The generated run of the number over the disk. The line of its summary is written to the sink.
 pub(crate) fn demonstrate<K: Sink, D: Disk>(
@@ -17,23 +45,24 @@ pub(crate) fn demonstrate<K: Sink, D: Disk>(
     seed: u64,
     sink: &mut K,
     disk: &mut D,
-) -> Status
-    ensures runs { RunsDemo K.Sink D.Disk seed (code_of result) sink.old sink.new disk.old
+) -> DemoEnd
+    ensures runs { RunsDemo K.Sink D.Disk seed (demo_code result) sink.old sink.new disk.old
         disk.new }
-    ensures writes { RisesWith (result ≡ exit.SinkFault) (K.count sink.old) (K.count sink.new) }
-    ensures asks { Asks D.Disk (result ≡ exit.DiskFault) disk.old disk.new }
+    ensures writes { RisesWith (result ≡ end.SinkFault) (K.count sink.old) (K.count sink.new) }
+    ensures asks { Asks D.Disk (result ≡ end.DiskFault) disk.old disk.new }
 {
     let summary = match demo(alloc, seed, disk) {
         Ok(summary) => summary,
-        Err(DemoFault::DiskFault) => return Status::DiskFault,
-        Err(DemoFault::Memory) => return Status::Memory,
+        Err(DemoFault::DiskFault) => return DemoEnd::DiskFault,
+        Err(DemoFault::Memory) => return DemoEnd::Memory,
+        Err(_) => return DemoEnd::Wrong,
     };
     let line = match summary.line(alloc) {
         Ok(line) => line,
-        Err(_) => return Status::Memory,
+        Err(AllocError) => return DemoEnd::Memory,
     };
     match write_all(sink, line.as_bytes()) {
-        Ok(()) => Status::Done,
-        Err(Failed) => Status::SinkFault,
+        Ok(()) => DemoEnd::Done,
+        Err(Failed) => DemoEnd::SinkFault,
     }
 }

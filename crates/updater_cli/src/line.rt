@@ -12,7 +12,8 @@ use links::Links;
 use machine::{Command, Event, Heard, Reply, ReportLine};
 use outside::{Failed, Sink};
 use small_types::List;
-use std::alloc::Global;
+use std::alloc::{AllocError, Global};
+use std::mem::replace;
 use updater::Updater;
 
 // What a line heard before it is run.
@@ -78,14 +79,15 @@ pub(crate) fn answer_line<K: Sink, D: Disk, L: Links>(
         (place_of sink.old disk.old links.old course.old) result
         (place_of sink.new disk.new links.new course.new) }
 {
-    if course.lines.reserve(1).is_err() {
-        return Err(Status::Memory);
+    match course.lines.reserve(1) {
+        Ok(()) => {}
+        Err(AllocError) => return Err(Status::Memory),
     }
     let ran = run_line(alloc, course.now, disk, links, &mut course.updater, line);
     let (event, reply) = match ran {
         Ok(answer) => answer,
         Err(event) => {
-            course.begun = Some(event);
+            drop(replace(&mut course.begun, Some(event)));
             return Err(Status::DiskFault);
         }
     };

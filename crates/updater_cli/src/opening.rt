@@ -17,7 +17,8 @@ use links::Links;
 use machine::{Event, Report, ReportLine};
 use outside::{Sink, Source};
 use small_types::List;
-use std::alloc::Global;
+use std::alloc::{AllocError, Global};
+use std::mem::replace;
 use updater::{RecoverFault, Updater};
 
 // Opens the store. A boot number that differs from the kept one is the first event. The links are asked for nothing.
@@ -33,8 +34,9 @@ fn open<D: Disk, L: Links>(
     ensures { Opens D.Disk L.Links boot now links.now disk.old result disk.new }
 {
     let mut lines = Vec::new(alloc);
-    if lines.reserve(1).is_err() {
-        return Err(Status::Memory);
+    match lines.reserve(1) {
+        Ok(()) => {}
+        Err(AllocError) => return Err(Status::Memory),
     }
     let (updater, booted) = match Updater::recover(alloc, disk, boot) {
         Ok(opened) => opened,
@@ -93,6 +95,13 @@ fn report_of(course: Course) -> Report
     }
 }
 
+// Puts the report in place of the one that was handed in.
+fn put_report(report: &mut Report, made: Report)
+    ensures { report.new ≡ made }
+{
+    drop(replace(report, made));
+}
+
 // The status with which the session ends.
 fn end_of(outcome: Result<(), Status>) -> Status
     ensures { result ≡ end_of outcome }
@@ -135,11 +144,11 @@ pub(crate) fn session<S: Source, K: Sink, D: Disk, L: Links>(
     let mut course = match open(alloc, boot, now, disk, links) {
         Ok(course) => course,
         Err(status) => {
-            *report = unopened_report(alloc, boot, status);
+            put_report(report, unopened_report(alloc, boot, status));
             return status;
         }
     };
     let outcome = answer_all(alloc, source, sink, disk, links, &mut course);
-    *report = report_of(course);
+    put_report(report, report_of(course));
     end_of(outcome)
 }

@@ -14,7 +14,7 @@ use disks::Disk;
 use links::Links;
 use outside::{Failed, Sink, Source};
 use small_types::cut_once;
-use std::alloc::Global;
+use std::alloc::{AllocError, Global};
 
 /// How many bytes are asked of the source at a time.
 const PIECE: usize = 65_536;
@@ -36,9 +36,10 @@ fn answer_ended<K: Sink, D: Disk, L: Links>(
         (place_of sink.old disk.old links.old course.old) result pending.new.items
         (place_of sink.new disk.new links.new course.new) }
 {
-    let Ok(()) = keep(pending, part) else {
-        return Err(Status::Memory);
-    };
+    match keep(pending, part) {
+        Ok(()) => {}
+        Err(AllocError) => return Err(Status::Memory),
+    }
     let line = strip_carriage_return(pending.as_slice());
     if let Err(status) = answer_line(alloc, sink, disk, links, course, line) {
         return Err(status);
@@ -70,10 +71,10 @@ fn answer_piece<K: Sink, D: Disk, L: Links>(
         }
         rest = more;
     }
-    let Ok(()) = keep(pending, rest) else {
-        return Err(Status::Memory);
-    };
-    Ok(())
+    match keep(pending, rest) {
+        Ok(()) => Ok(()),
+        Err(AllocError) => Err(Status::Memory),
+    }
 }
 
 // Answers what is left at the end of the input: a last line without a line feed counts.

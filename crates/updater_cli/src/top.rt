@@ -75,12 +75,13 @@ fn format<D: Disk>(alloc: Global, disk: &mut D, blocks: u64) -> Status
 /// behind each install and at the end.
 ///
 /// The status is 0 where all was done, 1 where the words are none of these, 2 where the source
-/// failed, 3 the sink, 4 the disk, 5 where the disk holds no store, 6 where there was no memory, 7
-/// where a manifest or a publish is refused, and 8 where a session's input has more than
-/// 4,294,967,296 bytes. For `publish` it is 2 where the folder failed at a reading, and 3 also where
-/// it failed at a writing; 1 comes wherever the words give no options, unless memory ran out, and
-/// else only where the options do not take the words, as where one is unknown, has no value or stands
-/// twice. Wherever the words ask for nothing, and wherever the status is 1, nothing is done.
+/// failed, 3 the sink, 4 the disk, 5 where the disk holds no store, 6 where there was no memory or a
+/// generated run did not come out as it must, 7 where a manifest or a publish is refused, and 8 where
+/// a session's input has more than 4,294,967,296 bytes. For `publish` it is 2 where the folder failed
+/// at a reading, and 3 also where it failed at a writing; 1 comes wherever the words give no options,
+/// unless memory ran out, and else only where the options do not take the words, as where one is
+/// unknown, has no value or stands twice. Wherever the words ask for nothing, and wherever the status
+/// is 1, nothing is done.
 pub fn run<S: Source, K: Sink, D: Disk, F: Folder, L: Links>(
     alloc: Global,
     words: &[Word],

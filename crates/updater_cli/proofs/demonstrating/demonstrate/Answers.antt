@@ -1,7 +1,7 @@
-use Rattle.std.proofs.Common.{◌∙◌, Err, refl, ap, subst}
+use Rattle.std.proofs.Common.{rules, ◌∙◌, Err, refl, ap, subst}
 use Rattle.std.specs.Prelude.{List, ℕ}
 use Rattle.outside.specs.Streams.{Appends, AppendsPart}
-use Rattle.updater_cli.specs.declared.status.Status.TheVariants as exit
+use Rattle.updater_cli.specs.declared.demonstrating.DemoEnd.TheVariants as end
 use Rattle.updater_cli.proofs.DemoEnds.{asks_by, by_disk, by_memory, cut_off, written}
 use Rattle.updater_cli.proofs.demonstrating.demonstrate.Goals as goal
 
@@ -10,7 +10,7 @@ returns-in-Err-DiskFault-clause-runs g c = by_disk g.K.Sink g.D.Disk c.args.seed
 
 pub returns-in-Err-DiskFault-clause-asks : goal.returns-in-Err-DiskFault-clause-asks
 returns-in-Err-DiskFault-clause-asks g c =
-    asks_by g.D.Disk c.args.disk.now c.demo.new.disk c.demo.result exit.DiskFault c.demo.ensures.touches
+    asks_by g.D.Disk c.args.disk.now c.demo.new.disk c.demo.result end.DiskFault c.demo.ensures.touches
     (λ is. c.in-Err-DiskFault.is ∙ ap Err c.in-Err-DiskFault.field-0-is) (λ is. refl)
 
 pub returns-in-Err-Memory-clause-runs : goal.returns-in-Err-Memory-clause-runs
@@ -18,7 +18,7 @@ returns-in-Err-Memory-clause-runs g c = by_memory g.K.Sink g.D.Disk c.args.seed 
 
 pub returns-in-Err-Memory-clause-asks : goal.returns-in-Err-Memory-clause-asks
 returns-in-Err-Memory-clause-asks g c =
-    asks_by g.D.Disk c.args.disk.now c.demo.new.disk c.demo.result exit.Memory c.demo.ensures.touches
+    asks_by g.D.Disk c.args.disk.now c.demo.new.disk c.demo.result end.Memory c.demo.ensures.touches
     (λ is. cc (is)) (λ is. cc (is, c.in-Err-Memory.is, c.in-Err-Memory.field-0-is))
 
 pub returns-in-Err-clause-runs : goal.returns-in-Err-clause-runs
@@ -26,7 +26,14 @@ returns-in-Err-clause-runs g c = by_memory g.K.Sink g.D.Disk c.args.seed c.args.
 
 pub returns-in-Err-clause-asks : goal.returns-in-Err-clause-asks
 returns-in-Err-clause-asks g c =
-    asks_by g.D.Disk c.args.disk.now c.demo.new.disk c.demo.result exit.Memory c.demo.ensures.touches (λ is. cc (is)) (λ is. cc (is, c.in-Ok.is))
+    asks_by g.D.Disk c.args.disk.now c.demo.new.disk c.demo.result end.Wrong c.demo.ensures.touches (λ is. cc (is)) (λ is. search rules)
+
+pub returns-in-Err-line-clause-runs : goal.returns-in-Err-line-clause-runs
+returns-in-Err-line-clause-runs g c = by_memory g.K.Sink g.D.Disk c.args.seed c.args.sink.now c.args.sink.now c.args.disk.now c.demo.new.disk refl
+
+pub returns-in-Err-line-clause-asks : goal.returns-in-Err-line-clause-asks
+returns-in-Err-line-clause-asks g c =
+    asks_by g.D.Disk c.args.disk.now c.demo.new.disk c.demo.result end.Memory c.demo.ensures.touches (λ is. cc (is)) (λ is. cc (is, c.in-Ok.is))
 
 pub returns-in-Ok-write_all-clause-runs : goal.returns-in-Ok-write_all-clause-runs
 returns-in-Ok-write_all-clause-runs g c =
@@ -36,7 +43,7 @@ returns-in-Ok-write_all-clause-runs g c =
 
 pub returns-in-Ok-write_all-clause-asks : goal.returns-in-Ok-write_all-clause-asks
 returns-in-Ok-write_all-clause-asks g c =
-    asks_by g.D.Disk c.args.disk.now c.demo.new.disk c.demo.result exit.Done c.demo.ensures.touches (λ is. cc (is)) (λ is. cc (is, c.in-Ok.is))
+    asks_by g.D.Disk c.args.disk.now c.demo.new.disk c.demo.result end.Done c.demo.ensures.touches (λ is. cc (is)) (λ is. cc (is, c.in-Ok.is))
 
 pub returns-clause-runs : goal.returns-clause-runs
 returns-clause-runs g c =
@@ -46,4 +53,4 @@ returns-clause-runs g c =
 
 pub returns-clause-asks : goal.returns-clause-asks
 returns-clause-asks g c =
-    asks_by g.D.Disk c.args.disk.now c.demo.new.disk c.demo.result exit.SinkFault c.demo.ensures.touches (λ is. cc (is)) (λ is. cc (is, c.in-Ok.is))
+    asks_by g.D.Disk c.args.disk.now c.demo.new.disk c.demo.result end.SinkFault c.demo.ensures.touches (λ is. cc (is)) (λ is. cc (is, c.in-Ok.is))

@@ -7,7 +7,7 @@ use Rattle.updater_cli.proofs.opening.session.Goals as goal
 
 pub returns-in-Err-clause-headline : goal.returns-in-Err-clause-headline
 returns-in-Err-clause-headline g c =
-    unopened_headline g.S.Source g.K.Sink g.D.Disk g.L.Links c.args.boot c.args.now c.args.source.now c.args.sink.now c.args.links.now c.args.disk.now c.open.new.disk c.in-Err.status c.in-Err.ensures c.unopened_report.result c.unopened_report.ensures c.requires.boot
+    unopened_headline g.S.Source g.K.Sink g.D.Disk g.L.Links c.args.boot c.args.now c.args.source.now c.args.sink.now c.args.links.now c.args.disk.now c.open.new.disk c.in-Err.status c.in-Err.ensures c.put_report.new.report (c.put_report.ensures ∙ c.unopened_report.ensures) c.requires.boot
 
 pub returns-in-Err-clause-not_a_store : goal.returns-in-Err-clause-not_a_store
 returns-in-Err-clause-not_a_store g c = λ told is. c.in-Err.ensures.not_a_store told (ap Err is)
@@ -21,12 +21,12 @@ returns-in-Err-clause-unopened g c = λ is. (
   refl,
   refl,
   c.in-Err.ensures.unwritten (ap Err is),
-  unopened_nothing g.S.Source g.K.Sink g.D.Disk g.L.Links c.args.boot c.args.now c.args.source.now c.args.sink.now c.args.links.now c.args.disk.now c.open.new.disk c.in-Err.status c.in-Err.ensures c.unopened_report.result c.unopened_report.ensures is,
+  unopened_nothing g.S.Source g.K.Sink g.D.Disk g.L.Links c.args.boot c.args.now c.args.source.now c.args.sink.now c.args.links.now c.args.disk.now c.open.new.disk c.in-Err.status c.in-Err.ensures c.put_report.new.report (c.put_report.ensures ∙ c.unopened_report.ensures) is,
 )
 
 pub returns-in-Err-clause-unopened_reads : goal.returns-in-Err-clause-unopened_reads
 returns-in-Err-clause-unopened_reads g c =
-    unopened_reads g.S.Source g.K.Sink g.D.Disk g.L.Links c.args.boot c.args.now c.args.source.now c.args.sink.now c.args.links.now c.args.disk.now c.open.new.disk c.in-Err.status c.in-Err.ensures c.unopened_report.result c.unopened_report.ensures
+    unopened_reads g.S.Source g.K.Sink g.D.Disk g.L.Links c.args.boot c.args.now c.args.source.now c.args.sink.now c.args.links.now c.args.disk.now c.open.new.disk c.in-Err.status c.in-Err.ensures c.put_report.new.report (c.put_report.ensures ∙ c.unopened_report.ensures)
 
 pub returns-in-Err-clause-words : goal.returns-in-Err-clause-words
 returns-in-Err-clause-words g c = never_opening c.in-Err.status Words (λ never. never) c.in-Err.ensures.ends
@@ -39,14 +39,14 @@ returns-in-Err-clause-writes g c = rises_none _ _ _ (never_opening c.in-Err.stat
 
 pub returns-in-Err-clause-asks : goal.returns-in-Err-clause-asks
 returns-in-Err-clause-asks g c =
-    unopened_asks g.S.Source g.K.Sink g.D.Disk g.L.Links c.args.boot c.args.now c.args.source.now c.args.sink.now c.args.links.now c.args.disk.now c.open.new.disk c.in-Err.status c.in-Err.ensures c.unopened_report.result c.unopened_report.ensures
+    unopened_asks g.S.Source g.K.Sink g.D.Disk g.L.Links c.args.boot c.args.now c.args.source.now c.args.sink.now c.args.links.now c.args.disk.now c.open.new.disk c.in-Err.status c.in-Err.ensures c.put_report.new.report (c.put_report.ensures ∙ c.unopened_report.ensures)
 
 pub returns-clause-headline : goal.returns-clause-headline
 returns-clause-headline g c =
     rw c.end_of.ensures
     (opened_headline g.S.Source g.K.Sink g.D.Disk g.L.Links c.args.boot c.args.now c.args.disk.now c.args.source.now c.answer_all-outcome.new.source (place_of c.args.sink.now c.open.new.disk c.args.links.now c.in-Ok.course)
     (place_of c.answer_all-outcome.new.sink c.answer_all-outcome.new.disk c.answer_all-outcome.new.links c.answer_all-outcome.new.course) c.answer_all-outcome.result c.in-Ok.ensures c.answer_all-outcome.ensures
-    (g.met.D.Disk.seen_left c.answer_all-outcome.new.disk) c.requires.boot c.report_of.result c.report_of.ensures)
+    (g.met.D.Disk.seen_left c.answer_all-outcome.new.disk) c.requires.boot c.put_report-2.new.report (c.put_report-2.ensures ∙ c.report_of.ensures))
 
 pub returns-clause-not_a_store : goal.returns-clause-not_a_store
 returns-clause-not_a_store g c = λ told five.

@@ -36,11 +36,11 @@ loop-part-smaller g c = (feed_found c.loop-part.rest.now c.in-Some.part.now c.in
 pub keep-requires : goal.keep-requires
 keep-requires g c = c.loop-part.invariant.pending.within
 
-pub returns-in_default-keep : goal.returns-in_default-keep
-returns-in_default-keep g c =
+pub returns-in-Err-keep : goal.returns-in-Err-keep
+returns-in-Err-keep g c =
     piece_refused g.K.Sink g.D.Disk g.L.Links c.args.pending.now.items c.args.piece.now c.loop-part.rest.now c.loop-part.pending.items _ _ (place_of c.loop-part.sink c.loop-part.disk c.loop-part.links c.loop-part.course) c.loop-part.invariant.done c.loop-part.invariant.keeps _ (g.met.D.Disk.seen_left c.loop-part.disk)
 
-pub returns : goal.returns
-returns g c =
+pub returns-in-Ok : goal.returns-in-Ok
+returns-in-Ok g c =
     piece_kept g.K.Sink g.D.Disk g.L.Links c.args.pending.now.items c.args.piece.now c.loop-part.rest.now c.loop-part.pending.items _ _ (place_of c.loop-part.sink c.loop-part.disk c.loop-part.links c.loop-part.course) c.loop-part.invariant.done c.loop-part.invariant.keeps _
     c.loop-part.invariant.pending c.in_default.ensures.none c.in-Ok.ensures.kept
