@@ -31,7 +31,7 @@ use Rattle.install_plan.specs.declared.plan.WantedFile.{WantedFile}
 use Rattle.install_plan.specs.Judging.{Refused, address_checks, deployment_checks, release_checks}
 use Rattle.install_plan.specs.Plans.{IsPlanned, IsRefused}
 use Rattle.install_plan.specs.Stages.{HearsOne, StopsOne}
-use Rattle.install_plan.proofs.Ends.{address_end, application_end, deployment_end, judged_end, memory_end, plan_end, release_end}
+use Rattle.install_plan.proofs.Ends.{address_end, application_end, deployment_end, judged_end, plan_end, release_end}
 use Rattle.install_plan.proofs.Told.{base_is}
 
 oks : (ws : List WantedFile) → ◌≡◌ {A = List (Result Target UrlFault)} (map Ok (map (λ file. file.target) ws)) (map (λ file. Ok file.target) ws)
@@ -74,10 +74,6 @@ module _ {shape : Shape} {url : List ℕ} {a : LinksState} {none : List (List �
           pub at_release : {reply : Reply} → (base_of url d ≡ Ok base → IsApplication app → Refused (release_checks url shape d app) reply) → IsRefused shape url both a c reply
           at_release {reply = reply} refused = subst (λ (ts : List (List ℕ)). IsRefused shape url ts a c reply) (sym (grown second.text second.noted (grown hears.text hears.noted empty)))
               (release_end shape url target read a b one hears.text d hears.got hears.tells base joined passed c two second.text second.got app second.tells reply (refused (base_is url d target (Ok base) read joined) (application_read second.text app second.tells)))
-
-          pub at_provider : {reply : Reply} → reply ≡ says.Memory → IsRefused shape url both a c reply
-          at_provider {reply = reply} memory = subst (λ (ts : List (List ℕ)). IsRefused shape url ts a c reply) (sym (grown second.text second.noted (grown hears.text hears.noted empty)))
-              (memory_end shape url target read a b one hears.text d hears.got hears.tells base joined passed c two second.text second.got reply memory)
 
           pub at_plan : {provider : Target} {files : List WantedFile} → IsProvidedBy target d.provider provider
               → map (λ file. slice_get app.files file.place) files ≡ map Some (wanted shape.views app)

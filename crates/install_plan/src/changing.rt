@@ -1,5 +1,5 @@
 // The change that an install makes.
-ghost use Rattle.std.specs.Prelude.{◌≡◌, ◌≤◌, [], IfOk, IfErr};
+ghost use Rattle.std.specs.Prelude.{◌≡◌, ◌≤◌, ℕ, [], IfOk, IfErr};
 ghost use Rattle.small_types.specs.declared.limits.TheConstants.{NUMBER_LIMIT};
 ghost use Rattle.machine.specs.declared.reply.Reply.TheVariants.{Memory};
 ghost use Rattle.store_state.specs.declared.change.Change.TheVariants as change;
@@ -59,17 +59,25 @@ fn change_with(
     }
 }
 
-// The change that the plan comes to with the contents of its wanted files: those of data files
-// become data files. Where the others come from is planned here.
-fn change_of(
+// The files of the new view that come with an install: contents of program files, and data files.
+#[derive(Drop)]
+struct NewFiles {
+    contents: List<Content>,
+    locals: List<LocalFile>,
+}
+
+// What the contents of the plan's wanted files come to: those of data files become data files. Where
+// the others come from is planned here.
+fn new_files(
     alloc: Global,
     state: &StoreState,
-    plan: Plan,
+    plan: &Plan,
     contents: List<Content>,
-    now: u64,
-) -> Result<Change, Reply>
-    requires contents { HasContents state.now plan contents }
-    ensures made { IfOk result (IsChangeOf state.now plan contents now) }
+) -> Result<NewFiles, Reply>
+    requires contents { HasContents state.now plan.now contents }
+    ensures made { (now : ℕ) → IfOk result (λ files. IsChangeOf state.now plan.now contents now
+        (change.Install (view_of state.now plan.now files.locals) files.contents
+        plan.now.provider now)) }
     ensures memory { IfErr result (λ reply. reply ≡ Memory) }
 {
     let files = plan.application.files.as_slice();
@@ -84,12 +92,13 @@ fn change_of(
     };
     let old = old_locals(state, &plan.deployment.identity.key);
     let fetched = parts.locals.as_slice();
-    let locals = match moved_locals(alloc, old, fetched, plans.as_slice()) {
-        Ok(locals) => locals,
-        Err(reply) => return Err(reply),
-    };
-    let contents = List::from_vec(parts.programs);
-    Ok(change_with(alloc, state, plan, locals, contents, now))
+    match moved_locals(alloc, old, fetched, plans.as_slice()) {
+        Ok(locals) => Ok(NewFiles {
+            contents: List::from_vec(parts.programs),
+            locals,
+        }),
+        Err(reply) => Err(reply),
+    }
 }
 
 // The reply once that change is made, or want of memory.
@@ -123,6 +132,37 @@ fn fetch_planned<L: Links>(
     fetch_wanted(alloc, links, files, plan.wanted.as_slice())
 }
 
+// What an install takes from its plan by reference: the new files, and the reply that is then due.
+#[derive(Drop)]
+struct Made {
+    files: NewFiles,
+    reply: Reply,
+}
+
+// What the plan comes to with these contents.
+fn made_of(
+    alloc: Global,
+    state: &StoreState,
+    plan: &Plan,
+    contents: List<Content>,
+) -> Result<Made, Reply>
+    requires contents { HasContents state.now plan.now contents }
+    ensures made { (now : ℕ) → IfOk result (λ made. IsChangeOf state.now plan.now contents now
+        (change.Install (view_of state.now plan.now made.files.locals) made.files.contents
+        plan.now.provider now)) }
+    ensures replied { IfOk result (λ made. made.reply ≡ installed_of state.now plan.now) }
+    ensures memory { IfErr result (λ reply. reply ≡ Memory) }
+{
+    let files = match new_files(alloc, state, plan, contents) {
+        Ok(files) => files,
+        Err(reply) => return Err(reply),
+    };
+    match installed_reply(alloc, state, plan) {
+        Ok(reply) => Ok(Made { files, reply }),
+        Err(refusal) => Err(refusal),
+    }
+}
+
 /// The change that the plan comes to with the contents of its wanted files, in their order, and the
 /// reply that is due once it is made. Data files come to the new view as the migration says. An
 /// `Err` is the reply: there was no memory.
@@ -138,14 +178,13 @@ pub fn install_change(
     ensures replied { IfOk result (λ made. made.1 ≡ installed_of state.now plan) }
     ensures memory { IfErr result (λ reply. reply ≡ Memory) }
 {
-    let reply = match installed_reply(alloc, state, &plan) {
-        Ok(reply) => reply,
+    let made = match made_of(alloc, state, &plan, contents) {
+        Ok(made) => made,
         Err(reply) => return Err(reply),
     };
-    match change_of(alloc, state, plan, contents, now) {
-        Ok(change) => Ok((change, reply)),
-        Err(refusal) => Err(refusal),
-    }
+    let files = made.files;
+    let change = change_with(alloc, state, plan, files.locals, files.contents, now);
+    Ok((change, made.reply))
 }
 
 /// Hears the manifests of the release at the address, judges them, and fetches the files that no
