@@ -3,14 +3,16 @@ use small_types::{Name, Target, Text};
 use std::alloc::{AllocError, Global};
 use std::test::Fail;
 
+fn told_target(alloc: Global, target: &Target) -> Result<String, AllocError> {
+    let host = target.host.as_str();
+    let path = target.path.as_str();
+    format!(in alloc; "{host} {} {path}", target.port)
+}
+
 // What a call answers, as a line.
 fn told(alloc: Global, answer: Result<Target, UrlFault>) -> Result<String, Fail> {
     Ok(match answer {
-        Ok(target) => {
-            let host = target.host.as_str();
-            let path = target.path.as_str();
-            format!(in alloc; "{host} {} {path}", target.port)?
-        }
+        Ok(target) => told_target(alloc, &target)?,
         Err(UrlFault::NotHttp { scheme }) => { format!(in alloc; "not http {}", scheme.as_str())? }
         Err(UrlFault::BadUrl) => String::from_str(alloc, "bad")?,
         Err(UrlFault::Memory) => return Err("no memory".into()),
@@ -80,19 +82,21 @@ fn is_read(
     Ok(target_of(alloc, &long(alloc, first, count, byte, last)?).is_ok())
 }
 
+// What stands before and behind so many times a byte, and whether that is an address.
+const LONG: &[(&[u8], usize, u8, &[u8], bool)] = &[
+    (b"http://h/", 2_039, b'a', b"", true),
+    (b"http://h/", 2_040, b'a', b"", false),
+    (b"  http://h/", 2_038, b'a', b"", false),
+    (b"http://h/", 679, b' ', b"aa", true),
+    (b"http://h/", 679, b' ', b"aaa", false),
+    (b"http://h/#", 679, b' ', b"aa", false),
+];
+
 #[test]
 fn the_limit_counts_both_texts(rt: HostRuntime) -> Result<(), Fail> {
-    let table: [(&[u8], usize, u8, &[u8], bool); 6] = [
-        (b"http://h/", 2_039, b'a', b"", true),
-        (b"http://h/", 2_040, b'a', b"", false),
-        (b"  http://h/", 2_038, b'a', b"", false),
-        (b"http://h/", 679, b' ', b"aa", true),
-        (b"http://h/", 679, b' ', b"aaa", false),
-        (b"http://h/#", 679, b' ', b"aa", false),
-    ];
-    for (first, count, byte, last, wanted) in table {
-        let read = is_read(rt.alloc(), first, count, byte, last)?;
-        assert!(rt; read == wanted, "{count}");
+    for (first, count, byte, last, wanted) in LONG {
+        let read = is_read(rt.alloc(), first, *count, *byte, last)?;
+        assert!(rt; read == *wanted, "{count}");
     }
     Ok(())
 }
@@ -230,22 +234,27 @@ fn names_are_joined(rt: HostRuntime) -> Result<(), Fail> {
     Ok(())
 }
 
-// Whether a file whose address has a directory of that length is reached.
-fn is_reached(alloc: Global, length: usize) -> Result<bool, Fail> {
+// The path of a manifest in a directory whose name has that length, with a query.
+fn deep_path(alloc: Global, length: usize) -> Result<Text, Fail> {
     let mut path = long(alloc, b"/", length, b'd', b"/app.manifest")?;
     path.extend_from_slice(b"?q")?;
+    Ok(Text::from_string(String::from_utf8(path)?))
+}
+
+// Whether a file whose address has such a directory is reached.
+fn is_reached(alloc: Global, length: usize) -> Result<bool, Fail> {
+    let path = deep_path(alloc, length)?;
     let base = Target {
         host: text(alloc, "h")?,
         port: 80,
-        path: Text::from_string(String::from_utf8(path)?),
+        path,
     };
     Ok(file_target(alloc, &base, true, &name(alloc, "x")?).is_ok())
 }
 
 #[test]
 fn the_limit_counts_the_joined_url(rt: HostRuntime) -> Result<(), Fail> {
-    let alloc = rt.alloc();
-    assert!(rt; is_reached(alloc, 2_030)?);
-    assert!(rt; !is_reached(alloc, 2_031)?);
+    assert!(rt; is_reached(rt.alloc(), 2_030)?);
+    assert!(rt; !is_reached(rt.alloc(), 2_031)?);
     Ok(())
 }

@@ -120,14 +120,16 @@ const RIGHT: (Message, Algorithm) = (Message::Abc, Algorithm::Sha1);
 
 const WRONG: (Message, Algorithm) = (Message::Empty, Algorithm::Sha256);
 
+// Digests, and whether they are those of `abc`.
+const LISTED: &[(&[(Message, Algorithm)], bool)] = &[
+    (&[RIGHT, WRONG], false),
+    (&[WRONG, RIGHT], false),
+    (&[RIGHT, RIGHT], true),
+];
+
 #[test]
 fn one_right_digest_is_not_enough(rt: HostRuntime) -> Result<(), Fail> {
-    let table = [
-        ([RIGHT, WRONG], false),
-        ([WRONG, RIGHT], false),
-        ([RIGHT, RIGHT], true),
-    ];
-    for (listed, wanted) in &table {
+    for (listed, wanted) in LISTED {
         let list = list_of(rt.alloc(), listed)?;
         assert!(rt; says(&list, 3, b"abc", *wanted));
     }
@@ -218,47 +220,64 @@ fn copy_matches(alloc: Global) -> Result<bool, Fail> {
     differs(alloc, &copied, 3, &None)
 }
 
-#[test]
-fn the_first_difference_is_told(rt: HostRuntime) -> Result<(), Fail> {
-    let alloc = rt.alloc();
-    let list = mixed(alloc)?;
+// Whether a list of `abc` and of another digest differs so where the size is another one, and where it is not.
+fn is_first_told(alloc: Global, list: &DigestList) -> Result<bool, Fail> {
     let size = Some(Difference::Size {
         listed: 4,
         found: 3,
     });
     let digest = other_digest(alloc, Algorithm::Sha256)?;
-    assert!(rt; differs(alloc, &list, 4, &size)?);
-    assert!(rt; differs(alloc, &list, 3, &digest)?);
-    assert!(rt; copy_matches(alloc)?);
+    Ok(differs(alloc, list, 4, &size)? && differs(alloc, list, 3, &digest)?)
+}
+
+#[test]
+fn the_first_difference_is_told(rt: HostRuntime) -> Result<(), Fail> {
+    let list = mixed(rt.alloc())?;
+    let told = is_first_told(rt.alloc(), &list);
+    drop(list);
+    assert!(rt; told?);
+    assert!(rt; copy_matches(rt.alloc())?);
     Ok(())
+}
+
+// Whether the digest is read from each of the two texts.
+fn are_read(alloc: Global, wanted: &Digest, text: &str, spaced: &str) -> Result<bool, Fail> {
+    let read = Digest::read(alloc, wanted.algorithm, text.as_bytes())?;
+    let again = Digest::read(alloc, wanted.algorithm, spaced.as_bytes())?;
+    Ok(read == *wanted && again == *wanted)
+}
+
+// Whether the digest is printed as the example, and written as base64 as that text.
+fn is_written(alloc: Global, wanted: &Digest, text: &str) -> Result<bool, Fail> {
+    let printed = wanted.print(alloc)?;
+    let base = wanted.to_base64(alloc)?;
+    Ok(printed.as_str() == example(Message::Abc, wanted.algorithm) && base.as_str() == text)
 }
 
 // The digest of `abc` is printed, written as base64, and read back from that and from the text with white space in it.
 fn goes_round(alloc: Global, algorithm: Algorithm, text: &str, spaced: &str) -> Result<bool, Fail> {
     let wanted = digest(alloc, Message::Abc, algorithm)?;
-    Ok(
-        wanted.print(alloc)?.as_str() == example(Message::Abc, algorithm)
-            && wanted.to_base64(alloc)?.as_str() == text
-            && Digest::read(alloc, algorithm, text.as_bytes())? == wanted
-            && Digest::read(alloc, algorithm, spaced.as_bytes())? == wanted,
-    )
+    Ok(is_written(alloc, &wanted, text)? && are_read(alloc, &wanted, text, spaced)?)
 }
+
+// Texts of the digest of `abc` as base64, without white space and with it.
+const WRITTEN: &[(Algorithm, &str, &str)] = &[
+    (
+        Algorithm::Sha1,
+        "qZk+NkcGgWq6PiVxeFDCbJzQ2J0=",
+        " qZk+NkcGgW\tq6PiVxeF\r\nDCbJzQ2J0 =\n",
+    ),
+    (
+        Algorithm::Sha256,
+        "ungWv48Bz+pBQUDeXa4iI7ADYaOWF3qctBD/YfIAFa0=",
+        "\n  ungWv48Bz+pBQUDeXa4iI7ADYaOWF3qctBD/YfIAFa0=\n",
+    ),
+];
 
 #[test]
 fn digests_go_round(rt: HostRuntime) -> Result<(), Fail> {
-    for (algorithm, text, spaced) in [
-        (
-            Algorithm::Sha1,
-            "qZk+NkcGgWq6PiVxeFDCbJzQ2J0=",
-            " qZk+NkcGgW\tq6PiVxeF\r\nDCbJzQ2J0 =\n",
-        ),
-        (
-            Algorithm::Sha256,
-            "ungWv48Bz+pBQUDeXa4iI7ADYaOWF3qctBD/YfIAFa0=",
-            "\n  ungWv48Bz+pBQUDeXa4iI7ADYaOWF3qctBD/YfIAFa0=\n",
-        ),
-    ] {
-        assert!(rt; goes_round(rt.alloc(), algorithm, text, spaced)?, "{text}");
+    for (algorithm, text, spaced) in WRITTEN {
+        assert!(rt; goes_round(rt.alloc(), *algorithm, text, spaced)?, "{text}");
     }
     Ok(())
 }

@@ -57,12 +57,24 @@ fn same(a: &[u8], b: &[u8]) -> bool {
     a == b
 }
 
+// Whether a version that is read from the text is printed as the other one.
+fn prints_read(alloc: Global, text: &[u8], printed: &str) -> Result<bool, Fail> {
+    match Version::read(text) {
+        Ok(version) => prints(alloc, version, printed),
+        Err(_) => Ok(false),
+    }
+}
+
+const PRINTED: &[(&[u8], &str)] = &[
+    (b"01.0.0.0", "1.0.0.0"),
+    (b"65535.65535.65535.65535", "65535.65535.65535.65535"),
+];
+
 #[test]
 fn versions_are_printed(rt: HostRuntime) -> Result<(), Fail> {
-    let first = Version::read(b"01.0.0.0").ok().ok_or("no version")?;
-    assert!(rt; prints(rt.alloc(), first, "1.0.0.0")?);
-    let last = version(65_535, 65_535, 65_535, 65_535);
-    assert!(rt; prints(rt.alloc(), last, "65535.65535.65535.65535")?);
+    for (text, printed) in PRINTED {
+        assert!(rt; prints_read(rt.alloc(), text, printed)?, "{printed}");
+    }
     Ok(())
 }
 
@@ -80,16 +92,16 @@ const LARGE: Version = Version {
     d: 0,
 };
 
+// Whether the first is below the second, as is wanted, and that is the greater of both.
+fn is_ordered(one: Version, other: Version, below: bool, greater: Version) -> bool {
+    one.is_below(&other) == below && one.greater(other) == greater
+}
+
 #[test]
 fn versions_are_ordered_from_the_left(rt: HostRuntime) {
-    for (one, other, below, greater) in [
-        (SMALL, LARGE, true, LARGE),
-        (LARGE, SMALL, false, LARGE),
-        (SMALL, SMALL, false, SMALL),
-    ] {
-        assert!(rt; one.is_below(&other) == below);
-        assert!(rt; one.greater(other) == greater);
-    }
+    assert!(rt; is_ordered(SMALL, LARGE, true, LARGE));
+    assert!(rt; is_ordered(LARGE, SMALL, false, LARGE));
+    assert!(rt; is_ordered(SMALL, SMALL, false, SMALL));
 }
 
 fn text(alloc: Global, from: &str) -> Result<Text, AllocError> {
@@ -111,33 +123,50 @@ fn key(
     })
 }
 
+// The name, token, language and architecture of a key, and its text.
+type Printed = (
+    &'static str,
+    &'static str,
+    &'static str,
+    &'static str,
+    &'static str,
+);
+
+const KEYS: &[Printed] = &[
+    (
+        "demo.application",
+        "0000000000000000",
+        "neutral",
+        "msil",
+        "demo.application,0000000000000000,neutral,msil",
+    ),
+    (
+        "a b/c,d%e\u{e9}",
+        "~-._",
+        "x",
+        "y",
+        "a%20b%2Fc%2Cd%25e%C3%A9,~-._,x,y",
+    ),
+];
+
 // Whether the key is printed as that text and read back from it.
 fn goes_round(alloc: Global, key: &Key, wanted: &str) -> Result<bool, Fail> {
     let printed = key.print(alloc)?;
     Ok(printed.as_str() == wanted && &Key::read(alloc, printed.as_bytes())? == key)
 }
 
+fn is_printed(alloc: Global, printed: &Printed) -> Result<bool, Fail> {
+    let (name, token, language, architecture, wanted) = printed;
+    let key = key(alloc, name, token, language, architecture)?;
+    let is = goes_round(alloc, &key, wanted);
+    drop(key);
+    is
+}
+
 #[test]
 fn keys_are_printed(rt: HostRuntime) -> Result<(), Fail> {
-    let alloc = rt.alloc();
-    for (name, token, language, architecture, wanted) in [
-        (
-            "demo.application",
-            "0000000000000000",
-            "neutral",
-            "msil",
-            "demo.application,0000000000000000,neutral,msil",
-        ),
-        (
-            "a b/c,d%e\u{e9}",
-            "~-._",
-            "x",
-            "y",
-            "a%20b%2Fc%2Cd%25e%C3%A9,~-._,x,y",
-        ),
-    ] {
-        let key = key(alloc, name, token, language, architecture)?;
-        assert!(rt; goes_round(alloc, &key, wanted)?, "{wanted}");
+    for (number, printed) in KEYS.iter().enumerate() {
+        assert!(rt; is_printed(rt.alloc(), printed)?, "{number}");
     }
     Ok(())
 }
@@ -154,39 +183,50 @@ const COMPARED: &[(&[u8], Ordering)] = &[
     (b"", Ordering::Greater),
 ];
 
-#[test]
-fn texts_of_keys_are_compared(rt: HostRuntime) -> Result<(), Fail> {
-    let odd = key(rt.alloc(), "a b", "t", "l", "\u{e9}")?;
+// The number of the first text with which the key's text compares otherwise.
+fn first_other(key: &Key) -> Option<usize> {
     for (number, (text, wanted)) in COMPARED.iter().enumerate() {
-        assert!(rt; odd.cmp_printed(text) == *wanted, "{number}");
-        assert!(rt;
-            odd.is_printed(text) == (*wanted == Ordering::Equal),
-            "{number}"
-        );
+        let is_equal = *wanted == Ordering::Equal;
+        if key.cmp_printed(text) != *wanted || key.is_printed(text) != is_equal {
+            return Some(number);
+        }
     }
-    Ok(())
+    None
 }
 
 #[test]
-fn escapes_of_either_case_are_read(rt: HostRuntime) -> Result<(), Fail> {
-    let alloc = rt.alloc();
-    let lower = Key::read(alloc, b"a%2fb%c3%a9,%zz,%,c%4")?;
-    assert_eq!(rt; lower, key(alloc, "a/b\u{e9}", "%zz", "%", "c%4")?);
+fn texts_of_keys_are_compared(rt: HostRuntime) -> Result<(), Fail> {
+    let odd = key(rt.alloc(), "a b", "t", "l", "\u{e9}")?;
+    let other = first_other(&odd);
+    drop(odd);
+    assert!(rt; other.is_none());
     Ok(())
+}
+
+// Whether escapes with letters of either case are read as those parts.
+fn is_unescaped(alloc: Global) -> Result<bool, Fail> {
+    let wanted = key(alloc, "a/b\u{e9}", "%zz", "%", "c%4")?;
+    let lower = Key::read(alloc, b"a%2fb%c3%a9,%zz,%,c%4")?;
+    Ok(lower == wanted)
+}
+
+// Whether a key with that token is said to be one.
+fn is_key(alloc: Global, token: &str) -> Result<bool, AllocError> {
+    Ok(key(alloc, "a", token, "c", "d")?.is_key())
 }
 
 #[test]
 fn keys_are_told(rt: HostRuntime) -> Result<(), Fail> {
-    let alloc = rt.alloc();
-    assert!(rt; key(alloc, "a", "b", "c", "d")?.is_key());
-    assert!(rt; !key(alloc, "a", "", "c", "d")?.is_key());
+    assert!(rt; is_unescaped(rt.alloc())?);
+    assert!(rt; is_key(rt.alloc(), "b")?);
+    assert!(rt; !is_key(rt.alloc(), "")?);
     Ok(())
 }
 
 #[test]
 fn words_keep_the_slash(rt: HostRuntime) -> Result<(), Fail> {
     let word = word_escape(rt.alloc(), b"dir/a b\xff")?;
-    assert_eq!(rt; word.as_str(), "dir/a%20b%FF");
+    assert!(rt; word.as_str() == "dir/a%20b%FF");
     Ok(())
 }
 
@@ -225,42 +265,49 @@ fn fault_of_long(
     Ok(fault_of(alloc, &word))
 }
 
+// What stands before and behind so many times a byte, and the fault.
+type Limit = (&'static [u8], u8, usize, &'static [u8], Option<KeyFault>);
+
+const LIMITS: &[Limit] = &[
+    (b"", b'n', 240, b",t,l,a", None),
+    (
+        b"",
+        b'n',
+        241,
+        b",t,l,a",
+        Some(KeyFault::BadPart { part: 1 }),
+    ),
+    (b"n,t,l,", b'a', 64, b"", None),
+    (
+        b"n,t,l,",
+        b'a',
+        65,
+        b"",
+        Some(KeyFault::BadPart { part: 4 }),
+    ),
+];
+
 #[test]
 fn parts_have_limits(rt: HostRuntime) -> Result<(), Fail> {
-    let table: [(&[u8], u8, usize, &[u8], Option<KeyFault>); 4] = [
-        (b"", b'n', 240, b",t,l,a", None),
-        (
-            b"",
-            b'n',
-            241,
-            b",t,l,a",
-            Some(KeyFault::BadPart { part: 1 }),
-        ),
-        (b"n,t,l,", b'a', 64, b"", None),
-        (
-            b"n,t,l,",
-            b'a',
-            65,
-            b"",
-            Some(KeyFault::BadPart { part: 4 }),
-        ),
-    ];
-    for (first, byte, count, last, wanted) in table {
-        let fault = fault_of_long(rt.alloc(), first, byte, count, last)?;
-        assert!(rt; fault == wanted, "{count}");
+    for (first, byte, count, last, wanted) in LIMITS {
+        let fault = fault_of_long(rt.alloc(), first, *byte, *count, last)?;
+        assert!(rt; fault == *wanted, "{count}");
     }
     Ok(())
 }
 
+fn is_copied(alloc: Global) -> Result<bool, Fail> {
+    let key = key(alloc, "n", "t", "l", "a")?;
+    let first = Identity {
+        kind: text(alloc, "win32")?,
+        version: version(1, 2, 3, 4),
+        key,
+    };
+    Ok(first.copy(alloc)? == first)
+}
+
 #[test]
 fn identities_are_copied(rt: HostRuntime) -> Result<(), Fail> {
-    let alloc = rt.alloc();
-    let first = Identity {
-        key: key(alloc, "n", "t", "l", "a")?,
-        version: version(1, 2, 3, 4),
-        kind: text(alloc, "win32")?,
-    };
-    let copied = first.copy(alloc)?;
-    assert_eq!(rt; copied, first);
+    assert!(rt; is_copied(rt.alloc())?);
     Ok(())
 }

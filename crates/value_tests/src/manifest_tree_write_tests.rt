@@ -1,7 +1,7 @@
 use manifest_tree::{Attribute, Node, WriteFault, is_writable, read_tree, write_tree};
 use small_types::{Bytes, List, Text};
 use std::alloc::{AllocError, Global};
-use std::test::*;
+use std::test::Fail;
 
 fn text(alloc: Global, held: &str) -> Result<Text, AllocError> {
     Ok(Text::from_string(String::from_str(alloc, held)?))
@@ -74,21 +74,26 @@ fn form(alloc: Global) -> Result<Node, AllocError> {
     branch(alloc, attribute(alloc, "x", "1 & 2")?, "t<", below)
 }
 
-#[test]
-fn the_form(rt: HostRuntime) -> Result<(), Fail> {
-    let node = form(rt.alloc())?;
-    let want =
-        b"<?xml version=\"1.0\" encoding=\"utf-8\"?>\n<n:b x=\"1 &amp; 2\">t&lt;<c/></n:b>\n";
-    assert!(rt; is_written(rt.alloc(), &node, want));
-    Ok(())
+// Whether that is the form of an element with an attribute, text and a child, and of one with every reference.
+fn are_forms(alloc: Global) -> Result<bool, AllocError> {
+    let node = form(alloc)?;
+    let is_form = is_written(alloc, &node, FORM);
+    drop(node);
+    let node = leaf(alloc, "d", "&<>\"\t\n\r'")?;
+    let are_references = is_written(alloc, &node, REFERENCES);
+    drop(node);
+    Ok(is_form && are_references)
 }
 
+const FORM: &[u8] =
+    b"<?xml version=\"1.0\" encoding=\"utf-8\"?>\n<n:b x=\"1 &amp; 2\">t&lt;<c/></n:b>\n";
+
+const REFERENCES: &[u8] =
+    b"<?xml version=\"1.0\" encoding=\"utf-8\"?>\n<d>&amp;&lt;&gt;&quot;&#9;&#10;&#13;'</d>\n";
+
 #[test]
-fn the_references(rt: HostRuntime) -> Result<(), Fail> {
-    let node = leaf(rt.alloc(), "d", "&<>\"\t\n\r'")?;
-    let want =
-        b"<?xml version=\"1.0\" encoding=\"utf-8\"?>\n<d>&amp;&lt;&gt;&quot;&#9;&#10;&#13;'</d>\n";
-    assert!(rt; is_written(rt.alloc(), &node, want));
+fn the_forms(rt: HostRuntime) -> Result<(), Fail> {
+    assert!(rt; are_forms(rt.alloc())?);
     Ok(())
 }
 
@@ -111,29 +116,33 @@ fn is_branch(node: &Node, held: &str) -> bool {
 }
 
 fn is_read_again(alloc: Global, held: &str) -> Result<bool, AllocError> {
-    let node = branch(
-        alloc,
-        attribute(alloc, "k", held)?,
-        held,
-        leaf(alloc, "c", held)?,
-    )?;
-    match read(alloc, &node) {
-        Some(root) => Ok(is_branch(&root, held)),
+    let below = leaf(alloc, "c", held)?;
+    let node = branch(alloc, attribute(alloc, "k", held)?, held, below)?;
+    let root = read(alloc, &node);
+    drop(node);
+    match root {
+        Some(root) => {
+            let is = is_branch(&root, held);
+            drop(root);
+            Ok(is)
+        }
         None => Ok(false),
     }
 }
 
+const HELD: &[&str] = &[
+    "",
+    "plain",
+    "&<>\"\t\n\r'",
+    "\r\n\n",
+    "&amp;",
+    "\u{e9}\u{20ac}\u{1f600}",
+];
+
 #[test]
 fn read_again(rt: HostRuntime) -> Result<(), Fail> {
-    for held in [
-        "",
-        "plain",
-        "&<>\"\t\n\r'",
-        "\r\n\n",
-        "&amp;",
-        "\u{e9}\u{20ac}\u{1f600}",
-    ] {
-        assert!(rt; is_read_again(rt.alloc(), held)?, "{held:?}");
+    for (number, held) in HELD.iter().enumerate() {
+        assert!(rt; is_read_again(rt.alloc(), held)?, "{number}");
     }
     Ok(())
 }
@@ -160,13 +169,27 @@ fn written_length(alloc: Global, node: &Node) -> usize {
     written(alloc, node).as_slice().len()
 }
 
+// Whether a text of so many bytes is written, and has so many, or is told to be too long by so many.
+fn is_as_long(
+    alloc: Global,
+    count: u32,
+    length: usize,
+    told: Option<u64>,
+) -> Result<bool, AllocError> {
+    let node = long(alloc, count)?;
+    let is = match told {
+        None => written_length(alloc, &node) == length,
+        _ => told_length(alloc, &node) == told,
+    };
+    drop(node);
+    Ok(is)
+}
+
 // 40 bytes stand around the element, and 7 around its text.
 #[test]
 fn too_long(rt: HostRuntime) -> Result<(), Fail> {
-    let longest = long(rt.alloc(), 4_194_257)?;
-    assert!(rt; written_length(rt.alloc(), &longest) == 4_194_304);
-    let longer = long(rt.alloc(), 4_194_258)?;
-    assert!(rt; told_length(rt.alloc(), &longer) == Some(4_194_305));
+    assert!(rt; is_as_long(rt.alloc(), 4_194_257, 4_194_304, None)?);
+    assert!(rt; is_as_long(rt.alloc(), 4_194_258, 0, Some(4_194_305))?);
     Ok(())
 }
 
@@ -175,17 +198,20 @@ fn can_leaf(alloc: Global, name: &str, held: &str) -> Result<bool, AllocError> {
     Ok(is_writable(&leaf(alloc, name, held)?))
 }
 
+// The name and the text of an element, and whether it can be written.
+const LEAVES: &[(&str, &str, bool)] = &[
+    ("a", "", true),
+    ("_:.-9\u{e9}", "\t\n\r", true),
+    ("", "", false),
+    ("9a", "", false),
+    ("a b", "", false),
+    ("a", "\u{1}", false),
+];
+
 #[test]
 fn leaves_that_cannot_be_written(rt: HostRuntime) -> Result<(), Fail> {
-    for (name, held, expected) in [
-        ("a", "", true),
-        ("_:.-9\u{e9}", "\t\n\r", true),
-        ("", "", false),
-        ("9a", "", false),
-        ("a b", "", false),
-        ("a", "\u{1}", false),
-    ] {
-        assert!(rt; can_leaf(rt.alloc(), name, held)? == expected, "{name}");
+    for (name, held, expected) in LEAVES {
+        assert!(rt; can_leaf(rt.alloc(), name, held)? == *expected, "{name}");
     }
     Ok(())
 }
@@ -196,18 +222,19 @@ fn can_branch(alloc: Global, name: &str, value: &str, child: &str) -> Result<boo
     Ok(is_writable(&branch(alloc, attribute(alloc, name, value)?, "", below)?))
 }
 
+// The name and the value of an attribute and the name of a child, and whether their element can be written.
+const BRANCHES: &[(&str, &str, &str, bool)] = &[
+    ("k", "", "c", true),
+    ("", "", "c", false),
+    ("k", "\u{b}", "c", false),
+    ("k", "", "", false),
+];
+
 #[test]
 fn branches_that_cannot_be_written(rt: HostRuntime) -> Result<(), Fail> {
-    for (name, value, child, expected) in [
-        ("k", "", "c", true),
-        ("", "", "c", false),
-        ("k", "\u{b}", "c", false),
-        ("k", "", "", false),
-    ] {
-        assert!(rt;
-            can_branch(rt.alloc(), name, value, child)? == expected,
-            "{name}"
-        );
+    for (name, value, child, expected) in BRANCHES {
+        let can = can_branch(rt.alloc(), name, value, child)?;
+        assert!(rt; can == *expected, "{name}");
     }
     Ok(())
 }

@@ -38,66 +38,107 @@ fn marks(alloc: Global, words: &str) -> Result<List<Mark>, Fail> {
     Ok(List::from_vec(found))
 }
 
+fn version(a: u16) -> Version {
+    Version {
+        a,
+        b: 0,
+        c: 0,
+        d: 0,
+    }
+}
+
+// The name and the publisher.
+fn texts(alloc: Global, name: &str) -> Result<(Text, Text), AllocError> {
+    let name = text(alloc, name)?;
+    Ok((name, text(alloc, "maker")?))
+}
+
+// The entry and both folders.
+fn places(alloc: Global, entry: &str, from: &str, to: &str) -> Result<(Name, Name, Name), Fail> {
+    let entry = Name::read(alloc, entry.as_bytes())?;
+    let from = Name::read(alloc, from.as_bytes())?;
+    Ok((entry, from, Name::read(alloc, to.as_bytes())?))
+}
+
 // The options of version 1.0.0.0 with this name, this entry, these folders, these marks and this least version.
 fn options(
     alloc: Global,
     words: (&str, &str, &str, &str),
-    marked: &str,
+    marks: List<Mark>,
     minimum: u16,
+    mapped: bool,
 ) -> Result<Options, Fail> {
+    let (name, publisher) = texts(alloc, words.0)?;
+    let (entry, from, to) = places(alloc, words.1, words.2, words.3)?;
     Ok(Options {
-        name: text(alloc, words.0)?,
-        version: Version {
-            a: 1,
-            b: 0,
-            c: 0,
-            d: 0,
-        },
-        entry: Name::read(alloc, words.1.as_bytes())?,
-        from: Name::read(alloc, words.2.as_bytes())?,
-        to: Name::read(alloc, words.3.as_bytes())?,
-        publisher: text(alloc, "maker")?,
-        minimum: Some(Version {
-            a: minimum,
-            b: 0,
-            c: 0,
-            d: 0,
-        }),
+        name,
+        version: version(1),
+        entry,
+        from,
+        to,
+        publisher,
+        minimum: Some(version(minimum)),
         rule: Rule::Never,
         provider: None,
-        mapped: true,
-        marks: marks(alloc, marked)?,
+        mapped,
+        marks,
     })
 }
 
-fn said_of_fault(alloc: Global, fault: PlanFault) -> Result<String, AllocError> {
+// The word of a refusal, and what it names, with no byte where it names nothing.
+fn words_of(fault: &PlanFault) -> (&'static str, &str) {
     match fault {
-        PlanFault::BadName { word } => format!(in alloc; "bad-name {}", word.as_str()),
-        PlanFault::MinimumAbove { minimum } => format!(in alloc; "minimum-above {}", minimum.a),
-        PlanFault::VersionExists { file } => format!(in alloc; "version-exists {}", file.as_str()),
-        PlanFault::EmptyInput => String::from_str(alloc, "empty-input"),
-        PlanFault::BadInput { file } => format!(in alloc; "bad-input {}", file.as_str()),
+        PlanFault::BadName { word } => ("bad-name ", word.as_str()),
+        PlanFault::MinimumAbove { minimum } => {
+            (
+                "minimum-above ",
+                if minimum.a == 2 { "2" } else { "another" },
+            )
+        }
+        PlanFault::VersionExists { file } => ("version-exists ", file.as_str()),
+        PlanFault::EmptyInput => ("empty-input", ""),
+        PlanFault::BadInput { file } => ("bad-input ", file.as_str()),
         PlanFault::TooMany {
             what: Limit::Locals,
-        } => String::from_str(alloc, "too-many locals"),
-        PlanFault::TooMany { .. } => String::from_str(alloc, "too-many files"),
-        PlanFault::NoEntryPoint => String::from_str(alloc, "no-entry-point"),
-        PlanFault::BadMark { file } => format!(in alloc; "bad-mark {}", file.as_str()),
-        PlanFault::Memory => String::from_str(alloc, "memory"),
+        } => ("too-many locals", ""),
+        PlanFault::TooMany { .. } => ("too-many files", ""),
+        PlanFault::NoEntryPoint => ("no-entry-point", ""),
+        PlanFault::BadMark { file } => ("bad-mark ", file.as_str()),
+        PlanFault::Memory => ("memory", ""),
     }
 }
 
-fn push_file(said: &mut String, file: &PlannedFile) -> Result<(), AllocError> {
-    said.push_str(file.source.as_str())?;
-    said.push_str(" ")?;
-    said.push_str(file.file.as_str())?;
-    said.push_str(" ")?;
-    said.push_str(file.target.as_str())?;
-    said.push_str(if file.local { " data" } else { " program" })?;
-    if let Some(group) = &file.group {
-        said.push_str(" ")?;
-        said.push_str(group.as_str())?;
+fn said_of_fault(alloc: Global, fault: PlanFault) -> Result<String, AllocError> {
+    let (word, named) = words_of(&fault);
+    let said = format!(in alloc; "{word}{named}");
+    drop(fault);
+    said
+}
+
+// The group of the file behind a space, if it has one.
+fn push_group(said: &mut String, group: &Option<Text>) -> Result<(), AllocError> {
+    match group {
+        Some(group) => {
+            said.push_str(" ")?;
+            said.push_str(group.as_str())
+        }
+        None => Ok(()),
     }
+}
+
+// The three names of the file, each with a space behind it.
+fn push_names(said: &mut String, file: &PlannedFile) -> Result<(), AllocError> {
+    for name in [&file.source, &file.file, &file.target] {
+        said.push_str(name.as_str())?;
+        said.push_str(" ")?;
+    }
+    Ok(())
+}
+
+fn push_file(said: &mut String, file: &PlannedFile) -> Result<(), AllocError> {
+    push_names(said, file)?;
+    said.push_str(if file.local { "data" } else { "program" })?;
+    push_group(said, &file.group)?;
     said.push_str("\n")
 }
 
@@ -127,8 +168,22 @@ fn said(alloc: Global, options: &Options, names: &[Name]) -> Result<String, Allo
     }
 }
 
-// What is answered to these options over a folder with the names between the bars. Options are large, and are dropped
-// here alone.
+// What is answered to these options over a folder with these names. Options are large, and are dropped here alone.
+fn answer_over(
+    alloc: Global,
+    words: (&str, &str, &str, &str),
+    marks: List<Mark>,
+    minimum: u16,
+    mapped: bool,
+    names: &[Name],
+) -> Result<String, Fail> {
+    let options = options(alloc, words, marks, minimum, mapped)?;
+    let answer = said(alloc, &options, names);
+    drop(options);
+    Ok(answer?)
+}
+
+// What is answered to these options over a folder with the names between the bars.
 fn answer_to(
     alloc: Global,
     words: (&str, &str, &str, &str),
@@ -138,14 +193,8 @@ fn answer_to(
     listed: &str,
 ) -> Result<String, Fail> {
     let listed = names(alloc, listed)?;
-    let mut options = options(alloc, words, marked, minimum)?;
-    options.mapped = mapped;
-    let answer = said(alloc, &options, &listed);
-    drop(options);
-    match answer {
-        Ok(answer) => Ok(answer),
-        Err(fault) => Err(fault.into()),
-    }
+    let marks = marks(alloc, marked)?;
+    answer_over(alloc, words, marks, minimum, mapped, &listed)
 }
 
 const TO_195: &str =
@@ -243,26 +292,22 @@ fn all_marked(alloc: Global, count: usize) -> Result<List<Mark>, Fail> {
 // What is answered to so many files, each a data file or none.
 fn answer_to_many(alloc: Global, count: usize, data: bool) -> Result<String, Fail> {
     let listed = numbered(alloc, count, "in/")?;
-    let marked = all_marked(alloc, if data { count } else { 0 })?;
-    let mut options = options(alloc, WORDS, "", 1)?;
-    options.marks = marked;
-    let answer = said(alloc, &options, &listed);
-    drop(options);
-    match answer {
-        Ok(answer) => Ok(answer),
-        Err(fault) => Err(fault.into()),
-    }
+    let marks = all_marked(alloc, if data { count } else { 0 })?;
+    answer_over(alloc, WORDS, marks, 1, true, &listed)
 }
+
+// How many files, whether they are data files, and the answer.
+const MANY: &[(usize, bool, &str)] = &[
+    (16_385, false, "too-many files"),
+    (257, true, "too-many locals"),
+    (256, true, "no-entry-point"),
+];
 
 #[test]
 fn refuses_more_than_the_limits(rt: HostRuntime) -> Result<(), Fail> {
-    for (count, data, wanted) in [
-        (16_385, false, "too-many files"),
-        (257, true, "too-many locals"),
-        (256, true, "no-entry-point"),
-    ] {
-        let answer = answer_to_many(rt.alloc(), count, data)?;
-        assert!(rt; answer.as_str() == wanted, "{answer} for {wanted}");
+    for (count, data, wanted) in MANY {
+        let answer = answer_to_many(rt.alloc(), *count, *data)?;
+        assert!(rt; answer.as_str() == *wanted, "{answer} for {wanted}");
     }
     Ok(())
 }
@@ -294,13 +339,10 @@ fn plans_three_files(rt: HostRuntime) -> Result<(), Fail> {
 
 // Whether that is the codebase of the application.
 fn has_codebase(alloc: Global, wanted: &str) -> Result<bool, Fail> {
-    let options = options(alloc, TO_ONE, "", 1)?;
+    let options = options(alloc, TO_ONE, List::from_vec(Vec::new(alloc)), 1, true)?;
     let codebase = codebase_of(alloc, &options);
     drop(options);
-    match codebase {
-        Ok(codebase) => Ok(codebase.as_str() == wanted),
-        Err(fault) => Err(fault.into()),
-    }
+    Ok(codebase?.as_str() == wanted)
 }
 
 #[test]
