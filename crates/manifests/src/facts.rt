@@ -68,17 +68,28 @@ pub struct Deployment {
 
 impl Duplicate for Deployment {
     fn copy(&self, alloc: Global) -> Result<Self, CopyFault> {
+        let provider = self.provider.copy(alloc)?;
+        let codebase = self.codebase.copy(alloc)?;
+        let app_list = self.app_list.copy(alloc)?;
+        let identity = self.identity.copy(alloc)?;
+        let app = match self.app.copy(alloc) {
+            Ok(app) => app,
+            Err(fault) => {
+                drop(identity);
+                return Err(fault);
+            }
+        };
         Ok(Deployment {
-            identity: self.identity.copy(alloc)?,
+            identity,
             install: self.install,
             minimum: self.minimum,
             mapped: self.mapped,
             rule: self.rule,
-            provider: self.provider.copy(alloc)?,
-            codebase: self.codebase.copy(alloc)?,
-            app: self.app.copy(alloc)?,
+            provider,
+            codebase,
+            app,
             app_size: self.app_size,
-            app_list: self.app_list.copy(alloc)?,
+            app_list,
         })
     }
 }
@@ -97,11 +108,14 @@ pub struct Application {
 
 impl Duplicate for Application {
     fn copy(&self, alloc: Global) -> Result<Self, CopyFault> {
+        let entry = self.entry.copy(alloc)?;
+        let parameters = self.parameters.copy(alloc)?;
+        let files = self.files.copy(alloc)?;
         Ok(Application {
             identity: self.identity.copy(alloc)?,
-            entry: self.entry.copy(alloc)?,
-            parameters: self.parameters.copy(alloc)?,
-            files: self.files.copy(alloc)?,
+            entry,
+            parameters,
+            files,
         })
     }
 }
@@ -115,9 +129,16 @@ pub struct Release {
 
 impl Duplicate for Release {
     fn copy(&self, alloc: Global) -> Result<Self, CopyFault> {
-        Ok(Release {
-            deployment: self.deployment.copy(alloc)?,
-            application: self.application.copy(alloc)?,
-        })
+        let deployment = self.deployment.copy(alloc)?;
+        match self.application.copy(alloc) {
+            Ok(application) => Ok(Release {
+                deployment,
+                application,
+            }),
+            Err(fault) => {
+                drop(deployment);
+                Err(fault)
+            }
+        }
     }
 }

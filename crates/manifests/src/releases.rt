@@ -107,8 +107,15 @@ pub fn release(
 {
     check_bytes(alloc, d, bytes)?;
     check_identity(alloc, d, a)?;
-    Ok(Release {
-        deployment: d.copy(alloc)?,
-        application: a.copy(alloc)?,
-    })
+    let deployment = d.copy(alloc)?;
+    match a.copy(alloc) {
+        Ok(application) => Ok(Release {
+            deployment,
+            application,
+        }),
+        Err(fault) => {
+            drop(deployment);
+            Err(ReleaseFault::from(fault))
+        }
+    }
 }
