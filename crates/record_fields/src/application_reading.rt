@@ -67,9 +67,27 @@ pub(crate) fn application_here(
     ensures fault { IfErr result (IsWithin (length bytes.now)) }
 {
     let (identity, next) = identity_here(alloc, bytes, place)?;
-    let (entry, next) = text_here(alloc, bytes, next, NAME_LIMIT)?;
-    let (parameters, next) = text_here(alloc, bytes, next, URL_LIMIT)?;
-    let (files, next) = list_here::<EntryField>(alloc, bytes, next, FILE_COUNT_LIMIT)?;
+    let (entry, next) = match text_here(alloc, bytes, next, NAME_LIMIT) {
+        Ok(found) => found,
+        Err(fault) => {
+            drop(identity);
+            return Err(fault);
+        }
+    };
+    let (parameters, next) = match text_here(alloc, bytes, next, URL_LIMIT) {
+        Ok(found) => found,
+        Err(fault) => {
+            drop(identity);
+            return Err(fault);
+        }
+    };
+    let (files, next) = match list_here::<EntryField>(alloc, bytes, next, FILE_COUNT_LIMIT) {
+        Ok(found) => found,
+        Err(fault) => {
+            drop(identity);
+            return Err(fault);
+        }
+    };
     let application = Application {
         identity,
         entry,

@@ -45,11 +45,41 @@ fn terms_here(alloc: Global, bytes: &[u8], place: usize) -> Result<(Terms, usize
     ensures fault { IfErr result (IsWithin (length bytes.now)) }
 {
     let (identity, next) = identity_here(alloc, bytes, place)?;
-    let (install, next) = truth_here(bytes, next)?;
-    let (minimum, next) = version_option_here(bytes, next)?;
-    let (mapped, next) = truth_here(bytes, next)?;
-    let (rule, next) = rule_here(bytes, next)?;
-    let (provider, next) = text_option_here(alloc, bytes, next, URL_LIMIT)?;
+    let (install, next) = match truth_here(bytes, next) {
+        Ok(found) => found,
+        Err(fault) => {
+            drop(identity);
+            return Err(fault);
+        }
+    };
+    let (minimum, next) = match version_option_here(bytes, next) {
+        Ok(found) => found,
+        Err(fault) => {
+            drop(identity);
+            return Err(fault);
+        }
+    };
+    let (mapped, next) = match truth_here(bytes, next) {
+        Ok(found) => found,
+        Err(fault) => {
+            drop(identity);
+            return Err(fault);
+        }
+    };
+    let (rule, next) = match rule_here(bytes, next) {
+        Ok(found) => found,
+        Err(fault) => {
+            drop(identity);
+            return Err(fault);
+        }
+    };
+    let (provider, next) = match text_option_here(alloc, bytes, next, URL_LIMIT) {
+        Ok(found) => found,
+        Err(fault) => {
+            drop(identity);
+            return Err(fault);
+        }
+    };
     let terms = Terms {
         identity,
         install,
@@ -71,8 +101,20 @@ fn listed_here(alloc: Global, bytes: &[u8], place: usize) -> Result<(Listed, usi
 {
     let (codebase, next) = text_here(alloc, bytes, place, URL_LIMIT)?;
     let (app, next) = identity_here(alloc, bytes, next)?;
-    let (app_size, next) = u64_here(bytes, next)?;
-    let (app_list, next) = digests_here(alloc, bytes, next)?;
+    let (app_size, next) = match u64_here(bytes, next) {
+        Ok(found) => found,
+        Err(fault) => {
+            drop(app);
+            return Err(fault);
+        }
+    };
+    let (app_list, next) = match digests_here(alloc, bytes, next) {
+        Ok(found) => found,
+        Err(fault) => {
+            drop(app);
+            return Err(fault);
+        }
+    };
     let listed = Listed {
         codebase,
         app,
@@ -113,6 +155,12 @@ pub(crate) fn deployment_here(
     ensures fault { IfErr result (IsWithin (length bytes.now)) }
 {
     let (terms, next) = terms_here(alloc, bytes, place)?;
-    let (listed, next) = listed_here(alloc, bytes, next)?;
+    let (listed, next) = match listed_here(alloc, bytes, next) {
+        Ok(found) => found,
+        Err(fault) => {
+            drop(terms);
+            return Err(fault);
+        }
+    };
     Ok((joined(terms, listed), next))
 }
