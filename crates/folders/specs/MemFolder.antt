@@ -1,9 +1,11 @@
 -- What a folder in memory shows, and which of its calls fail.
-use Rattle.std.specs.Prelude.{◌≡◌, ◌≢◌, ℕ, ◌+◌, List, [], Bool, false, min, Result, Err, IsTrue}
+use Rattle.std.specs.Prelude.{◌≡◌, ◌≢◌, ℕ, ◌+◌, List, [], Bool, false, min, Result, Ok, Err, IsTrue}
 use Rattle.outside.specs.FailingCalls.{fails_next}
 use Rattle.folders.specs.declared.folder.FolderFault.{FolderFault}
 use Rattle.folders.specs.declared.folder.FolderFault.TheVariants.{Failed}
 use Rattle.folders.specs.declared.folder.Held.{Held}
+use Rattle.folders.specs.declared.folder.Found.{Found}
+use Rattle.folders.specs.declared.folder.Found.TheVariants.{Nothing, Whole, TooLong}
 use Rattle.folders.specs.declared.mem_folder.MemFolder.{MemFolder}
 
 -- what stands in the folder
@@ -37,3 +39,10 @@ pub record CountsCall {T : Type 0} (old new : MemFolder) (result : Result T Fold
   pub raised : IsTrue (folder_fails old)
       → folder_faults new ≡ min (folder_faults old + 1) 0xffff_ffff_ffff_ffff
   pub never : folder_failing old ≡ [] → folder_faults new ≡ folder_faults old
+
+-- the buffer of a call that read no file is as it was
+abbrev pub KeepsBuffer : List ℕ → List ℕ → Result Found FolderFault → Type 0
+KeepsBuffer before after (Ok Nothing) = after ≡ before
+KeepsBuffer before after (Ok Whole) = Unit {0}
+KeepsBuffer before after (Ok (TooLong n)) = after ≡ before
+KeepsBuffer before after (Err fault) = after ≡ before

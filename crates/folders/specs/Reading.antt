@@ -1,5 +1,5 @@
 -- What a reading of at most so many bytes finds.
-use Rattle.std.specs.Prelude.{◌≡◌, ◌<◌, ◌≤◌, ℕ, List, length, Option, Some, None}
+use Rattle.std.specs.Prelude.{◌≡◌, ◌⊎◌, ◌<◌, ◌≤◌, ℕ, List, [], length, Option, Some, None}
 use Rattle.folders.specs.declared.folder.Found.{Found}
 use Rattle.folders.specs.declared.folder.Found.TheVariants.{Nothing, Whole, TooLong}
 
@@ -20,3 +20,9 @@ abbrev pub IsWithin : ℕ → List ℕ → Found → Type 0
 IsWithin limit into Nothing = Unit {0}
 IsWithin limit into Whole = length into ≤ limit
 IsWithin limit into (TooLong n) = limit < n
+
+-- the buffer has nothing of a file that was not read: it is as it was, or empty
+abbrev pub IsUnread : List ℕ → List ℕ → Found → Type 0
+IsUnread before after Nothing = (after ≡ before) ⊎ (after ≡ [])
+IsUnread before after Whole = Unit {0}
+IsUnread before after (TooLong n) = (after ≡ before) ⊎ (after ≡ [])

@@ -5,7 +5,7 @@ ghost use Rattle.folders.specs.declared.folder.Held.{Held};
 ghost use Rattle.folders.specs.declared.folder.FolderFault.TheVariants.{Memory};
 ghost use Rattle.folders.specs.Files.{file_in, distinct, IsNames, Puts};
 ghost use Rattle.folders.specs.Folder.{FailsCounted};
-ghost use Rattle.folders.specs.Reading.{Finds, IsWithin};
+ghost use Rattle.folders.specs.Reading.{Finds, IsUnread, IsWithin};
 ghost use Rattle.folders.specs.Told.{told_file, told_into, told_list, told_put, told_within};
 
 use small_types::{Bytes, CopyFault, List, Name};
@@ -135,7 +135,8 @@ pub trait Folder {
     }
 
     /// Puts the bytes of the file of this name in place of those of the buffer, as `get_into` does, where they are at
-    /// most `limit`. A file of more bytes is not read, and no room is had for it: it answers how many they are.
+    /// most `limit`. A file of more bytes is not read, and no room is had for it: it answers how many they are. Where it
+    /// answers that, or that there is none, the buffer is as it was, or empty; after an error it may have any bytes.
     fn get_within(
         &mut self,
         alloc: Global,
@@ -145,6 +146,7 @@ pub trait Folder {
     ) -> Result<Found, FolderFault>
         ensures found { tells → IfOk result (Finds (file_in name.now (held self.old)) into.new) }
         ensures within { IfOk result (IsWithin limit into.new) }
+        ensures unread { IfOk result (IsUnread into.old into.new) }
         ensures kept { tells → held self.new ≡ held self.old }
         ensures noted { records → answers self.new ≡ answers self.old
             ++ told_within name.now into.new result }

@@ -5,7 +5,7 @@ ghost use Rattle.std.specs.Option.{option_copied};
 ghost use Rattle.folders.specs.declared.folder.FolderFault.TheVariants.{Failed, Memory};
 ghost use Rattle.folders.specs.Files.{is_named, file_in, names_of, distinct, IsNames, Puts};
 ghost use Rattle.folders.specs.Folder.{FailsCounted};
-ghost use Rattle.folders.specs.Reading.{Finds, IsWithin};
+ghost use Rattle.folders.specs.Reading.{Finds, IsUnread, IsWithin};
 
 use crate::{Folder, FolderFault, Found, Held};
 use outside::FailingCalls;
@@ -149,7 +149,7 @@ impl MemFolder {
 }
 
 impl Folder for MemFolder {
-    ghost use Rattle.folders.specs.MemFolder.{folder_held, folder_faults, folder_failing, folder_calls, CountsCall};
+    ghost use Rattle.folders.specs.MemFolder.{folder_held, folder_faults, folder_failing, folder_calls, CountsCall, KeepsBuffer};
 
     ghost tells = { Unit {0} };
 
@@ -196,6 +196,8 @@ impl Folder for MemFolder {
         ensures found { IfOk result
             (Finds (file_in name.now (folder_held self.old)) into.new) }
         ensures within { IfOk result (IsWithin limit into.new) }
+        ensures unread { IfOk result (IsUnread into.old into.new) }
+        ensures buffer { KeepsBuffer into.old into.new result }
         ensures kept { folder_held self.new ≡ folder_held self.old }
         ensures cause { FailsCounted (folder_faults self.old) (folder_faults self.new) result }
         ensures counted { CountsCall self.old self.new result }

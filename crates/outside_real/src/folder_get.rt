@@ -1,6 +1,6 @@
 // Reading a file below a folder.
 ghost use Rattle.std.specs.Prelude.{IfOk};
-ghost use Rattle.folders.specs.Reading.{IsWithin};
+ghost use Rattle.folders.specs.Reading.{IsUnread, IsWithin};
 
 use crate::folder_path::{
     Standing, folder_part, other_stands, path_below, standing_at, standing_of,
@@ -34,9 +34,10 @@ fn are_folders<R: Files<File = File>>(
 
 // Puts the bytes of an open file of about this size in place of those that the vector has, up to one more than the limit.
 // Those are read over, so that memory which was used before is neither cleared nor had anew; what is not there yet is
-// appended. A file that became longer than the limit is not read whole.
+// appended. A file that became longer than the limit is not read whole, and the vector is empty then.
 fn read_over(mut file: File, size: u64, limit: u64, into: &mut Vec<u8>) -> io::Result<Found>
-    ensures { IfOk result (IsWithin limit into.new.items) }
+    ensures within { IfOk result (IsWithin limit into.new.items) }
+    ensures unread { IfOk result (IsUnread into.old.items into.new.items) }
 {
     let known = size as usize;
     into.truncate(known);
@@ -47,6 +48,7 @@ fn read_over(mut file: File, size: u64, limit: u64, into: &mut Vec<u8>) -> io::R
     let length = into.len() as u64;
     if length > limit {
         let length = rest.get_ref().metadata()?.len().max(length);
+        into.clear();
         return Ok(Found::TooLong { length });
     }
     Ok(Found::Whole)
@@ -61,7 +63,8 @@ fn read_seen<R: Files<File = File>>(
     limit: u64,
     into: &mut Vec<u8>,
 ) -> io::Result<Found>
-    ensures { IfOk result (IsWithin limit into.new.items) }
+    ensures within { IfOk result (IsWithin limit into.new.items) }
+    ensures unread { IfOk result (IsUnread into.old.items into.new.items) }
 {
     let file = File::open(rt, path)?;
     let facts = file.metadata()?;
@@ -88,7 +91,8 @@ pub(crate) fn get_file<R: Files<File = File>>(
     limit: u64,
     into: &mut Vec<u8>,
 ) -> io::Result<Found>
-    ensures { IfOk result (IsWithin limit into.new.items) }
+    ensures within { IfOk result (IsWithin limit into.new.items) }
+    ensures unread { IfOk result (IsUnread into.old.items into.new.items) }
 {
     let path = path_below(alloc, root, name)?;
     if let Some(folders) = folder_part(name) {

@@ -3,7 +3,7 @@ ghost use Rattle.std.specs.Prelude.{◌≡◌, ◌≤◌, ◌+◌, ◌++◌, Lis
 ghost use Rattle.std.proofs.Common.{refl};
 ghost use Rattle.folders.specs.Files.{file_in, distinct, IsNames, Puts};
 ghost use Rattle.folders.specs.Folder.{FailsCounted};
-ghost use Rattle.folders.specs.Reading.{Finds, IsWithin};
+ghost use Rattle.folders.specs.Reading.{Finds, IsUnread, IsWithin};
 ghost use Rattle.folders.specs.Told.{told_file, told_into, told_list, told_put, told_within};
 ghost use Rattle.folders.specs.declared.folder.FolderFault.TheVariants.{Failed};
 ghost use Rattle.folders.specs.declared.folder.Found.TheVariants.{Whole};
@@ -130,6 +130,7 @@ impl<R: Files<File = File> + AllocGlobal + Clone + Drop> RealFolder<R> {
         into: &mut Bytes,
     ) -> Result<Found, FolderFault>
         ensures within { IfOk result (IsWithin limit into.new) }
+        ensures unread { IfOk result (IsUnread into.old into.new) }
         ensures answers { real_answers self.new ≡ real_answers self.old }
         ensures faults { real_faults self.new ≡ real_faults self.old }
     {
@@ -248,6 +249,7 @@ impl<R: Files<File = File> + AllocGlobal + Clone + Drop> Folder for RealFolder<R
         ensures found { (files : List Held) → FolderIsHonest files self.new
             → IfOk result (Finds (file_in name.now (real_files files self.old)) into.new) }
         ensures within { IfOk result (IsWithin limit into.new) }
+        ensures unread { IfOk result (IsUnread into.old into.new) }
         ensures looks { OnlyLooks self.old self.new }
         ensures cause { FailsCounted (real_faults self.old) (real_faults self.new) result }
     {
