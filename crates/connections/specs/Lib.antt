@@ -3,5 +3,4 @@ pub mod MemDoor
 pub mod MemWire
 pub mod Places
 pub mod Present
-pub mod WantOfMemory
 pub mod Wire

@@ -2,13 +2,13 @@
 ghost use Rattle.std.specs.Prelude.{◌≡◌, ◌≢◌, ◌+◌, ◌<◌, ◌≤◌, ℕ, List, [], ◌∷◌, ◌++◌, length, take, min, false, IfOk, IsOk, IsErr, OnOk, OnErr, IsTrue, IfSome, IfNone};
 ghost use Rattle.connections.specs.Door.{Accepts, ReceivesOnLast, SendsOnLast};
 ghost use Rattle.connections.specs.Places.{ReceivesAt};
-ghost use Rattle.connections.specs.WantOfMemory.{WorksOrStarves};
+ghost use Rattle.outside.specs.WantOfMemory.{WorksOrStarves};
 ghost use Rattle.outside.specs.Streams.{Causes, TakesSome, total};
 ghost use Rattle.connections.specs.Wire.{SendsLast};
 
 use crate::Door;
-use crate::parts::{send_last, starve};
-use outside::{Failed, FailingCalls, copy_from};
+use crate::parts::send_last;
+use outside::{Failed, FailingCalls, copy_from, starve};
 use small_types::{Bytes, List};
 use std::alloc::{AllocError, Global};
 

@@ -1,13 +1,13 @@
 // A client's connections in memory.
 ghost use Rattle.std.specs.Prelude.{◌≡◌, ◌≢◌, ◌+◌, ◌<◌, ◌≤◌, ℕ, List, [], ◌∷◌, ◌++◌, None, length, take, min, false, slice_index_or, option_to_list, IfOk, IsOk, IsErr, OnOk, OnErr, IfSome, IfNone, IsTrue};
 ghost use Rattle.outside.specs.Streams.{Causes, TakesSome, total};
-ghost use Rattle.connections.specs.WantOfMemory.{WorksOrStarves};
+ghost use Rattle.outside.specs.WantOfMemory.{WorksOrStarves};
 ghost use Rattle.connections.specs.Wire.{Connects, Receives, Sends, all_sent};
 ghost use Rattle.connections.specs.Present.{ReceivesHere};
 
 use crate::Wire;
-use crate::parts::{send_last, starve};
-use outside::{Failed, FailingCalls, copy_from};
+use crate::parts::send_last;
+use outside::{Failed, FailingCalls, copy_from, starve};
 use small_types::{Bytes, List, Text};
 use std::alloc::{AllocError, Global};
 

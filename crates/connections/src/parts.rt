@@ -1,7 +1,6 @@
-// What both ends share: what is sent last, and the count of calls for which there was no memory.
+// What both ends share: what is sent last.
 ghost use Rattle.std.specs.Prelude.{◌≡◌, ◌<◌, length, OnOk, OnErr};
 ghost use Rattle.connections.specs.Wire.{SendsLast};
-ghost use Rattle.outside.specs.Streams.{total};
 
 use small_types::{Bytes, List};
 use std::alloc::{AllocError, Global};
@@ -35,11 +34,4 @@ pub(crate) fn send_last(
     let done = extend_last(&mut pieces, bytes);
     *sent = List::from_vec(pieces);
     done
-}
-
-// Counts a call for which there was no memory.
-pub(crate) fn starve(starved: &mut u64, _why: AllocError)
-    ensures { starved.new ≡ total starved.old 1 }
-{
-    *starved = starved.saturating_add(1);
 }

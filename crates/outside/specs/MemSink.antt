@@ -9,6 +9,10 @@ sink_taken s = s.taken
 abbrev pub sink_faults : MemSink → ℕ
 sink_faults s = s.failing.faults
 
+-- how many calls failed for want of memory
+abbrev pub sink_starved : MemSink → ℕ
+sink_starved s = s.starved
+
 -- how many calls there were
 abbrev pub sink_calls : MemSink → ℕ
 sink_calls s = s.failing.calls

@@ -1,8 +1,10 @@
 // Which calls of a device in memory fail.
 ghost use Rattle.std.specs.Prelude.{◌≡◌, ◌==◌, ◌⊎◌, ◌+◌, ◌<◌, ◌≤◌, min, true, false};
 ghost use Rattle.std.specs.List.{list_any};
+ghost use Rattle.outside.specs.Streams.{total};
 
 use small_types::List;
+use std::alloc::AllocError;
 
 /// The calls of a device in memory: how many there were, the numbers of those that are to fail, counted from 1, and how
 /// often one failed.
@@ -75,4 +77,11 @@ pub fn count_call(calls: &mut u64, written: &mut u64, count: u64) -> bool
     *calls += 1;
     *written += count;
     true
+}
+
+/// Counts a call for which there was no memory.
+pub fn starve(starved: &mut u64, _why: AllocError)
+    ensures { starved.new ≡ total starved.old 1 }
+{
+    *starved = starved.saturating_add(1);
 }

@@ -11,7 +11,7 @@ mod sink;
 mod source;
 
 pub use failed::Failed;
-pub use failing_calls::{FailingCalls, count_call};
+pub use failing_calls::{FailingCalls, count_call, starve};
 pub use mem_sink::MemSink;
 pub use mem_source::MemSource;
 pub use parts::copy_from;

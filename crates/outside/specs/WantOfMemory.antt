@@ -1,4 +1,4 @@
--- Calls of connections in memory for which there may be no memory.
+-- Calls of a device in memory for which there may be no memory.
 use Rattle.std.specs.Prelude.{◌≡◌, ℕ, Result, Ok, Err}
 use Rattle.outside.specs.declared.failed.Failed.{Failed}
 use Rattle.outside.specs.Streams.{total}
