@@ -1,8 +1,10 @@
-use Rattle.std.specs.Prelude.{◌≡◌, ◌+◌, ℕ, min, List, [], ◌∷◌, ◌++◌, Bool, Result, OnErr, OnOk}
+use Rattle.std.specs.Prelude.{◌≡◌, ◌+◌, ℕ, min, List, [], ◌∷◌, ◌++◌, Bool, false, Result, OnErr, OnOk, IsTrue}
 use Rattle.outside.specs.declared.failed.Failed.{Failed}
 use Rattle.outside.specs.FailingCalls.{fails_next}
+use Rattle.outside.specs.WantOfMemory.{WorksOrStarves}
 use Rattle.disks.specs.History.{first_of}
-use Rattle.disks.specs.Moves.{IsImage, MayRecord, picked_after, until}
+use Rattle.disks.specs.Moves.{IsImage, MayRecord, RecordsOrStarves, picked_after, until}
+use Rattle.disks.specs.Spends.{HasNoNumber}
 use Rattle.disks.specs.declared.call.Call.{Call}
 use Rattle.disks.specs.declared.call.Move.{Move}
 use Rattle.disks.specs.declared.call.Pick.{Pick}
@@ -19,6 +21,10 @@ written_of m = m.written
 
 abbrev pub faults_of : MemDisk → ℕ
 faults_of m = m.failing.faults
+
+-- how many calls failed for want of memory
+abbrev pub starved_of : MemDisk → ℕ
+starved_of m = m.history.starved
 
 -- how many calls there were, those that read among them
 abbrev pub turns_of : MemDisk → ℕ
@@ -63,3 +69,18 @@ pub record IsNoted {T : Type 0} (act : Move) (old new : MemDisk) (result : Resul
       (noted_of new ≡ noted_of old ++ record { number = calls_of new; act = act } ∷ [])
   pub failed : OnErr result
       (MayRecord (record { number = calls_of new; act = act }) (noted_of old) (noted_of new))
+
+-- How a call ends that may change the disk and hands it n bytes, which `placed` says have a place.
+-- Where there is a number for it, it works, or fails where it is to fail, and is then noted as
+-- `failed`; else there was no memory for it, which alone is counted as such. One that is not to
+-- fail and does not work is not noted.
+pub record EndsAs {T : Type 0} (n : ℕ) (placed : Type 0) (failed : Move) (old new : MemDisk)
+    (result : Result T Failed) : Type 0 where
+  pub works : disk_fails old ≡ false → ¬ HasNoNumber (calls_of old) (written_of old) n → placed
+      → WorksOrStarves (starved_of old) (starved_of new) result
+  pub listed : IsTrue (disk_fails old) → ¬ HasNoNumber (calls_of old) (written_of old) n → placed
+      → RecordsOrStarves (record { number = calls_of new; act = failed }) (noted_of old)
+      (noted_of new) (starved_of old) (starved_of new)
+  pub unlisted : disk_fails old ≡ false → OnErr result (noted_of new ≡ noted_of old)
+  pub unnumbered : HasNoNumber (calls_of old) (written_of old) n → starved_of new ≡ starved_of old
+  pub unplaced : ¬ placed → starved_of new ≡ starved_of old

@@ -5,6 +5,7 @@ use Rattle.disks.specs.declared.call.Move.{Move}
 use Rattle.disks.specs.declared.call.Move.TheVariants.{Write, Cut, Sync}
 use Rattle.disks.specs.declared.call.Pick.{Pick}
 use Rattle.disks.specs.declared.call.Pick.TheVariants.{Kept, Lost, Filled}
+use Rattle.outside.specs.Streams.{total}
 use Rattle.small_types.specs.Bytes.{put, fill}
 use Rattle.disks.specs.Disk.{Torn, CutOff}
 
@@ -73,6 +74,20 @@ all_fit (x ∷ calls) = fits x.act && all_fit calls
 -- a call was recorded, or there was no room for it
 abbrev pub MayRecord : Call → List Call → List Call → Type 0
 MayRecord x old new = (new ≡ old) ⊎ (new ≡ old ++ x ∷ [])
+
+-- a call was recorded, and there was memory for it
+pub record Records (x : Call) (old new : List Call) (starved_old starved_new : ℕ) : Type 0 where
+  pub grown : new ≡ old ++ x ∷ []
+  pub fed : starved_new ≡ starved_old
+
+-- a call was not recorded for want of memory, which is counted
+pub record Starves (old new : List Call) (starved_old starved_new : ℕ) : Type 0 where
+  pub same : new ≡ old
+  pub counted : starved_new ≡ total starved_old 1
+
+abbrev pub RecordsOrStarves : Call → List Call → List Call → ℕ → ℕ → Type 0
+RecordsOrStarves x old new starved_old starved_new =
+    Records x old new starved_old starved_new ⊎ Starves old new starved_old starved_new
 
 abbrev pub acts : List Call → List Move
 acts [] = []

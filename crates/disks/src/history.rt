@@ -2,10 +2,11 @@
 ghost use Rattle.std.specs.Prelude.{◌≡◌, ◌<◌, ◌≤◌, ◌+◌, ◌^◌, ℕ, List, [], ◌∷◌, ◌++◌, length, take, true, false, IsErr, OnOk, OnErr, Option, Some, unwrap_or, vec_len, vec_capacity};
 ghost use Rattle.disks.specs.declared.call.Move.TheVariants.{Write, Cut, Sync};
 ghost use Rattle.small_types.specs.Bytes.{put};
-ghost use Rattle.disks.specs.Moves.{reads_after, acts, all_fit, MayRecord};
+ghost use Rattle.disks.specs.Moves.{reads_after, acts, all_fit, MayRecord, RecordsOrStarves};
+ghost use Rattle.outside.specs.WantOfMemory.{WorksOrStarves};
 
 use crate::{Call, Move};
-use outside::Failed;
+use outside::{Failed, starve};
 use small_types::Bytes;
 use std::alloc::Global;
 
@@ -15,33 +16,43 @@ pub(crate) struct History {
     pub(crate) first: Option<Bytes>,
     pub(crate) bytes: Bytes,
     pub(crate) moves: Vec<Call>,
+    // For how many calls there was no memory.
+    pub(crate) starved: u64,
     ghost is_replay: { bytes ≡ reads_after (unwrap_or first bytes) (acts moves.items) },
     ghost fitting: { all_fit moves.items ≡ true },
 }
 
-// Keeps the first bytes, if none are kept, and makes room for one call more.
+// Keeps the first bytes, if none are kept, and makes room for one call more. Want of memory is counted.
 fn prepare(
     alloc: Global,
     first: &mut Option<Bytes>,
     bytes: &[u8],
     moves: &mut Vec<Call>,
+    starved: &mut u64,
 ) -> Result<(), Failed>
     ensures first { OnOk result (first.new ≡ Some (unwrap_or first.old bytes.now)) }
     ensures same { OnErr result (unwrap_or first.new bytes.now ≡ unwrap_or first.old bytes.now) }
     ensures moves { moves.new.items ≡ moves.old.items }
     ensures room { OnOk result (vec_len moves.new < vec_capacity moves.new) }
+    ensures starved { WorksOrStarves starved.old starved.new result }
 {
-    if moves.reserve(1).is_err() {
+    if let Err(why) = moves.reserve(1) {
+        starve(starved, why);
         return Err(Failed);
     }
     if first.is_some() {
         return Ok(());
     }
-    let Ok(copied) = Bytes::from_slice(alloc, bytes) else {
-        return Err(Failed);
-    };
-    *first = Some(copied);
-    Ok(())
+    match Bytes::from_slice(alloc, bytes) {
+        Ok(copied) => {
+            *first = Some(copied);
+            Ok(())
+        }
+        Err(why) => {
+            starve(starved, why);
+            Err(Failed)
+        }
+    }
 }
 
 // Records a call for which there is room.
@@ -59,11 +70,13 @@ impl History {
     pub(crate) fn new(alloc: Global, bytes: Bytes) -> History
         ensures bytes { result.bytes ≡ bytes }
         ensures moves { result.moves.items ≡ [] }
+        ensures starved { result.starved ≡ 0 }
     {
         History {
             first: None,
             bytes,
             moves: Vec::new(alloc),
+            starved: 0,
         }
     }
 
@@ -101,18 +114,33 @@ impl History {
         }) self.old.moves.items self.new.moves.items
             × (self.new.bytes ≡ self.old.bytes)) }
         ensures fails { fails ≡ true → IsErr result }
+        ensures works { fails ≡ false → place + length piece.now < 2 ^ 64
+            → WorksOrStarves self.old.starved self.new.starved result }
+        ensures listed { fails ≡ true → place + length piece.now < 2 ^ 64
+            → RecordsOrStarves
+            (record { number = number; act = Write place piece.now false }) self.old.moves.items
+            self.new.moves.items self.old.starved self.new.starved }
+        ensures unlisted { fails ≡ false → OnErr result
+            (self.new.moves.items ≡ self.old.moves.items) }
+        ensures unplaced { ¬ (place + length piece.now < 2 ^ 64)
+            → self.new.starved ≡ self.old.starved }
     {
         if (piece.len() as u64) > u64::MAX - place {
             return Err(Failed);
         }
-        let Ok(bytes) = Bytes::from_slice(alloc, piece) else {
-            return Err(Failed);
+        let bytes = match Bytes::from_slice(alloc, piece) {
+            Ok(bytes) => bytes,
+            Err(why) => {
+                starve(&mut self.starved, why);
+                return Err(Failed);
+            }
         };
         prepare(
             alloc,
             &mut self.first,
             self.bytes.as_slice(),
             &mut self.moves,
+            &mut self.starved,
         )?;
         if fails {
             keep(
@@ -126,19 +154,24 @@ impl History {
             );
             return Err(Failed);
         }
-        let Ok(()) = self.bytes.put(place as usize, piece) else {
-            return Err(Failed);
-        };
-        keep(
-            &mut self.moves,
-            number,
-            Move::Write {
-                place,
-                bytes,
-                done: true,
-            },
-        );
-        Ok(())
+        match self.bytes.put(place as usize, piece) {
+            Ok(()) => {
+                keep(
+                    &mut self.moves,
+                    number,
+                    Move::Write {
+                        place,
+                        bytes,
+                        done: true,
+                    },
+                );
+                Ok(())
+            }
+            Err(why) => {
+                starve(&mut self.starved, why);
+                Err(Failed)
+            }
+        }
     }
 
     // Shortens, and records it. A call that fails changes nothing.
@@ -162,12 +195,19 @@ impl History {
         }) self.old.moves.items self.new.moves.items
             × (self.new.bytes ≡ self.old.bytes)) }
         ensures fails { fails ≡ true → IsErr result }
+        ensures works { fails ≡ false → WorksOrStarves self.old.starved self.new.starved result }
+        ensures listed { fails ≡ true → RecordsOrStarves
+            (record { number = number; act = Cut length false }) self.old.moves.items
+            self.new.moves.items self.old.starved self.new.starved }
+        ensures unlisted { fails ≡ false → OnErr result
+            (self.new.moves.items ≡ self.old.moves.items) }
     {
         prepare(
             alloc,
             &mut self.first,
             self.bytes.as_slice(),
             &mut self.moves,
+            &mut self.starved,
         )?;
         keep(
             &mut self.moves,
@@ -199,12 +239,19 @@ impl History {
               Sync false;
         }) self.old.moves.items self.new.moves.items) }
         ensures fails { fails ≡ true → IsErr result }
+        ensures works { fails ≡ false → WorksOrStarves self.old.starved self.new.starved result }
+        ensures listed { fails ≡ true → RecordsOrStarves
+            (record { number = number; act = Sync false }) self.old.moves.items
+            self.new.moves.items self.old.starved self.new.starved }
+        ensures unlisted { fails ≡ false → OnErr result
+            (self.new.moves.items ≡ self.old.moves.items) }
     {
         prepare(
             alloc,
             &mut self.first,
             self.bytes.as_slice(),
             &mut self.moves,
+            &mut self.starved,
         )?;
         keep(&mut self.moves, number, Move::Sync { done: !fails });
         if fails {

@@ -15,8 +15,8 @@ use std::alloc::Global;
 
 /// A disk in memory. It keeps a record of its calls, so that a stop at each moment can be tried. Its calls whose
 /// numbers, counted from 1 over all its calls, the list `failing` has are to fail. A call fails too where it finds no
-/// memory, where its range ends past 2^64, and where it would take a counter past its end. One that fails changes no
-/// byte.
+/// memory, where its range ends past 2^64, and where it would take a counter past its end; no other does. One that fails
+/// changes no byte. `starved` tells for how many calls there was no memory.
 #[derive(Drop, Debug)]
 pub struct MemDisk {
     alloc: Global,
@@ -28,7 +28,7 @@ pub struct MemDisk {
 }
 
 impl MemDisk {
-    ghost use Rattle.disks.specs.MemDisk.{disk_bytes, calls_of, written_of, faults_of, failing_of, turns_of, noted_of, left_of, picked_of};
+    ghost use Rattle.disks.specs.MemDisk.{disk_bytes, calls_of, written_of, faults_of, failing_of, turns_of, starved_of, noted_of, left_of, picked_of};
 
     /// A disk of these bytes, which count as synced. It takes no memory: the first call of `write_at`, `cut` or `sync`
     /// keeps a copy of them.
@@ -39,6 +39,7 @@ impl MemDisk {
         ensures faults { faults_of result ≡ 0 }
         ensures failing { failing_of result ≡ failing }
         ensures turns { turns_of result ≡ 0 }
+        ensures starved { starved_of result ≡ 0 }
         ensures noted { noted_of result ≡ [] }
         ensures only { Only (disk_bytes result) (left_of result 0) }
     {
@@ -60,6 +61,7 @@ impl MemDisk {
         ensures calls { IfOk result (λ disk. calls_of disk ≡ 0) }
         ensures failing { IfOk result (λ disk. failing_of disk ≡ []) }
         ensures turns { IfOk result (λ disk. turns_of disk ≡ 0) }
+        ensures starved { IfOk result (λ disk. starved_of disk ≡ 0) }
         ensures written { IfOk result (λ disk. written_of disk ≡ 0) }
         ensures faults { IfOk result (λ disk. faults_of disk ≡ 0) }
         ensures noted { IfOk result (λ disk. noted_of disk ≡ []) }
@@ -88,11 +90,18 @@ impl MemDisk {
     {
         self.history.bytes.as_slice()
     }
+
+    /// For how many calls there was no memory. The count never falls.
+    pub fn starved(&self) -> u64
+        ensures { result ≡ starved_of self.now }
+    {
+        self.history.starved
+    }
 }
 
 impl Disk for MemDisk {
     ghost use Rattle.disks.specs.History.{first_of};
-    ghost use Rattle.disks.specs.MemDisk.{IsNoted, TakesTurn, disk_bytes, calls_of, written_of, faults_of, disk_fails, left_of};
+    ghost use Rattle.disks.specs.MemDisk.{EndsAs, IsNoted, TakesTurn, disk_bytes, calls_of, written_of, faults_of, starved_of, disk_fails, left_of};
     ghost use Rattle.disks.specs.Moves.{IsImage, until};
     ghost use Rattle.disks.specs.ReadsLeft.{reads_are_left};
 
@@ -120,6 +129,7 @@ impl Disk for MemDisk {
         ensures time { Elapses (calls_of self.old) (left_of self.old) (left_of self.new) }
         ensures cause { Causes (faults_of self.old) (faults_of self.new) result }
         ensures fails { IsErr result ↔ IsTrue (disk_fails self.old) }
+        ensures starved { starved_of self.new ≡ starved_of self.old }
         ensures turn { TakesTurn self.old self.new result }
     {
         if self.failing.next() {
@@ -138,6 +148,7 @@ impl Disk for MemDisk {
         ensures time { Elapses (calls_of self.old) (left_of self.old) (left_of self.new) }
         ensures cause { Causes (faults_of self.old) (faults_of self.new) result }
         ensures fails { IsErr result ↔ IsTrue (disk_fails self.old) }
+        ensures starved { starved_of self.new ≡ starved_of self.old }
         ensures turn { TakesTurn self.old self.new result }
     {
         if self.failing.next() {
@@ -167,6 +178,8 @@ impl Disk for MemDisk {
         ensures kept { OnErr result (disk_bytes self.new ≡ disk_bytes self.old) }
         ensures noted { IsNoted (Write place bytes.now (is_ok result)) self.old self.new result }
         ensures fails { IsTrue (disk_fails self.old) → IsErr result }
+        ensures ends { EndsAs (length bytes.now) (place + length bytes.now < 2 ^ 64)
+            (Write place bytes.now false) self.old self.new result }
         ensures turn { TakesTurn self.old self.new result }
     {
         let fails = self.failing.next();
@@ -201,6 +214,7 @@ impl Disk for MemDisk {
         ensures kept { OnErr result (disk_bytes self.new ≡ disk_bytes self.old) }
         ensures noted { IsNoted (Cut size (is_ok result)) self.old self.new result }
         ensures fails { IsTrue (disk_fails self.old) → IsErr result }
+        ensures ends { EndsAs 0 (Unit {0}) (Cut size false) self.old self.new result }
         ensures turn { TakesTurn self.old self.new result }
     {
         let fails = self.failing.next();
@@ -231,6 +245,7 @@ impl Disk for MemDisk {
         ensures cause { Causes (faults_of self.old) (faults_of self.new) result }
         ensures noted { IsNoted (Sync (is_ok result)) self.old self.new result }
         ensures fails { IsTrue (disk_fails self.old) → IsErr result }
+        ensures ends { EndsAs 0 (Unit {0}) (Sync false) self.old self.new result }
         ensures turn { TakesTurn self.old self.new result }
     {
         let fails = self.failing.next();

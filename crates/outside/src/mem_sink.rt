@@ -73,7 +73,8 @@ impl Sink for MemSink {
         ensures fails { IsTrue (sink_fails self.old) → IsErr result }
         ensures works { sink_fails self.old ≡ false
             → WorksOrStarves (sink_starved self.old) (sink_starved self.new) result }
-        ensures listed { IsTrue (sink_fails self.old) → sink_starved self.new ≡ sink_starved self.old }
+        ensures listed { IsTrue (sink_fails self.old)
+            → sink_starved self.new ≡ sink_starved self.old }
         ensures calls { sink_calls self.new ≡ min (sink_calls self.old + 1) 0xffff_ffff_ffff_ffff }
         ensures failing { sink_failing self.new ≡ sink_failing self.old }
         ensures quiet { OnOk result (sink_faults self.new ≡ sink_faults self.old) }

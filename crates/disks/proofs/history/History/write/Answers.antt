@@ -12,11 +12,11 @@ invariant_of-self-then-fails c =
     c.as_slice.ensures c.in_ok-prepare.ensures.first c.prepare.ensures.moves c.keep.ensures c.args.self.now.is_replay c.args.self.now.fitting refl (write_fits c.args.place c.in-Ok.bytes c.args.piece.now false copy (omega arith)) in
     record { is_replay = both.0; fitting = both.1 }
 
-pub invariant_of-self-2 : goal.invariant_of-self-2
-invariant_of-self-2 c =
+pub invariant_of-self-in-Ok-put : goal.invariant_of-self-in-Ok-put
+invariant_of-self-in-Ok-put c =
     let copy : c.in-Ok.bytes ≡ c.args.piece.now = c.in-Ok.ensures in
-    let both = record_grown c.args.self.now.first c.prepare.new.first c.args.self.now.bytes c.as_slice.result.now c.put.new.self c.args.self.now.moves.items c.prepare.new.moves.items c.keep-2.new.moves.items
+    let both = record_grown c.args.self.now.first c.prepare.new.first c.args.self.now.bytes c.as_slice.result.now c.put.new.self c.args.self.now.moves.items c.prepare.new.moves.items c.keep-in-Ok-put.new.moves.items
     (record { number = c.args.number; act = Write c.args.place c.in-Ok.bytes true })
-    c.as_slice.ensures c.in_ok-prepare.ensures.first c.prepare.ensures.moves c.keep-2.ensures c.args.self.now.is_replay c.args.self.now.fitting
+    c.as_slice.ensures c.in_ok-prepare.ensures.first c.prepare.ensures.moves c.keep-in-Ok-put.ensures c.args.self.now.is_replay c.args.self.now.fitting
     (c.in-Ok-put.ensures.ok ∙ ap (λ (b : List ℕ). put c.args.place b c.args.self.now.bytes) (sym copy)) (write_fits c.args.place c.in-Ok.bytes c.args.piece.now true copy (omega arith)) in
     record { is_replay = both.0; fitting = both.1 }
