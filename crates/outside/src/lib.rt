@@ -6,7 +6,7 @@ mod failing_calls;
 mod mem_sink;
 mod mem_source;
 mod parts;
-mod reading;
+mod read_fault;
 mod sink;
 mod source;
 
@@ -15,6 +15,6 @@ pub use failing_calls::{FailingCalls, count_call, starve};
 pub use mem_sink::MemSink;
 pub use mem_source::MemSource;
 pub use parts::copy_from;
-pub use reading::{ReadFault, read_all};
+pub use read_fault::{ReadFault, read_all};
 pub use sink::{Sink, write_all};
 pub use source::Source;

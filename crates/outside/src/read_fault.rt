@@ -1,7 +1,7 @@
 // Reading a source to its end.
 ghost use Rattle.std.specs.Prelude.{◌≡◌, ◌≢◌, ◌<◌, ◌≤◌, ◌++◌, ◌+◌, List, ℕ, length, take, drop, IfOk, Err};
 ghost use Rattle.outside.specs.Streams.{Rose, TakesAtMost};
-ghost use Rattle.outside.specs.declared.reading.ReadFault.TheVariants.{Failed as source_failed, Memory};
+ghost use Rattle.outside.specs.declared.read_fault.ReadFault.TheVariants.{Failed as source_failed, Memory};
 
 use crate::Source;
 use std::alloc::{AllocError, Global};
