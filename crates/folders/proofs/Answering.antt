@@ -7,7 +7,7 @@ use Rattle.folders.specs.declared.folder.Held.{Held}
 use Rattle.folders.specs.Answers.{Agrees, AreHonest, after, files_after, put_in}
 use Rattle.folders.specs.Files.{distinct, file_in, Puts}
 use Rattle.folders.specs.Honesty.{AllLeave, Leaves}
-use Rattle.folders.specs.Reading.{HasLength}
+use Rattle.folders.specs.Found.{HasLength}
 use Rattle.folders.proofs.Filing.{distinct_new, puts_new}
 
 -- what stands there after one answer more

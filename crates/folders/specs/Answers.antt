@@ -4,7 +4,7 @@ use Rattle.folders.specs.declared.answer.FolderAnswer.{FolderAnswer}
 use Rattle.folders.specs.declared.answer.FolderAnswer.TheVariants.{Listed, Gave, Measured, Put}
 use Rattle.folders.specs.declared.folder.Held.{Held}
 use Rattle.folders.specs.Files.{is_named, file_in, IsNames}
-use Rattle.folders.specs.Reading.{HasLength}
+use Rattle.folders.specs.Found.{HasLength}
 
 -- the bytes put under the name, in place of a file that stood there
 abbrev pub put_in : List ℕ → List ℕ → List Held → List Held

@@ -5,7 +5,7 @@ use Rattle.folders.specs.declared.answer.FolderAnswer.TheVariants.{Listed, Gave,
 use Rattle.folders.specs.declared.folder.Held.{Held}
 use Rattle.folders.specs.Answers.{Agrees, AreHonest, files_after}
 use Rattle.folders.specs.Files.{distinct, file_in, IsNames, Puts}
-use Rattle.folders.specs.Reading.{HasLength}
+use Rattle.folders.specs.Found.{HasLength}
 
 -- a folder of which nothing was asked yet
 abbrev pub HonestAtFirst : Type 0

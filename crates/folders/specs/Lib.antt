@@ -1,7 +1,7 @@
 pub mod Answers
 pub mod Files
 pub mod Folder
+pub mod Found
 pub mod Honesty
 pub mod MemFolder
-pub mod Reading
 pub mod Told

@@ -5,7 +5,7 @@ ghost use Rattle.folders.specs.declared.folder.Held.{Held};
 ghost use Rattle.folders.specs.declared.folder.FolderFault.TheVariants.{Memory};
 ghost use Rattle.folders.specs.Files.{file_in, distinct, IsNames, Puts};
 ghost use Rattle.folders.specs.Folder.{FailsCounted};
-ghost use Rattle.folders.specs.Reading.{Finds, IsUnread, IsWithin};
+ghost use Rattle.folders.specs.Found.{Finds, IsUnread, IsWithin};
 ghost use Rattle.folders.specs.Told.{told_file, told_into, told_list, told_put, told_within};
 
 use small_types::{Bytes, CopyFault, List, Name};

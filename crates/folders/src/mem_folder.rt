@@ -5,7 +5,7 @@ ghost use Rattle.std.specs.Option.{option_copied};
 ghost use Rattle.folders.specs.declared.folder.FolderFault.TheVariants.{Failed, Memory};
 ghost use Rattle.folders.specs.Files.{is_named, file_in, names_of, distinct, IsNames, Puts};
 ghost use Rattle.folders.specs.Folder.{FailsCounted};
-ghost use Rattle.folders.specs.Reading.{Finds, IsUnread, IsWithin};
+ghost use Rattle.folders.specs.Found.{Finds, IsUnread, IsWithin};
 
 use crate::{Folder, FolderFault, Found, Held};
 use outside::FailingCalls;

@@ -4,7 +4,7 @@ ghost use Rattle.folders.specs.declared.folder.Held.{Held};
 ghost use Rattle.folders.specs.Files.{file_in, IsNames, Puts};
 ghost use Rattle.folders.specs.Folder.{FailsCounted};
 ghost use Rattle.folders.specs.MemFolder.{folder_failing, folder_held};
-ghost use Rattle.folders.specs.Reading.{Finds, IsWithin};
+ghost use Rattle.folders.specs.Found.{Finds, IsWithin};
 
 use folders::{Folder, FolderFault, Found, Held, MemFolder};
 use small_types::{Bytes, List, Name};

@@ -9,7 +9,7 @@ use Rattle.folders.specs.declared.folder.Found.TheVariants.{Nothing, Whole, TooL
 use Rattle.folders.specs.declared.folder.Held.{Held}
 use Rattle.folders.specs.Answers.{after, AreHonest, files_after}
 use Rattle.folders.specs.Files.{file_in, IsNames, Puts}
-use Rattle.folders.specs.Reading.{Finds}
+use Rattle.folders.specs.Found.{Finds}
 use Rattle.folders.specs.Told.{told_file, told_into, told_list, told_put, told_within}
 use Rattle.folders.proofs.Answering.{agreed, files_push, put_there, were_honest}
 

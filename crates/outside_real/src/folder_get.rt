@@ -1,6 +1,6 @@
 // Reading a file below a folder.
 ghost use Rattle.std.specs.Prelude.{IfOk};
-ghost use Rattle.folders.specs.Reading.{IsUnread, IsWithin};
+ghost use Rattle.folders.specs.Found.{IsUnread, IsWithin};
 
 use crate::folder_path::{
     Standing, folder_part, other_stands, path_below, standing_at, standing_of,

@@ -3,7 +3,7 @@ ghost use Rattle.std.specs.Prelude.{◌≡◌, ◌≤◌, ◌+◌, ◌++◌, Lis
 ghost use Rattle.std.proofs.Common.{refl};
 ghost use Rattle.folders.specs.Files.{file_in, distinct, IsNames, Puts};
 ghost use Rattle.folders.specs.Folder.{FailsCounted};
-ghost use Rattle.folders.specs.Reading.{Finds, IsUnread, IsWithin};
+ghost use Rattle.folders.specs.Found.{Finds, IsUnread, IsWithin};
 ghost use Rattle.folders.specs.Told.{told_file, told_into, told_list, told_put, told_within};
 ghost use Rattle.folders.specs.declared.folder.FolderFault.TheVariants.{Failed};
 ghost use Rattle.folders.specs.declared.folder.Found.TheVariants.{Whole};

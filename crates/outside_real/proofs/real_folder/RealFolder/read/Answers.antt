@@ -1,6 +1,6 @@
 use Rattle.std.proofs.Common.{List, ℕ, sym, subst}
 use Rattle.std.specs.Prelude.{IfOk}
-use Rattle.folders.specs.Reading.{IsUnread, IsWithin}
+use Rattle.folders.specs.Found.{IsUnread, IsWithin}
 use Rattle.outside_real.proofs.Recalling.{handed_on}
 use Rattle.outside_real.proofs.real_folder.RealFolder.read.Goals as goal
 
