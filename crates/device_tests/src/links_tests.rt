@@ -1,6 +1,7 @@
 // What no clause says of links and baskets in memory: that calls succeed, and worked values.
-ghost use Rattle.std.specs.Prelude.{◌<◌, length, take, IfOk, Ok};
+ghost use Rattle.std.specs.Prelude.{◌<◌, [], ◌∷◌, length, take, IfOk, Ok};
 ghost use Rattle.links.specs.Asked.{AskedOnce};
+ghost use Rattle.links.specs.declared.history.LinkCall.TheVariants.{Gave};
 
 use crate::made::{all_right, bytes, numbers, same};
 use links::{
@@ -49,8 +50,8 @@ fn ask_and_take<K: Link>(
     buf: &mut [u8],
 ) -> Result<(u64, usize), LinkFault>
     requires { 0 < length buf.old }
-    ensures { IfOk result (λ t.
-        AskedOnce target.now (K.state link.old) (K.state link.new) (Ok t.0) (take t.1 buf.new)) }
+    ensures { IfOk result (λ t. AskedOnce target.now (K.state link.old) (K.state link.new) (Ok t.0)
+        (Gave (take t.1 buf.new) ∷ [])) }
 {
     let length = link.ask(alloc, target)?;
     let n = link.piece(buf)?;

@@ -26,18 +26,9 @@ targets_in (Asked target answer ∷ calls) = target ∷ targets_in calls
 targets_in (Gave bytes ∷ calls) = targets_in calls
 targets_in (Broke ∷ calls) = targets_in calls
 
--- the bytes that calls gave, in order
-abbrev pub bytes_in : List LinkCall → List ℕ
-bytes_in [] = []
-bytes_in (Asked target answer ∷ calls) = bytes_in calls
-bytes_in (Gave bytes ∷ calls) = bytes ++ bytes_in calls
-bytes_in (Broke ∷ calls) = bytes_in calls
-
--- it was asked for the target once, which it answered so, and then for pieces alone, which have
--- these bytes
+-- it was asked for the target once, which it answered so, and then for these pieces alone, each of
+-- which stands there, an empty one too
 pub record AskedOnce (target : Target) (old new : LinkState) (result : Result ℕ LinkFault)
-    (bytes : List ℕ) : Type 0 where
-  pub pieces : List LinkCall
+    (pieces : List LinkCall) : Type 0 where
   pub only : targets_in pieces ≡ []
-  pub given : bytes_in pieces ≡ bytes
   pub calls : Calls old new (Asked target result ∷ pieces)
