@@ -1,5 +1,5 @@
 // The lines for the bytes of a manifest.
-ghost use Rattle.std.specs.Prelude.{◌≡◌, ◌≢◌, IfOk};
+ghost use Rattle.std.specs.Prelude.{◌≡◌, ◌≢◌, ◌↔◌, Err, IfOk, IsTrue};
 ghost use Rattle.manifests.specs.Deployments.{deployment_of};
 ghost use Rattle.manifests.specs.Applications.{application_of};
 ghost use Rattle.manifest_text.specs.Lines.{deployment_text, application_text, refusal_text};
@@ -12,12 +12,20 @@ use manifests::{ManifestFault, read_application, read_deployment};
 use small_types::{Bytes, PrintFault};
 use std::alloc::Global;
 
+// Whether the reader found no memory. Each other fault is a refusal.
+fn is_want(fault: &ManifestFault) -> bool
+    ensures { IsTrue result ↔ (fault.now ≡ ManifestFault.Memory) }
+{
+    matches!(fault, ManifestFault::Memory)
+}
+
 // The line of a refusal. Want of memory is none.
 fn refused(alloc: Global, fault: &ManifestFault) -> Result<(Bytes, End), PrintFault>
-    ensures { IfOk result (λ x. (fault.now ≢ ManifestFault.Memory)
+    ensures refusal { IfOk result (λ x. (fault.now ≢ ManifestFault.Memory)
         × (x.0 ≡ refusal_text fault.now) × (x.1 ≡ ends.Refused)) }
+    ensures want { fault.now ≡ ManifestFault.Memory → result ≡ Err PrintFault.Memory }
 {
-    if let ManifestFault::Memory = fault {
+    if is_want(fault) {
         return Err(PrintFault::Memory);
     }
     let mut out = Bytes::from_vec(Vec::new(alloc));
