@@ -13,7 +13,7 @@ use Rattle.digest_list.specs.Matches.{Matches}
 use Rattle.digest_list.proofs.DifferenceLemmas.{difference_of-found, difference_of-none, difference_of-size}
 use Rattle.links.specs.Link.{LinkState, KeepsSite, Opens}
 use Rattle.fetcher.specs.Causes.{IsOther}
-use Rattle.fetcher.specs.Stopping.{IsFileOf, Pours}
+use Rattle.fetcher.specs.Stopped.{IsFileOf, Pours}
 
 -- the whole of the rest
 whole : (n : ℕ) (rest bytes : List ℕ) → n ≡ length rest → bytes ≡ take n rest → rest ≡ bytes

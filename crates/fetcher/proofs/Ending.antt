@@ -13,7 +13,7 @@ use Rattle.fetcher.specs.declared.stopped.Stopped.TheVariants.{By, Basket, Memor
 use Rattle.fetcher.specs.Causes.{IsFileCause, IsTextCause}
 use Rattle.fetcher.specs.Fetched.{IsFile, IsFileFault, IsText, IsTextFault}
 use Rattle.fetcher.specs.Given.{FitsText}
-use Rattle.fetcher.specs.Stopping.{AddsCause, IsFileOf, IsFileStop, IsTextOf, IsTextStop, KeepsBasket, Moves, TellsCauses}
+use Rattle.fetcher.specs.Stopped.{AddsCause, IsFileOf, IsFileStop, IsTextOf, IsTextStop, KeepsBasket, Moves, TellsCauses}
 use Rattle.fetcher.proofs.InOrder.{Refused, asked_on, none_gave, refused_more, served_enough, served_given, served_next, served_site}
 use Rattle.fetcher.proofs.Reasons.{file_kind, text_kind}
 

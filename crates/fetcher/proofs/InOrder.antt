@@ -10,9 +10,9 @@ use Rattle.links.specs.Link.{KeepsSite, Stays}
 use Rattle.links.specs.Links.{LinksState}
 use Rattle.causes.specs.declared.cause.Cause.{Cause}
 use Rattle.fetcher.specs.Causes.{AreCauses}
-use Rattle.fetcher.specs.Fetched.{AllTell, AreGiven, AreQuiet, Asked, IsServed, Kept, NoneGave}
+use Rattle.fetcher.specs.Fetched.{AllTell, AreGiven, AreQuiet, Asked, IsOfLink, Kept, NoneGave}
 use Rattle.fetcher.specs.Given.{Given, IsOfSite}
-use Rattle.fetcher.specs.Stopping.{Moves}
+use Rattle.fetcher.specs.Stopped.{Moves}
 use Rattle.fetcher.proofs.Moving.{Wanted, stays_same, stays_then}
 use Rattle.fetcher.proofs.Reasons.{CauseOf, IsKind}
 use Rattle.fetcher.proofs.Sequence.{kept_then}
@@ -131,7 +131,7 @@ module _ (IsCause : CauseOf) (Fits : List ℕ → Type 0) (target : Target)
     -- the next one served
     pub served_next : (bytes : List ℕ)
         → ((b.link place).tells → (b.link place).site target ≡ Some bytes)
-        → (c.link place).count ≡ (b.link place).count → IsServed IsCause target a c bytes
+        → (c.link place).count ≡ (b.link place).count → IsOfLink IsCause target a c bytes
     served_next bytes told sound =
         let here : Stays (a.link place) (b.link place) = so.left place (omega arith) less in
         record {
@@ -148,7 +148,7 @@ module _ (IsCause : CauseOf) (Fits : List ℕ → Type 0) (target : Target)
 
   -- ---- what follows where one served
 
-  module _ (a c : LinksState) (bytes : List ℕ) (served : IsServed IsCause target a c bytes) (fits : Fits bytes) where
+  module _ (a c : LinksState) (bytes : List ℕ) (served : IsOfLink IsCause target a c bytes) (fits : Fits bytes) where
     before_unfit : (k : ℕ) → k < served.place → (a.link k).tells
         → ¬ (Rose (a.link k).count (c.link k).count)
         → IfSome ((a.link k).site target) (λ other. ¬ Fits other)

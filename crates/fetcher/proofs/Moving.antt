@@ -3,7 +3,7 @@ use Rattle.std.proofs.Common.{◌≡◌, ℕ, ◌<◌, [], ◌∷◌, ◌++◌, 
 use Rattle.small_types.specs.declared.target.Target.{Target}
 use Rattle.links.specs.Link.{LinkState, KeepsSite, Stays}
 use Rattle.links.specs.Links.{LinksState, Remain}
-use Rattle.fetcher.specs.Stopping.{Moves}
+use Rattle.fetcher.specs.Stopped.{Moves}
 
 pub keeps_same : (s : LinkState) → KeepsSite s s
 keeps_same s = record { tells = (λ t. t, λ t. t); same = λ told target. refl }

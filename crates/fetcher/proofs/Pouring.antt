@@ -6,7 +6,7 @@ use Rattle.digest_list.specs.declared.digest.Digest.{Digest}
 use Rattle.digest_list.specs.Checker.{IsFed}
 use Rattle.links.specs.Link.{LinkState, KeepsSite}
 use Rattle.outside.specs.Streams.{Consumes}
-use Rattle.fetcher.specs.Stopping.{Pours, PoursPiece}
+use Rattle.fetcher.specs.Stopped.{Pours, PoursPiece}
 
 -- so many bytes of a link were checked and taken
 pub record Poured (done : ℕ) (first now : LinkState) (old new : Checker) (tells : Type 0) (before after : List ℕ) : Type 0 where

@@ -42,7 +42,7 @@ MayAsk target old new = (new.asked ≡ old.asked) ⊎ Asked target old new
 
 -- the bytes are those of the link at a place, which did not fail; each before it has its cause, and
 -- none behind it was asked
-pub record IsServed (IsCause : LinkState → LinkState → Cause → Type 0) (target : Target)
+pub record IsOfLink (IsCause : LinkState → LinkState → Cause → Type 0) (target : Target)
     (old new : LinksState) (bytes : List ℕ) : Type 0 where
   pub place : ℕ
   pub within : place < old.sources
@@ -64,7 +64,7 @@ pub record IsText (limit : ℕ) (target : Target) (old new : LinksState) (bytes 
     : Type 0 where
   pub asked : Asked target old new
   pub within : length bytes ≤ limit
-  pub served : IsServed (IsTextCause limit target) target old new bytes
+  pub served : IsOfLink (IsTextCause limit target) target old new bytes
   pub enough : AreGiven (FitsText limit) target old new bytes
   pub site : AllTell old → IsOfSite old target bytes
   pub given : AreQuiet old new → GivenText limit old target (Some bytes)
@@ -76,7 +76,7 @@ pub record IsFile (list : List Digest) (size : ℕ) (target : Target) (old new :
   pub bytes : List ℕ
   pub taken : tells → held ≡ bytes
   pub matches : Matches list size bytes
-  pub served : IsServed (IsFileCause list size target) target old new bytes
+  pub served : IsOfLink (IsFileCause list size target) target old new bytes
   pub enough : AreGiven (Matches list size) target old new bytes
   pub site : AllTell old → IsOfSite old target bytes
   pub given : AreQuiet old new → GivenFile list size old target (Some bytes)

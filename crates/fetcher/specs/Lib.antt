@@ -2,4 +2,4 @@ pub mod Causes
 pub mod Fetched
 pub mod FolderSites
 pub mod Given
-pub mod Stopping
+pub mod Stopped

@@ -4,7 +4,7 @@ ghost use Rattle.digest_list.specs.Checker.{count_of};
 ghost use Rattle.links.specs.Links.{IsLast};
 ghost use Rattle.outside.specs.Streams.{Consumes};
 ghost use Rattle.fetcher.specs.Fetched.{IsFile, IsFileFault, Kept};
-ghost use Rattle.fetcher.specs.Stopping.{IsFileOf, IsFileStop, IsPourStop, KeepsBasket, Moves, Pours, PoursPiece};
+ghost use Rattle.fetcher.specs.Stopped.{IsFileOf, IsFileStop, IsPourStop, KeepsBasket, Moves, Pours, PoursPiece};
 ghost use Rattle.fetcher.specs.declared.fault.FetchFault.TheVariants.{BasketFault};
 
 use crate::FetchFault;

@@ -1,6 +1,6 @@
 // How a fetch from one link ends without bytes.
 ghost use Rattle.std.specs.Prelude.{◌≡◌, IfErr, OnOk};
-ghost use Rattle.fetcher.specs.Stopping.{AddsCause, TellsCauses, basket_stop, end_of, stop_of};
+ghost use Rattle.fetcher.specs.Stopped.{AddsCause, TellsCauses, basket_stop, end_of, stop_of};
 
 use crate::FetchFault;
 use causes::Cause;

@@ -4,7 +4,7 @@ ghost use Rattle.links.specs.declared.link.LinkFault.TheVariants.{Missing};
 ghost use Rattle.links.specs.Link.{Counts};
 ghost use Rattle.links.specs.Links.{IsLast};
 ghost use Rattle.fetcher.specs.Fetched.{IsText, IsTextFault, Kept};
-ghost use Rattle.fetcher.specs.Stopping.{IsTextOf, IsTextStop, Moves};
+ghost use Rattle.fetcher.specs.Stopped.{IsTextOf, IsTextStop, Moves};
 
 use crate::FetchFault;
 use crate::stopped::{PIECE, Stopped, add_cause, all_links, stopped_by};

@@ -1,6 +1,6 @@
 use Rattle.std.specs.Prelude.{◌≡◌, ◌≤◌, ◌+◌, ◌-◌}
 use Rattle.digest_list.specs.Checker.{count_of}
-use Rattle.fetcher.specs.Stopping.{Moves}
+use Rattle.fetcher.specs.Stopped.{Moves}
 use Rattle.fetcher.proofs.Pouring.{Poured}
 use Rattle.fetcher.proofs.file.pour.Given as goal
 

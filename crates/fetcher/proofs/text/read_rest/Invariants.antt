@@ -1,5 +1,5 @@
 use Rattle.std.specs.Prelude.{◌≡◌, ◌≤◌, ◌++◌, ◌-◌, length}
-use Rattle.fetcher.specs.Stopping.{Moves}
+use Rattle.fetcher.specs.Stopped.{Moves}
 use Rattle.fetcher.proofs.text.read_rest.Given as goal
 
 abbrev pub invariant-loop-piece : goal.invariant-loop-piece
