@@ -6,7 +6,7 @@ use Rattle.outside.specs.declared.failed.Failed.{Failed}
 use Rattle.outside.specs.declared.sink.Sink as sinks
 use Rattle.outside.specs.Streams.{AppendsPart, Takes}
 use Rattle.command_text.specs.declared.pieces.Piece.{Piece}
-use Rattle.command_text.specs.Pieces.{Writes, piece_text, pieces_text}
+use Rattle.command_text.specs.Pieces.{WritesText, piece_text, pieces_text}
 
 -- a text that was cut off, behind what was taken of the whole, leaves a first part of the whole
 part_behind : (old mid new whole text more : List ℕ) → Takes old mid whole (text ++ more) → AppendsPart mid new text → AppendsPart old new whole
@@ -24,8 +24,8 @@ part_behind old mid new whole text more taken part =
     }
 
 -- where a piece is cut off, the pieces are
-pub stopped : {K : Type 0} (sink : sinks.Ghosts K) (old mid new : K) (pieces : List Piece) (i : ℕ) (d : Piece) (e fault : Failed) → i < length pieces → (sink.tells → Takes (sink.taken old) (sink.taken mid) (pieces_text pieces) (pieces_text (drop i pieces))) → sink.count mid ≡ sink.count old → Writes sink mid new (piece_text (get_or pieces i d)) (Err e)
-    → Writes sink old new (pieces_text pieces) (Err fault)
+pub stopped : {K : Type 0} (sink : sinks.Ghosts K) (old mid new : K) (pieces : List Piece) (i : ℕ) (d : Piece) (e fault : Failed) → i < length pieces → (sink.tells → Takes (sink.taken old) (sink.taken mid) (pieces_text pieces) (pieces_text (drop i pieces))) → sink.count mid ≡ sink.count old → WritesText sink mid new (piece_text (get_or pieces i d)) (Err e)
+    → WritesText sink old new (pieces_text pieces) (Err fault)
 stopped sink old mid new pieces i d e fault within taken count writes =
     let piece = piece_text (get_or pieces i d) in
     let more = pieces_text (drop (suc i) pieces) in
@@ -50,7 +50,7 @@ nothing_yet sink old whole rest same = record {
 }
 
 -- one part more
-pub one_more : {K : Type 0} (sink : sinks.Ghosts K) (old mid new : K) (whole left text rest : List ℕ) → left ≡ text ++ rest → Wrote sink old mid whole left → Writes sink mid new text (Ok tt) → Wrote sink old new whole rest
+pub one_more : {K : Type 0} (sink : sinks.Ghosts K) (old mid new : K) (whole left text rest : List ℕ) → left ≡ text ++ rest → Wrote sink old mid whole left → WritesText sink mid new text (Ok tt) → Wrote sink old new whole rest
 one_more sink old mid new whole left text rest parts wrote writes = record {
   takes = λ told. (let taken = wrote.takes told in record {
     done = taken.done ++ text;
@@ -61,7 +61,7 @@ one_more sink old mid new whole left text rest parts wrote writes = record {
 }
 
 -- the part is cut off, and so is the whole
-pub cut_off : {K : Type 0} (sink : sinks.Ghosts K) (old mid new : K) (whole left text rest : List ℕ) (e fault : Failed) → left ≡ text ++ rest → Wrote sink old mid whole left → Writes sink mid new text (Err e) → Writes sink old new whole (Err fault)
+pub cut_off : {K : Type 0} (sink : sinks.Ghosts K) (old mid new : K) (whole left text rest : List ℕ) (e fault : Failed) → left ≡ text ++ rest → Wrote sink old mid whole left → WritesText sink mid new text (Err e) → WritesText sink old new whole (Err fault)
 cut_off sink old mid new whole left text rest e fault parts wrote writes =
     let count = wrote.count in
     record {
@@ -71,7 +71,7 @@ cut_off sink old mid new whole left text rest e fault parts wrote writes =
     }
 
 -- nothing is left
-pub all_written : {K : Type 0} (sink : sinks.Ghosts K) (old new : K) (whole rest : List ℕ) → rest ≡ [] → Wrote sink old new whole rest → Writes sink old new whole (Ok tt)
+pub all_written : {K : Type 0} (sink : sinks.Ghosts K) (old new : K) (whole rest : List ℕ) → rest ≡ [] → Wrote sink old new whole rest → WritesText sink old new whole (Ok tt)
 all_written sink old new whole rest none wrote =
     let count = wrote.count in
     record {
@@ -81,6 +81,6 @@ all_written sink old new whole rest none wrote =
     }
 
 -- the last part is written or cut off, and so is the whole
-pub last_part : {K : Type 0} (sink : sinks.Ghosts K) (old mid new : K) (whole left : List ℕ) (result : Result (Unit {0}) Failed) → Wrote sink old mid whole left → Writes sink mid new left result → Writes sink old new whole result
+pub last_part : {K : Type 0} (sink : sinks.Ghosts K) (old mid new : K) (whole left : List ℕ) (result : Result (Unit {0}) Failed) → Wrote sink old mid whole left → WritesText sink mid new left result → WritesText sink old new whole result
 last_part sink old mid new whole left (Ok tt) wrote writes = all_written sink old new whole [] refl (one_more sink old mid new whole left left [] (sym (append-nil left)) wrote writes)
 last_part sink old mid new whole left (Err e) wrote writes = cut_off sink old mid new whole left left [] e e (sym (append-nil left)) wrote writes

@@ -27,7 +27,7 @@ pieces_text pieces = flat_map piece_text pieces
 
 -- A call writes the text to the sink: after Ok the sink has taken all of it, after a failure a
 -- first part of it and not all. The sink's count rises exactly where the call fails.
-pub record Writes {K : Type 0} (sink : sinks.Ghosts K) (old new : K) (text : List ℕ)
+pub record WritesText {K : Type 0} (sink : sinks.Ghosts K) (old new : K) (text : List ℕ)
     (result : Result (Unit {0}) Failed) : Type 0 where
   pub all : sink.tells → OnOk result (Appends (sink.taken old) (sink.taken new) text)
   pub part : sink.tells → OnErr result (AppendsPart (sink.taken old) (sink.taken new) text)

@@ -3,7 +3,7 @@ ghost use Rattle.std.specs.Prelude.{◌≡◌, [], ◌∷◌, ◌++◌, codes};
 ghost use Rattle.addresses.specs.Join.{target_text};
 ghost use Rattle.identity.specs.Key.{key_text};
 ghost use Rattle.command_text.specs.Applications.{list_text, optional_number, optional_target, optional_text, optional_word, row_text, rows_text, show_text, state_text, truth_text, versions_text};
-ghost use Rattle.command_text.specs.Pieces.{Writes, piece_text};
+ghost use Rattle.command_text.specs.Pieces.{WritesText, piece_text};
 
 use crate::pieces::{Piece, print_pieces};
 use identity::{Key, Version};
@@ -48,9 +48,9 @@ fn truth(is: bool) -> &'static [u8]
     if is { b"yes" } else { b"no" }
 }
 
-// Writes an application and its current version, on a line of their own.
+// WritesText an application and its current version, on a line of their own.
 fn print_row<K: Sink>(row: &ListRow, sink: &mut K) -> Result<(), Failed>
-    ensures { Writes K.Sink sink.old sink.new (row_text row.now) result }
+    ensures { WritesText K.Sink sink.old sink.new (row_text row.now) result }
 {
     let comma = Piece::Bytes(b",");
     let line_feed = Piece::Bytes(b"\n");
@@ -71,9 +71,9 @@ fn print_row<K: Sink>(row: &ListRow, sink: &mut K) -> Result<(), Failed>
     )
 }
 
-// Writes a line for each application.
+// WritesText a line for each application.
 fn print_rows<K: Sink>(rows: &[ListRow], sink: &mut K) -> Result<(), Failed>
-    ensures { Writes K.Sink sink.old sink.new (rows_text rows.now) result }
+    ensures { WritesText K.Sink sink.old sink.new (rows_text rows.now) result }
 {
     for row in rows {
         print_row(row, sink)?;
@@ -81,9 +81,9 @@ fn print_rows<K: Sink>(rows: &[ListRow], sink: &mut K) -> Result<(), Failed>
     Ok(())
 }
 
-/// Writes how many applications there are, and then a line for each.
+/// WritesText how many applications there are, and then a line for each.
 pub(crate) fn print_list<K: Sink>(rows: &[ListRow], sink: &mut K) -> Result<(), Failed>
-    ensures { Writes K.Sink sink.old sink.new (list_text rows.now) result }
+    ensures { WritesText K.Sink sink.old sink.new (list_text rows.now) result }
 {
     print_pieces(
         &[
@@ -96,9 +96,9 @@ pub(crate) fn print_list<K: Sink>(rows: &[ListRow], sink: &mut K) -> Result<(), 
     print_rows(rows, sink)
 }
 
-// Writes which application is shown.
+// WritesText which application is shown.
 fn print_key<K: Sink>(key: &Key, sink: &mut K) -> Result<(), Failed>
-    ensures { Writes K.Sink sink.old sink.new
+    ensures { WritesText K.Sink sink.old sink.new
         (codes "ok show " ++ (key_text key.now ++ codes " ")) result }
 {
     let comma = Piece::Bytes(b",");
@@ -118,9 +118,9 @@ fn print_key<K: Sink>(key: &Key, sink: &mut K) -> Result<(), Failed>
     )
 }
 
-// Writes its versions.
+// WritesText its versions.
 fn print_versions<K: Sink>(row: &ShowRow, sink: &mut K) -> Result<(), Failed>
-    ensures { Writes K.Sink sink.old sink.new (versions_text row.now) result }
+    ensures { WritesText K.Sink sink.old sink.new (versions_text row.now) result }
 {
     print_pieces(
         &[
@@ -141,9 +141,9 @@ fn print_versions<K: Sink>(row: &ShowRow, sink: &mut K) -> Result<(), Failed>
     )
 }
 
-// Writes its last check, and the file that it starts.
+// WritesText its last check, and the file that it starts.
 fn print_state<K: Sink>(row: &ShowRow, sink: &mut K) -> Result<(), Failed>
-    ensures { Writes K.Sink sink.old sink.new (state_text row.now) result }
+    ensures { WritesText K.Sink sink.old sink.new (state_text row.now) result }
 {
     print_pieces(
         &[
@@ -158,9 +158,9 @@ fn print_state<K: Sink>(row: &ShowRow, sink: &mut K) -> Result<(), Failed>
     )
 }
 
-// Writes an address, and the end of the line.
+// WritesText an address, and the end of the line.
 fn print_address<K: Sink>(target: &Target, sink: &mut K) -> Result<(), Failed>
-    ensures { Writes K.Sink sink.old sink.new (target_text target.now ++ 10 ∷ []) result }
+    ensures { WritesText K.Sink sink.old sink.new (target_text target.now ++ 10 ∷ []) result }
 {
     print_pieces(
         &[
@@ -175,9 +175,9 @@ fn print_address<K: Sink>(target: &Target, sink: &mut K) -> Result<(), Failed>
     )
 }
 
-// Writes where its updates come from, and the end of the line.
+// WritesText where its updates come from, and the end of the line.
 fn print_provider<K: Sink>(row: &ShowRow, sink: &mut K) -> Result<(), Failed>
-    ensures { Writes K.Sink sink.old sink.new
+    ensures { WritesText K.Sink sink.old sink.new
         (optional_target row.now.provider ++ 10 ∷ []) result }
 {
     match &row.provider {
@@ -186,9 +186,9 @@ fn print_provider<K: Sink>(row: &ShowRow, sink: &mut K) -> Result<(), Failed>
     }
 }
 
-/// Writes what is known of an application, in one line.
+/// WritesText what is known of an application, in one line.
 pub(crate) fn print_show<K: Sink>(row: &ShowRow, sink: &mut K) -> Result<(), Failed>
-    ensures { Writes K.Sink sink.old sink.new (show_text row.now) result }
+    ensures { WritesText K.Sink sink.old sink.new (show_text row.now) result }
 {
     print_key(&row.key, sink)?;
     print_versions(row, sink)?;

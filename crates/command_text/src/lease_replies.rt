@@ -1,7 +1,7 @@
 // What a launch and a read answer. None takes memory.
 ghost use Rattle.std.specs.Prelude.{◌≡◌};
 ghost use Rattle.command_text.specs.Lines.{lease_text, note_text, read_text, shown_text};
-ghost use Rattle.command_text.specs.Pieces.{Writes, piece_text};
+ghost use Rattle.command_text.specs.Pieces.{WritesText, piece_text};
 
 use crate::pieces::{Piece, print_pieces};
 use identity::Version;
@@ -14,14 +14,14 @@ fn note(check_due: bool) -> &'static [u8]
     if check_due { b"check-due" } else { b"-" }
 }
 
-/// Writes a lease, the version that it is on, and the note.
+/// WritesText a lease, the version that it is on, and the note.
 pub(crate) fn print_lease<K: Sink>(
     lease: u64,
     version: Version,
     check_due: bool,
     sink: &mut K,
 ) -> Result<(), Failed>
-    ensures { Writes K.Sink sink.old sink.new (lease_text lease version check_due) result }
+    ensures { WritesText K.Sink sink.old sink.new (lease_text lease version check_due) result }
 {
     print_pieces(
         &[
@@ -48,9 +48,9 @@ fn shown(bytes: &[u8]) -> Piece<'_>
     }
 }
 
-/// Writes the length of a file, and the bytes of it that were asked for.
+/// WritesText the length of a file, and the bytes of it that were asked for.
 pub(crate) fn print_read<K: Sink>(length: u64, bytes: &[u8], sink: &mut K) -> Result<(), Failed>
-    ensures { Writes K.Sink sink.old sink.new (read_text length bytes.now) result }
+    ensures { WritesText K.Sink sink.old sink.new (read_text length bytes.now) result }
 {
     print_pieces(
         &[

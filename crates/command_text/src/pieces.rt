@@ -1,7 +1,7 @@
 // The pieces of a reply, and how they are written. None takes memory.
 ghost use Rattle.std.specs.Prelude.{decimal};
 ghost use Rattle.identity.specs.Version.{version_text};
-ghost use Rattle.command_text.specs.Pieces.{Writes, piece_text, pieces_text};
+ghost use Rattle.command_text.specs.Pieces.{WritesText, piece_text, pieces_text};
 
 use crate::escapes::{print_part, print_word};
 use crate::raw::print_hex;
@@ -26,26 +26,26 @@ pub(crate) enum Piece<'a> {
     Hex(&'a [u8]),
 }
 
-// Writes a number, in decimal digits.
+// WritesText a number, in decimal digits.
 fn print_number<K: Sink>(number: u64, sink: &mut K) -> Result<(), Failed>
-    ensures { Writes K.Sink sink.old sink.new (decimal number) result }
+    ensures { WritesText K.Sink sink.old sink.new (decimal number) result }
 {
     let mut buffer = Buffer::new();
     write_all(sink, buffer.format(number).as_bytes())
 }
 
-// Writes a version.
+// WritesText a version.
 fn print_version<K: Sink>(version: Version, sink: &mut K) -> Result<(), Failed>
-    ensures { Writes K.Sink sink.old sink.new (version_text version) result }
+    ensures { WritesText K.Sink sink.old sink.new (version_text version) result }
 {
     let mut buffer = [0; 23];
     let end = version.write(&mut buffer);
     write_all(sink, &buffer[..end])
 }
 
-// Writes a piece.
+// WritesText a piece.
 fn print_piece<K: Sink>(piece: Piece, sink: &mut K) -> Result<(), Failed>
-    ensures { Writes K.Sink sink.old sink.new (piece_text piece.entry) result }
+    ensures { WritesText K.Sink sink.old sink.new (piece_text piece.entry) result }
 {
     match piece {
         Piece::Bytes(bytes) => write_all(sink, bytes),
@@ -58,9 +58,9 @@ fn print_piece<K: Sink>(piece: Piece, sink: &mut K) -> Result<(), Failed>
     }
 }
 
-/// Writes the pieces, one behind the other. It takes no memory.
+/// WritesText the pieces, one behind the other. It takes no memory.
 pub(crate) fn print_pieces<K: Sink>(pieces: &[Piece], sink: &mut K) -> Result<(), Failed>
-    ensures { Writes K.Sink sink.old sink.new (pieces_text pieces.now) result }
+    ensures { WritesText K.Sink sink.old sink.new (pieces_text pieces.now) result }
 {
     for piece in pieces {
         print_piece(*piece, sink)?;

@@ -1,14 +1,14 @@
 // Bytes, and their hexadecimal digits. None takes memory.
 ghost use Rattle.std.specs.Prelude.{◌≡◌, ◌*◌, ◌≤◌, length};
 ghost use Rattle.hex.specs.Hex.{encode_lower};
-ghost use Rattle.command_text.specs.Pieces.{Writes};
+ghost use Rattle.command_text.specs.Pieces.{WritesText};
 
 use hex::encode_to_slice;
 use outside::{Failed, Sink, write_all};
 
-/// Writes the bytes.
+/// WritesText the bytes.
 pub(crate) fn print_bytes<K: Sink>(bytes: &[u8], sink: &mut K) -> Result<(), Failed>
-    ensures { Writes K.Sink sink.old sink.new bytes.now result }
+    ensures { WritesText K.Sink sink.old sink.new bytes.now result }
 {
     write_all(sink, bytes)
 }
@@ -23,10 +23,10 @@ fn room() -> [u8; 4_096]
     [0; 4_096]
 }
 
-// Writes so few bytes that there is room for their digits.
+// WritesText so few bytes that there is room for their digits.
 fn print_few<K: Sink>(bytes: &[u8], sink: &mut K) -> Result<(), Failed>
     requires { length bytes.now ≤ BYTES_AT_ONCE }
-    ensures { Writes K.Sink sink.old sink.new (encode_lower bytes.now) result }
+    ensures { WritesText K.Sink sink.old sink.new (encode_lower bytes.now) result }
 {
     let mut room = room();
     let digits = &mut room[..2 * bytes.len()];
@@ -36,9 +36,9 @@ fn print_few<K: Sink>(bytes: &[u8], sink: &mut K) -> Result<(), Failed>
     print_bytes(digits, sink)
 }
 
-/// Writes the bytes in hexadecimal digits, two for each.
+/// WritesText the bytes in hexadecimal digits, two for each.
 pub(crate) fn print_hex<K: Sink>(bytes: &[u8], sink: &mut K) -> Result<(), Failed>
-    ensures { Writes K.Sink sink.old sink.new (encode_lower bytes.now) result }
+    ensures { WritesText K.Sink sink.old sink.new (encode_lower bytes.now) result }
 {
     let mut rest = bytes;
     while !rest.is_empty() {

@@ -1,16 +1,16 @@
 // Why links did not serve. None takes memory.
 ghost use Rattle.std.specs.Prelude.{◌++◌};
 ghost use Rattle.command_text.specs.Lines.{reason_text, reasons_text};
-ghost use Rattle.command_text.specs.Pieces.{Writes};
+ghost use Rattle.command_text.specs.Pieces.{WritesText};
 
 use crate::pieces::{Piece, print_pieces};
 use causes::Cause;
 use digest_list::Difference;
 use outside::{Failed, Sink};
 
-// Writes the bytes, and then why one link did not serve.
+// WritesText the bytes, and then why one link did not serve.
 fn print_reason<'a, K: Sink>(before: &'a [u8], cause: &'a Cause, sink: &mut K) -> Result<(), Failed>
-    ensures { Writes K.Sink sink.old sink.new (before.now ++ reason_text cause.now) result }
+    ensures { WritesText K.Sink sink.old sink.new (before.now ++ reason_text cause.now) result }
 {
     let before = Piece::Bytes(before);
     let colon = Piece::Bytes(b":");
@@ -42,9 +42,9 @@ fn print_reason<'a, K: Sink>(before: &'a [u8], cause: &'a Cause, sink: &mut K) -
     }
 }
 
-/// Writes why each link did not serve, with commas between them.
+/// WritesText why each link did not serve, with commas between them.
 pub(crate) fn print_reasons<K: Sink>(causes: &[Cause], sink: &mut K) -> Result<(), Failed>
-    ensures { Writes K.Sink sink.old sink.new (reasons_text causes.now) result }
+    ensures { WritesText K.Sink sink.old sink.new (reasons_text causes.now) result }
 {
     let mut before = b"".as_slice();
     for cause in causes {

@@ -5,7 +5,7 @@ ghost use Rattle.identity.specs.Version.{version_text};
 ghost use Rattle.manifest_parts.specs.declared.fault.ManifestFault.TheVariants.{Tree};
 ghost use Rattle.manifest_text.specs.Lines.{kind_text, refusal_text, two};
 ghost use Rattle.command_text.specs.Lines.{identities_text, identity_text, release_text};
-ghost use Rattle.command_text.specs.Pieces.{Writes};
+ghost use Rattle.command_text.specs.Pieces.{WritesText};
 
 use crate::pieces::{Piece, print_pieces};
 use identity::{Key, Version};
@@ -30,9 +30,9 @@ fn kind_word(kind: TreeKind) -> &'static [u8]
     }
 }
 
-// Writes a line about a word.
+// WritesText a line about a word.
 fn print_about<'a, K: Sink>(front: &'a [u8], what: &'a Text, sink: &mut K) -> Result<(), Failed>
-    ensures { Writes K.Sink sink.old sink.new
+    ensures { WritesText K.Sink sink.old sink.new
         (front.now ++ (word_text what.now ++ 10 ∷ [])) result }
 {
     print_pieces(
@@ -45,14 +45,14 @@ fn print_about<'a, K: Sink>(front: &'a [u8], what: &'a Text, sink: &mut K) -> Re
     )
 }
 
-// Writes a line about two versions.
+// WritesText a line about two versions.
 fn print_versions<K: Sink>(
     front: &[u8],
     first: Version,
     second: Version,
     sink: &mut K,
 ) -> Result<(), Failed>
-    ensures { Writes K.Sink sink.old sink.new
+    ensures { WritesText K.Sink sink.old sink.new
         (front.now ++ (two (version_text first) (version_text second) ++ 10 ∷ [])) result }
 {
     print_pieces(
@@ -67,9 +67,9 @@ fn print_versions<K: Sink>(
     )
 }
 
-// Writes what is wrong with a text, and where.
+// WritesText what is wrong with a text, and where.
 fn print_tree<K: Sink>(fault: TreeFault, sink: &mut K) -> Result<(), Failed>
-    ensures { Writes K.Sink sink.old sink.new (refusal_text (Tree fault)) result }
+    ensures { WritesText K.Sink sink.old sink.new (refusal_text (Tree fault)) result }
 {
     print_pieces(
         &[
@@ -83,9 +83,9 @@ fn print_tree<K: Sink>(fault: TreeFault, sink: &mut K) -> Result<(), Failed>
     )
 }
 
-/// Writes why a manifest is refused.
+/// WritesText why a manifest is refused.
 pub(crate) fn print_manifest<K: Sink>(fault: &ManifestFault, sink: &mut K) -> Result<(), Failed>
-    ensures { Writes K.Sink sink.old sink.new (refusal_text fault.now) result }
+    ensures { WritesText K.Sink sink.old sink.new (refusal_text fault.now) result }
 {
     match fault {
         ManifestFault::Tree(fault) => print_tree(*fault, sink),
@@ -114,13 +114,13 @@ pub(crate) fn print_manifest<K: Sink>(fault: &ManifestFault, sink: &mut K) -> Re
     }
 }
 
-// Writes the line of two keys.
+// WritesText the line of two keys.
 fn print_identities<'a, K: Sink>(
     listed: &'a Key,
     found: &'a Key,
     sink: &mut K,
 ) -> Result<(), Failed>
-    ensures { Writes K.Sink sink.old sink.new (identities_text listed.now found.now) result }
+    ensures { WritesText K.Sink sink.old sink.new (identities_text listed.now found.now) result }
 {
     let comma = Piece::Bytes(b",");
     print_pieces(
@@ -147,9 +147,9 @@ fn print_identities<'a, K: Sink>(
     )
 }
 
-/// Writes the key that was found in place of the one that was asked for.
+/// WritesText the key that was found in place of the one that was asked for.
 pub(crate) fn print_identity<K: Sink>(found: &Key, sink: &mut K) -> Result<(), Failed>
-    ensures { Writes K.Sink sink.old sink.new (identity_text found.now) result }
+    ensures { WritesText K.Sink sink.old sink.new (identity_text found.now) result }
 {
     let comma = Piece::Bytes(b",");
     print_pieces(
@@ -168,9 +168,9 @@ pub(crate) fn print_identity<K: Sink>(found: &Key, sink: &mut K) -> Result<(), F
     )
 }
 
-/// Writes why two manifests are not those of one release.
+/// WritesText why two manifests are not those of one release.
 pub(crate) fn print_release<K: Sink>(fault: &ReleaseFault, sink: &mut K) -> Result<(), Failed>
-    ensures { Writes K.Sink sink.old sink.new (release_text fault.now) result }
+    ensures { WritesText K.Sink sink.old sink.new (release_text fault.now) result }
 {
     match fault {
         ReleaseFault::IdentityDiffers { listed, found } => print_identities(listed, found, sink),

@@ -3,7 +3,7 @@ ghost use Rattle.std.specs.Prelude.{[], ◌∷◌, ◌++◌, decimal, OnOk, OnEr
 ghost use Rattle.identity.specs.Version.{version_text};
 ghost use Rattle.outside.specs.Streams.{Appends, AppendsPart, Causes};
 ghost use Rattle.command_text.specs.Lines.{fault_text, installed_text, lacking_text, links_text, reply_text};
-ghost use Rattle.command_text.specs.Pieces.{Writes};
+ghost use Rattle.command_text.specs.Pieces.{WritesText};
 
 use crate::app_replies::{print_list, print_show};
 use crate::check_replies::print_checked;
@@ -19,9 +19,9 @@ use outside::{Failed, Sink};
 use small_types::Target;
 use small_types::limits::LEASE_LIMIT;
 
-// Writes the reply of a line that is no command.
+// WritesText the reply of a line that is no command.
 fn print_fault<K: Sink>(fault: LineFault, sink: &mut K) -> Result<(), Failed>
-    ensures { Writes K.Sink sink.old sink.new (fault_text fault) result }
+    ensures { WritesText K.Sink sink.old sink.new (fault_text fault) result }
 {
     match fault {
         LineFault::LineTooLong => print_pieces(&[Piece::Bytes(b"no line too-long\n")], sink),
@@ -39,14 +39,14 @@ fn print_fault<K: Sink>(fault: LineFault, sink: &mut K) -> Result<(), Failed>
     }
 }
 
-// Writes what is installed.
+// WritesText what is installed.
 fn print_installed<K: Sink>(
     key: &Key,
     version: Version,
     view: u64,
     sink: &mut K,
 ) -> Result<(), Failed>
-    ensures { Writes K.Sink sink.old sink.new (installed_text key.now version view) result }
+    ensures { WritesText K.Sink sink.old sink.new (installed_text key.now version view) result }
 {
     let comma = Piece::Bytes(b",");
     print_pieces(
@@ -69,9 +69,9 @@ fn print_installed<K: Sink>(
     )
 }
 
-// Writes what no link gave, up to the causes.
+// WritesText what no link gave, up to the causes.
 fn print_target<K: Sink>(target: &Target, sink: &mut K) -> Result<(), Failed>
-    ensures { Writes K.Sink sink.old sink.new (lacking_text target.now) result }
+    ensures { WritesText K.Sink sink.old sink.new (lacking_text target.now) result }
 {
     print_pieces(
         &[
@@ -86,18 +86,19 @@ fn print_target<K: Sink>(target: &Target, sink: &mut K) -> Result<(), Failed>
     )
 }
 
-// Writes what no link gave, and why.
+// WritesText what no link gave, and why.
 fn print_links<K: Sink>(target: &Target, causes: &[Cause], sink: &mut K) -> Result<(), Failed>
-    ensures { Writes K.Sink sink.old sink.new (links_text target.now causes.now) result }
+    ensures { WritesText K.Sink sink.old sink.new (links_text target.now causes.now) result }
 {
     print_target(target, sink)?;
     print_reasons(causes, sink)?;
     print_pieces(&[Piece::Bytes(b"\n")], sink)
 }
 
-// Writes the line that shows a number.
+// WritesText the line that shows a number.
 fn print_number_line<K: Sink>(front: &[u8], number: u64, sink: &mut K) -> Result<(), Failed>
-    ensures { Writes K.Sink sink.old sink.new (front.now ++ (decimal number ++ 10 ∷ [])) result }
+    ensures { WritesText K.Sink sink.old sink.new (front.now ++ (decimal number ++ 10 ∷ []))
+        result }
 {
     print_pieces(
         &[
@@ -109,9 +110,9 @@ fn print_number_line<K: Sink>(front: &[u8], number: u64, sink: &mut K) -> Result
     )
 }
 
-// Writes the line that shows a version.
+// WritesText the line that shows a version.
 fn print_version_line<K: Sink>(front: &[u8], shown: Version, sink: &mut K) -> Result<(), Failed>
-    ensures { Writes K.Sink sink.old sink.new
+    ensures { WritesText K.Sink sink.old sink.new
         (front.now ++ (version_text shown ++ 10 ∷ [])) result }
 {
     print_pieces(
@@ -124,10 +125,10 @@ fn print_version_line<K: Sink>(front: &[u8], shown: Version, sink: &mut K) -> Re
     )
 }
 
-// Writes the reply, by its kind.
+// WritesText the reply, by its kind.
 #[tactic(auto, unfolding(crate::specs::Lines::reply_text))]
 fn print_line<K: Sink>(reply: &Reply, sink: &mut K) -> Result<(), Failed>
-    ensures { Writes K.Sink sink.old sink.new (reply_text reply.now) result }
+    ensures { WritesText K.Sink sink.old sink.new (reply_text reply.now) result }
 {
     match reply {
         Reply::At { now } => print_number_line(b"ok at ", *now, sink),
@@ -194,7 +195,7 @@ fn print_line<K: Sink>(reply: &Reply, sink: &mut K) -> Result<(), Failed>
     }
 }
 
-/// Writes the reply to the sink, each of its lines with its line feed, piece by piece: no memory is taken, and nothing
+/// WritesText the reply to the sink, each of its lines with its line feed, piece by piece: no memory is taken, and nothing
 /// bounds how long a reply may be. Where it fails the sink has taken a first part of the reply, and not all.
 pub fn print_reply<K: Sink>(reply: &Reply, sink: &mut K) -> Result<(), Failed>
     ensures bytes { K.tells

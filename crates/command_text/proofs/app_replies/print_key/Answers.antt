@@ -1,9 +1,9 @@
 use Rattle.std.proofs.Common.{◌∷◌, ◌++◌, [], ap, codes, List, ℕ, subst}
-use Rattle.command_text.specs.Pieces.{Writes}
+use Rattle.command_text.specs.Pieces.{WritesText}
 use Rattle.command_text.proofs.Joining.{parts_then}
 use Rattle.command_text.proofs.app_replies.print_key.Goals as goal
 
 pub returns : goal.returns
 returns g c =
     let key = parts_then c.args.key.now (32 ∷ []) c.as_bytes.result.now c.as_bytes-2.result.now c.as_bytes-3.result.now c.as_bytes-4.result.now c.as_bytes.ensures.value c.as_bytes-2.ensures.value c.as_bytes-3.ensures.value c.as_bytes-4.ensures.value in
-    subst (λ (text : List ℕ). Writes g.K.Sink c.args.sink.now c.print_pieces.new.sink text c.print_pieces.result) (ap (λ (text : List ℕ). codes "ok show " ++ text) key) c.print_pieces.ensures
+    subst (λ (text : List ℕ). WritesText g.K.Sink c.args.sink.now c.print_pieces.new.sink text c.print_pieces.result) (ap (λ (text : List ℕ). codes "ok show " ++ text) key) c.print_pieces.ensures
