@@ -16,7 +16,7 @@ use Rattle.record_codec.specs.Codec.{change_text, group_text, heard_text, instal
 use Rattle.record_fields.specs.Fields.{text_field, key_field, version_field}
 use Rattle.record_fields.specs.Spelling.{application_field, deployment_field, digest_field, list_field, option_field, target_field}
 use Rattle.record_codec.specs.Spelling.{content_field, local_field, view_field}
-use Rattle.record_codec.specs.Values.{IsContent, IsGroup, IsHeard, IsInstall, IsLocal, IsView}
+use Rattle.record_codec.specs.Values.{IsEncodableContent, IsEncodableGroup, IsEncodableCheck, IsEncodableInstall, IsEncodableLocal, IsEncodableView}
 use Rattle.record_fields.proofs.Long.{length-text_field, length-version_field}
 use Rattle.record_fields.proofs.Sizes.{name_le}
 use Rattle.record_codec.proofs.Written.{length-change_text_boot, length-change_text_require, length-change_text_unheard, length-change_text_skip, length-change_text_rollback, length-change_text_launch, length-change_text_finish, length-change_text_put, length-change_text_remove, length-change_text_clean}
@@ -24,7 +24,7 @@ use Rattle.record_fields.proofs.Bounds.{application_le, deployment_le, digests_l
 
 -- ---- views and their files
 
-content_le : (c : Content) → IsContent c → length (content_field c) ≤ 4294967863
+content_le : (c : Content) → IsEncodableContent c → length (content_field c) ≤ 4294967863
 unfolding content_field
 content_le c is =
     let s = to_be_bytes w64 c.size in
@@ -39,7 +39,7 @@ content_le c is =
       length-append l b,
     )
 
-pub local_le : (f : LocalFile) → IsLocal f → length (local_field f) ≤ 4294967551
+pub local_le : (f : LocalFile) → IsEncodableLocal f → length (local_field f) ≤ 4294967551
 unfolding local_field
 local_le f is =
     let s = to_be_bytes w64 f.length in
@@ -53,7 +53,7 @@ local_le f is =
       length-append s (text_field f.held),
     )
 
-view_le : (v : View) → IsView v → length (view_field v) ≤ 70368769999999
+view_le : (v : View) → IsEncodableView v → length (view_field v) ≤ 70368769999999
 unfolding view_field
 view_le v is =
     let n = to_be_bytes w64 v.number in
@@ -69,7 +69,7 @@ view_le v is =
       target_le v.base is.base,
       list_le text_field (IsShort NAME_LIMIT) 244 FILE_COUNT_LIMIT v.groups (text_le NAME_LIMIT)
           is.few_groups is.groups,
-      list_le local_field IsLocal 4294967551 FILE_COUNT_LIMIT v.locals local_le is.few_locals
+      list_le local_field IsEncodableLocal 4294967551 FILE_COUNT_LIMIT v.locals local_le is.few_locals
           is.locals,
       length-append n (d ++ (a ++ (b ++ (g ++ l)))),
       length-append d (a ++ (b ++ (g ++ l))),
@@ -79,7 +79,7 @@ view_le v is =
     )
 
 install_le : (v : View) (contents : List Content) (provider : Target) (now : ℕ)
-    → IsInstall v contents provider now
+    → IsEncodableInstall v contents provider now
     → length (install_text v contents provider now) ≤ 2 ^ 48
 unfolding install_text
 install_le v contents provider now is =
@@ -90,7 +90,7 @@ install_le v contents provider now is =
     omega (
       arith,
       view_le v is.view,
-      list_le content_field IsContent 4294967863 FILE_COUNT_LIMIT contents content_le is.few
+      list_le content_field IsEncodableContent 4294967863 FILE_COUNT_LIMIT contents content_le is.few
           is.contents,
       target_le provider is.provider,
       length-append w (c ++ (p ++ n)),
@@ -99,7 +99,7 @@ install_le v contents provider now is =
     )
 
 heard_le : (key : Key) (version : Version) (minimum : Option Version) (now : ℕ)
-    → IsHeard key version minimum now → length (heard_text key version minimum now) ≤ 474
+    → IsEncodableCheck key version minimum now → length (heard_text key version minimum now) ≤ 474
 unfolding heard_text
 heard_le key version minimum now is =
     let k = key_field key in
@@ -116,7 +116,7 @@ heard_le key version minimum now is =
       length-append m n,
     )
 
-group_le : (view : ℕ) (group : List ℕ) (contents : List Content) → IsGroup view group contents
+group_le : (view : ℕ) (group : List ℕ) (contents : List Content) → IsEncodableGroup view group contents
     → length (group_text view group contents) ≤ 2 ^ 48
 unfolding group_text
 group_le view group contents is =
@@ -126,7 +126,7 @@ group_le view group contents is =
     omega (
       arith,
       text_le NAME_LIMIT group is.group,
-      list_le content_field IsContent 4294967863 FILE_COUNT_LIMIT contents content_le is.few
+      list_le content_field IsEncodableContent 4294967863 FILE_COUNT_LIMIT contents content_le is.few
           is.contents,
       length-append v (g ++ c),
       length-append g c,

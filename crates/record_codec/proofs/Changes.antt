@@ -26,7 +26,7 @@ use Rattle.record_codec.specs.Records.{content_at, local_at, view_at}
 use Rattle.record_codec.specs.Changes.{boot_at, require_at, install_at, heard_at, unheard_at, skip_at, rollback_at, launch_at, finish_at, group_at, put_at, remove_at, clean_at, change_at, change_of}
 use Rattle.record_fields.specs.Spelling.{list_field, option_field, target_field}
 use Rattle.record_codec.specs.Spelling.{content_field, local_field, view_field}
-use Rattle.record_codec.specs.Values.{IsGroup, IsHeard, IsInstall}
+use Rattle.record_codec.specs.Values.{IsEncodableGroup, IsEncodableCheck, IsEncodableInstall}
 use Rattle.record_fields.specs.Reads.{IsBytes}
 use Rattle.record_fields.proofs.Fields.{bind_ok, ok_is, passed_test, Stands-then, Stands-first, Stands-second, wide32, wide64, number_takes, number_again, text_takes, text_again}
 use Rattle.record_fields.proofs.Bytes.{name_reads}
@@ -79,11 +79,11 @@ install_takes rest x fits e =
     let td = number64_reads.takes bytes c.0.1 d.0 fits tc.0.within d.1 in
     let made : Change × ℕ = (Install a.0.0 b.0.0 c.0.0 d.0.0, d.0.1) in
     let fields = Stands-four bytes (view_field a.0.0) (list_field content_field b.0.0) (target_field c.0.0) (to_be_bytes w64 d.0.0) 1 a.0.1 b.0.1 c.0.1 d.0.1 ta.0 tb.0 tc.0 td.0 in
-    let within : IsInstall a.0.0 b.0.0 c.0.0 d.0.0 = record { view = ta.1; few = tb.1.0; contents = tb.1.1; provider = tc.1; now = td.1 } in
+    let within : IsEncodableInstall a.0.0 b.0.0 c.0.0 d.0.0 = record { view = ta.1; few = tb.1.0; contents = tb.1.1; provider = tc.1; now = td.1 } in
     subst (λ (y : Change × ℕ). Stands bytes 0 (change_text y.0) y.1 × IsChange y.0) (ok_is made x d.2)
     (Stands-then bytes (INSTALL_KIND ∷ []) (view_field a.0.0 ++ (list_field content_field b.0.0 ++ (target_field c.0.0 ++ to_be_bytes w64 d.0.0))) 0 1 d.0.1 (kind_stands INSTALL_KIND rest) fields, within)
 
-install_again : (rest : List ℕ) (view : View) (contents : List Content) (provider : Target) (now next : ℕ) → IsInstall view contents provider now → Stands (INSTALL_KIND ∷ rest) 1 (view_field view ++ (list_field content_field contents ++ (target_field provider ++ to_be_bytes w64 now))) next → install_at (INSTALL_KIND ∷ rest) 1 ≡ Ok (Install view contents provider now, next)
+install_again : (rest : List ℕ) (view : View) (contents : List Content) (provider : Target) (now next : ℕ) → IsEncodableInstall view contents provider now → Stands (INSTALL_KIND ∷ rest) 1 (view_field view ++ (list_field content_field contents ++ (target_field provider ++ to_be_bytes w64 now))) next → install_at (INSTALL_KIND ∷ rest) 1 ≡ Ok (Install view contents provider now, next)
 unfolding install_at
 install_again rest view contents provider now next is stands =
     let bytes : List ℕ = INSTALL_KIND ∷ rest in
@@ -109,13 +109,13 @@ heard_takes rest x fits e =
     let minimum = option_field version_field c.0.0 in
     let now = to_be_bytes w64 d.0.0 in
     let fields = Stands-four bytes key version minimum now 1 a.0.1 b.0.1 c.0.1 d.0.1 ta.0 tb.0 tc.0 td.0 in
-    let within : IsHeard a.0.0 b.0.0 c.0.0 d.0.0 =
+    let within : IsEncodableCheck a.0.0 b.0.0 c.0.0 d.0.0 =
     record { key = ta.1; version = tb.1; minimum = tc.1; now = td.1 } in
     let stands = Stands-then bytes (HEARD_KIND ∷ []) (key ++ (version ++ (minimum ++ now))) 0 1 d.0.1 (kind_stands HEARD_KIND rest) fields in
     subst (λ (y : Change × ℕ). Takes bytes y) (ok_is made x d.2) (stands, within)
 
 heard_again : (rest : List ℕ) (key : Key) (version : Version) (minimum : Option Version) (now next : ℕ)
-    → IsHeard key version minimum now
+    → IsEncodableCheck key version minimum now
     → Stands (HEARD_KIND ∷ rest) 1 (key_field key ++ (version_field version ++ (option_field version_field minimum ++ to_be_bytes w64 now))) next
     → heard_at (HEARD_KIND ∷ rest) 1 ≡ Ok (Heard key version minimum now, next)
 unfolding heard_at
@@ -196,13 +196,13 @@ group_takes rest x fits e =
     let contents = list_field content_field c.0.0 in
     let last = Stands-then bytes group contents a.0.1 b.0.1 c.0.1 tb.0 tc.0 in
     let fields = Stands-then bytes view (group ++ contents) 1 a.0.1 c.0.1 ta.0 last in
-    let within : IsGroup a.0.0 b.0.0 c.0.0 =
+    let within : IsEncodableGroup a.0.0 b.0.0 c.0.0 =
     record { view = ta.1; group = tb.1; few = tc.1.0; contents = tc.1.1 } in
     let stands = Stands-then bytes (GROUP_KIND ∷ []) (view ++ (group ++ contents)) 0 1 c.0.1 (kind_stands GROUP_KIND rest) fields in
     subst (λ (y : Change × ℕ). Takes bytes y) (ok_is made x c.2) (stands, within)
 
 group_again : (rest : List ℕ) (view : ℕ) (group : List ℕ) (contents : List Content) (next : ℕ)
-    → IsGroup view group contents
+    → IsEncodableGroup view group contents
     → Stands (GROUP_KIND ∷ rest) 1 (to_be_bytes w64 view ++ (text_field group ++ list_field content_field contents)) next
     → group_at (GROUP_KIND ∷ rest) 1 ≡ Ok (Group view group contents, next)
 unfolding group_at

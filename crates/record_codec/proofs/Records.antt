@@ -16,9 +16,9 @@ use Rattle.record_fields.specs.Records.{deployment_at, application_at}
 use Rattle.record_codec.specs.Records.{content_at, local_at, view_at}
 use Rattle.record_fields.specs.Spelling.{list_field, target_field, digest_field, deployment_field, application_field}
 use Rattle.record_codec.specs.Spelling.{content_field, local_field, view_field}
-use Rattle.record_fields.specs.Values.{AreDigests, IsDeployment, IsApplication}
-use Rattle.record_codec.specs.Values.{IsContent, IsLocal, IsView}
-use Rattle.record_fields.specs.Reads.{Reads}
+use Rattle.record_fields.specs.Values.{AreDigests, IsEncodableDeployment, IsEncodableApplication}
+use Rattle.record_codec.specs.Values.{IsEncodableContent, IsEncodableLocal, IsEncodableView}
+use Rattle.record_fields.specs.Reads.{ReadsField}
 use Rattle.record_fields.proofs.Structs.{number64_reads, text_reads, target_reads}
 use Rattle.record_fields.proofs.Bytes.{bytes_reads, name_reads}
 use Rattle.record_fields.proofs.Lists.{list_reads}
@@ -26,32 +26,32 @@ use Rattle.record_fields.proofs.Digests.{digests_reads}
 use Rattle.record_fields.proofs.Together.{first, last, same_values}
 use Rattle.record_fields.proofs.Records.{application_reads, deployment_reads}
 
-pub content_reads : Reads IsContent content_field content_at
+pub content_reads : ReadsField IsEncodableContent content_field content_at
 unfolding content_at content_field
-content_reads = same_values IsContent (
+content_reads = same_values IsEncodableContent (
     first {X = Content} number64_reads (λ x. x.size) (λ a0 x. AreDigests x.list × ((length x.held ≤ BYTES_LIMIT) × (x ≡ record { size = a0; list = x.list; held = x.held }))) (λ x. list_field digest_field x.list ++ (text_field x.held)) (λ a0 bytes place. digests_at bytes place >>= λ p1. bytes_at BYTES_LIMIT bytes p1.1 >>= λ p2. Ok (record { size = a0; list = p1.0; held = p2.0 }, p2.1)) (λ a0 x is. ap (λ (y : Content). y.size) is.1.1) (λ a0.
     first {X = Content} digests_reads (λ x. x.list) (λ a1 x. (length x.held ≤ BYTES_LIMIT) × (x ≡ record { size = a0; list = a1; held = x.held })) (λ x. text_field x.held) (λ a1 bytes place. bytes_at BYTES_LIMIT bytes place >>= λ p2. Ok (record { size = a0; list = a1; held = p2.0 }, p2.1)) (λ a1 x is. ap (λ (y : Content). y.list) is.1) (λ a1.
     last {X = Content} (bytes_reads BYTES_LIMIT (omega arith)) (λ x. x.held) (λ a2. record { size = a0; list = a1; held = a2 }) (λ a2. refl))))
     (λ x is. record { size = is.0; list = is.1.0; bytes = (let most = is.1.1.0 in omega arith) })
     (λ x is. (is.size, (is.list, ((let small = is.bytes in omega arith), refl))))
 
-pub local_reads : Reads IsLocal local_field local_at
+pub local_reads : ReadsField IsEncodableLocal local_field local_at
 unfolding local_at local_field
-local_reads = same_values IsLocal (
+local_reads = same_values IsEncodableLocal (
     first {X = LocalFile} name_reads (λ x. x.name) (λ a0 x. (x.length < 2 ^ 64) × ((length x.held ≤ BYTES_LIMIT) × (x ≡ record { name = a0; length = x.length; held = x.held }))) (λ x. (to_be_bytes w64) x.length ++ (text_field x.held)) (λ a0 bytes place. number_at w64 bytes place >>= λ p1. bytes_at BYTES_LIMIT bytes p1.1 >>= λ p2. Ok (record { name = a0; length = p1.0; held = p2.0 }, p2.1)) (λ a0 x is. ap (λ (y : LocalFile). y.name) is.1.1) (λ a0.
     first {X = LocalFile} number64_reads (λ x. x.length) (λ a1 x. (length x.held ≤ BYTES_LIMIT) × (x ≡ record { name = a0; length = a1; held = x.held })) (λ x. text_field x.held) (λ a1 bytes place. bytes_at BYTES_LIMIT bytes place >>= λ p2. Ok (record { name = a0; length = a1; held = p2.0 }, p2.1)) (λ a1 x is. ap (λ (y : LocalFile). y.length) is.1) (λ a1.
     last {X = LocalFile} (bytes_reads BYTES_LIMIT (omega arith)) (λ x. x.held) (λ a2. record { name = a0; length = a1; held = a2 }) (λ a2. refl))))
     (λ x is. record { name = is.0; size = is.1.0; bytes = (let most = is.1.1.0 in omega arith) })
     (λ x is. (is.name, (is.size, ((let small = is.bytes in omega arith), refl))))
 
-pub view_reads : Reads IsView view_field view_at
+pub view_reads : ReadsField IsEncodableView view_field view_at
 unfolding view_at view_field
-view_reads = same_values IsView (
-    first {X = View} number64_reads (λ x. x.number) (λ a0 x. IsDeployment x.deployment × (IsApplication x.application × (IsTarget x.base × (((length x.groups ≤ FILE_COUNT_LIMIT) × All (IsShort NAME_LIMIT) x.groups) × (((length x.locals ≤ FILE_COUNT_LIMIT) × All IsLocal x.locals) × (x ≡ record { number = a0; deployment = x.deployment; application = x.application; base = x.base; groups = x.groups; locals = x.locals })))))) (λ x. deployment_field x.deployment ++ (application_field x.application ++ (target_field x.base ++ (list_field text_field x.groups ++ (list_field local_field x.locals))))) (λ a0 bytes place. deployment_at bytes place >>= λ p1. application_at bytes p1.1 >>= λ p2. target_at bytes p2.1 >>= λ p3. list_at FILE_COUNT_LIMIT (text_at NAME_LIMIT) bytes p3.1 >>= λ p4. list_at FILE_COUNT_LIMIT local_at bytes p4.1 >>= λ p5. Ok (record { number = a0; deployment = p1.0; application = p2.0; base = p3.0; groups = p4.0; locals = p5.0 }, p5.1)) (λ a0 x is. ap (λ (y : View). y.number) is.1.1.1.1.1) (λ a0.
-    first {X = View} deployment_reads (λ x. x.deployment) (λ a1 x. IsApplication x.application × (IsTarget x.base × (((length x.groups ≤ FILE_COUNT_LIMIT) × All (IsShort NAME_LIMIT) x.groups) × (((length x.locals ≤ FILE_COUNT_LIMIT) × All IsLocal x.locals) × (x ≡ record { number = a0; deployment = a1; application = x.application; base = x.base; groups = x.groups; locals = x.locals }))))) (λ x. application_field x.application ++ (target_field x.base ++ (list_field text_field x.groups ++ (list_field local_field x.locals)))) (λ a1 bytes place. application_at bytes place >>= λ p2. target_at bytes p2.1 >>= λ p3. list_at FILE_COUNT_LIMIT (text_at NAME_LIMIT) bytes p3.1 >>= λ p4. list_at FILE_COUNT_LIMIT local_at bytes p4.1 >>= λ p5. Ok (record { number = a0; deployment = a1; application = p2.0; base = p3.0; groups = p4.0; locals = p5.0 }, p5.1)) (λ a1 x is. ap (λ (y : View). y.deployment) is.1.1.1.1) (λ a1.
-    first {X = View} application_reads (λ x. x.application) (λ a2 x. IsTarget x.base × (((length x.groups ≤ FILE_COUNT_LIMIT) × All (IsShort NAME_LIMIT) x.groups) × (((length x.locals ≤ FILE_COUNT_LIMIT) × All IsLocal x.locals) × (x ≡ record { number = a0; deployment = a1; application = a2; base = x.base; groups = x.groups; locals = x.locals })))) (λ x. target_field x.base ++ (list_field text_field x.groups ++ (list_field local_field x.locals))) (λ a2 bytes place. target_at bytes place >>= λ p3. list_at FILE_COUNT_LIMIT (text_at NAME_LIMIT) bytes p3.1 >>= λ p4. list_at FILE_COUNT_LIMIT local_at bytes p4.1 >>= λ p5. Ok (record { number = a0; deployment = a1; application = a2; base = p3.0; groups = p4.0; locals = p5.0 }, p5.1)) (λ a2 x is. ap (λ (y : View). y.application) is.1.1.1) (λ a2.
-    first {X = View} target_reads (λ x. x.base) (λ a3 x. ((length x.groups ≤ FILE_COUNT_LIMIT) × All (IsShort NAME_LIMIT) x.groups) × (((length x.locals ≤ FILE_COUNT_LIMIT) × All IsLocal x.locals) × (x ≡ record { number = a0; deployment = a1; application = a2; base = a3; groups = x.groups; locals = x.locals }))) (λ x. list_field text_field x.groups ++ (list_field local_field x.locals)) (λ a3 bytes place. list_at FILE_COUNT_LIMIT (text_at NAME_LIMIT) bytes place >>= λ p4. list_at FILE_COUNT_LIMIT local_at bytes p4.1 >>= λ p5. Ok (record { number = a0; deployment = a1; application = a2; base = a3; groups = p4.0; locals = p5.0 }, p5.1)) (λ a3 x is. ap (λ (y : View). y.base) is.1.1) (λ a3.
-    first {X = View} (list_reads (text_reads NAME_LIMIT (omega arith)) FILE_COUNT_LIMIT (omega arith)) (λ x. x.groups) (λ a4 x. ((length x.locals ≤ FILE_COUNT_LIMIT) × All IsLocal x.locals) × (x ≡ record { number = a0; deployment = a1; application = a2; base = a3; groups = a4; locals = x.locals })) (λ x. list_field local_field x.locals) (λ a4 bytes place. list_at FILE_COUNT_LIMIT local_at bytes place >>= λ p5. Ok (record { number = a0; deployment = a1; application = a2; base = a3; groups = a4; locals = p5.0 }, p5.1)) (λ a4 x is. ap (λ (y : View). y.groups) is.1) (λ a4.
+view_reads = same_values IsEncodableView (
+    first {X = View} number64_reads (λ x. x.number) (λ a0 x. IsEncodableDeployment x.deployment × (IsEncodableApplication x.application × (IsTarget x.base × (((length x.groups ≤ FILE_COUNT_LIMIT) × All (IsShort NAME_LIMIT) x.groups) × (((length x.locals ≤ FILE_COUNT_LIMIT) × All IsEncodableLocal x.locals) × (x ≡ record { number = a0; deployment = x.deployment; application = x.application; base = x.base; groups = x.groups; locals = x.locals })))))) (λ x. deployment_field x.deployment ++ (application_field x.application ++ (target_field x.base ++ (list_field text_field x.groups ++ (list_field local_field x.locals))))) (λ a0 bytes place. deployment_at bytes place >>= λ p1. application_at bytes p1.1 >>= λ p2. target_at bytes p2.1 >>= λ p3. list_at FILE_COUNT_LIMIT (text_at NAME_LIMIT) bytes p3.1 >>= λ p4. list_at FILE_COUNT_LIMIT local_at bytes p4.1 >>= λ p5. Ok (record { number = a0; deployment = p1.0; application = p2.0; base = p3.0; groups = p4.0; locals = p5.0 }, p5.1)) (λ a0 x is. ap (λ (y : View). y.number) is.1.1.1.1.1) (λ a0.
+    first {X = View} deployment_reads (λ x. x.deployment) (λ a1 x. IsEncodableApplication x.application × (IsTarget x.base × (((length x.groups ≤ FILE_COUNT_LIMIT) × All (IsShort NAME_LIMIT) x.groups) × (((length x.locals ≤ FILE_COUNT_LIMIT) × All IsEncodableLocal x.locals) × (x ≡ record { number = a0; deployment = a1; application = x.application; base = x.base; groups = x.groups; locals = x.locals }))))) (λ x. application_field x.application ++ (target_field x.base ++ (list_field text_field x.groups ++ (list_field local_field x.locals)))) (λ a1 bytes place. application_at bytes place >>= λ p2. target_at bytes p2.1 >>= λ p3. list_at FILE_COUNT_LIMIT (text_at NAME_LIMIT) bytes p3.1 >>= λ p4. list_at FILE_COUNT_LIMIT local_at bytes p4.1 >>= λ p5. Ok (record { number = a0; deployment = a1; application = p2.0; base = p3.0; groups = p4.0; locals = p5.0 }, p5.1)) (λ a1 x is. ap (λ (y : View). y.deployment) is.1.1.1.1) (λ a1.
+    first {X = View} application_reads (λ x. x.application) (λ a2 x. IsTarget x.base × (((length x.groups ≤ FILE_COUNT_LIMIT) × All (IsShort NAME_LIMIT) x.groups) × (((length x.locals ≤ FILE_COUNT_LIMIT) × All IsEncodableLocal x.locals) × (x ≡ record { number = a0; deployment = a1; application = a2; base = x.base; groups = x.groups; locals = x.locals })))) (λ x. target_field x.base ++ (list_field text_field x.groups ++ (list_field local_field x.locals))) (λ a2 bytes place. target_at bytes place >>= λ p3. list_at FILE_COUNT_LIMIT (text_at NAME_LIMIT) bytes p3.1 >>= λ p4. list_at FILE_COUNT_LIMIT local_at bytes p4.1 >>= λ p5. Ok (record { number = a0; deployment = a1; application = a2; base = p3.0; groups = p4.0; locals = p5.0 }, p5.1)) (λ a2 x is. ap (λ (y : View). y.application) is.1.1.1) (λ a2.
+    first {X = View} target_reads (λ x. x.base) (λ a3 x. ((length x.groups ≤ FILE_COUNT_LIMIT) × All (IsShort NAME_LIMIT) x.groups) × (((length x.locals ≤ FILE_COUNT_LIMIT) × All IsEncodableLocal x.locals) × (x ≡ record { number = a0; deployment = a1; application = a2; base = a3; groups = x.groups; locals = x.locals }))) (λ x. list_field text_field x.groups ++ (list_field local_field x.locals)) (λ a3 bytes place. list_at FILE_COUNT_LIMIT (text_at NAME_LIMIT) bytes place >>= λ p4. list_at FILE_COUNT_LIMIT local_at bytes p4.1 >>= λ p5. Ok (record { number = a0; deployment = a1; application = a2; base = a3; groups = p4.0; locals = p5.0 }, p5.1)) (λ a3 x is. ap (λ (y : View). y.base) is.1.1) (λ a3.
+    first {X = View} (list_reads (text_reads NAME_LIMIT (omega arith)) FILE_COUNT_LIMIT (omega arith)) (λ x. x.groups) (λ a4 x. ((length x.locals ≤ FILE_COUNT_LIMIT) × All IsEncodableLocal x.locals) × (x ≡ record { number = a0; deployment = a1; application = a2; base = a3; groups = a4; locals = x.locals })) (λ x. list_field local_field x.locals) (λ a4 bytes place. list_at FILE_COUNT_LIMIT local_at bytes place >>= λ p5. Ok (record { number = a0; deployment = a1; application = a2; base = a3; groups = a4; locals = p5.0 }, p5.1)) (λ a4 x is. ap (λ (y : View). y.groups) is.1) (λ a4.
     last {X = View} (list_reads local_reads FILE_COUNT_LIMIT (omega arith)) (λ x. x.locals) (λ a5. record { number = a0; deployment = a1; application = a2; base = a3; groups = a4; locals = a5 }) (λ a5. refl)))))))
     (λ x is. record { number = is.0; deployment = is.1.0; application = is.1.1.0; base = is.1.1.1.0; few_groups = is.1.1.1.1.0.0; groups = is.1.1.1.1.0.1; few_locals = is.1.1.1.1.1.0.0; locals = is.1.1.1.1.1.0.1 })
     (λ x is. (is.number, (is.deployment, (is.application, (is.base, ((is.few_groups, is.groups), ((is.few_locals, is.locals), refl)))))))

@@ -16,7 +16,7 @@ use Rattle.record_codec.specs.declared.numbers.TheConstants.{BOOT_KIND, CLEAN_KI
 use Rattle.record_fields.specs.Fields.{key_field, text_field, version_field}
 use Rattle.record_fields.specs.Spelling.{list_field, option_field, target_field}
 use Rattle.record_codec.specs.Spelling.{content_field, local_field, view_field}
-use Rattle.record_codec.specs.Values.{IsGroup, IsHeard, IsInstall, IsLocal}
+use Rattle.record_codec.specs.Values.{IsEncodableGroup, IsEncodableCheck, IsEncodableInstall, IsEncodableLocal}
 
 -- the number of the kind, and the fields
 unfoldable pub install_text : View → List Content → Target → ℕ → List ℕ
@@ -60,15 +60,15 @@ change_text Clean = CLEAN_KIND ∷ []
 abbrev pub IsChange : Change → Type 0
 IsChange (Boot boot) = boot < 2 ^ 64
 IsChange (Require key version) = IsShortKey key × IsVersion version
-IsChange (Install view contents provider now) = IsInstall view contents provider now
-IsChange (Heard key version minimum now) = IsHeard key version minimum now
+IsChange (Install view contents provider now) = IsEncodableInstall view contents provider now
+IsChange (Heard key version minimum now) = IsEncodableCheck key version minimum now
 IsChange (Unheard key) = IsShortKey key
 IsChange (Skip app) = app < 2 ^ 32
 IsChange (Rollback app) = app < 2 ^ 32
 IsChange (Launch app) = app < 2 ^ 32
 IsChange (Finish lease) = lease < 2 ^ 64
-IsChange (Group view group contents) = IsGroup view group contents
-IsChange (Put view file) = (view < 2 ^ 64) × IsLocal file
+IsChange (Group view group contents) = IsEncodableGroup view group contents
+IsChange (Put view file) = (view < 2 ^ 64) × IsEncodableLocal file
 IsChange (Remove view name) = (view < 2 ^ 64) × IsName name
 IsChange Clean = Unit {0}
 

@@ -12,46 +12,47 @@ use Rattle.identity.specs.Version.{IsVersion}
 use Rattle.store_state.specs.declared.view.Content.{Content}
 use Rattle.store_state.specs.declared.view.LocalFile.{LocalFile}
 use Rattle.store_state.specs.declared.view.View.{View}
-use Rattle.record_fields.specs.Values.{AreDigests, IsApplication, IsDeployment}
+use Rattle.record_fields.specs.Values.{AreDigests, IsEncodableApplication, IsEncodableDeployment}
 
-pub record IsContent (c : Content) : Type 0 where
+pub record IsEncodableContent (c : Content) : Type 0 where
   pub size : c.size < 2 ^ 64
   pub list : AreDigests c.list
   pub bytes : length c.held < 2 ^ 32
 
-pub record IsLocal (f : LocalFile) : Type 0 where
+pub record IsEncodableLocal (f : LocalFile) : Type 0 where
   pub name : IsName f.name
   pub size : f.length < 2 ^ 64
   pub bytes : length f.held < 2 ^ 32
 
-pub record IsView (v : View) : Type 0 where
+pub record IsEncodableView (v : View) : Type 0 where
   pub number : v.number < 2 ^ 64
-  pub deployment : IsDeployment v.deployment
-  pub application : IsApplication v.application
+  pub deployment : IsEncodableDeployment v.deployment
+  pub application : IsEncodableApplication v.application
   pub base : IsTarget v.base
   pub few_groups : length v.groups ≤ FILE_COUNT_LIMIT
   pub groups : All (IsShort NAME_LIMIT) v.groups
   pub few_locals : length v.locals ≤ FILE_COUNT_LIMIT
-  pub locals : All IsLocal v.locals
+  pub locals : All IsEncodableLocal v.locals
 
-pub record IsInstall (v : View) (brought : List Content) (from : Target) (moment : ℕ)
+pub record IsEncodableInstall (v : View) (brought : List Content) (from : Target) (moment : ℕ)
     : Type 0 where
-  pub view : IsView v
+  pub view : IsEncodableView v
   pub few : length brought ≤ FILE_COUNT_LIMIT
-  pub contents : All IsContent brought
+  pub contents : All IsEncodableContent brought
   pub provider : IsTarget from
   pub now : moment < 2 ^ 64
 
 -- what a check heard
-pub record IsHeard (k : Key) (v : Version) (least : Option Version) (moment : ℕ) : Type 0 where
+pub record IsEncodableCheck (k : Key) (v : Version) (least : Option Version) (moment : ℕ)
+    : Type 0 where
   pub key : IsShortKey k
   pub version : IsVersion v
   pub minimum : IfSome least IsVersion
   pub now : moment < 2 ^ 64
 
 -- a group that comes to the view of that number; its name may be empty, as any text
-pub record IsGroup (number : ℕ) (name : List ℕ) (brought : List Content) : Type 0 where
+pub record IsEncodableGroup (number : ℕ) (name : List ℕ) (brought : List Content) : Type 0 where
   pub view : number < 2 ^ 64
   pub group : IsShort NAME_LIMIT name
   pub few : length brought ≤ FILE_COUNT_LIMIT
-  pub contents : All IsContent brought
+  pub contents : All IsEncodableContent brought

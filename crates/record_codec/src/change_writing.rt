@@ -1,9 +1,9 @@
 // Writing what installations bring, checks heard, groups and data files.
 ghost use Rattle.std.specs.Prelude.{◌<◌, ◌≤◌, ◌^◌, length};
 ghost use Rattle.small_types.specs.Name.{IsName};
-ghost use Rattle.record_fields.specs.Places.{Writes};
+ghost use Rattle.record_fields.specs.Places.{WritesField};
 ghost use Rattle.record_codec.specs.Codec.{group_text, heard_text, install_text, put_text, remove_text};
-ghost use Rattle.record_codec.specs.Values.{IsGroup, IsHeard, IsInstall, IsLocal};
+ghost use Rattle.record_codec.specs.Values.{IsEncodableGroup, IsEncodableCheck, IsEncodableInstall, IsEncodableLocal};
 
 use crate::item_values::ContentField;
 use crate::numbers::{GROUP_KIND, HEARD_KIND, INSTALL_KIND, PUT_KIND, REMOVE_KIND};
@@ -16,7 +16,7 @@ use record_fields::{
 use small_types::{Name, Target, Text};
 use store_state::{Content, LocalFile, View};
 
-// Writes the installation at the front, the number of its kind and its fields, and answers the
+// WritesField the installation at the front, the number of its kind and its fields, and answers the
 // place behind it.
 #[tactic(auto, using(record_fields::proofs::Long::lengths), unfolding(crate::specs::Codec::install_text))]
 pub(crate) fn write_install(
@@ -26,10 +26,10 @@ pub(crate) fn write_install(
     provider: &Target,
     now: u64,
 ) -> usize
-    requires install { IsInstall view.now contents.now provider.now now }
+    requires install { IsEncodableInstall view.now contents.now provider.now now }
     requires room { length (install_text view.now contents.now provider.now now) ≤ length out.old }
     ensures { let text = install_text view.now contents.now provider.now now in
-        Writes out.old 0 text out.new result }
+        WritesField out.old 0 text out.new result }
 {
     let next = write_u8(out, 0, INSTALL_KIND);
     let next = write_view(out, next, view);
@@ -38,7 +38,7 @@ pub(crate) fn write_install(
     write_u64(out, next, now)
 }
 
-// Writes what a check heard at the front, the number of its kind and its fields, and answers the
+// WritesField what a check heard at the front, the number of its kind and its fields, and answers the
 // place behind it.
 #[tactic(auto, using(record_fields::proofs::Long::lengths), unfolding(crate::specs::Codec::heard_text))]
 pub(crate) fn write_heard(
@@ -48,9 +48,9 @@ pub(crate) fn write_heard(
     minimum: &Option<Version>,
     now: u64,
 ) -> usize
-    requires heard { IsHeard key.now version minimum.now now }
+    requires heard { IsEncodableCheck key.now version minimum.now now }
     requires room { length (heard_text key.now version minimum.now now) ≤ length out.old }
-    ensures { Writes out.old 0 (heard_text key.now version minimum.now now) out.new result }
+    ensures { WritesField out.old 0 (heard_text key.now version minimum.now now) out.new result }
 {
     let next = write_u8(out, 0, HEARD_KIND);
     let next = write_key(out, next, key);
@@ -59,13 +59,13 @@ pub(crate) fn write_heard(
     write_u64(out, next, now)
 }
 
-// Writes the group at the front, the number of its kind and its fields, and answers the place
+// WritesField the group at the front, the number of its kind and its fields, and answers the place
 // behind it.
 #[tactic(auto, using(record_fields::proofs::Long::lengths), unfolding(crate::specs::Codec::group_text))]
 pub(crate) fn write_group(out: &mut [u8], view: u64, group: &Text, contents: &[Content]) -> usize
-    requires group { IsGroup view group.now contents.now }
+    requires group { IsEncodableGroup view group.now contents.now }
     requires room { length (group_text view group.now contents.now) ≤ length out.old }
-    ensures { Writes out.old 0 (group_text view group.now contents.now) out.new result }
+    ensures { WritesField out.old 0 (group_text view group.now contents.now) out.new result }
 {
     let next = write_u8(out, 0, GROUP_KIND);
     let next = write_u64(out, next, view);
@@ -73,26 +73,26 @@ pub(crate) fn write_group(out: &mut [u8], view: u64, group: &Text, contents: &[C
     write_list::<ContentField>(out, next, contents)
 }
 
-// Writes the data file that comes to the view at the front, the number of its kind and its fields,
+// WritesField the data file that comes to the view at the front, the number of its kind and its fields,
 // and answers the place behind it.
 #[tactic(auto, using(record_fields::proofs::Long::lengths), unfolding(crate::specs::Codec::put_text))]
 pub(crate) fn write_put(out: &mut [u8], view: u64, file: &LocalFile) -> usize
-    requires file { IsLocal file.now }
+    requires file { IsEncodableLocal file.now }
     requires room { length (put_text view file.now) ≤ length out.old }
-    ensures { Writes out.old 0 (put_text view file.now) out.new result }
+    ensures { WritesField out.old 0 (put_text view file.now) out.new result }
 {
     let next = write_u8(out, 0, PUT_KIND);
     let next = write_u64(out, next, view);
     write_local(out, next, file)
 }
 
-// Writes the removal of the data file of the view at the front, the number of its kind and its
+// WritesField the removal of the data file of the view at the front, the number of its kind and its
 // fields, and answers the place behind it.
 #[tactic(auto, using(record_fields::proofs::Long::lengths), unfolding(crate::specs::Codec::remove_text))]
 pub(crate) fn write_remove(out: &mut [u8], view: u64, name: &Name) -> usize
     requires name { IsName name.now }
     requires room { length (remove_text view name.now) ≤ length out.old }
-    ensures { Writes out.old 0 (remove_text view name.now) out.new result }
+    ensures { WritesField out.old 0 (remove_text view name.now) out.new result }
 {
     let next = write_u8(out, 0, REMOVE_KIND);
     let next = write_u64(out, next, view);

@@ -1,6 +1,6 @@
 // The values that lists hold.
 ghost use Rattle.record_codec.specs.Spelling.{content_field, local_field};
-ghost use Rattle.record_codec.specs.Values.{IsContent, IsLocal};
+ghost use Rattle.record_codec.specs.Values.{IsEncodableContent, IsEncodableLocal};
 
 use crate::lengths::{content_length, local_length};
 use crate::view_writing::{write_content, write_local};
@@ -15,7 +15,7 @@ impl Item for ContentField {
 
     ghost field = { content_field };
 
-    ghost fits = { IsContent };
+    ghost fits = { IsEncodableContent };
 
     fn item_length(value: &Content) -> u64 {
         content_length(value)
@@ -34,7 +34,7 @@ impl Item for LocalField {
 
     ghost field = { local_field };
 
-    ghost fits = { IsLocal };
+    ghost fits = { IsEncodableLocal };
 
     fn item_length(value: &LocalFile) -> u64 {
         local_length(value)

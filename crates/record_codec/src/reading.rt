@@ -1,7 +1,7 @@
 // Reading changes, from the left.
 ghost use Rattle.std.specs.Prelude.{◌≡◌, ◌≤◌, false, length, Ok, IfOk, IfErr};
 ghost use Rattle.store_state.specs.declared.change.Change.{Change};
-ghost use Rattle.record_fields.specs.Reading.{Gives, IsBad, IsWithin};
+ghost use Rattle.record_fields.specs.Reading.{Gives, IsBad, IsFaultWithin};
 ghost use Rattle.record_codec.specs.Codec.{change_text, IsChange};
 ghost use Rattle.record_codec.specs.Changes.{boot_at, require_at, install_at, heard_at, unheard_at, skip_at, rollback_at, launch_at, finish_at, group_at, put_at, remove_at, change_at, change_of, takes_memory};
 
@@ -34,7 +34,7 @@ fn read_boot(bytes: &[u8], place: usize) -> Result<(Change, usize), CodecFault>
     requires { place ≤ length bytes.now }
     ensures exact { Gives result (boot_at bytes.now place) }
     ensures next { IfOk result (λ x. x.1 ≤ length bytes.now) }
-    ensures fault { IfErr result (IsWithin (length bytes.now)) }
+    ensures fault { IfErr result (IsFaultWithin (length bytes.now)) }
     ensures free { IfErr result IsBad }
 {
     let (boot, next) = read_u64(bytes, place)?;
@@ -47,7 +47,7 @@ fn read_require(alloc: Global, bytes: &[u8], place: usize) -> Result<(Change, us
     requires { place ≤ length bytes.now }
     ensures exact { Gives result (require_at bytes.now place) }
     ensures next { IfOk result (λ x. x.1 ≤ length bytes.now) }
-    ensures fault { IfErr result (IsWithin (length bytes.now)) }
+    ensures fault { IfErr result (IsFaultWithin (length bytes.now)) }
 {
     let (key, next) = read_key(alloc, bytes, place)?;
     let (version, next) = read_version(bytes, next)?;
@@ -61,7 +61,7 @@ fn read_install(alloc: Global, bytes: &[u8], place: usize) -> Result<(Change, us
     requires { place ≤ length bytes.now }
     ensures exact { Gives result (install_at bytes.now place) }
     ensures next { IfOk result (λ x. x.1 ≤ length bytes.now) }
-    ensures fault { IfErr result (IsWithin (length bytes.now)) }
+    ensures fault { IfErr result (IsFaultWithin (length bytes.now)) }
 {
     let (view, next) = view_here(alloc, bytes, place)?;
     let (contents, next) = match read_list::<ContentField>(alloc, bytes, next, FILE_COUNT_LIMIT) {
@@ -100,7 +100,7 @@ fn read_heard(alloc: Global, bytes: &[u8], place: usize) -> Result<(Change, usiz
     requires { place ≤ length bytes.now }
     ensures exact { Gives result (heard_at bytes.now place) }
     ensures next { IfOk result (λ x. x.1 ≤ length bytes.now) }
-    ensures fault { IfErr result (IsWithin (length bytes.now)) }
+    ensures fault { IfErr result (IsFaultWithin (length bytes.now)) }
 {
     let (key, next) = read_key(alloc, bytes, place)?;
     let (version, next) = read_version(bytes, next)?;
@@ -121,7 +121,7 @@ fn read_unheard(alloc: Global, bytes: &[u8], place: usize) -> Result<(Change, us
     requires { place ≤ length bytes.now }
     ensures exact { Gives result (unheard_at bytes.now place) }
     ensures next { IfOk result (λ x. x.1 ≤ length bytes.now) }
-    ensures fault { IfErr result (IsWithin (length bytes.now)) }
+    ensures fault { IfErr result (IsFaultWithin (length bytes.now)) }
 {
     let (key, next) = read_key(alloc, bytes, place)?;
     Ok((Change::Unheard { key }, next))
@@ -133,7 +133,7 @@ fn read_skip(bytes: &[u8], place: usize) -> Result<(Change, usize), CodecFault>
     requires { place ≤ length bytes.now }
     ensures exact { Gives result (skip_at bytes.now place) }
     ensures next { IfOk result (λ x. x.1 ≤ length bytes.now) }
-    ensures fault { IfErr result (IsWithin (length bytes.now)) }
+    ensures fault { IfErr result (IsFaultWithin (length bytes.now)) }
     ensures free { IfErr result IsBad }
 {
     let (app, next) = read_u32(bytes, place)?;
@@ -146,7 +146,7 @@ fn read_rollback(bytes: &[u8], place: usize) -> Result<(Change, usize), CodecFau
     requires { place ≤ length bytes.now }
     ensures exact { Gives result (rollback_at bytes.now place) }
     ensures next { IfOk result (λ x. x.1 ≤ length bytes.now) }
-    ensures fault { IfErr result (IsWithin (length bytes.now)) }
+    ensures fault { IfErr result (IsFaultWithin (length bytes.now)) }
     ensures free { IfErr result IsBad }
 {
     let (app, next) = read_u32(bytes, place)?;
@@ -159,7 +159,7 @@ fn read_launch(bytes: &[u8], place: usize) -> Result<(Change, usize), CodecFault
     requires { place ≤ length bytes.now }
     ensures exact { Gives result (launch_at bytes.now place) }
     ensures next { IfOk result (λ x. x.1 ≤ length bytes.now) }
-    ensures fault { IfErr result (IsWithin (length bytes.now)) }
+    ensures fault { IfErr result (IsFaultWithin (length bytes.now)) }
     ensures free { IfErr result IsBad }
 {
     let (app, next) = read_u32(bytes, place)?;
@@ -172,7 +172,7 @@ fn read_finish(bytes: &[u8], place: usize) -> Result<(Change, usize), CodecFault
     requires { place ≤ length bytes.now }
     ensures exact { Gives result (finish_at bytes.now place) }
     ensures next { IfOk result (λ x. x.1 ≤ length bytes.now) }
-    ensures fault { IfErr result (IsWithin (length bytes.now)) }
+    ensures fault { IfErr result (IsFaultWithin (length bytes.now)) }
     ensures free { IfErr result IsBad }
 {
     let (lease, next) = read_u64(bytes, place)?;
@@ -185,7 +185,7 @@ fn read_group(alloc: Global, bytes: &[u8], place: usize) -> Result<(Change, usiz
     requires { place ≤ length bytes.now }
     ensures exact { Gives result (group_at bytes.now place) }
     ensures next { IfOk result (λ x. x.1 ≤ length bytes.now) }
-    ensures fault { IfErr result (IsWithin (length bytes.now)) }
+    ensures fault { IfErr result (IsFaultWithin (length bytes.now)) }
 {
     let (view, next) = read_u64(bytes, place)?;
     let (group, next) = read_text(alloc, bytes, next, NAME_LIMIT)?;
@@ -204,7 +204,7 @@ fn read_put(alloc: Global, bytes: &[u8], place: usize) -> Result<(Change, usize)
     requires { place ≤ length bytes.now }
     ensures exact { Gives result (put_at bytes.now place) }
     ensures next { IfOk result (λ x. x.1 ≤ length bytes.now) }
-    ensures fault { IfErr result (IsWithin (length bytes.now)) }
+    ensures fault { IfErr result (IsFaultWithin (length bytes.now)) }
 {
     let (view, next) = read_u64(bytes, place)?;
     let (file, next) = LocalField::read_here(alloc, bytes, next)?;
@@ -217,7 +217,7 @@ fn read_remove(alloc: Global, bytes: &[u8], place: usize) -> Result<(Change, usi
     requires { place ≤ length bytes.now }
     ensures exact { Gives result (remove_at bytes.now place) }
     ensures next { IfOk result (λ x. x.1 ≤ length bytes.now) }
-    ensures fault { IfErr result (IsWithin (length bytes.now)) }
+    ensures fault { IfErr result (IsFaultWithin (length bytes.now)) }
 {
     let (view, next) = read_u64(bytes, place)?;
     let (name, next) = read_name(alloc, bytes, next)?;
@@ -229,7 +229,7 @@ fn read_remove(alloc: Global, bytes: &[u8], place: usize) -> Result<(Change, usi
 fn read_change(alloc: Global, bytes: &[u8]) -> Result<(Change, usize), CodecFault>
     ensures exact { Gives result (change_at bytes.now) }
     ensures next { IfOk result (λ x. x.1 ≤ length bytes.now) }
-    ensures fault { IfErr result (IsWithin (length bytes.now)) }
+    ensures fault { IfErr result (IsFaultWithin (length bytes.now)) }
     ensures free { takes_memory bytes.now ≡ false → IfErr result IsBad }
 {
     match bytes {
@@ -254,7 +254,7 @@ fn read_change(alloc: Global, bytes: &[u8]) -> Result<(Change, usize), CodecFaul
 #[tactic(auto, unfolding(crate::specs::Changes::change_of))]
 fn read_all(alloc: Global, bytes: &[u8]) -> Result<Change, CodecFault>
     ensures exact { Gives result (change_of bytes.now) }
-    ensures fault { IfErr result (IsWithin (length bytes.now)) }
+    ensures fault { IfErr result (IsFaultWithin (length bytes.now)) }
     ensures free { takes_memory bytes.now ≡ false → IfErr result IsBad }
 {
     let (change, next) = read_change(alloc, bytes)?;
@@ -273,7 +273,7 @@ pub fn decode_change(alloc: Global, bytes: &[u8]) -> Result<Change, CodecFault>
     ensures found { IfOk result (λ c. IsChange c × (bytes.now ≡ change_text c)) }
     ensures only { (c : Change) → IsChange c → bytes.now ≡ change_text c → Gives result (Ok c) }
     ensures exact { Gives result (change_of bytes.now) }
-    ensures fault { IfErr result (IsWithin (length bytes.now)) }
+    ensures fault { IfErr result (IsFaultWithin (length bytes.now)) }
     ensures free { takes_memory bytes.now ≡ false → IfErr result IsBad }
 {
     read_all(alloc, bytes)

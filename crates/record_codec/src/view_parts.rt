@@ -5,9 +5,9 @@ ghost use Rattle.store_state.specs.declared.view.Content.{Content};
 ghost use Rattle.store_state.specs.declared.view.LocalFile.{LocalFile};
 ghost use Rattle.store_state.specs.declared.view.View.{View};
 ghost use Rattle.record_fields.specs.Places.{Stands};
-ghost use Rattle.record_fields.specs.Reading.{Gives, IsWithin};
+ghost use Rattle.record_fields.specs.Reading.{Gives, IsFaultWithin};
 ghost use Rattle.record_codec.specs.Spelling.{content_field, local_field, view_field};
-ghost use Rattle.record_codec.specs.Values.{IsContent, IsLocal, IsView};
+ghost use Rattle.record_codec.specs.Values.{IsEncodableContent, IsEncodableLocal, IsEncodableView};
 ghost use Rattle.record_codec.specs.Records.{content_at, local_at, view_at};
 
 use crate::item_values::{ContentField, LocalField};
@@ -25,12 +25,12 @@ pub fn read_content(
 ) -> Result<(Content, usize), CodecFault>
     requires { place ≤ length bytes.now }
     ensures found { IfOk result (λ x. Stands bytes.now place (content_field x.0) x.1
-        × IsContent x.0) }
-    ensures only { (x : Content) (next : ℕ) → IsContent x
+        × IsEncodableContent x.0) }
+    ensures only { (x : Content) (next : ℕ) → IsEncodableContent x
         → Stands bytes.now place (content_field x) next → Gives result (Ok (x, next)) }
     ensures exact { Gives result (content_at bytes.now place) }
     ensures next { IfOk result (λ x. x.1 ≤ length bytes.now) }
-    ensures fault { IfErr result (IsWithin (length bytes.now)) }
+    ensures fault { IfErr result (IsFaultWithin (length bytes.now)) }
 {
     ContentField::read_here(alloc, bytes, place)
 }
@@ -44,12 +44,12 @@ pub fn read_local(
 ) -> Result<(LocalFile, usize), CodecFault>
     requires { place ≤ length bytes.now }
     ensures found { IfOk result (λ x. Stands bytes.now place (local_field x.0) x.1
-        × IsLocal x.0) }
-    ensures only { (x : LocalFile) (next : ℕ) → IsLocal x
+        × IsEncodableLocal x.0) }
+    ensures only { (x : LocalFile) (next : ℕ) → IsEncodableLocal x
         → Stands bytes.now place (local_field x) next → Gives result (Ok (x, next)) }
     ensures exact { Gives result (local_at bytes.now place) }
     ensures next { IfOk result (λ x. x.1 ≤ length bytes.now) }
-    ensures fault { IfErr result (IsWithin (length bytes.now)) }
+    ensures fault { IfErr result (IsFaultWithin (length bytes.now)) }
 {
     LocalField::read_here(alloc, bytes, place)
 }
@@ -59,12 +59,12 @@ pub fn read_local(
 pub fn read_view(alloc: Global, bytes: &[u8], place: usize) -> Result<(View, usize), CodecFault>
     requires { place ≤ length bytes.now }
     ensures found { IfOk result (λ x. Stands bytes.now place (view_field x.0) x.1
-        × IsView x.0) }
-    ensures only { (x : View) (next : ℕ) → IsView x
+        × IsEncodableView x.0) }
+    ensures only { (x : View) (next : ℕ) → IsEncodableView x
         → Stands bytes.now place (view_field x) next → Gives result (Ok (x, next)) }
     ensures exact { Gives result (view_at bytes.now place) }
     ensures next { IfOk result (λ x. x.1 ≤ length bytes.now) }
-    ensures fault { IfErr result (IsWithin (length bytes.now)) }
+    ensures fault { IfErr result (IsFaultWithin (length bytes.now)) }
 {
     view_here(alloc, bytes, place)
 }

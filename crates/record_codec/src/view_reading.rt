@@ -1,6 +1,6 @@
 // Reading views and their files, from the left.
 ghost use Rattle.std.specs.Prelude.{◌≤◌, length, IfOk, IfErr};
-ghost use Rattle.record_fields.specs.Reading.{Gives, IsWithin};
+ghost use Rattle.record_fields.specs.Reading.{Gives, IsFaultWithin};
 ghost use Rattle.record_codec.specs.Records.{view_at};
 
 use crate::item_values::{ContentField, LocalField};
@@ -19,11 +19,11 @@ impl Readable for ContentField {
 
     ghost use Rattle.record_codec.specs.Records.{content_at};
     ghost use Rattle.record_codec.specs.Spelling.{content_field};
-    ghost use Rattle.record_codec.specs.Values.{IsContent};
+    ghost use Rattle.record_codec.specs.Values.{IsEncodableContent};
 
     ghost field = { content_field };
 
-    ghost fits = { IsContent };
+    ghost fits = { IsEncodableContent };
 
     ghost at = { content_at };
 
@@ -48,11 +48,11 @@ impl Readable for LocalField {
 
     ghost use Rattle.record_codec.specs.Records.{local_at};
     ghost use Rattle.record_codec.specs.Spelling.{local_field};
-    ghost use Rattle.record_codec.specs.Values.{IsLocal};
+    ghost use Rattle.record_codec.specs.Values.{IsEncodableLocal};
 
     ghost field = { local_field };
 
-    ghost fits = { IsLocal };
+    ghost fits = { IsEncodableLocal };
 
     ghost at = { local_at };
 
@@ -82,7 +82,7 @@ pub(crate) fn view_here(
     requires { place ≤ length bytes.now }
     ensures exact { Gives result (view_at bytes.now place) }
     ensures next { IfOk result (λ x. x.1 ≤ length bytes.now) }
-    ensures fault { IfErr result (IsWithin (length bytes.now)) }
+    ensures fault { IfErr result (IsFaultWithin (length bytes.now)) }
 {
     let (number, next) = read_u64(bytes, place)?;
     let (deployment, next) = read_deployment(alloc, bytes, next)?;

@@ -1,8 +1,8 @@
 // Writing views and their files.
 ghost use Rattle.std.specs.Prelude.{◌≡◌, ◌+◌, ◌<◌, ◌≤◌, ◌^◌, length};
-ghost use Rattle.record_fields.specs.Places.{Writes};
+ghost use Rattle.record_fields.specs.Places.{WritesField};
 ghost use Rattle.record_codec.specs.Spelling.{content_field, local_field, view_field};
-ghost use Rattle.record_codec.specs.Values.{IsContent, IsLocal, IsView};
+ghost use Rattle.record_codec.specs.Values.{IsEncodableContent, IsEncodableLocal, IsEncodableView};
 
 use crate::item_values::LocalField;
 use record_fields::{
@@ -11,38 +11,38 @@ use record_fields::{
 };
 use store_state::{Content, LocalFile, View};
 
-/// Writes the content at the place, its length, its digests and its bytes, and answers the place
+/// WritesField the content at the place, its length, its digests and its bytes, and answers the place
 /// behind it.
 #[tactic(auto, using(record_fields::proofs::Long::lengths), unfolding(crate::specs::Spelling::content_field))]
 pub fn write_content(out: &mut [u8], place: usize, content: &Content) -> usize
-    requires content { IsContent content.now }
+    requires content { IsEncodableContent content.now }
     requires room { place + length (content_field content.now) ≤ length out.old }
-    ensures { Writes out.old place (content_field content.now) out.new result }
+    ensures { WritesField out.old place (content_field content.now) out.new result }
 {
     let next = write_u64(out, place, content.size);
     let next = write_digests(out, next, &content.list);
     write_bytes(out, next, content.held.as_slice())
 }
 
-/// Writes the data file at the place, its name, its length and its bytes, and answers the place
+/// WritesField the data file at the place, its name, its length and its bytes, and answers the place
 /// behind it.
 #[tactic(auto, using(record_fields::proofs::Long::lengths), unfolding(crate::specs::Spelling::local_field))]
 pub fn write_local(out: &mut [u8], place: usize, local: &LocalFile) -> usize
-    requires local { IsLocal local.now }
+    requires local { IsEncodableLocal local.now }
     requires room { place + length (local_field local.now) ≤ length out.old }
-    ensures { Writes out.old place (local_field local.now) out.new result }
+    ensures { WritesField out.old place (local_field local.now) out.new result }
 {
     let next = write_name(out, place, &local.name);
     let next = write_u64(out, next, local.length);
     write_bytes(out, next, local.held.as_slice())
 }
 
-/// Writes the view at the place, its fields in their order, and answers the place behind it.
+/// WritesField the view at the place, its fields in their order, and answers the place behind it.
 #[tactic(auto, using(record_fields::proofs::Long::lengths), unfolding(crate::specs::Spelling::view_field))]
 pub fn write_view(out: &mut [u8], place: usize, view: &View) -> usize
-    requires view { IsView view.now }
+    requires view { IsEncodableView view.now }
     requires room { place + length (view_field view.now) ≤ length out.old }
-    ensures { Writes out.old place (view_field view.now) out.new result }
+    ensures { WritesField out.old place (view_field view.now) out.new result }
 {
     let next = write_u64(out, place, view.number);
     let next = write_deployment(out, next, &view.deployment);

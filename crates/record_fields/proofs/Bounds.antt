@@ -22,7 +22,7 @@ use Rattle.small_types.specs.Short.{IsShort, IsTarget}
 use Rattle.identity.specs.Key.{IsShortKey}
 use Rattle.record_fields.specs.Fields.{text_field, key_field, version_field}
 use Rattle.record_fields.specs.Spelling.{application_field, deployment_field, digest_field, entry_field, identity_field, list_field, listed_field, option_field, rule_field, target_field, terms_field, truth_field}
-use Rattle.record_fields.specs.Values.{AreDigests, IsApplication, IsDeployment, IsEntry, IsIdentity}
+use Rattle.record_fields.specs.Values.{AreDigests, IsEncodableApplication, IsEncodableDeployment, IsEncodableEntry, IsEncodableIdentity}
 use Rattle.record_fields.proofs.Long.{length-text_field, length-list_field, length-key_field, length-version_field, length-truth_field}
 use Rattle.record_fields.proofs.Sizes.{digest_le, name_le}
 
@@ -73,7 +73,7 @@ target_le t is =
       length-append (to_be_bytes w16 t.port) (text_field t.path),
     )
 
-pub identity_le : (i : Identity) → IsIdentity i → length (identity_field i) ≤ 524
+pub identity_le : (i : Identity) → IsEncodableIdentity i → length (identity_field i) ≤ 524
 unfolding identity_field
 identity_le i is =
     omega (
@@ -104,7 +104,7 @@ named_le name is = omega (arith, name_le name is, length-text_field name)
 
 -- ---- manifests
 
-pub entry_le : (e : FileEntry) → IsEntry e → length (entry_field e) ≤ 1054
+pub entry_le : (e : FileEntry) → IsEncodableEntry e → length (entry_field e) ≤ 1054
 unfolding entry_field
 entry_le e is =
     let a = text_field e.name in
@@ -128,7 +128,7 @@ entry_le e is =
 pub version_le : (v : Version) → length (version_field v) ≤ 8
 version_le v = omega (arith, length-version_field v)
 
-terms_le : (d : Deployment) → IsDeployment d → length (terms_field d) ≤ 2597
+terms_le : (d : Deployment) → IsEncodableDeployment d → length (terms_field d) ≤ 2597
 unfolding terms_field
 terms_le d is =
     let i = identity_field d.identity in
@@ -152,7 +152,7 @@ terms_le d is =
       length-append r p,
     )
 
-listed_le : (d : Deployment) → IsDeployment d → length (listed_field d) ≤ 3140
+listed_le : (d : Deployment) → IsEncodableDeployment d → length (listed_field d) ≤ 3140
 unfolding listed_field
 listed_le d is =
     let c = text_field d.codebase in
@@ -169,12 +169,12 @@ listed_le d is =
       length-append s l,
     )
 
-pub deployment_le : (d : Deployment) → IsDeployment d → length (deployment_field d) ≤ 5737
+pub deployment_le : (d : Deployment) → IsEncodableDeployment d → length (deployment_field d) ≤ 5737
 unfolding deployment_field
 deployment_le d is =
     omega (arith, terms_le d is, listed_le d is, length-append (terms_field d) (listed_field d))
 
-pub application_le : (a : Application) → IsApplication a → length (application_field a) ≤ 17271560
+pub application_le : (a : Application) → IsEncodableApplication a → length (application_field a) ≤ 17271560
 unfolding application_field
 application_le a is =
     let i = identity_field a.identity in
@@ -186,7 +186,7 @@ application_le a is =
       identity_le a.identity is.identity,
       text_le NAME_LIMIT a.entry is.entry,
       text_le URL_LIMIT a.parameters is.parameters,
-      list_le entry_field IsEntry 1054 FILE_COUNT_LIMIT a.files entry_le is.few is.files,
+      list_le entry_field IsEncodableEntry 1054 FILE_COUNT_LIMIT a.files entry_le is.few is.files,
       length-append i (e ++ (p ++ f)),
       length-append e (p ++ f),
       length-append p f,

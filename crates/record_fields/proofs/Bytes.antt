@@ -14,9 +14,9 @@ use Rattle.record_fields.specs.declared.fault.CodecFault.TheVariants.{Bad}
 use Rattle.record_fields.specs.Fields.{text_field}
 use Rattle.record_fields.specs.Places.{Stands}
 use Rattle.record_fields.specs.Reading.{number_at}
-use Rattle.record_fields.specs.Values.{IsCounted}
+use Rattle.record_fields.specs.Values.{IsEncodableLength}
 use Rattle.record_fields.specs.Parts.{span_of, span_at, part_of, bytes_at, name_of, name_at, value_of, value_at}
-use Rattle.record_fields.specs.Reads.{Reads}
+use Rattle.record_fields.specs.Reads.{ReadsField}
 use Rattle.record_fields.proofs.Fields.{Stands-then, Stands-first, Stands-second, bind_ok, ok_is, passed_test, split, wide32, number_takes, number_again}
 use Rattle.record_fields.proofs.Together.{same_values}
 
@@ -57,7 +57,7 @@ part_again bytes text start next stands =
     let size : next - start ≡ length text = omega arith in
     rw size (ap (take (length text)) stands.parts ∙ take_at text (drop next bytes) (length text) refl)
 
-pub any_bytes_reads : (limit : ℕ) → Reads (IsCounted limit) text_field (bytes_at limit)
+pub any_bytes_reads : (limit : ℕ) → ReadsField (IsEncodableLength limit) text_field (bytes_at limit)
 unfolding bytes_at span_at text_field
 any_bytes_reads limit = record {
   takes = λ bytes place x fits within e.
@@ -70,7 +70,7 @@ any_bytes_reads limit = record {
       let number : Stands bytes place (to_be_bytes w32 (length text)) size.0.1 = rw second.long first.0 in
       let whole : List ℕ × ℕ = (text, span.0.1) in
       let small : length text < 2 ^ 32 = rw second.long first.1 in
-      subst (λ (y : List ℕ × ℕ). Stands bytes place (to_be_bytes w32 (length y.0) ++ y.0) y.1 × IsCounted limit y.0) (ok_is whole x span.2)
+      subst (λ (y : List ℕ × ℕ). Stands bytes place (to_be_bytes w32 (length y.0) ++ y.0) y.1 × IsEncodableLength limit y.0) (ok_is whole x span.2)
       (Stands-then bytes (to_be_bytes w32 (length text)) text place size.0.1 span.0.1 number second.stands, (second.most, small));
   again = λ bytes place text next is stands.
       let size = to_be_bytes w32 (length text) in
@@ -82,7 +82,7 @@ any_bytes_reads limit = record {
       ∙ ap (λ (t : List ℕ). Ok (t, next)) (part_again bytes text (place + length size) next behind);
 }
 
-pub bytes_reads : (limit : ℕ) → limit < 2 ^ 32 → Reads (λ (text : List ℕ). length text ≤ limit) text_field (bytes_at limit)
+pub bytes_reads : (limit : ℕ) → limit < 2 ^ 32 → ReadsField (λ (text : List ℕ). length text ≤ limit) text_field (bytes_at limit)
 bytes_reads limit small = same_values (λ (text : List ℕ). length text ≤ limit) (any_bytes_reads limit) (λ text is. is.0) (λ text most. (most, omega arith))
 
 -- ---- names
@@ -96,7 +96,7 @@ name_is_short text is =
     let size = and_parts (nat_lt 0 (length text)) (nat_le (length text) NAME_LIMIT) each.0 in
     leb-true _ _ size.1
 
-pub name_reads : Reads IsName text_field name_at
+pub name_reads : ReadsField IsName text_field name_at
 unfolding name_at
 name_reads = record {
   takes = λ bytes place x fits within e.
@@ -114,7 +114,7 @@ name_reads = record {
 
 -- ---- bytes of one length
 
-pub value_reads : (size : ℕ) → size < 2 ^ 32 → Reads (λ (value : List ℕ). length value ≡ size) text_field (value_at size)
+pub value_reads : (size : ℕ) → size < 2 ^ 32 → ReadsField (λ (value : List ℕ). length value ≡ size) text_field (value_at size)
 unfolding value_at
 value_reads size small = record {
   takes = λ bytes place x fits within e.

@@ -16,7 +16,7 @@ use Rattle.record_fields.specs.Places.{Stands}
 use Rattle.record_fields.specs.Parts.{byte_at, algorithm_of, algorithm_at, value_at, digest_at, list_at, digests_of, digests_at}
 use Rattle.record_fields.specs.Spelling.{algorithm_number, digest_field, list_field}
 use Rattle.record_fields.specs.Values.{AreDigests}
-use Rattle.record_fields.specs.Reads.{Reads}
+use Rattle.record_fields.specs.Reads.{ReadsField}
 use Rattle.record_fields.proofs.Fields.{bind_ok, ok_is, passed_test}
 use Rattle.record_fields.proofs.Forms.{by_number, byte_reads}
 use Rattle.record_fields.proofs.Bytes.{value_reads}
@@ -49,7 +49,7 @@ algorithm_back place Sha256 next = refl
 algorithm_back place Sha384 next = refl
 algorithm_back place Sha512 next = refl
 
-algorithm_reads : Reads (λ (x : Algorithm). Unit {0}) algorithm_field algorithm_at
+algorithm_reads : ReadsField (λ (x : Algorithm). Unit {0}) algorithm_field algorithm_at
 unfolding algorithm_at
 algorithm_reads = record {
   takes = λ bytes place x fits within e.
@@ -69,7 +69,7 @@ size_is_small Sha256 = omega arith
 size_is_small Sha384 = omega arith
 size_is_small Sha512 = omega arith
 
-pub digest_reads : Reads IsSized digest_field digest_at
+pub digest_reads : ReadsField IsSized digest_field digest_at
 unfolding digest_at digest_field
 digest_reads = same_values IsSized (
     first {X = Digest} algorithm_reads (λ x. x.algorithm) (λ a0 x. ((length x.value ≡ size_of a0) × (x ≡ record { algorithm = a0; value = x.value }))) (λ x. text_field x.value) (λ a0 bytes place. value_at (size_of a0) bytes place >>= λ p1. Ok (record { algorithm = a0; value = p1.0 }, p1.1)) (λ a0 x is. ap (λ (y : Digest). y.algorithm) is.1) (λ a0.
@@ -78,7 +78,7 @@ digest_reads = same_values IsSized (
     (λ x is. (tt, (is, refl)))
 
 -- 1 to 8 of them
-pub digests_reads : Reads AreDigests (list_field digest_field) digests_at
+pub digests_reads : ReadsField AreDigests (list_field digest_field) digests_at
 unfolding digests_at
 digests_reads = record {
   takes = λ bytes place x fits within e.

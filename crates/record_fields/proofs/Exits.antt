@@ -4,7 +4,7 @@ use Rattle.std.specs.Prelude.{IfErr, IsErr, IsErrAnd}
 use Rattle.small_types.specs.Reading.{◌>>=◌}
 use Rattle.record_fields.specs.declared.fault.CodecFault.{CodecFault}
 use Rattle.record_fields.specs.declared.fault.CodecFault.TheVariants.{Bad, Memory}
-use Rattle.record_fields.specs.Reading.{Fails, Gives, IsWithin}
+use Rattle.record_fields.specs.Reading.{Fails, Gives, IsFaultWithin}
 
 -- the field that cannot be read
 pub fails_here : {A B : Type 0} (r : Result A CodecFault) (f : A → Result B CodecFault) (e : CodecFault) → Fails e r → Fails e (r >>= f)
@@ -25,6 +25,6 @@ pub exit_gives : {X : Type 0} (r : Result X CodecFault) (e : CodecFault) (read :
 exit_gives (Ok x) e read is fails = absurd (let no = is.0 in cc)
 exit_gives (Err d) e read is fails = subst (λ (f : CodecFault). Fails f read) (sym is.1) fails
 
-pub exit_within : {X : Type 0} (r : Result X CodecFault) (e : CodecFault) (n : ℕ) → IsFault r e → IsWithin n e → IfErr r (IsWithin n)
+pub exit_within : {X : Type 0} (r : Result X CodecFault) (e : CodecFault) (n : ℕ) → IsFault r e → IsFaultWithin n e → IfErr r (IsFaultWithin n)
 exit_within (Ok x) e n is within = absurd (let no = is.0 in cc)
-exit_within (Err d) e n is within = subst (IsWithin n) (sym is.1) within
+exit_within (Err d) e n is within = subst (IsFaultWithin n) (sym is.1) within

@@ -8,7 +8,7 @@ use Rattle.record_fields.specs.declared.numbers.TheConstants.{FALSE_BYTE, TRUE_B
 use Rattle.record_fields.specs.Places.{Stands}
 use Rattle.record_fields.specs.Parts.{byte_at, truth_of, truth_at}
 use Rattle.record_fields.specs.Spelling.{truth_field}
-use Rattle.record_fields.specs.Reads.{Reads}
+use Rattle.record_fields.specs.Reads.{ReadsField}
 use Rattle.record_fields.proofs.Fields.{bind_ok, ok_is, passed_test}
 
 -- ---- a byte
@@ -23,7 +23,7 @@ byte_parts bytes place within =
     let next : suc place ≡ place + 1 = omega arith in
     byte_behind bytes place within ∙ ap (λ (n : ℕ). get_or bytes place 0 ∷ drop n bytes) next
 
-pub byte_reads : Reads (λ b. b < 256) (λ b. b ∷ []) byte_at
+pub byte_reads : ReadsField (λ b. b < 256) (λ b. b ∷ []) byte_at
 unfolding byte_at
 byte_reads = record {
   takes = λ bytes place x fits within e.
@@ -66,7 +66,7 @@ unfolding truth_at
 truth_again bytes place false next stands = ap (λ (r : Result (ℕ × ℕ) CodecFault). (r >>= λ byte. truth_of place byte.0 byte.1)) (byte_reads.again bytes place FALSE_BYTE next (omega arith) stands)
 truth_again bytes place true next stands = ap (λ (r : Result (ℕ × ℕ) CodecFault). (r >>= λ byte. truth_of place byte.0 byte.1)) (byte_reads.again bytes place TRUE_BYTE next (omega arith) stands)
 
-pub truth_reads : Reads (λ x. Unit {0}) truth_field truth_at
+pub truth_reads : ReadsField (λ x. Unit {0}) truth_field truth_at
 unfolding truth_at
 truth_reads = record {
   takes = λ bytes place x fits within e.

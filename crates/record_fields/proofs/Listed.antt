@@ -1,7 +1,7 @@
 -- Items that are written one behind another.
 use Rattle.std.proofs.Common.{◌≡◌, ℕ, zero, suc, ◌+◌, ◌<◌, ◌≤◌, List, [], ◌∷◌, ◌++◌, length, get_or, drop, flat_map, refl, sym, ap, ◌∙◌, arith}
 use Rattle.std.proofs.lemmas.List.{drop_all, length-append}
-use Rattle.record_fields.specs.Places.{Writes}
+use Rattle.record_fields.specs.Places.{WritesField}
 use Rattle.record_fields.proofs.Written.{then, nothing, length-Writes}
 
 cons_left : {A : Type 0} (xs : List A) (i : ℕ) (x : A) → i < length xs
@@ -27,7 +27,7 @@ module _ {A : Type 0} (f : A → List ℕ) (xs : List A) (i : ℕ) (x : A)
   pub length-left : length (left f xs i) ≡ length (f x) + length (left f xs (i + 1))
   length-left = ap (length {A = ℕ}) left-parts ∙ length-append (f x) (left f xs (i + 1))
 
-  module _ {out new : List ℕ} {place next : ℕ} (wrote : Writes out place (f x) new next) where
+  module _ {out new : List ℕ} {place next : ℕ} (wrote : WritesField out place (f x) new next) where
     pub room_after : place + length (left f xs i) ≤ length out
         → next + length (left f xs (i + 1)) ≤ length new
     room_after room =
@@ -36,14 +36,14 @@ module _ {A : Type 0} (f : A → List ℕ) (xs : List A) (i : ℕ) (x : A)
         let parts = length-left in
         omega arith
 
-    pub rest_after : {last : ℕ} {after : List ℕ} → Writes new next (left f xs (i + 1)) after last
-        → Writes out place (left f xs i) after last
+    pub rest_after : {last : ℕ} {after : List ℕ} → WritesField new next (left f xs (i + 1)) after last
+        → WritesField out place (left f xs i) after last
     rest_after rest = rw left-parts (then wrote rest)
 
 -- nothing is left behind the last item
 pub none_after : {A : Type 0} (f : A → List ℕ) (xs : List A) (i place : ℕ) (out : List ℕ)
     → length xs ≤ i → place + length (left f xs i) ≤ length out
-    → Writes out place (left f xs i) out place
+    → WritesField out place (left f xs i) out place
 none_after f xs i place out past room =
     let none : left f xs i ≡ [] = ap (flat_map f) (drop_all i xs past) in
     rw none (nothing out place (omega arith))

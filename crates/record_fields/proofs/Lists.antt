@@ -11,9 +11,9 @@ use Rattle.record_fields.specs.declared.numbers.TheConstants.{TRUE_BYTE}
 use Rattle.record_fields.specs.Places.{Stands}
 use Rattle.record_fields.specs.Reading.{number_at}
 use Rattle.record_fields.specs.Parts.{Reader, truth_at, option_of, option_at, items_at, list_of, list_at}
-use Rattle.record_fields.specs.Values.{IsCounted}
+use Rattle.record_fields.specs.Values.{IsEncodableLength}
 use Rattle.record_fields.specs.Spelling.{truth_field, option_field, list_field}
-use Rattle.record_fields.specs.Reads.{IsBytes, Reads}
+use Rattle.record_fields.specs.Reads.{IsBytes, ReadsField}
 use Rattle.record_fields.proofs.Fields.{Stands-then, Stands-first, Stands-second, bind_ok, ok_is, wide32, number_takes, number_again}
 use Rattle.record_fields.proofs.Forms.{truth_reads}
 use Rattle.record_fields.proofs.Together.{same_values}
@@ -23,7 +23,7 @@ passed_step : {A : Type 0} (b : Bool) (d : CodecFault) (r : Result A CodecFault)
 passed_step true d r y e = (refl, e)
 passed_step false d r y e = absurd cc
 
-module _ {X : Type 0} {Is : X → Type 0} {text : X → List ℕ} {at : Reader X} (reads : Reads Is text at) where
+module _ {X : Type 0} {Is : X → Type 0} {text : X → List ℕ} {at : Reader X} (reads : ReadsField Is text at) where
   -- ---- optional values
 
   option_made : (bytes : List ℕ) (place : ℕ) (b : Bool) (mid : ℕ) (x : Option X × ℕ) → IsBytes bytes → Stands bytes place (truth_field b) mid → option_of at b bytes mid ≡ Ok x → Stands bytes place (option_field text x.0) x.1 × IfSome x.0 Is
@@ -47,7 +47,7 @@ module _ {X : Type 0} {Is : X → Type 0} {text : X → List ℕ} {at : Reader X
       ap (λ (r : Result (Bool × ℕ) CodecFault). (r >>= λ there. option_of at there.0 bytes there.1)) there
       ∙ ap (λ (r : Result (X × ℕ) CodecFault). (r >>= λ a. Ok (Some a.0, a.1))) value
 
-  pub option_reads : Reads (λ (x : Option X). IfSome x Is) (option_field text) (option_at at)
+  pub option_reads : ReadsField (λ (x : Option X). IfSome x Is) (option_field text) (option_at at)
   unfolding option_at
   option_reads = record {
     takes = λ bytes place x fits within e.
@@ -91,7 +91,7 @@ module _ {X : Type 0} {Is : X → Type 0} {text : X → List ℕ} {at : Reader X
   -- ---- lists
 
   module _ (limit : ℕ) where
-    list_takes : (bytes : List ℕ) (place : ℕ) (x : List X × ℕ) → IsBytes bytes → place ≤ length bytes → list_at limit at bytes place ≡ Ok x → Stands bytes place (list_field text x.0) x.1 × (IsCounted limit x.0 × All Is x.0)
+    list_takes : (bytes : List ℕ) (place : ℕ) (x : List X × ℕ) → IsBytes bytes → place ≤ length bytes → list_at limit at bytes place ≡ Ok x → Stands bytes place (list_field text x.0) x.1 × (IsEncodableLength limit x.0 × All Is x.0)
     unfolding list_at list_field
     list_takes bytes place x fits within e =
         let count = bind_ok (number_at w32 bytes place) (λ count. list_of limit at place count.0 bytes count.1) x e in
@@ -104,7 +104,7 @@ module _ {X : Type 0} {Is : X → Type 0} {text : X → List ℕ} {at : Reader X
         let counted : length x.0 < 2 ^ 32 = rw t.1.1 n.1 in
         (Stands-then bytes (to_be_bytes w32 (length x.0)) (flat_map text x.0) place count.0.1 x.1 number t.0, ((few, counted), t.1.0))
 
-    list_again : (bytes : List ℕ) (place : ℕ) (xs : List X) (next : ℕ) → IsCounted limit xs × All Is xs → Stands bytes place (list_field text xs) next → list_at limit at bytes place ≡ Ok (xs, next)
+    list_again : (bytes : List ℕ) (place : ℕ) (xs : List X) (next : ℕ) → IsEncodableLength limit xs × All Is xs → Stands bytes place (list_field text xs) next → list_at limit at bytes place ≡ Ok (xs, next)
     unfolding list_at list_field
     list_again bytes place xs next is stands =
         let few = is.0.0 in
@@ -115,10 +115,10 @@ module _ {X : Type 0} {Is : X → Type 0} {text : X → List ℕ} {at : Reader X
         ap (λ (r : Result (ℕ × ℕ) CodecFault). (r >>= λ count. list_of limit at place count.0 bytes count.1)) first
         ∙ rw passes second
 
-    pub any_list_reads : Reads (λ (xs : List X). IsCounted limit xs × All Is xs) (list_field text) (list_at limit at)
+    pub any_list_reads : ReadsField (λ (xs : List X). IsEncodableLength limit xs × All Is xs) (list_field text) (list_at limit at)
     any_list_reads = record { takes = list_takes; again = list_again }
 
-    pub list_reads : limit < 2 ^ 32 → Reads (λ (xs : List X). (length xs ≤ limit) × All Is xs) (list_field text) (list_at limit at)
+    pub list_reads : limit < 2 ^ 32 → ReadsField (λ (xs : List X). (length xs ≤ limit) × All Is xs) (list_field text) (list_at limit at)
     list_reads small =
         same_values (λ (xs : List X). (length xs ≤ limit) × All Is xs) any_list_reads
         (λ xs is. (is.0.0, is.1)) (λ xs is. (let few = is.0 in ((is.0, omega arith), is.1)))

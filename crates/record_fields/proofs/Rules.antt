@@ -10,14 +10,14 @@ use Rattle.record_fields.specs.Places.{Stands}
 use Rattle.record_fields.specs.Reading.{number_at}
 use Rattle.record_fields.specs.Parts.{age_at, byte_at, rule_of, rule_at}
 use Rattle.record_fields.specs.Spelling.{rule_field}
-use Rattle.record_fields.specs.Values.{IsRule}
-use Rattle.record_fields.specs.Reads.{IsBytes, Reads}
+use Rattle.record_fields.specs.Values.{IsEncodableRule}
+use Rattle.record_fields.specs.Reads.{IsBytes, ReadsField}
 use Rattle.record_fields.proofs.Fields.{Stands-then, Stands-first, Stands-second, bind_ok, ok_is, wide64, number_takes, number_again}
 use Rattle.record_fields.proofs.Forms.{by_number, byte_reads}
 
 -- a rule that stands behind its number
 abbrev IsMade : List ℕ → ℕ → Rule × ℕ → Type 0
-IsMade bytes place x = Stands bytes place (rule_field x.0) x.1 × IsRule x.0
+IsMade bytes place x = Stands bytes place (rule_field x.0) x.1 × IsEncodableRule x.0
 
 age_made : (bytes : List ℕ) (place mid : ℕ) (x : Rule × ℕ) → age_at bytes mid ≡ Ok x → IsBytes bytes → Stands bytes place (AGE_RULE ∷ []) mid → IsMade bytes place x
 unfolding rule_field age_at
@@ -44,7 +44,7 @@ rule_made bytes place b mid x fits =
     (by_number AGE_RULE b _ _ x P (λ e stands. age_made bytes place mid x e fits stands)
     (λ none. absurd cc)))
 
-rule_again : (bytes : List ℕ) (place : ℕ) (x : Rule) (next : ℕ) → IsRule x → Stands bytes place (rule_field x) next → rule_at bytes place ≡ Ok (x, next)
+rule_again : (bytes : List ℕ) (place : ℕ) (x : Rule) (next : ℕ) → IsEncodableRule x → Stands bytes place (rule_field x) next → rule_at bytes place ≡ Ok (x, next)
 unfolding rule_at rule_field age_at
 rule_again bytes place Never next is stands = ap (λ (r : Result (ℕ × ℕ) CodecFault). (r >>= λ byte. rule_of place byte.0 bytes byte.1)) (byte_reads.again bytes place NEVER_RULE next (omega arith) stands)
 rule_again bytes place Before next is stands = ap (λ (r : Result (ℕ × ℕ) CodecFault). (r >>= λ byte. rule_of place byte.0 bytes byte.1)) (byte_reads.again bytes place BEFORE_RULE next (omega arith) stands)
@@ -52,7 +52,7 @@ rule_again bytes place (Age seconds) next is stands =
     ap (λ (r : Result (ℕ × ℕ) CodecFault). (r >>= λ byte. rule_of place byte.0 bytes byte.1)) (byte_reads.again bytes place AGE_RULE (place + 1) (omega arith) (Stands-first bytes (AGE_RULE ∷ []) (to_be_bytes w64 seconds) place next stands))
     ∙ ap (λ (r : Result (ℕ × ℕ) CodecFault). (r >>= λ v. Ok (Age v.0, v.1))) (number_again w64 (2 ^ 64) wide64 bytes (place + 1) seconds next is (Stands-second bytes (AGE_RULE ∷ []) (to_be_bytes w64 seconds) place next stands))
 
-pub rule_reads : Reads IsRule rule_field rule_at
+pub rule_reads : ReadsField IsEncodableRule rule_field rule_at
 unfolding rule_at
 rule_reads = record {
   takes = λ bytes place x fits within e.

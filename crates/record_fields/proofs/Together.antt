@@ -6,19 +6,19 @@ use Rattle.record_fields.specs.declared.fault.CodecFault.{CodecFault}
 use Rattle.record_fields.specs.Places.{Stands}
 use Rattle.record_fields.specs.Reading.{Gives}
 use Rattle.record_fields.specs.Parts.{Reader}
-use Rattle.record_fields.specs.Reads.{IsBytes, Reads}
+use Rattle.record_fields.specs.Reads.{IsBytes, ReadsField}
 use Rattle.record_fields.proofs.Fields.{Stands-then, Stands-first, Stands-second, bind_ok, ok_is}
 
 -- the same values, said otherwise
-pub same_values : {X : Type 0} {Is : X → Type 0} {text : X → List ℕ} {at : Reader X} (Other : X → Type 0) → Reads Is text at → ((x : X) → Is x → Other x) → ((x : X) → Other x → Is x) → Reads Other text at
+pub same_values : {X : Type 0} {Is : X → Type 0} {text : X → List ℕ} {at : Reader X} (Other : X → Type 0) → ReadsField Is text at → ((x : X) → Is x → Other x) → ((x : X) → Other x → Is x) → ReadsField Other text at
 same_values Other reads to from = record {
   takes = λ bytes place x fits within e. (let t = reads.takes bytes place x fits within e in (t.0, to x.0 t.1));
   again = λ bytes place x next is stands. reads.again bytes place x next (from x is) stands;
 }
 
 -- the last field of a value
-pub last : {A X : Type 0} {IsA : A → Type 0} {text : A → List ℕ} {f : Reader A} → Reads IsA text f → (get : X → A) (made : A → X) → ((a : A) → get (made a) ≡ a)
-    → Reads (λ x. IsA (get x) × (x ≡ made (get x))) (λ x. text (get x)) (λ bytes place. f bytes place >>= λ a. Ok (made a.0, a.1))
+pub last : {A X : Type 0} {IsA : A → Type 0} {text : A → List ℕ} {f : Reader A} → ReadsField IsA text f → (get : X → A) (made : A → X) → ((a : A) → get (made a) ≡ a)
+    → ReadsField (λ x. IsA (get x) × (x ≡ made (get x))) (λ x. text (get x)) (λ bytes place. f bytes place >>= λ a. Ok (made a.0, a.1))
 last {A} {X} {IsA} {text} {f} reads get made back = record {
   takes = λ bytes place x fits within e.
       let a = bind_ok (f bytes place) (λ a. Ok (made a.0, a.1)) x e in
@@ -33,8 +33,8 @@ last {A} {X} {IsA} {text} {f} reads get made back = record {
 }
 
 -- a field, and those behind it
-pub first : {A X : Type 0} {IsA : A → Type 0} {text : A → List ℕ} {f : Reader A} → Reads IsA text f → (get : X → A) (IsRest : A → X → Type 0) (rest : X → List ℕ) (k : A → Reader X) → ((a : A) (x : X) → IsRest a x → get x ≡ a) → ((a : A) → Reads (IsRest a) rest (k a))
-    → Reads (λ x. IsA (get x) × IsRest (get x) x) (λ x. text (get x) ++ rest x) (λ bytes place. f bytes place >>= λ a. k a.0 bytes a.1)
+pub first : {A X : Type 0} {IsA : A → Type 0} {text : A → List ℕ} {f : Reader A} → ReadsField IsA text f → (get : X → A) (IsRest : A → X → Type 0) (rest : X → List ℕ) (k : A → Reader X) → ((a : A) (x : X) → IsRest a x → get x ≡ a) → ((a : A) → ReadsField (IsRest a) rest (k a))
+    → ReadsField (λ x. IsA (get x) × IsRest (get x) x) (λ x. text (get x) ++ rest x) (λ bytes place. f bytes place >>= λ a. k a.0 bytes a.1)
 first {A} {X} {IsA} {text} {f} reads get IsRest rest k known behind = record {
   takes = λ bytes place x fits within e.
       let a = bind_ok (f bytes place) (λ a. k a.0 bytes a.1) x e in
@@ -51,15 +51,15 @@ first {A} {X} {IsA} {text} {f} reads get IsRest rest k known behind = record {
 }
 
 -- a call that gives what the reading gives: what it found stands there
-pub found_there : {X : Type 0} {Is : X → Type 0} {text : X → List ℕ} {at : Reader X} → Reads Is text at → (bytes : List ℕ) (place : ℕ) (r : Result (X × ℕ) CodecFault) → IsBytes bytes → place ≤ length bytes → Gives r (at bytes place) → IfOk r (λ x. Stands bytes place (text x.0) x.1 × Is x.0)
+pub found_there : {X : Type 0} {Is : X → Type 0} {text : X → List ℕ} {at : Reader X} → ReadsField Is text at → (bytes : List ℕ) (place : ℕ) (r : Result (X × ℕ) CodecFault) → IsBytes bytes → place ≤ length bytes → Gives r (at bytes place) → IfOk r (λ x. Stands bytes place (text x.0) x.1 × Is x.0)
 found_there reads bytes place (Ok x) fits within given = reads.takes bytes place x fits within given
 found_there reads bytes place (Err e) fits within given = tt
 
 -- of values that are all within their limits
-pub stands_there : {X : Type 0} {Is : X → Type 0} {text : X → List ℕ} {at : Reader X} → Reads Is text at → (bytes : List ℕ) (place : ℕ) (r : Result (X × ℕ) CodecFault) → IsBytes bytes → place ≤ length bytes → Gives r (at bytes place) → IfOk r (λ x. Stands bytes place (text x.0) x.1)
+pub stands_there : {X : Type 0} {Is : X → Type 0} {text : X → List ℕ} {at : Reader X} → ReadsField Is text at → (bytes : List ℕ) (place : ℕ) (r : Result (X × ℕ) CodecFault) → IsBytes bytes → place ≤ length bytes → Gives r (at bytes place) → IfOk r (λ x. Stands bytes place (text x.0) x.1)
 stands_there reads bytes place (Ok x) fits within given = let t = reads.takes bytes place x fits within given in t.0
 stands_there reads bytes place (Err e) fits within given = tt
 
 -- and what stands there it finds
-pub only_there : {X : Type 0} {Is : X → Type 0} {text : X → List ℕ} {at : Reader X} → Reads Is text at → (bytes : List ℕ) (place : ℕ) (r : Result (X × ℕ) CodecFault) → Gives r (at bytes place) → (x : X) (next : ℕ) → Is x → Stands bytes place (text x) next → Gives r (Ok (x, next))
+pub only_there : {X : Type 0} {Is : X → Type 0} {text : X → List ℕ} {at : Reader X} → ReadsField Is text at → (bytes : List ℕ) (place : ℕ) (r : Result (X × ℕ) CodecFault) → Gives r (at bytes place) → (x : X) (next : ℕ) → Is x → Stands bytes place (text x) next → Gives r (Ok (x, next))
 only_there {X} reads bytes place r given x next is stands = subst (λ (read : Result (X × ℕ) CodecFault). Gives r read) (reads.again bytes place x next is stands) given

@@ -1,7 +1,7 @@
 -- Fields that are written one behind another.
 use Rattle.std.proofs.Common.{◌≡◌, ℕ, ◌+◌, ◌≤◌, List, [], ◌++◌, length, take, drop, sym, ap, ◌∙◌, append_assoc, arith}
 use Rattle.std.proofs.lemmas.List.{take_at, drop_at, drop-drop, take-append-drop, length-append, length-take, length-drop}
-use Rattle.record_fields.specs.Places.{written, Writes}
+use Rattle.record_fields.specs.Places.{written, WritesField}
 
 length-written : (old a : List ℕ) (place : ℕ) → place + length a ≤ length old → length (written old place a) ≡ length old
 length-written old a place room = omega (arith, length-append (take place old) (a ++ drop (place + length a) old), length-append a (drop (place + length a) old), length-take place old, length-drop (place + length a) old)
@@ -35,7 +35,7 @@ two_written old first second a b place mid room one at two =
 
 -- ---- fields that were written
 
-pub length-Writes : {old a new : List ℕ} {place next : ℕ} → Writes old place a new next
+pub length-Writes : {old a new : List ℕ} {place next : ℕ} → WritesField old place a new next
     → length new ≡ length old
 length-Writes {old} {a} {new} {place} {next} w =
     let behind = w.behind in
@@ -43,8 +43,8 @@ length-Writes {old} {a} {new} {place} {next} w =
     ap (length {A = ℕ}) w.text ∙ length-written old a place (omega arith)
 
 -- two fields are one
-pub then : {old mid new a b : List ℕ} {place next last : ℕ} → Writes old place a mid next
-    → Writes mid next b new last → Writes old place (a ++ b) new last
+pub then : {old mid new a b : List ℕ} {place next last : ℕ} → WritesField old place a mid next
+    → WritesField mid next b new last → WritesField old place (a ++ b) new last
 then {old} {mid} {new} {a} {b} {place} {next} {last} first second =
     let at = first.behind in
     let end = second.behind in
@@ -57,14 +57,14 @@ then {old} {mid} {new} {a} {b} {place} {next} {last} first second =
       within = omega arith;
     }
 
-pub at_front : {old new a : List ℕ} {next : ℕ} → Writes old 0 a new next → new ≡ a ++ drop next old
+pub at_front : {old new a : List ℕ} {next : ℕ} → WritesField old 0 a new next → new ≡ a ++ drop next old
 at_front {old} {new} {a} {next} w =
     let behind = w.behind in
     let same : 0 + length a ≡ next = omega arith in
     w.text ∙ ap (λ (n : ℕ). a ++ drop n old) same
 
 -- nothing is written
-pub nothing : (out : List ℕ) (place : ℕ) → place ≤ length out → Writes out place [] out place
+pub nothing : (out : List ℕ) (place : ℕ) → place ≤ length out → WritesField out place [] out place
 nothing out place within =
     let same : place + 0 ≡ place = omega arith in
     let whole = ap (λ (n : ℕ). take place out ++ drop n out) same ∙ take-append-drop place out in

@@ -12,7 +12,7 @@ abbrev pub written : List ℕ → ℕ → List ℕ → List ℕ
 written old place field = take place old ++ (field ++ drop (place + length field) old)
 
 -- the field was written at the place, which leaves all other bytes, and next is the place behind it
-pub record Writes (old : List ℕ) (place : ℕ) (field new : List ℕ) (next : ℕ) : Type 0 where
+pub record WritesField (old : List ℕ) (place : ℕ) (field new : List ℕ) (next : ℕ) : Type 0 where
   pub text : new ≡ written old place field
   pub behind : next ≡ place + length field
   pub within : next ≤ length old

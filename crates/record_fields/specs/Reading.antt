@@ -21,9 +21,9 @@ Gives (Ok x) read = read ≡ Ok x
 Gives (Err e) read = Fails e read
 
 -- the place of a fault is at most n
-abbrev pub IsWithin : ℕ → CodecFault → Type 0
-IsWithin n (Bad place) = place ≤ n
-IsWithin n Memory = Unit {0}
+abbrev pub IsFaultWithin : ℕ → CodecFault → Type 0
+IsFaultWithin n (Bad place) = place ≤ n
+IsFaultWithin n Memory = Unit {0}
 
 -- the bytes are at fault, and memory did not run out
 abbrev pub IsBad : CodecFault → Type 0

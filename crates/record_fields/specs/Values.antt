@@ -17,43 +17,43 @@ use Rattle.small_types.specs.Short.{IsShort}
 use Rattle.identity.specs.Key.{IsShortKey}
 
 -- at most so many, and a number that four bytes can say
-abbrev pub IsCounted : {X : Type 0} → ℕ → List X → Type 0
-IsCounted limit xs = (length xs ≤ limit) × (length xs < 2 ^ 32)
+abbrev pub IsEncodableLength : {X : Type 0} → ℕ → List X → Type 0
+IsEncodableLength limit xs = (length xs ≤ limit) × (length xs < 2 ^ 32)
 
-pub record IsIdentity (i : Identity) : Type 0 where
+pub record IsEncodableIdentity (i : Identity) : Type 0 where
   pub key : IsShortKey i.key
   pub version : IsVersion i.version
   pub kind : IsShort IDENTITY_PART_LIMIT i.kind
 
-abbrev pub IsRule : Rule → Type 0
-IsRule Never = Unit {0}
-IsRule Before = Unit {0}
-IsRule (Age seconds) = seconds < 2 ^ 64
+abbrev pub IsEncodableRule : Rule → Type 0
+IsEncodableRule Never = Unit {0}
+IsEncodableRule Before = Unit {0}
+IsEncodableRule (Age seconds) = seconds < 2 ^ 64
 
 -- 1 to 8 digests
 pub record AreDigests (list : List Digest) : Type 0 where
   pub count : IsCount list
   pub sized : All IsSized list
 
-pub record IsEntry (e : FileEntry) : Type 0 where
+pub record IsEncodableEntry (e : FileEntry) : Type 0 where
   pub name : IsName e.name
   pub size : e.size < 2 ^ 64
   pub list : AreDigests e.list
   pub group : IfSome e.group (IsShort NAME_LIMIT)
 
-pub record IsDeployment (d : Deployment) : Type 0 where
-  pub identity : IsIdentity d.identity
+pub record IsEncodableDeployment (d : Deployment) : Type 0 where
+  pub identity : IsEncodableIdentity d.identity
   pub minimum : IfSome d.minimum IsVersion
-  pub rule : IsRule d.rule
+  pub rule : IsEncodableRule d.rule
   pub provider : IfSome d.provider (IsShort URL_LIMIT)
   pub codebase : IsShort URL_LIMIT d.codebase
-  pub app : IsIdentity d.app
+  pub app : IsEncodableIdentity d.app
   pub app_size : d.app_size < 2 ^ 64
   pub app_list : AreDigests d.app_list
 
-pub record IsApplication (a : Application) : Type 0 where
-  pub identity : IsIdentity a.identity
+pub record IsEncodableApplication (a : Application) : Type 0 where
+  pub identity : IsEncodableIdentity a.identity
   pub entry : IsShort NAME_LIMIT a.entry
   pub parameters : IsShort URL_LIMIT a.parameters
   pub few : length a.files ≤ FILE_COUNT_LIMIT
-  pub files : All IsEntry a.files
+  pub files : All IsEncodableEntry a.files

@@ -1,18 +1,18 @@
 // Reading what an application manifest says, from the left.
 ghost use Rattle.std.specs.Prelude.{◌≤◌, length, IfOk, IfErr};
-ghost use Rattle.record_fields.specs.Reading.{Gives, IsWithin};
+ghost use Rattle.record_fields.specs.Reading.{Gives, IsFaultWithin};
 ghost use Rattle.record_fields.specs.Parts.{list_at};
 ghost use Rattle.record_fields.specs.Records.{application_at, entry_at};
 
 use crate::CodecFault;
 use crate::byte_reading::name_here;
 use crate::digest_reading::digests_here;
+use crate::field_readers::{text_here, u64_here};
 use crate::form_reading::truth_here;
 use crate::item_values::EntryField;
 use crate::list_reading::{Readable, list_here};
 use crate::option_reading::text_option_here;
 use crate::part_reading::identity_here;
-use crate::reading::{text_here, u64_here};
 use manifests::{Application, FileEntry};
 use small_types::limits::{FILE_COUNT_LIMIT, NAME_LIMIT, URL_LIMIT};
 use std::alloc::Global;
@@ -22,11 +22,11 @@ impl Readable for EntryField {
 
     ghost use Rattle.record_fields.specs.Records.{entry_at};
     ghost use Rattle.record_fields.specs.Spelling.{entry_field};
-    ghost use Rattle.record_fields.specs.Values.{IsEntry};
+    ghost use Rattle.record_fields.specs.Values.{IsEncodableEntry};
 
     ghost field = { entry_field };
 
-    ghost fits = { IsEntry };
+    ghost fits = { IsEncodableEntry };
 
     ghost at = { entry_at };
 
@@ -64,7 +64,7 @@ pub(crate) fn application_here(
     requires { place ≤ length bytes.now }
     ensures exact { Gives result (application_at bytes.now place) }
     ensures next { IfOk result (λ x. x.1 ≤ length bytes.now) }
-    ensures fault { IfErr result (IsWithin (length bytes.now)) }
+    ensures fault { IfErr result (IsFaultWithin (length bytes.now)) }
 {
     let (identity, next) = identity_here(alloc, bytes, place)?;
     let (entry, next) = match text_here(alloc, bytes, next, NAME_LIMIT) {

@@ -1,10 +1,10 @@
 // Reading bytes and names, from the left.
 ghost use Rattle.std.specs.Prelude.{◌≤◌, length, IfOk, IfErr};
-ghost use Rattle.record_fields.specs.Reading.{Gives, IsBad, IsWithin};
+ghost use Rattle.record_fields.specs.Reading.{Gives, IsBad, IsFaultWithin};
 ghost use Rattle.record_fields.specs.Parts.{bytes_at, name_at, name_of, part_of, span_at, span_of, value_at, value_of};
 
 use crate::CodecFault;
-use crate::reading::{bad, u32_here};
+use crate::field_readers::{bad, u32_here};
 use small_types::limits::NAME_LIMIT;
 use small_types::{Bytes, Name, NameFault};
 use std::alloc::Global;
@@ -23,7 +23,7 @@ fn span_from(
     ensures exact { Gives result (span_of limit bytes.now place size start) }
     ensures order { IfOk result (λ x. x.0 ≤ x.1) }
     ensures next { IfOk result (λ x. x.1 ≤ length bytes.now) }
-    ensures fault { IfErr result (IsWithin (length bytes.now)) }
+    ensures fault { IfErr result (IsFaultWithin (length bytes.now)) }
     ensures free { IfErr result IsBad }
 {
     if limit < size {
@@ -42,7 +42,7 @@ fn span_here(bytes: &[u8], place: usize, limit: usize) -> Result<(usize, usize),
     ensures exact { Gives result (span_at limit bytes.now place) }
     ensures order { IfOk result (λ x. x.0 ≤ x.1) }
     ensures next { IfOk result (λ x. x.1 ≤ length bytes.now) }
-    ensures fault { IfErr result (IsWithin (length bytes.now)) }
+    ensures fault { IfErr result (IsFaultWithin (length bytes.now)) }
     ensures free { IfErr result IsBad }
 {
     let (size, start) = u32_here(bytes, place)?;
@@ -60,7 +60,7 @@ pub(crate) fn bytes_here(
     requires { place ≤ length bytes.now }
     ensures exact { Gives result (bytes_at limit bytes.now place) }
     ensures next { IfOk result (λ x. x.1 ≤ length bytes.now) }
-    ensures fault { IfErr result (IsWithin (length bytes.now)) }
+    ensures fault { IfErr result (IsFaultWithin (length bytes.now)) }
 {
     let (start, next) = span_here(bytes, place, limit)?;
     let held = Bytes::from_slice(alloc, &bytes[start..next])?;
@@ -79,7 +79,7 @@ fn of_size(
     requires next { next ≤ length bytes.now }
     ensures exact { Gives result (value_of size place value next) }
     ensures next { IfOk result (λ x. x.1 ≤ length bytes.now) }
-    ensures fault { IfErr result (IsWithin (length bytes.now)) }
+    ensures fault { IfErr result (IsFaultWithin (length bytes.now)) }
 {
     if value.as_slice().len() == size {
         Ok((value, next))
@@ -99,7 +99,7 @@ pub(crate) fn value_here(
     requires { place ≤ length bytes.now }
     ensures exact { Gives result (value_at size bytes.now place) }
     ensures next { IfOk result (λ x. x.1 ≤ length bytes.now) }
-    ensures fault { IfErr result (IsWithin (length bytes.now)) }
+    ensures fault { IfErr result (IsFaultWithin (length bytes.now)) }
 {
     let (value, next) = bytes_here(alloc, bytes, place, size)?;
     of_size(size, bytes, place, value, next)
@@ -117,7 +117,7 @@ fn name_from(
     requires next { next ≤ length bytes.now }
     ensures exact { Gives result (name_of place text.now next) }
     ensures next { IfOk result (λ x. x.1 ≤ length bytes.now) }
-    ensures fault { IfErr result (IsWithin (length bytes.now)) }
+    ensures fault { IfErr result (IsFaultWithin (length bytes.now)) }
 {
     let name = match Name::read(alloc, text) {
         Ok(name) => name,
@@ -141,7 +141,7 @@ pub(crate) fn name_here(
     requires { place ≤ length bytes.now }
     ensures exact { Gives result (name_at bytes.now place) }
     ensures next { IfOk result (λ x. x.1 ≤ length bytes.now) }
-    ensures fault { IfErr result (IsWithin (length bytes.now)) }
+    ensures fault { IfErr result (IsFaultWithin (length bytes.now)) }
 {
     let (start, next) = span_here(bytes, place, NAME_LIMIT)?;
     name_from(alloc, bytes, place, &bytes[start..next], next)

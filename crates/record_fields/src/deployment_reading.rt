@@ -1,14 +1,14 @@
 // Reading what a deployment manifest says, from the left.
 ghost use Rattle.std.specs.Prelude.{◌≡◌, ◌≤◌, length, IfOk, IfErr};
-ghost use Rattle.record_fields.specs.Reading.{Gives, IsWithin};
+ghost use Rattle.record_fields.specs.Reading.{Gives, IsFaultWithin};
 ghost use Rattle.record_fields.specs.Records.{deployment_at, joined, listed_at, terms_at};
 
 use crate::CodecFault;
 use crate::digest_reading::digests_here;
+use crate::field_readers::{text_here, u64_here};
 use crate::form_reading::{rule_here, truth_here};
 use crate::option_reading::{text_option_here, version_option_here};
 use crate::part_reading::identity_here;
-use crate::reading::{text_here, u64_here};
 use digest_list::DigestList;
 use identity::{Identity, Version};
 use manifests::{Deployment, Rule};
@@ -42,7 +42,7 @@ fn terms_here(alloc: Global, bytes: &[u8], place: usize) -> Result<(Terms, usize
     requires { place ≤ length bytes.now }
     ensures exact { Gives result (terms_at bytes.now place) }
     ensures next { IfOk result (λ x. x.1 ≤ length bytes.now) }
-    ensures fault { IfErr result (IsWithin (length bytes.now)) }
+    ensures fault { IfErr result (IsFaultWithin (length bytes.now)) }
 {
     let (identity, next) = identity_here(alloc, bytes, place)?;
     let (install, next) = match truth_here(bytes, next) {
@@ -97,7 +97,7 @@ fn listed_here(alloc: Global, bytes: &[u8], place: usize) -> Result<(Listed, usi
     requires { place ≤ length bytes.now }
     ensures exact { Gives result (listed_at bytes.now place) }
     ensures next { IfOk result (λ x. x.1 ≤ length bytes.now) }
-    ensures fault { IfErr result (IsWithin (length bytes.now)) }
+    ensures fault { IfErr result (IsFaultWithin (length bytes.now)) }
 {
     let (codebase, next) = text_here(alloc, bytes, place, URL_LIMIT)?;
     let (app, next) = identity_here(alloc, bytes, next)?;
@@ -152,7 +152,7 @@ pub(crate) fn deployment_here(
     requires { place ≤ length bytes.now }
     ensures exact { Gives result (deployment_at bytes.now place) }
     ensures next { IfOk result (λ x. x.1 ≤ length bytes.now) }
-    ensures fault { IfErr result (IsWithin (length bytes.now)) }
+    ensures fault { IfErr result (IsFaultWithin (length bytes.now)) }
 {
     let (terms, next) = terms_here(alloc, bytes, place)?;
     let (listed, next) = match listed_here(alloc, bytes, next) {

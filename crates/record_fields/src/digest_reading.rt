@@ -1,15 +1,15 @@
 // Reading digests, from the left.
 ghost use Rattle.std.specs.Prelude.{◌≤◌, length, IfOk, IfErr};
-ghost use Rattle.record_fields.specs.Reading.{Gives, IsBad, IsWithin};
+ghost use Rattle.record_fields.specs.Reading.{Gives, IsBad, IsFaultWithin};
 ghost use Rattle.record_fields.specs.Parts.{algorithm_at, digest_at, digests_at, digests_of};
 
 use crate::CodecFault;
 use crate::byte_reading::value_here;
+use crate::field_readers::bad;
 use crate::form_reading::byte_here;
 use crate::item_values::DigestField;
 use crate::list_reading::{Readable, list_here};
 use crate::numbers::{SHA1_NUMBER, SHA256_NUMBER, SHA384_NUMBER, SHA512_NUMBER};
-use crate::reading::bad;
 use digest_list::{Algorithm, Digest, DigestList};
 use small_types::List;
 use small_types::limits::HASH_LIMIT;
@@ -21,7 +21,7 @@ fn algorithm_here(bytes: &[u8], place: usize) -> Result<(Algorithm, usize), Code
     requires { place ≤ length bytes.now }
     ensures exact { Gives result (algorithm_at bytes.now place) }
     ensures next { IfOk result (λ x. x.1 ≤ length bytes.now) }
-    ensures fault { IfErr result (IsWithin (length bytes.now)) }
+    ensures fault { IfErr result (IsFaultWithin (length bytes.now)) }
     ensures free { IfErr result IsBad }
 {
     let (byte, next) = byte_here(bytes, place)?;
@@ -69,7 +69,7 @@ fn some_digests(
     requires next { next ≤ length bytes.now }
     ensures exact { Gives result (digests_of place digests next) }
     ensures next { IfOk result (λ x. x.1 ≤ length bytes.now) }
-    ensures fault { IfErr result (IsWithin (length bytes.now)) }
+    ensures fault { IfErr result (IsFaultWithin (length bytes.now)) }
 {
     match DigestList::from_list(digests) {
         Some(list) => Ok((list, next)),
@@ -87,7 +87,7 @@ pub(crate) fn digests_here(
     requires { place ≤ length bytes.now }
     ensures exact { Gives result (digests_at bytes.now place) }
     ensures next { IfOk result (λ x. x.1 ≤ length bytes.now) }
-    ensures fault { IfErr result (IsWithin (length bytes.now)) }
+    ensures fault { IfErr result (IsFaultWithin (length bytes.now)) }
 {
     let (digests, next) = list_here::<DigestField>(alloc, bytes, place, HASH_LIMIT)?;
     some_digests(bytes, place, digests, next)

@@ -2,7 +2,7 @@
 ghost use Rattle.std.specs.Prelude.{◌≡◌, ◌-◌, ◌<◌, ◌≤◌, length, take, drop, true, false, IfOk, IfErr, MatchOption};
 ghost use Rattle.std.specs.Int.{w16, w32, w64};
 ghost use Rattle.std.specs.Str.{is_utf8};
-ghost use Rattle.record_fields.specs.Reading.{Gives, IsBad, IsWithin, number_at, sized_at, text_at, key_at, version_at};
+ghost use Rattle.record_fields.specs.Reading.{Gives, IsBad, IsFaultWithin, number_at, sized_at, text_at, key_at, version_at};
 
 use crate::CodecFault;
 use identity::{Key, Version};
@@ -39,7 +39,7 @@ pub(crate) fn u16_here(bytes: &[u8], place: usize) -> Result<(u16, usize), Codec
     requires { place ≤ length bytes.now }
     ensures exact { Gives result (number_at w16 bytes.now place) }
     ensures next { IfOk result (λ x. x.1 ≤ length bytes.now) }
-    ensures fault { IfErr result (IsWithin (length bytes.now)) }
+    ensures fault { IfErr result (IsFaultWithin (length bytes.now)) }
     ensures free { IfErr result IsBad }
 {
     let Some(front) = front(bytes, place, 2) else {
@@ -55,7 +55,7 @@ pub(crate) fn u32_here(bytes: &[u8], place: usize) -> Result<(u32, usize), Codec
     requires { place ≤ length bytes.now }
     ensures exact { Gives result (number_at w32 bytes.now place) }
     ensures next { IfOk result (λ x. x.1 ≤ length bytes.now) }
-    ensures fault { IfErr result (IsWithin (length bytes.now)) }
+    ensures fault { IfErr result (IsFaultWithin (length bytes.now)) }
     ensures free { IfErr result IsBad }
 {
     let Some(front) = front(bytes, place, 4) else {
@@ -71,7 +71,7 @@ pub(crate) fn u64_here(bytes: &[u8], place: usize) -> Result<(u64, usize), Codec
     requires { place ≤ length bytes.now }
     ensures exact { Gives result (number_at w64 bytes.now place) }
     ensures next { IfOk result (λ x. x.1 ≤ length bytes.now) }
-    ensures fault { IfErr result (IsWithin (length bytes.now)) }
+    ensures fault { IfErr result (IsFaultWithin (length bytes.now)) }
     ensures free { IfErr result IsBad }
 {
     let Some(front) = front(bytes, place, 8) else {
@@ -107,7 +107,7 @@ fn sized_text(
     requires start { start ≤ length bytes.now }
     ensures exact { Gives result (sized_at limit bytes.now place size start) }
     ensures next { IfOk result (λ x. x.1 ≤ length bytes.now) }
-    ensures fault { IfErr result (IsWithin (length bytes.now)) }
+    ensures fault { IfErr result (IsFaultWithin (length bytes.now)) }
 {
     if limit < size {
         return Err(bad(place));
@@ -135,7 +135,7 @@ pub(crate) fn text_here(
     requires { place ≤ length bytes.now }
     ensures exact { Gives result (text_at limit bytes.now place) }
     ensures next { IfOk result (λ x. x.1 ≤ length bytes.now) }
-    ensures fault { IfErr result (IsWithin (length bytes.now)) }
+    ensures fault { IfErr result (IsFaultWithin (length bytes.now)) }
 {
     let (size, start) = u32_here(bytes, place)?;
     sized_text(alloc, bytes, place, limit, size as usize, start)
@@ -152,7 +152,7 @@ pub(crate) fn key_here(
     requires { place ≤ length bytes.now }
     ensures exact { Gives result (key_at bytes.now place) }
     ensures next { IfOk result (λ x. x.1 ≤ length bytes.now) }
-    ensures fault { IfErr result (IsWithin (length bytes.now)) }
+    ensures fault { IfErr result (IsFaultWithin (length bytes.now)) }
 {
     let (name, next) = text_here(alloc, bytes, place, NAME_LIMIT)?;
     let (token, next) = text_here(alloc, bytes, next, IDENTITY_PART_LIMIT)?;
@@ -174,7 +174,7 @@ pub(crate) fn version_here(bytes: &[u8], place: usize) -> Result<(Version, usize
     requires { place ≤ length bytes.now }
     ensures exact { Gives result (version_at bytes.now place) }
     ensures next { IfOk result (λ x. x.1 ≤ length bytes.now) }
-    ensures fault { IfErr result (IsWithin (length bytes.now)) }
+    ensures fault { IfErr result (IsFaultWithin (length bytes.now)) }
     ensures free { IfErr result IsBad }
 {
     let (a, next) = u16_here(bytes, place)?;

@@ -1,11 +1,11 @@
 // Reading truth values and rules, from the left.
 ghost use Rattle.std.specs.Prelude.{◌≤◌, length, IfOk, IfErr};
-ghost use Rattle.record_fields.specs.Reading.{Gives, IsBad, IsWithin};
+ghost use Rattle.record_fields.specs.Reading.{Gives, IsBad, IsFaultWithin};
 ghost use Rattle.record_fields.specs.Parts.{age_at, byte_at, rule_at, truth_at};
 
 use crate::CodecFault;
+use crate::field_readers::{bad, u64_here};
 use crate::numbers::{AGE_RULE, BEFORE_RULE, FALSE_BYTE, NEVER_RULE, TRUE_BYTE};
-use crate::reading::{bad, u64_here};
 use manifests::Rule;
 
 // The byte at the place, and the place behind it.
@@ -14,7 +14,7 @@ pub(crate) fn byte_here(bytes: &[u8], place: usize) -> Result<(u8, usize), Codec
     requires { place ≤ length bytes.now }
     ensures exact { Gives result (byte_at bytes.now place) }
     ensures next { IfOk result (λ x. x.1 ≤ length bytes.now) }
-    ensures fault { IfErr result (IsWithin (length bytes.now)) }
+    ensures fault { IfErr result (IsFaultWithin (length bytes.now)) }
     ensures free { IfErr result IsBad }
 {
     if place < bytes.len() {
@@ -31,7 +31,7 @@ pub(crate) fn truth_here(bytes: &[u8], place: usize) -> Result<(bool, usize), Co
     requires { place ≤ length bytes.now }
     ensures exact { Gives result (truth_at bytes.now place) }
     ensures next { IfOk result (λ x. x.1 ≤ length bytes.now) }
-    ensures fault { IfErr result (IsWithin (length bytes.now)) }
+    ensures fault { IfErr result (IsFaultWithin (length bytes.now)) }
     ensures free { IfErr result IsBad }
 {
     let (byte, next) = byte_here(bytes, place)?;
@@ -48,7 +48,7 @@ fn read_age(bytes: &[u8], place: usize) -> Result<(Rule, usize), CodecFault>
     requires { place ≤ length bytes.now }
     ensures exact { Gives result (age_at bytes.now place) }
     ensures next { IfOk result (λ x. x.1 ≤ length bytes.now) }
-    ensures fault { IfErr result (IsWithin (length bytes.now)) }
+    ensures fault { IfErr result (IsFaultWithin (length bytes.now)) }
     ensures free { IfErr result IsBad }
 {
     let (seconds, next) = u64_here(bytes, place)?;
@@ -62,7 +62,7 @@ pub(crate) fn rule_here(bytes: &[u8], place: usize) -> Result<(Rule, usize), Cod
     requires { place ≤ length bytes.now }
     ensures exact { Gives result (rule_at bytes.now place) }
     ensures next { IfOk result (λ x. x.1 ≤ length bytes.now) }
-    ensures fault { IfErr result (IsWithin (length bytes.now)) }
+    ensures fault { IfErr result (IsFaultWithin (length bytes.now)) }
     ensures free { IfErr result IsBad }
 {
     let (byte, next) = byte_here(bytes, place)?;

@@ -1,10 +1,10 @@
 // Lists and options: how long they are, and how they are written.
 ghost use Rattle.std.specs.Prelude.{◌≡◌, ℕ, ◌+◌, ◌<◌, ◌≤◌, ◌^◌, List, All, IfSome, length, flat_map};
-ghost use Rattle.record_fields.specs.Places.{Writes};
+ghost use Rattle.record_fields.specs.Places.{WritesField};
 ghost use Rattle.record_fields.specs.Spelling.{list_field, option_field};
 
+use crate::field_writers::{write_u8, write_u32};
 use crate::numbers::{FALSE_BYTE, TRUE_BYTE};
-use crate::writing::{write_u8, write_u32};
 
 /// How values stand in lists and options: how they are spelled, and how they are written. A type of
 /// its own names it, so that a crate above says it of any value.
@@ -23,11 +23,11 @@ pub trait Item {
         requires { length (field value.now) < 2 ^ 63 }
         ensures { result ≡ length (field value.now) };
 
-    /// Writes it at the place, and answers the place behind it.
+    /// WritesField it at the place, and answers the place behind it.
     fn write_item(out: &mut [u8], place: usize, value: &Self::Value) -> usize
         requires fits { fits value.now }
         requires room { place + length (field value.now) ≤ length out.old }
-        ensures { Writes out.old place (field value.now) out.new result };
+        ensures { WritesField out.old place (field value.now) out.new result };
 }
 
 /// How many bytes an option takes.
@@ -41,12 +41,12 @@ pub fn option_length<T: Item>(value: &Option<T::Value>) -> u64
     }
 }
 
-/// Writes an option at the place, a byte that says whether there is a value, and the value, and answers the place
+/// WritesField an option at the place, a byte that says whether there is a value, and the value, and answers the place
 /// behind it.
 pub fn write_option<T: Item>(out: &mut [u8], place: usize, value: &Option<T::Value>) -> usize
     requires fits { IfSome value.now T.fits }
     requires room { place + length (option_field T.field value.now) ≤ length out.old }
-    ensures { Writes out.old place (option_field T.field value.now) out.new result }
+    ensures { WritesField out.old place (option_field T.field value.now) out.new result }
 {
     match value {
         None => write_u8(out, place, FALSE_BYTE),
@@ -78,11 +78,11 @@ pub fn list_length<T: Item>(items: &[T::Value]) -> u64
     4 + items_length::<T>(items)
 }
 
-// Writes items one behind another from the place on, and answers the place behind them.
+// WritesField items one behind another from the place on, and answers the place behind them.
 fn write_items<T: Item>(out: &mut [u8], place: usize, items: &[T::Value]) -> usize
     requires fits { All T.fits items.now }
     requires room { place + length (flat_map T.field items.now) ≤ length out.old }
-    ensures { Writes out.old place (flat_map T.field items.now) out.new result }
+    ensures { WritesField out.old place (flat_map T.field items.now) out.new result }
 {
     let mut next = place;
     for item in items {
@@ -91,13 +91,13 @@ fn write_items<T: Item>(out: &mut [u8], place: usize, items: &[T::Value]) -> usi
     next
 }
 
-/// Writes a list at the place, behind the number of its items in four bytes, and answers the place
+/// WritesField a list at the place, behind the number of its items in four bytes, and answers the place
 /// behind it.
 pub fn write_list<T: Item>(out: &mut [u8], place: usize, items: &[T::Value]) -> usize
     requires few { length items.now < 2 ^ 32 }
     requires fits { All T.fits items.now }
     requires room { place + length (list_field T.field items.now) ≤ length out.old }
-    ensures { Writes out.old place (list_field T.field items.now) out.new result }
+    ensures { WritesField out.old place (list_field T.field items.now) out.new result }
 {
     let next = write_u32(out, place, items.len() as u32);
     write_items::<T>(out, next, items)

@@ -7,6 +7,8 @@ mod byte_reading;
 mod deployment_reading;
 mod digest_reading;
 mod fault;
+mod field_readers;
+mod field_writers;
 mod form_reading;
 mod item;
 mod item_values;
@@ -18,11 +20,13 @@ mod option_reading;
 mod part_reading;
 mod part_writing;
 mod parts;
-mod reading;
 mod record_parts;
-mod writing;
 
 pub use fault::CodecFault;
+pub use field_writers::{
+    write_bytes, write_key, write_name, write_text, write_u8, write_u16, write_u32, write_u64,
+    write_version,
+};
 pub use item::{Item, list_length, option_length, write_list, write_option};
 pub use item_values::{DigestField, EntryField, TextField, VersionField};
 pub use lengths::{
@@ -46,8 +50,4 @@ pub use parts::{
 pub use record_parts::{
     read_application, read_deployment, read_digest, read_digests, read_entries, read_entry,
     read_list, read_text_option, read_texts, read_version_option,
-};
-pub use writing::{
-    write_bytes, write_key, write_name, write_text, write_u8, write_u16, write_u32, write_u64,
-    write_version,
 };

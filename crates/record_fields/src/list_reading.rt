@@ -1,13 +1,13 @@
 // Reading lists, from the left. The number of the items is only counted down: memory is taken for
 // what was read.
 ghost use Rattle.std.specs.Prelude.{◌≤◌, ℕ, List, length, IfOk, IfErr};
-ghost use Rattle.record_fields.specs.Reading.{Gives, IsWithin, text_at};
+ghost use Rattle.record_fields.specs.Reading.{Gives, IsFaultWithin, text_at};
 ghost use Rattle.record_fields.specs.Parts.{Reader, items_at, list_at, list_of};
-ghost use Rattle.record_fields.specs.Reads.{Reads};
+ghost use Rattle.record_fields.specs.Reads.{ReadsField};
 
 use crate::CodecFault;
+use crate::field_readers::{bad, text_here, u32_here};
 use crate::item_values::TextField;
-use crate::reading::{bad, text_here, u32_here};
 use small_types::limits::NAME_LIMIT;
 use small_types::{List, Text};
 use std::alloc::Global;
@@ -35,11 +35,11 @@ pub trait Readable {
         requires { place ≤ length bytes.now }
         ensures exact { Gives result (at bytes.now place) }
         ensures next { IfOk result (λ x. x.1 ≤ length bytes.now) }
-        ensures fault { IfErr result (IsWithin (length bytes.now)) };
+        ensures fault { IfErr result (IsFaultWithin (length bytes.now)) };
 
     /// A law: it is read just where it is spelled.
     fn reads_as_spelled()
-        ensures { Reads fits field at };
+        ensures { ReadsField fits field at };
 }
 
 // So many items from the place on, each behind the one before it.
@@ -52,7 +52,7 @@ fn items_here<T: Readable>(
     requires { place ≤ length bytes.now }
     ensures exact { Gives result (items_at T.at count bytes.now place) }
     ensures next { IfOk result (λ x. x.1 ≤ length bytes.now) }
-    ensures fault { IfErr result (IsWithin (length bytes.now)) }
+    ensures fault { IfErr result (IsFaultWithin (length bytes.now)) }
 {
     let mut items = Vec::new(alloc);
     let mut next = place;
@@ -79,7 +79,7 @@ fn counted_here<T: Readable>(
     requires start { start ≤ length bytes.now }
     ensures exact { Gives result (list_of limit T.at place count bytes.now start) }
     ensures next { IfOk result (λ x. x.1 ≤ length bytes.now) }
-    ensures fault { IfErr result (IsWithin (length bytes.now)) }
+    ensures fault { IfErr result (IsFaultWithin (length bytes.now)) }
 {
     if limit < count {
         return Err(bad(place));
@@ -99,7 +99,7 @@ pub(crate) fn list_here<T: Readable>(
     requires { place ≤ length bytes.now }
     ensures exact { Gives result (list_at limit T.at bytes.now place) }
     ensures next { IfOk result (λ x. x.1 ≤ length bytes.now) }
-    ensures fault { IfErr result (IsWithin (length bytes.now)) }
+    ensures fault { IfErr result (IsFaultWithin (length bytes.now)) }
 {
     let (count, start) = u32_here(bytes, place)?;
     counted_here::<T>(alloc, bytes, place, limit, count as usize, start)

@@ -1,11 +1,11 @@
 // Reading optional values, from the left.
 ghost use Rattle.std.specs.Prelude.{◌≤◌, length, true, IfOk, IfErr};
-ghost use Rattle.record_fields.specs.Reading.{Gives, IsBad, IsWithin, text_at, version_at};
+ghost use Rattle.record_fields.specs.Reading.{Gives, IsBad, IsFaultWithin, text_at, version_at};
 ghost use Rattle.record_fields.specs.Parts.{option_at, option_of};
 
 use crate::CodecFault;
+use crate::field_readers::{text_here, version_here};
 use crate::form_reading::truth_here;
-use crate::reading::{text_here, version_here};
 use identity::Version;
 use small_types::Text;
 use std::alloc::Global;
@@ -15,7 +15,7 @@ fn some_version(bytes: &[u8], place: usize) -> Result<(Option<Version>, usize), 
     requires { place ≤ length bytes.now }
     ensures exact { Gives result (option_of version_at true bytes.now place) }
     ensures next { IfOk result (λ x. x.1 ≤ length bytes.now) }
-    ensures fault { IfErr result (IsWithin (length bytes.now)) }
+    ensures fault { IfErr result (IsFaultWithin (length bytes.now)) }
     ensures free { IfErr result IsBad }
 {
     let (version, next) = version_here(bytes, place)?;
@@ -32,7 +32,7 @@ pub(crate) fn version_option_here(
     requires { place ≤ length bytes.now }
     ensures exact { Gives result (option_at version_at bytes.now place) }
     ensures next { IfOk result (λ x. x.1 ≤ length bytes.now) }
-    ensures fault { IfErr result (IsWithin (length bytes.now)) }
+    ensures fault { IfErr result (IsFaultWithin (length bytes.now)) }
     ensures free { IfErr result IsBad }
 {
     let (is_there, next) = truth_here(bytes, place)?;
@@ -52,7 +52,7 @@ fn some_text(
     requires { place ≤ length bytes.now }
     ensures exact { Gives result (option_of (text_at limit) true bytes.now place) }
     ensures next { IfOk result (λ x. x.1 ≤ length bytes.now) }
-    ensures fault { IfErr result (IsWithin (length bytes.now)) }
+    ensures fault { IfErr result (IsFaultWithin (length bytes.now)) }
 {
     let (text, next) = text_here(alloc, bytes, place, limit)?;
     Ok((Some(text), next))
@@ -69,7 +69,7 @@ pub(crate) fn text_option_here(
     requires { place ≤ length bytes.now }
     ensures exact { Gives result (option_at (text_at limit) bytes.now place) }
     ensures next { IfOk result (λ x. x.1 ≤ length bytes.now) }
-    ensures fault { IfErr result (IsWithin (length bytes.now)) }
+    ensures fault { IfErr result (IsFaultWithin (length bytes.now)) }
 {
     let (is_there, next) = truth_here(bytes, place)?;
     match is_there {

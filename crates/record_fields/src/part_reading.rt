@@ -1,10 +1,10 @@
 // Reading addresses and identities, from the left.
 ghost use Rattle.std.specs.Prelude.{◌≤◌, length, IfOk, IfErr};
-ghost use Rattle.record_fields.specs.Reading.{Gives, IsWithin};
+ghost use Rattle.record_fields.specs.Reading.{Gives, IsFaultWithin};
 ghost use Rattle.record_fields.specs.Parts.{identity_at, target_at};
 
 use crate::CodecFault;
-use crate::reading::{key_here, text_here, u16_here, version_here};
+use crate::field_readers::{key_here, text_here, u16_here, version_here};
 use identity::Identity;
 use small_types::Target;
 use small_types::limits::{IDENTITY_PART_LIMIT, URL_LIMIT};
@@ -20,7 +20,7 @@ pub(crate) fn target_here(
     requires { place ≤ length bytes.now }
     ensures exact { Gives result (target_at bytes.now place) }
     ensures next { IfOk result (λ x. x.1 ≤ length bytes.now) }
-    ensures fault { IfErr result (IsWithin (length bytes.now)) }
+    ensures fault { IfErr result (IsFaultWithin (length bytes.now)) }
 {
     let (host, next) = text_here(alloc, bytes, place, URL_LIMIT)?;
     let (port, next) = u16_here(bytes, next)?;
@@ -40,7 +40,7 @@ pub(crate) fn identity_here(
     requires { place ≤ length bytes.now }
     ensures exact { Gives result (identity_at bytes.now place) }
     ensures next { IfOk result (λ x. x.1 ≤ length bytes.now) }
-    ensures fault { IfErr result (IsWithin (length bytes.now)) }
+    ensures fault { IfErr result (IsFaultWithin (length bytes.now)) }
 {
     let (key, next) = key_here(alloc, bytes, place)?;
     let (version, next) = version_here(bytes, next)?;

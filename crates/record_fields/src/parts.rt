@@ -14,15 +14,15 @@ ghost use Rattle.manifests.specs.declared.facts.Rule.{Rule};
 ghost use Rattle.record_fields.specs.Fields.{key_field, text_field, version_field};
 ghost use Rattle.record_fields.specs.Places.{Stands};
 ghost use Rattle.record_fields.specs.Spelling.{identity_field, rule_field, target_field, truth_field};
-ghost use Rattle.record_fields.specs.Values.{IsCounted, IsIdentity, IsRule};
-ghost use Rattle.record_fields.specs.Reading.{Gives, IsBad, IsWithin, key_at, number_at, text_at, version_at};
+ghost use Rattle.record_fields.specs.Values.{IsEncodableLength, IsEncodableIdentity, IsEncodableRule};
+ghost use Rattle.record_fields.specs.Reading.{Gives, IsBad, IsFaultWithin, key_at, number_at, text_at, version_at};
 ghost use Rattle.record_fields.specs.Parts.{byte_at, bytes_at, identity_at, name_at, rule_at, target_at, truth_at};
 
 use crate::CodecFault;
 use crate::byte_reading::{bytes_here, name_here};
+use crate::field_readers::{key_here, text_here, u16_here, u32_here, u64_here, version_here};
 use crate::form_reading::{byte_here, rule_here, truth_here};
 use crate::part_reading::{identity_here, target_here};
-use crate::reading::{key_here, text_here, u16_here, u32_here, u64_here, version_here};
 use identity::{Identity, Key, Version};
 use manifests::Rule;
 use small_types::{Bytes, Name, Target, Text};
@@ -36,7 +36,7 @@ pub fn read_u8(bytes: &[u8], place: usize) -> Result<(u8, usize), CodecFault>
     ensures only { (x next : ℕ) → x < 256 → Stands bytes.now place (x ∷ []) next → Gives result (Ok (x, next)) }
     ensures exact { Gives result (byte_at bytes.now place) }
     ensures next { IfOk result (λ x. x.1 ≤ length bytes.now) }
-    ensures fault { IfErr result (IsWithin (length bytes.now)) }
+    ensures fault { IfErr result (IsFaultWithin (length bytes.now)) }
     ensures free { IfErr result IsBad }
 {
     byte_here(bytes, place)
@@ -50,7 +50,7 @@ pub fn read_u16(bytes: &[u8], place: usize) -> Result<(u16, usize), CodecFault>
     ensures only { (x next : ℕ) → x < 2 ^ 16 → Stands bytes.now place (to_be_bytes w16 x) next → Gives result (Ok (x, next)) }
     ensures exact { Gives result (number_at w16 bytes.now place) }
     ensures next { IfOk result (λ x. x.1 ≤ length bytes.now) }
-    ensures fault { IfErr result (IsWithin (length bytes.now)) }
+    ensures fault { IfErr result (IsFaultWithin (length bytes.now)) }
     ensures free { IfErr result IsBad }
 {
     u16_here(bytes, place)
@@ -64,7 +64,7 @@ pub fn read_u32(bytes: &[u8], place: usize) -> Result<(u32, usize), CodecFault>
     ensures only { (x next : ℕ) → x < 2 ^ 32 → Stands bytes.now place (to_be_bytes w32 x) next → Gives result (Ok (x, next)) }
     ensures exact { Gives result (number_at w32 bytes.now place) }
     ensures next { IfOk result (λ x. x.1 ≤ length bytes.now) }
-    ensures fault { IfErr result (IsWithin (length bytes.now)) }
+    ensures fault { IfErr result (IsFaultWithin (length bytes.now)) }
     ensures free { IfErr result IsBad }
 {
     u32_here(bytes, place)
@@ -78,7 +78,7 @@ pub fn read_u64(bytes: &[u8], place: usize) -> Result<(u64, usize), CodecFault>
     ensures only { (x next : ℕ) → x < 2 ^ 64 → Stands bytes.now place (to_be_bytes w64 x) next → Gives result (Ok (x, next)) }
     ensures exact { Gives result (number_at w64 bytes.now place) }
     ensures next { IfOk result (λ x. x.1 ≤ length bytes.now) }
-    ensures fault { IfErr result (IsWithin (length bytes.now)) }
+    ensures fault { IfErr result (IsFaultWithin (length bytes.now)) }
     ensures free { IfErr result IsBad }
 {
     u64_here(bytes, place)
@@ -92,7 +92,7 @@ pub fn read_version(bytes: &[u8], place: usize) -> Result<(Version, usize), Code
     ensures only { (x : Version) (next : ℕ) → IsVersion x → Stands bytes.now place (version_field x) next → Gives result (Ok (x, next)) }
     ensures exact { Gives result (version_at bytes.now place) }
     ensures next { IfOk result (λ x. x.1 ≤ length bytes.now) }
-    ensures fault { IfErr result (IsWithin (length bytes.now)) }
+    ensures fault { IfErr result (IsFaultWithin (length bytes.now)) }
     ensures free { IfErr result IsBad }
 {
     version_here(bytes, place)
@@ -107,7 +107,7 @@ pub fn read_truth(bytes: &[u8], place: usize) -> Result<(bool, usize), CodecFaul
         → Gives result (Ok (x, next)) }
     ensures exact { Gives result (truth_at bytes.now place) }
     ensures next { IfOk result (λ x. x.1 ≤ length bytes.now) }
-    ensures fault { IfErr result (IsWithin (length bytes.now)) }
+    ensures fault { IfErr result (IsFaultWithin (length bytes.now)) }
     ensures free { IfErr result IsBad }
 {
     truth_here(bytes, place)
@@ -117,12 +117,14 @@ pub fn read_truth(bytes: &[u8], place: usize) -> Result<(bool, usize), CodecFaul
 /// The fault is at the place, where no variant has the number, or at the field.
 pub fn read_rule(bytes: &[u8], place: usize) -> Result<(Rule, usize), CodecFault>
     requires { place ≤ length bytes.now }
-    ensures found { IfOk result (λ x. Stands bytes.now place (rule_field x.0) x.1 × IsRule x.0) }
-    ensures only { (x : Rule) (next : ℕ) → IsRule x → Stands bytes.now place (rule_field x) next
+    ensures found { IfOk result
+        (λ x. Stands bytes.now place (rule_field x.0) x.1 × IsEncodableRule x.0) }
+    ensures only { (x : Rule) (next : ℕ) → IsEncodableRule x
+        → Stands bytes.now place (rule_field x) next
         → Gives result (Ok (x, next)) }
     ensures exact { Gives result (rule_at bytes.now place) }
     ensures next { IfOk result (λ x. x.1 ≤ length bytes.now) }
-    ensures fault { IfErr result (IsWithin (length bytes.now)) }
+    ensures fault { IfErr result (IsFaultWithin (length bytes.now)) }
     ensures free { IfErr result IsBad }
 {
     rule_here(bytes, place)
@@ -137,11 +139,13 @@ pub fn read_bytes(
     limit: usize,
 ) -> Result<(Bytes, usize), CodecFault>
     requires { place ≤ length bytes.now }
-    ensures found { IfOk result (λ x. Stands bytes.now place (text_field x.0) x.1 × IsCounted limit x.0) }
-    ensures only { (x : List ℕ) (next : ℕ) → IsCounted limit x → Stands bytes.now place (text_field x) next → Gives result (Ok (x, next)) }
+    ensures found { IfOk result
+        (λ x. Stands bytes.now place (text_field x.0) x.1 × IsEncodableLength limit x.0) }
+    ensures only { (x : List ℕ) (next : ℕ) → IsEncodableLength limit x
+        → Stands bytes.now place (text_field x) next → Gives result (Ok (x, next)) }
     ensures exact { Gives result (bytes_at limit bytes.now place) }
     ensures next { IfOk result (λ x. x.1 ≤ length bytes.now) }
-    ensures fault { IfErr result (IsWithin (length bytes.now)) }
+    ensures fault { IfErr result (IsFaultWithin (length bytes.now)) }
 {
     bytes_here(alloc, bytes, place, limit)
 }
@@ -154,7 +158,7 @@ pub fn read_name(alloc: Global, bytes: &[u8], place: usize) -> Result<(Name, usi
     ensures only { (x : List ℕ) (next : ℕ) → IsName x → Stands bytes.now place (text_field x) next → Gives result (Ok (x, next)) }
     ensures exact { Gives result (name_at bytes.now place) }
     ensures next { IfOk result (λ x. x.1 ≤ length bytes.now) }
-    ensures fault { IfErr result (IsWithin (length bytes.now)) }
+    ensures fault { IfErr result (IsFaultWithin (length bytes.now)) }
 {
     name_here(alloc, bytes, place)
 }
@@ -174,7 +178,7 @@ pub fn read_text(
     ensures only { (x : List ℕ) (next : ℕ) → IsShort limit x × (length x < 2 ^ 32) → Stands bytes.now place (text_field x) next → Gives result (Ok (x, next)) }
     ensures exact { Gives result (text_at limit bytes.now place) }
     ensures next { IfOk result (λ x. x.1 ≤ length bytes.now) }
-    ensures fault { IfErr result (IsWithin (length bytes.now)) }
+    ensures fault { IfErr result (IsFaultWithin (length bytes.now)) }
 {
     text_here(alloc, bytes, place, limit)
 }
@@ -188,7 +192,7 @@ pub fn read_key(alloc: Global, bytes: &[u8], place: usize) -> Result<(Key, usize
     ensures only { (x : Key) (next : ℕ) → IsShortKey x → Stands bytes.now place (key_field x) next → Gives result (Ok (x, next)) }
     ensures exact { Gives result (key_at bytes.now place) }
     ensures next { IfOk result (λ x. x.1 ≤ length bytes.now) }
-    ensures fault { IfErr result (IsWithin (length bytes.now)) }
+    ensures fault { IfErr result (IsFaultWithin (length bytes.now)) }
 {
     key_here(alloc, bytes, place)
 }
@@ -202,12 +206,12 @@ pub fn read_identity(
 ) -> Result<(Identity, usize), CodecFault>
     requires { place ≤ length bytes.now }
     ensures found { IfOk result
-        (λ x. Stands bytes.now place (identity_field x.0) x.1 × IsIdentity x.0) }
-    ensures only { (x : Identity) (next : ℕ) → IsIdentity x
+        (λ x. Stands bytes.now place (identity_field x.0) x.1 × IsEncodableIdentity x.0) }
+    ensures only { (x : Identity) (next : ℕ) → IsEncodableIdentity x
         → Stands bytes.now place (identity_field x) next → Gives result (Ok (x, next)) }
     ensures exact { Gives result (identity_at bytes.now place) }
     ensures next { IfOk result (λ x. x.1 ≤ length bytes.now) }
-    ensures fault { IfErr result (IsWithin (length bytes.now)) }
+    ensures fault { IfErr result (IsFaultWithin (length bytes.now)) }
 {
     identity_here(alloc, bytes, place)
 }
@@ -222,7 +226,7 @@ pub fn read_target(alloc: Global, bytes: &[u8], place: usize) -> Result<(Target,
         → Stands bytes.now place (target_field x) next → Gives result (Ok (x, next)) }
     ensures exact { Gives result (target_at bytes.now place) }
     ensures next { IfOk result (λ x. x.1 ≤ length bytes.now) }
-    ensures fault { IfErr result (IsWithin (length bytes.now)) }
+    ensures fault { IfErr result (IsFaultWithin (length bytes.now)) }
 {
     target_here(alloc, bytes, place)
 }

@@ -14,8 +14,8 @@ ghost use Rattle.manifests.specs.declared.facts.FileEntry.{FileEntry};
 ghost use Rattle.record_fields.specs.Fields.{text_field, version_field};
 ghost use Rattle.record_fields.specs.Places.{Stands};
 ghost use Rattle.record_fields.specs.Spelling.{application_field, deployment_field, digest_field, entry_field, list_field, option_field};
-ghost use Rattle.record_fields.specs.Values.{AreDigests, IsApplication, IsCounted, IsDeployment, IsEntry};
-ghost use Rattle.record_fields.specs.Reading.{Gives, IsBad, IsWithin, text_at, version_at};
+ghost use Rattle.record_fields.specs.Values.{AreDigests, IsEncodableApplication, IsEncodableLength, IsEncodableDeployment, IsEncodableEntry};
+ghost use Rattle.record_fields.specs.Reading.{Gives, IsBad, IsFaultWithin, text_at, version_at};
 ghost use Rattle.record_fields.specs.Parts.{digest_at, digests_at, list_at, option_at};
 ghost use Rattle.record_fields.specs.Records.{application_at, deployment_at, entry_at};
 
@@ -46,7 +46,7 @@ pub fn read_version_option(
         → Stands bytes.now place (option_field version_field x) next → Gives result (Ok (x, next)) }
     ensures exact { Gives result (option_at version_at bytes.now place) }
     ensures next { IfOk result (λ x. x.1 ≤ length bytes.now) }
-    ensures fault { IfErr result (IsWithin (length bytes.now)) }
+    ensures fault { IfErr result (IsFaultWithin (length bytes.now)) }
     ensures free { IfErr result IsBad }
 {
     version_option_here(bytes, place)
@@ -69,7 +69,7 @@ pub fn read_text_option(
         → Stands bytes.now place (option_field text_field x) next → Gives result (Ok (x, next)) }
     ensures exact { Gives result (option_at (text_at limit) bytes.now place) }
     ensures next { IfOk result (λ x. x.1 ≤ length bytes.now) }
-    ensures fault { IfErr result (IsWithin (length bytes.now)) }
+    ensures fault { IfErr result (IsFaultWithin (length bytes.now)) }
 {
     text_option_here(alloc, bytes, place, limit)
 }
@@ -85,12 +85,12 @@ pub fn read_list<T: Readable>(
 ) -> Result<(List<T::Value>, usize), CodecFault>
     requires { place ≤ length bytes.now }
     ensures found { IfOk result (λ x. Stands bytes.now place (list_field T.field x.0) x.1
-        × (IsCounted limit x.0 × All T.fits x.0)) }
-    ensures only { (x : List T.Value) (next : ℕ) → IsCounted limit x × All T.fits x
+        × (IsEncodableLength limit x.0 × All T.fits x.0)) }
+    ensures only { (x : List T.Value) (next : ℕ) → IsEncodableLength limit x × All T.fits x
         → Stands bytes.now place (list_field T.field x) next → Gives result (Ok (x, next)) }
     ensures exact { Gives result (list_at limit T.at bytes.now place) }
     ensures next { IfOk result (λ x. x.1 ≤ length bytes.now) }
-    ensures fault { IfErr result (IsWithin (length bytes.now)) }
+    ensures fault { IfErr result (IsFaultWithin (length bytes.now)) }
 {
     T::reads_as_spelled();
     list_here::<T>(alloc, bytes, place, limit)
@@ -105,7 +105,7 @@ pub fn read_digest(alloc: Global, bytes: &[u8], place: usize) -> Result<(Digest,
     ensures only { (x : Digest) (next : ℕ) → IsSized x → Stands bytes.now place (digest_field x) next → Gives result (Ok (x, next)) }
     ensures exact { Gives result (digest_at bytes.now place) }
     ensures next { IfOk result (λ x. x.1 ≤ length bytes.now) }
-    ensures fault { IfErr result (IsWithin (length bytes.now)) }
+    ensures fault { IfErr result (IsFaultWithin (length bytes.now)) }
 {
     DigestField::read_here(alloc, bytes, place)
 }
@@ -126,7 +126,7 @@ pub fn read_digests(
         → Stands bytes.now place (list_field digest_field x) next → Gives result (Ok (x, next)) }
     ensures exact { Gives result (digests_at bytes.now place) }
     ensures next { IfOk result (λ x. x.1 ≤ length bytes.now) }
-    ensures fault { IfErr result (IsWithin (length bytes.now)) }
+    ensures fault { IfErr result (IsFaultWithin (length bytes.now)) }
 {
     digests_here(alloc, bytes, place)
 }
@@ -140,12 +140,12 @@ pub fn read_entry(
 ) -> Result<(FileEntry, usize), CodecFault>
     requires { place ≤ length bytes.now }
     ensures found { IfOk result (λ x. Stands bytes.now place (entry_field x.0) x.1
-        × IsEntry x.0) }
-    ensures only { (x : FileEntry) (next : ℕ) → IsEntry x
+        × IsEncodableEntry x.0) }
+    ensures only { (x : FileEntry) (next : ℕ) → IsEncodableEntry x
         → Stands bytes.now place (entry_field x) next → Gives result (Ok (x, next)) }
     ensures exact { Gives result (entry_at bytes.now place) }
     ensures next { IfOk result (λ x. x.1 ≤ length bytes.now) }
-    ensures fault { IfErr result (IsWithin (length bytes.now)) }
+    ensures fault { IfErr result (IsFaultWithin (length bytes.now)) }
 {
     EntryField::read_here(alloc, bytes, place)
 }
@@ -159,12 +159,13 @@ pub fn read_entries(
 ) -> Result<(List<FileEntry>, usize), CodecFault>
     requires { place ≤ length bytes.now }
     ensures found { IfOk result (λ x. Stands bytes.now place (list_field entry_field x.0) x.1
-        × ((length x.0 ≤ FILE_COUNT_LIMIT) × All IsEntry x.0)) }
-    ensures only { (x : List FileEntry) (next : ℕ) → ((length x ≤ FILE_COUNT_LIMIT) × All IsEntry x)
+        × ((length x.0 ≤ FILE_COUNT_LIMIT) × All IsEncodableEntry x.0)) }
+    ensures only { (x : List FileEntry) (next : ℕ)
+        → ((length x ≤ FILE_COUNT_LIMIT) × All IsEncodableEntry x)
         → Stands bytes.now place (list_field entry_field x) next → Gives result (Ok (x, next)) }
     ensures exact { Gives result (list_at FILE_COUNT_LIMIT entry_at bytes.now place) }
     ensures next { IfOk result (λ x. x.1 ≤ length bytes.now) }
-    ensures fault { IfErr result (IsWithin (length bytes.now)) }
+    ensures fault { IfErr result (IsFaultWithin (length bytes.now)) }
 {
     list_here::<EntryField>(alloc, bytes, place, FILE_COUNT_LIMIT)
 }
@@ -178,12 +179,12 @@ pub fn read_deployment(
 ) -> Result<(Deployment, usize), CodecFault>
     requires { place ≤ length bytes.now }
     ensures found { IfOk result (λ x. Stands bytes.now place (deployment_field x.0) x.1
-        × IsDeployment x.0) }
-    ensures only { (x : Deployment) (next : ℕ) → IsDeployment x
+        × IsEncodableDeployment x.0) }
+    ensures only { (x : Deployment) (next : ℕ) → IsEncodableDeployment x
         → Stands bytes.now place (deployment_field x) next → Gives result (Ok (x, next)) }
     ensures exact { Gives result (deployment_at bytes.now place) }
     ensures next { IfOk result (λ x. x.1 ≤ length bytes.now) }
-    ensures fault { IfErr result (IsWithin (length bytes.now)) }
+    ensures fault { IfErr result (IsFaultWithin (length bytes.now)) }
 {
     deployment_here(alloc, bytes, place)
 }
@@ -197,12 +198,12 @@ pub fn read_application(
 ) -> Result<(Application, usize), CodecFault>
     requires { place ≤ length bytes.now }
     ensures found { IfOk result (λ x. Stands bytes.now place (application_field x.0) x.1
-        × IsApplication x.0) }
-    ensures only { (x : Application) (next : ℕ) → IsApplication x
+        × IsEncodableApplication x.0) }
+    ensures only { (x : Application) (next : ℕ) → IsEncodableApplication x
         → Stands bytes.now place (application_field x) next → Gives result (Ok (x, next)) }
     ensures exact { Gives result (application_at bytes.now place) }
     ensures next { IfOk result (λ x. x.1 ≤ length bytes.now) }
-    ensures fault { IfErr result (IsWithin (length bytes.now)) }
+    ensures fault { IfErr result (IsFaultWithin (length bytes.now)) }
 {
     application_here(alloc, bytes, place)
 }
@@ -223,7 +224,7 @@ pub fn read_texts(
         → Stands bytes.now place (list_field text_field x) next → Gives result (Ok (x, next)) }
     ensures exact { Gives result (list_at FILE_COUNT_LIMIT (text_at NAME_LIMIT) bytes.now place) }
     ensures next { IfOk result (λ x. x.1 ≤ length bytes.now) }
-    ensures fault { IfErr result (IsWithin (length bytes.now)) }
+    ensures fault { IfErr result (IsFaultWithin (length bytes.now)) }
 {
     list_here::<TextField>(alloc, bytes, place, FILE_COUNT_LIMIT)
 }

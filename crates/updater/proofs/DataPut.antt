@@ -41,7 +41,7 @@ use Rattle.store_state.specs.Shows.{Shows, shown_data, shown_view}
 use Rattle.store_state.specs.Stored.{data_bytes}
 use Rattle.store_state.specs.Tables.{Tables}
 use Rattle.store_state.proofs.Showing.{shape_shown}
-use Rattle.record_codec.specs.Values.{IsLocal}
+use Rattle.record_codec.specs.Values.{IsEncodableLocal}
 use Rattle.links.specs.Links.{LinksState}
 use Rattle.install_plan.specs.Leading.{LeadsIn}
 use Rattle.updater.specs.declared.putting.Putting.{Putting}
@@ -157,9 +157,9 @@ shown_bytes room image name bytes files (Some file) at is =
 
 -- such a file has an encoding
 pub file_encodes : (name bytes : List ℕ) (file : LocalFile) → IsName name
-    → length bytes ≤ PIECE_LIMIT → file ≡ file_of name bytes → IsLocal file
+    → length bytes ≤ PIECE_LIMIT → file ≡ file_of name bytes → IsEncodableLocal file
 file_encodes name bytes file named few is =
-    subst IsLocal (sym is) (record { name = named; size = omega arith; bytes = omega arith })
+    subst IsEncodableLocal (sym is) (record { name = named; size = omega arith; bytes = omega arith })
 
 -- ---- steps
 

@@ -45,8 +45,8 @@ use Rattle.store_state.specs.Kept.{AreTables}
 use Rattle.store_state.specs.Rows.{row_at}
 use Rattle.store_state.specs.Tables.{Tables}
 use Rattle.record_codec.specs.Codec.{IsChange}
-use Rattle.record_codec.specs.Values.{IsContent, IsGroup, IsInstall, IsLocal}
-use Rattle.record_fields.specs.Values.{AreDigests, IsApplication, IsDeployment, IsEntry, IsIdentity, IsRule}
+use Rattle.record_codec.specs.Values.{IsEncodableContent, IsEncodableGroup, IsEncodableInstall, IsEncodableLocal}
+use Rattle.record_fields.specs.Values.{AreDigests, IsEncodableApplication, IsEncodableDeployment, IsEncodableEntry, IsEncodableIdentity, IsEncodableRule}
 use Rattle.install_plan.specs.Checks.{IsOfCheck}
 use Rattle.install_plan.specs.GroupReady.{IsOfGroup}
 use Rattle.install_plan.specs.Ready.{HasFew}
@@ -56,7 +56,7 @@ use Rattle.install_plan.specs.Ready.{HasFew}
 short_value : {least most : ℕ} {text : List ℕ} → facts.IsValue least most text → IsUtf8 text → IsShort most text
 short_value value utf8 = record { within = value.few; utf8 = utf8 }
 
-identity_encodes : (i : Identity) → facts.IsIdentity i → HasIdentity i → IsIdentity i
+identity_encodes : (i : Identity) → facts.IsIdentity i → HasIdentity i → IsEncodableIdentity i
 identity_encodes i facts has = record { key = short_key has.key; version = has.version; kind = short_value facts.kind has.kind }
 
 short_group : (group : Option (List ℕ)) → IfSome group (facts.IsValue 1 NAME_LIMIT) → IfSome group IsUtf8 → IfSome group (IsShort NAME_LIMIT)
@@ -91,12 +91,12 @@ few_seconds Hours seconds few = omega arith
 few_seconds Days seconds few = omega arith
 few_seconds Weeks seconds few = omega arith
 
-rule_encodes : (rule : Rule) → facts.IsRule rule → IsRule rule
+rule_encodes : (rule : Rule) → facts.IsRule rule → IsEncodableRule rule
 rule_encodes Never is = tt
 rule_encodes Before is = tt
 rule_encodes (Age seconds) is = few_seconds (largest_unit seconds) seconds is.few
 
-deployment_encodes : (d : Deployment) → fields.IsDeployment d → IsDeployment d
+deployment_encodes : (d : Deployment) → fields.IsDeployment d → IsEncodableDeployment d
 deployment_encodes d is = record {
   identity = identity_encodes d.identity is.facts.identity is.identity;
   minimum = is.minimum;
@@ -114,7 +114,7 @@ few_bytes : (local : Bool) (size : ℕ) → size ≤ size_limit local → size <
 few_bytes true size few = omega arith
 few_bytes false size few = omega arith
 
-entry_encodes : (e : FileEntry) → facts.IsFile e → HasEntry e → IsEntry e
+entry_encodes : (e : FileEntry) → facts.IsFile e → HasEntry e → IsEncodableEntry e
 entry_encodes e file has = record {
   name = has.name;
   size = let few = few_bytes e.local e.size file.size in omega arith;
@@ -122,10 +122,10 @@ entry_encodes e file has = record {
   group = short_group e.group file.group has.group;
 }
 
-entries_encode : (entries : List FileEntry) → All facts.IsFile entries → All HasEntry entries → All IsEntry entries
+entries_encode : (entries : List FileEntry) → All facts.IsFile entries → All HasEntry entries → All IsEncodableEntry entries
 entries_encode entries files has = λ k d within. entry_encodes _ (files k d within) (has k d within)
 
-application_encodes : (a : Application) → fields.IsApplication a → IsApplication a
+application_encodes : (a : Application) → fields.IsApplication a → IsEncodableApplication a
 application_encodes a is = record {
   identity = identity_encodes a.identity is.facts.identity is.identity;
   entry = short_value is.facts.entry is.entry;
@@ -147,7 +147,7 @@ few_entry e file has = record { size = few_bytes e.local e.size file.size; list 
 few_entries : (entries : List FileEntry) → All facts.IsFile entries → All HasEntry entries → All IsFew entries
 few_entries entries files has = λ k d within. few_entry _ (files k d within) (has k d within)
 
-content_encodes : (e : FileEntry) (c : Content) → is_content_of e c ≡ true → IsFew e → length c.held ≡ c.size → IsContent c
+content_encodes : (e : FileEntry) (c : Content) → is_content_of e c ≡ true → IsFew e → length c.held ≡ c.size → IsEncodableContent c
 content_encodes e c is few measured =
     let key : content_key e ≡ content_key (record e { size = c.size; list = c.list }) = (content_decides e (record e { size = c.size; list = c.list })).0 is in
     let size : e.size ≡ c.size = ap (λ (k : ContentKey). k.size) key in
@@ -159,15 +159,15 @@ content_encodes e c is few measured =
       bytes = omega arith;
     }
 
-content_among : (entries : List FileEntry) (c : Content) → All IsFew entries → Any (λ entry. is_content_of entry c ≡ true) entries → length c.held ≡ c.size → IsContent c
+content_among : (entries : List FileEntry) (c : Content) → All IsFew entries → Any (λ entry. is_content_of entry c ≡ true) entries → length c.held ≡ c.size → IsEncodableContent c
 content_among entries c few any measured = content_encodes any.1 c any.4 (All-contains IsFew entries any.1 few (any.0, any.2, any.3)) measured
 
 -- ---- installs
 
-local_encodes : (f : LocalFile) → kept.IsLocal f → length f.held < 2 ^ 32 → IsLocal f
+local_encodes : (f : LocalFile) → kept.IsLocal f → length f.held < 2 ^ 32 → IsEncodableLocal f
 local_encodes f is few = record { name = is.name; size = let same = is.measured in omega (arith, same, few); bytes = few }
 
-locals_encode : (locals : List LocalFile) → All kept.IsLocal locals → All (λ (f : LocalFile). length f.held < 2 ^ 32) locals → All IsLocal locals
+locals_encode : (locals : List LocalFile) → All kept.IsLocal locals → All (λ (f : LocalFile). length f.held < 2 ^ 32) locals → All IsEncodableLocal locals
 locals_encode locals are few = λ k d within. local_encodes _ (are k d within) (few k d within)
 
 no_groups : (groups : List (List ℕ)) → groups ≡ [] → All (IsShort NAME_LIMIT) groups
@@ -176,7 +176,7 @@ no_groups groups none = subst (All (IsShort NAME_LIMIT)) (sym none) (All-nil (Is
 few_none : {X : Type 0} (xs : List X) → xs ≡ [] → length xs ≤ FILE_COUNT_LIMIT
 few_none xs none = let long : length xs ≡ 0 = ap length none in omega arith
 
-install_encodes : (tables : Tables) (view : View) (contents : List Content) (provider : Target) (now : ℕ) → FitsInstall tables view contents provider now → HasFew (Install view contents provider now) → IsInstall view contents provider now
+install_encodes : (tables : Tables) (view : View) (contents : List Content) (provider : Target) (now : ℕ) → FitsInstall tables view contents provider now → HasFew (Install view contents provider now) → IsEncodableInstall view contents provider now
 install_encodes tables view contents provider now fits few =
     let number = fits.number in
     let next = fits.next in
@@ -227,7 +227,7 @@ group_encodes tables group (Group number other contents) are short is fits =
     by (row_at number tables.views) refl fits
   where
     encodes_in : (row : View) → row_at number tables.views ≡ Some row
-        → MayGrow tables other contents row → IsGroup number other contents
+        → MayGrow tables other contents row → IsEncodableGroup number other contents
     encodes_in row at grows =
         let found = find_in (λ (view : View). view.number == number) tables.views row at in
         let below = all_in (λ (n : ℕ). n < tables.next_view)
@@ -248,7 +248,7 @@ group_encodes tables group (Group number other contents) are short is fits =
         }
 
     by : (row : Option View) → row_at number tables.views ≡ row
-        → IsSomeAnd row (MayGrow tables other contents) → IsGroup number other contents
+        → IsSomeAnd row (MayGrow tables other contents) → IsEncodableGroup number other contents
     by None at grows = absurd grows
     by (Some row) at grows = encodes_in row at grows
 group_encodes tables group _ are short is fits = absurd is

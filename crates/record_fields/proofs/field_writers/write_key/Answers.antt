@@ -1,6 +1,6 @@
 use Rattle.record_fields.specs.Fields.{key_field}
 use Rattle.record_fields.proofs.Written.{then}
-use Rattle.record_fields.proofs.writing.write_key.Goals as goal
+use Rattle.record_fields.proofs.field_writers.write_key.Goals as goal
 
 pub returns : goal.returns
 unfolding key_field

@@ -1,6 +1,6 @@
 use Rattle.std.proofs.Common.{ℕ, length, ap, arith}
 use Rattle.record_fields.proofs.Sizes.{name_le}
-use Rattle.record_fields.proofs.writing.write_name.Goals as goal
+use Rattle.record_fields.proofs.field_writers.write_name.Goals as goal
 
 pub write_bytes-requires-clause-size : goal.write_bytes-requires-clause-size
 write_bytes-requires-clause-size c =

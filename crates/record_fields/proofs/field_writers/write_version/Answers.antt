@@ -1,6 +1,6 @@
 use Rattle.record_fields.specs.Fields.{version_field}
 use Rattle.record_fields.proofs.Written.{then}
-use Rattle.record_fields.proofs.writing.write_version.Goals as goal
+use Rattle.record_fields.proofs.field_writers.write_version.Goals as goal
 
 pub returns : goal.returns
 unfolding version_field
