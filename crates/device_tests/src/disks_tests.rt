@@ -54,7 +54,10 @@ fn answers(alloc: Global, disk: &mut MemDisk, step: &Step) -> bool {
         Step::Sync(want) => disk.sync() == *want,
         Step::Bytes(want) => same(disk.bytes(), want),
         Step::Counts(calls, written, faults) => {
-            disk.calls() == *calls && disk.written() == *written && disk.faults() == *faults
+            disk.calls() == *calls
+                && disk.written() == *written
+                && disk.faults() == *faults
+                && disk.starved() == 0
         }
         Step::Left(moment, pick, want) => leaves(alloc, disk, *moment, *pick, want),
         Step::TooLate(moment, want) => is_refused(alloc, disk, *moment, *want),

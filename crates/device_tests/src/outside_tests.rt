@@ -83,7 +83,10 @@ const WRITINGS: &[Writing] = &[
 // Whether the sink takes that and is then so.
 fn is_writing(sink: &mut MemSink, writing: &Writing) -> bool {
     let (piece, want, taken, faults) = writing;
-    write_all(sink, piece) == *want && same(sink.taken(), taken) && sink.faults() == *faults
+    write_all(sink, piece) == *want
+        && same(sink.taken(), taken)
+        && sink.faults() == *faults
+        && sink.starved() == 0
 }
 
 // The number of the first writing that the sink does not take so.
