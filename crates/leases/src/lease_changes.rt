@@ -1,13 +1,11 @@
 // The changes that begin and end a lease.
-ghost use Rattle.std.specs.Prelude.{◌≡◌, OnErr, OnOk};
+ghost use Rattle.std.specs.Prelude.{◌≡◌};
 ghost use Rattle.store_state.specs.declared.change.Change.TheVariants as change;
-ghost use Rattle.store_state.specs.Change.{Fits, TakesMemory, effect};
+ghost use Rattle.store_state.specs.Change.{Fits, effect};
 ghost use Rattle.store_state.specs.Rows.{current_at};
 
-use crate::granting::{end, grant};
-use cleaner::{CleanFault, clean};
-use std::alloc::Global;
-use store_state::{Change, StateFault, StoreState};
+use crate::grants::{end, grant};
+use store_state::StoreState;
 
 // The number of the view that is current for the application at the place.
 fn current_at(state: &StoreState, place: usize) -> Option<u64>
@@ -43,29 +41,4 @@ pub fn finish(state: &mut StoreState, lease: u64)
     let Ok(()) = end(state, lease) else {
         unreachable!();
     };
-}
-
-/// Makes any change that fits the tables. It takes memory only for a new entry, an install, a group,
-/// a data file that is put and a clean, fails only for want of it, and then changes nothing.
-pub fn make(alloc: Global, state: &mut StoreState, change: Change) -> Result<(), StateFault>
-    requires { Fits state.old change }
-    ensures ok { OnOk result (state.new ≡ effect change state.old) }
-    ensures err { OnErr result (state.new ≡ state.old) }
-    ensures memory { OnErr result (TakesMemory state.old change) }
-{
-    match change {
-        Change::Launch { app } => {
-            start(state, app);
-            Ok(())
-        }
-        Change::Finish { lease } => {
-            finish(state, lease);
-            Ok(())
-        }
-        Change::Clean => match clean(alloc, state) {
-            Ok(_) => Ok(()),
-            Err(CleanFault::Memory) => Err(StateFault::Memory),
-        },
-        other => state.apply(alloc, other),
-    }
 }
