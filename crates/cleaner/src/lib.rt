@@ -1,9 +1,9 @@
 //! Which views are no longer in use, and the change that takes them out.
 #![tactic(auto)]
 
-mod cleaning;
 mod fault;
-mod using;
+mod unused_views;
+mod used_numbers;
 
-pub use cleaning::{clean, removable};
 pub use fault::CleanFault;
+pub use unused_views::{clean, removable};

@@ -1,6 +1,5 @@
 -- What is published, and the lines of a generated run.
 use Rattle.std.specs.Prelude.{◌≡◌, ℕ, List, [], ◌∷◌, false, length, map, Some}
-use Rattle.small_types.specs.declared.limits.TheConstants.{LOCAL_COUNT_LIMIT}
 use Rattle.small_types.specs.declared.target.Target.{Target}
 use Rattle.machine.specs.declared.command.Command.{Command}
 use Rattle.machine.specs.declared.command.Command.TheVariants.{Clean, Finish, Install, Launch}
@@ -10,7 +9,6 @@ use Rattle.machine.specs.declared.reply.Reply.{Reply}
 use Rattle.machine.specs.declared.reply.Reply.TheVariants as says
 use Rattle.machine.specs.Asked.{AsksInstall}
 use Rattle.machine.specs.Blocks.{used_blocks}
-use Rattle.machine.specs.InstallReplies.{install_replies}
 use Rattle.machine.specs.Machine.{Step}
 use Rattle.machine.specs.Shape.{bare_view, shape_of}
 use Rattle.machine.specs.Store.{Session, Store}
@@ -57,7 +55,7 @@ pub record Installs (seed : ℕ) (release : Release) (installed : Installed) (ol
   pub step : Answers (Install (url_of release)) (deployment ∷ application ∷ [])
       (installed_reply release) old new
   pub targets : List Target
-  pub asks : AsksInstall install_replies LOCAL_COUNT_LIMIT (url_of release)
+  pub asks : AsksInstall (url_of release)
       (deployment ∷ application ∷ []) (shape_of old) targets
   pub asked : installed.asked ≡ length targets
   pub blocks : installed.blocks ≡ blocks_in new.store

@@ -2,7 +2,7 @@
 #![tactic(auto)]
 
 mod fault;
-mod planning;
+mod group_plan;
 
 pub use fault::GroupFault;
-pub use planning::plan;
+pub use group_plan::plan;

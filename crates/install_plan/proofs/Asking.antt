@@ -7,9 +7,7 @@ use Rattle.addresses.specs.Address.{target_of_text}
 use Rattle.addresses.specs.Join.{file_target_of}
 use Rattle.manifests.specs.declared.facts.Application.{Application}
 use Rattle.manifests.specs.declared.facts.Deployment.{Deployment}
-use Rattle.small_types.specs.declared.limits.TheConstants.{LOCAL_COUNT_LIMIT}
 use Rattle.machine.specs.Asked.{AsksApplication, AsksFiles, AsksInstall}
-use Rattle.machine.specs.InstallReplies.{install_replies}
 use Rattle.machine.specs.InstallRow.{base_of}
 use Rattle.machine.specs.Shape.{Shape}
 use Rattle.machine.specs.Wanted.{wanted}
@@ -41,15 +39,15 @@ module _ (shape : Shape) (url : List ℕ) (texts : List (List ℕ)) (plan : Plan
       ap (λ (x : Deployment). file_targets shape plan.base x a) same_d
       ∙ ap (λ (x : Application). file_targets shape plan.base plan.deployment x) same_a ∙ is.targets
 
-  asks_files : AsksFiles install_replies LOCAL_COUNT_LIMIT url texts shape (targets_of plan)
+  asks_files : AsksFiles url texts shape (targets_of plan)
   asks_files = inr (is.release, release_map texts (λ d a same. (plan.base, base_of_plan d same.0, files_of_plan d a same.0 same.1)) is.told)
 
-  pub plan_asks : AsksInstall install_replies LOCAL_COUNT_LIMIT url texts shape (plan.url ∷ plan.base ∷ targets_of plan)
+  pub plan_asks : AsksInstall url texts shape (plan.url ∷ plan.base ∷ targets_of plan)
   plan_asks = inr (plan.url, plan.base ∷ targets_of plan, refl, is.read, inr (is.deployment, (plan.base, targets_of plan, refl, deployment_of_release texts (λ d a same. base_of_plan d same.0) is.told, asks_files)))
 
   -- ---- and nothing else
 
-  files_only : (asked : List Target) → AsksFiles install_replies LOCAL_COUNT_LIMIT url texts shape asked → asked ≡ targets_of plan
+  files_only : (asked : List Target) → AsksFiles url texts shape asked → asked ≡ targets_of plan
   files_only asked (inl refused) = absurd (refused.0 is.release)
   files_only asked (inr asks) =
       let both = release_is texts is.told asks.1 in
@@ -58,7 +56,7 @@ module _ (shape : Shape) (url : List ℕ) (texts : List (List ℕ)) (plan : Plan
       same_oks asked (targets_of plan)
       (sym found.2 ∙ ap (λ (t : Target). file_targets shape t both.0 both.1) base ∙ files_of_plan both.0 both.1 both.2.0 both.2.1)
 
-  application_only : (asked : List Target) → AsksApplication install_replies LOCAL_COUNT_LIMIT url texts shape asked → asked ≡ plan.base ∷ targets_of plan
+  application_only : (asked : List Target) → AsksApplication url texts shape asked → asked ≡ plan.base ∷ targets_of plan
   application_only asked (inl refused) = absurd (refused.0 is.deployment)
   application_only asked (inr asks) =
       let found = asks.1 in
@@ -67,7 +65,7 @@ module _ (shape : Shape) (url : List ℕ) (texts : List (List ℕ)) (plan : Plan
       let rest : found.1 ≡ targets_of plan = files_only found.1 found.4 in
       found.2 ∙ ap (λ (t : Target). t ∷ found.1) base ∙ ap (λ (ts : List Target). plan.base ∷ ts) rest
 
-  pub plan_asks_only : (asked : List Target) → AsksInstall install_replies LOCAL_COUNT_LIMIT url texts shape asked → asked ≡ plan.url ∷ plan.base ∷ targets_of plan
+  pub plan_asks_only : (asked : List Target) → AsksInstall url texts shape asked → asked ≡ plan.url ∷ plan.base ∷ targets_of plan
   plan_asks_only asked (inl refused) = absurd (refused.0 is.address)
   plan_asks_only asked (inr asks) =
       let target : asks.0 ≡ plan.url = ok_one (target_of_text url) asks.0 plan.url asks.3 is.read in

@@ -18,7 +18,7 @@ use Rattle.machine.specs.declared.command.Command.TheVariants.{Check}
 use Rattle.machine.specs.declared.reply.Reply.{Reply}
 use Rattle.machine.specs.declared.reply.Reply.TheVariants as says
 use Rattle.machine.specs.Asked.{AsksCheck}
-use Rattle.machine.specs.CheckRow.{CheckEffect, HearsOffer, HeardOther, check_refusals, checked, provider_of, unheard, unheard_app}
+use Rattle.machine.specs.CheckRow.{CheckEffect, HearsOffer, HeardOther, check_refusals, checked, provider_of, unheard_app, unheard_store}
 use Rattle.machine.specs.Current.{current_of}
 use Rattle.machine.specs.Current.{current_version as shape_version}
 use Rattle.machine.specs.Entries.{KeepsKeys, entry_of, with_entry}
@@ -203,9 +203,9 @@ module _ (room : Room) (tables : Tables) (key : Key) (now : ℕ)
     }
 
     unheard_refuses : (old : Session) → Refuses (check_refusals key [] shape) old missing
-        (record old { store = unheard key old.store })
+        (record old { store = unheard_store key old.store })
     unheard_refuses old =
-        inr (installed, inl (((provider, reasons), (provided, refl), refl), refl))
+        inr (installed, inl ((provider, reasons, (provided, refl), refl), refl))
 
     unheard_ready : unheard_app app ≢ app
         → IsCheckReady room tables key [] a b now (change.Unheard key) missing
@@ -216,8 +216,8 @@ module _ (room : Room) (tables : Tables) (key : Key) (now : ℕ)
       of = refl;
       fits = some_there (current_row key tables) row is_row;
       step = λ image old idle shows valid. record {
-        new = record old { store = unheard key old.store };
-        step = by_refusal old image idle shows [] missing (record old { store = unheard key old.store })
+        new = record old { store = unheard_store key old.store };
+        step = by_refusal old image idle shows [] missing (record old { store = unheard_store key old.store })
             (unheard_refuses old);
         served = served_by old image idle shows [] missing unserved;
         leaves = record {
@@ -234,8 +234,8 @@ module _ (room : Room) (tables : Tables) (key : Key) (now : ℕ)
       kept = both;
       still = refl;
       step = λ image old idle shows valid. record {
-        new = record old { store = unheard key old.store };
-        step = by_refusal old image idle shows [] missing (record old { store = unheard key old.store })
+        new = record old { store = unheard_store key old.store };
+        step = by_refusal old image idle shows [] missing (record old { store = unheard_store key old.store })
             (unheard_refuses old);
         served = served_by old image idle shows [] missing unserved;
         leaves = stays old image idle shows [] unheard_app same;

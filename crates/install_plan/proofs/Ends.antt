@@ -1,7 +1,7 @@
 -- What each end of the hearing says of the line.
 use Rattle.std.proofs.Common.{◌≡◌, ◌∙◌, ◌⊎◌, ◌++◌, inl, inr, refl, sym, ap, subst, ℕ, List, [], ◌∷◌, Some, None, Ok, append_assoc}
 use Rattle.std.specs.Prelude.{IfSome, Option, map, slice_get}
-use Rattle.small_types.specs.declared.limits.TheConstants.{LOCAL_COUNT_LIMIT, MANIFEST_LIMIT}
+use Rattle.small_types.specs.declared.limits.TheConstants.{MANIFEST_LIMIT}
 use Rattle.small_types.specs.declared.target.Target.{Target}
 use Rattle.addresses.specs.Address.{target_of_text}
 use Rattle.addresses.specs.Join.{app_target_of, file_target_of}
@@ -14,7 +14,6 @@ use Rattle.manifests.specs.Deployments.{deployment_of}
 use Rattle.machine.specs.declared.reply.Reply.{Reply}
 use Rattle.machine.specs.declared.reply.Reply.TheVariants as says
 use Rattle.machine.specs.Asked.{AsksApplication, AsksInstall}
-use Rattle.machine.specs.InstallReplies.{install_replies}
 use Rattle.machine.specs.Installed.{IsProvidedBy}
 use Rattle.machine.specs.InstallRow.{OfDeployment, OfRelease, base_of}
 use Rattle.machine.specs.Rows.{AreExact, PassesAll, Refusal}
@@ -45,7 +44,7 @@ use Rattle.install_plan.proofs.Told.{base_is, deployment_is, ok_one}
 module _ (shape : Shape) (url : List ℕ) (a : LinksState) where
   pub served_by : (texts : List (List ℕ)) (c : LinksState) (asked : List Target) (reply : Reply) → Kept a c
       → IfSome (slice_get texts 0) (IsDeploymentText url a c) → IfSome (slice_get texts 1) (IsApplicationText url texts a c)
-      → c.asked ≡ a.asked ++ asked → ((targets : List Target) → AsksInstall install_replies LOCAL_COUNT_LIMIT url texts shape targets → IsFront asked targets)
+      → c.asked ≡ a.asked ++ asked → ((targets : List Target) → AsksInstall url texts shape targets → IsFront asked targets)
       → Accounts shape url texts a c asked reply → Served shape url texts a c reply
   served_by texts c asked reply kept deployment application grown front accounts = record {
     hearing = record { kept = kept; deployment = deployment; application = application; asked = asked; grown = grown; front = front };
@@ -55,7 +54,7 @@ module _ (shape : Shape) (url : List ℕ) (a : LinksState) where
   -- a refusal of the row that shows no target
   pub accounts_by : (texts : List (List ℕ)) (c : LinksState) (asked : List Target) (checks rows : List (Refusal Reply Session)) (reply : Reply)
       → AllPlain checks → AreExact rows → Refused checks reply → Refused rows reply
-      → ((PassesAll rows → ⊥) → AsksInstall install_replies LOCAL_COUNT_LIMIT url texts shape asked) → Accounts shape url texts a c asked reply
+      → ((PassesAll rows → ⊥) → AsksInstall url texts shape asked) → Accounts shape url texts a c asked reply
   accounts_by texts c asked checks rows reply plain exact (inl memory) second asks = memory_accounts shape url texts a c asked reply memory
   accounts_by texts c asked checks rows reply plain exact (inr first) (inl memory) asks = memory_accounts shape url texts a c asked reply memory
   accounts_by texts c asked checks rows reply plain exact (inr first) (inr second) asks =
@@ -81,7 +80,7 @@ module _ (shape : Shape) (url : List ℕ) (a : LinksState) where
     hears = tt;
     refused = by_address shape url [] reply refused;
     served = served_by shape url a [] a [] reply (kept_same a) tt tt (none_more a.asked) (λ targets asks. (targets, refl))
-        (accounts_by shape url a [] a [] (addresses shape url []) (addresses shape url []) reply plain_address (address_exact install_replies url) refused refused (λ fails. inl (fails, refl)));
+        (accounts_by shape url a [] a [] (addresses shape url []) (addresses shape url []) reply plain_address (address_exact url) refused refused (λ fails. inl (fails, refl)));
   }
 
 -- ---- the deployment manifest is asked for
@@ -91,10 +90,10 @@ module _ (shape : Shape) (url : List ℕ) (target : Target) (read : target_of_te
   passes : PassesAll (addresses shape url [])
   passes = address_passes (target_of_text url) target read
 
-  asks_one : (texts : List (List ℕ)) → (PassesAll (deployments shape url texts) → ⊥) → AsksInstall install_replies LOCAL_COUNT_LIMIT url texts shape (target ∷ [])
+  asks_one : (texts : List (List ℕ)) → (PassesAll (deployments shape url texts) → ⊥) → AsksInstall url texts shape (target ∷ [])
   asks_one texts fails = inr (target, [], refl, read, inl (fails, refl))
 
-  front_one : (texts : List (List ℕ)) (targets : List Target) → AsksInstall install_replies LOCAL_COUNT_LIMIT url texts shape targets → IsFront (target ∷ []) targets
+  front_one : (texts : List (List ℕ)) (targets : List Target) → AsksInstall url texts shape targets → IsFront (target ∷ []) targets
   front_one texts targets (inl refused) = absurd (refused.0 passes)
   front_one texts targets (inr asks) = (asks.1, asks.2 ∙ ap (λ (t : Target). t ∷ asks.1) (ok_one (target_of_text url) asks.0 target asks.3 read))
 
@@ -112,9 +111,9 @@ module _ (shape : Shape) (url : List ℕ) (target : Target) (read : target_of_te
       let ungiven : IsUngiven (IsTextCause MANIFEST_LIMIT target) (FitsText MANIFEST_LIMIT) target a b a is.reasons = record { causes = is.gave.causes; none = is.gave.none } in
       record {
         hears = tt;
-        refused = by_deployment shape url [] reply passes (inr (λ old. inl (((target, is.reasons), (read, refl), replied), refl)));
+        refused = by_deployment shape url [] reply passes (inr (λ old. inl ((target, is.reasons, (read, refl), replied), refl)));
         served = served_by shape url a [] b (target ∷ []) reply one tt tt is.gave.asked (front_one [])
-            (subst (Accounts shape url [] a b (target ∷ [])) (sym replied) (asks_one [] (λ passed. passed.0 (target, is.reasons) (read, refl)), ungiven));
+            (subst (Accounts shape url [] a b (target ∷ [])) (sym replied) (asks_one [] (λ passed. passed.0 target (read, refl)), ungiven));
       }
 
   module _ (text : List ℕ) (got : IsGot (FitsText MANIFEST_LIMIT) target a b text) where
@@ -172,7 +171,7 @@ module _ (shape : Shape) (url : List ℕ) (target : Target) (read : target_of_te
           hears = passes;
           refused = by_deployment shape url (text ∷ []) reply passes row;
           served = noted text got reply
-              (accounts_by shape url a (text ∷ []) b (target ∷ []) (deployment_checks shape d (app_target_of target d.codebase)) (deployments shape url (text ∷ [])) reply plain_deployment (deployment_exact install_replies url text [] shape) refused row (asks_one (text ∷ [])));
+              (accounts_by shape url a (text ∷ []) b (target ∷ []) (deployment_checks shape d (app_target_of target d.codebase)) (deployments shape url (text ∷ [])) reply plain_deployment (deployment_exact url text [] shape) refused row (asks_one (text ∷ [])));
         }
 
     -- ---- the application manifest is asked for
@@ -190,17 +189,17 @@ module _ (shape : Shape) (url : List ℕ) (target : Target) (read : target_of_te
       at_base : (others : List (List ℕ)) → OfDeployment (text ∷ others) (λ x. base_of url x ≡ Ok base)
       at_base others = of_d others (λ x. base_of url x ≡ Ok base) (base_is url d target (Ok base) read joined)
 
-      asks_two : (others : List (List ℕ)) → (PassesAll (releases shape url (text ∷ others)) → ⊥) → AsksInstall install_replies LOCAL_COUNT_LIMIT url (text ∷ others) shape (target ∷ base ∷ [])
+      asks_two : (others : List (List ℕ)) → (PassesAll (releases shape url (text ∷ others)) → ⊥) → AsksInstall url (text ∷ others) shape (target ∷ base ∷ [])
       asks_two others fails = inr (target, base ∷ [], refl, read, inr (deployed others, (base, [], refl, at_base others, inl (fails, refl))))
 
-      behind_first : (others : List (List ℕ)) (targets : List Target) → AsksApplication install_replies LOCAL_COUNT_LIMIT url (text ∷ others) shape targets → IsFront (base ∷ []) targets
+      behind_first : (others : List (List ℕ)) (targets : List Target) → AsksApplication url (text ∷ others) shape targets → IsFront (base ∷ []) targets
       behind_first others targets (inl refused) = absurd (refused.0 (deployed others))
       behind_first others targets (inr asks) =
           let found = asks.1 in
           let same = deployment_is {P = λ x. base_of url x ≡ Ok base} {Q = λ x. base_of url x ≡ Ok found.0} (text ∷ others) (at_base others) found.3 in
           (found.1, found.2 ∙ ap (λ (t : Target). t ∷ found.1) (ok_one (base_of url same.0) found.0 base same.2 same.1))
 
-      front_two : (others : List (List ℕ)) (targets : List Target) → AsksInstall install_replies LOCAL_COUNT_LIMIT url (text ∷ others) shape targets → IsFront (target ∷ base ∷ []) targets
+      front_two : (others : List (List ℕ)) (targets : List Target) → AsksInstall url (text ∷ others) shape targets → IsFront (target ∷ base ∷ []) targets
       front_two others targets (inl refused) = absurd (refused.0 passes)
       front_two others targets (inr asks) =
           let rest = behind_first others asks.1 asks.4 in
@@ -210,7 +209,7 @@ module _ (shape : Shape) (url : List ℕ) (target : Target) (read : target_of_te
       deployment_text = (target, read, from_on a b c one two (FitsText MANIFEST_LIMIT) target text got.from)
 
       -- only the deployment manifest is noted
-      alone : (asked : List Target) (reply : Reply) → c.asked ≡ a.asked ++ asked → ((targets : List Target) → AsksInstall install_replies LOCAL_COUNT_LIMIT url (text ∷ []) shape targets → IsFront asked targets)
+      alone : (asked : List Target) (reply : Reply) → c.asked ≡ a.asked ++ asked → ((targets : List Target) → AsksInstall url (text ∷ []) shape targets → IsFront asked targets)
           → Accounts shape url (text ∷ []) a c asked reply → Served shape url (text ∷ []) a c reply
       alone asked reply grown front accounts = served_by shape url a (text ∷ []) c asked reply both deployment_text tt grown front accounts
 
@@ -230,10 +229,10 @@ module _ (shape : Shape) (url : List ℕ) (target : Target) (read : target_of_te
           let ungiven = ungiven_from a b c one two (IsFileCause d.app_list d.app_size base) (Matches d.app_list d.app_size) base is.named is.reasons (file_follows d.app_list d.app_size base) is.gave in
           record {
             hears = passes;
-            refused = by_release shape url (text ∷ []) reply passes (deployed []) (inr (λ old. inl (((base, is.reasons), (at_base [], refl), replied), refl)));
+            refused = by_release shape url (text ∷ []) reply passes (deployed []) (inr (λ old. inl ((base, is.reasons, (at_base [], refl), replied), refl)));
             served = alone (target ∷ base ∷ []) reply (asked_two is.gave.asked) (front_two [])
                 (subst (Accounts shape url (text ∷ []) a c (target ∷ base ∷ [])) (sym replied)
-                (asks_two [] (λ passed. passed.0 (base, is.reasons) (at_base [], refl)), of_d [] (λ x. IsUngiven (IsFileCause x.app_list x.app_size base) (Matches x.app_list x.app_size) base a c a is.reasons) ungiven));
+                (asks_two [] (λ passed. passed.0 base (at_base [], refl)), of_d [] (λ x. IsUngiven (IsFileCause x.app_list x.app_size base) (Matches x.app_list x.app_size) base a c a is.reasons) ungiven));
           }
 
       -- ---- both texts are noted
@@ -297,7 +296,7 @@ module _ (shape : Shape) (url : List ℕ) (target : Target) (read : target_of_te
               hears = hears_both other second;
               refused = by_release shape url (text ∷ other ∷ []) reply passes (deployed (other ∷ [])) row;
               served = noted_both other second reply
-                  (accounts_by shape url a (text ∷ other ∷ []) c (target ∷ base ∷ []) (release_checks url shape d app) (releases shape url (text ∷ other ∷ [])) reply plain_release (release_exact install_replies LOCAL_COUNT_LIMIT url text other [] shape) refused row (asks_two (other ∷ [])));
+                  (accounts_by shape url a (text ∷ other ∷ []) c (target ∷ base ∷ []) (release_checks url shape d app) (releases shape url (text ∷ other ∷ [])) reply plain_release (release_exact url text other [] shape) refused row (asks_two (other ∷ [])));
             }
 
         -- ---- there is a plan

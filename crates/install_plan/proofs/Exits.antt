@@ -4,12 +4,9 @@ use Rattle.std.specs.Prelude.{Result}
 use Rattle.small_types.specs.declared.target.Target.{Target}
 use Rattle.addresses.specs.declared.fault.UrlFault.{UrlFault}
 use Rattle.addresses.specs.declared.fault.UrlFault.TheVariants.{BadUrl, NotHttp}
-use Rattle.causes.specs.declared.cause.Cause.{Cause}
 use Rattle.machine.specs.declared.reply.Reply.{Reply}
 use Rattle.machine.specs.declared.reply.Reply.TheVariants as says
-use Rattle.small_types.specs.declared.limits.TheConstants.{LOCAL_COUNT_LIMIT}
 use Rattle.machine.specs.Asked.{AsksInstall}
-use Rattle.machine.specs.InstallReplies.{install_replies}
 use Rattle.machine.specs.InstallRow.{address_refusals, deployment_refusals, file_refusals, install_refusals, release_refusals}
 use Rattle.machine.specs.Rows.{PassesAll, Refusal, Refuses}
 use Rattle.machine.specs.Shape.{Shape}
@@ -36,7 +33,7 @@ plain_refused (r ∷ rs) old reply new plain (inl given) = plain.0 reply given.0
 plain_refused (r ∷ rs) old reply new plain (inr later) = plain_refused rs old reply new plain.1 later.1
 
 module _ (shape : Shape) (url : List ℕ) (texts : List (List ℕ)) (a c : LinksState) (asked : List Target) where
-  pub plain_accounts : (reply : Reply) → IsPlain reply → AsksInstall install_replies LOCAL_COUNT_LIMIT url texts shape asked → Accounts shape url texts a c asked reply
+  pub plain_accounts : (reply : Reply) → IsPlain reply → AsksInstall url texts shape asked → Accounts shape url texts a c asked reply
   plain_accounts (says.AllLinks target reasons) plain asks = absurd plain
   plain_accounts says.Memory plain asks = absurd plain
   plain_accounts _ plain asks = asks
@@ -52,19 +49,19 @@ some_session = session_over (empty (plain_room 1))
 
 module _ (shape : Shape) (url : List ℕ) (texts : List (List ℕ)) where
   abbrev pub addresses : List (Refusal Reply Session)
-  addresses = address_refusals {C = Cause} install_replies url
+  addresses = address_refusals url
 
   abbrev pub deployments : List (Refusal Reply Session)
-  deployments = deployment_refusals {C = Cause} install_replies url texts shape
+  deployments = deployment_refusals url texts shape
 
   abbrev pub releases : List (Refusal Reply Session)
-  releases = release_refusals {C = Cause} install_replies LOCAL_COUNT_LIMIT url texts shape
+  releases = release_refusals url texts shape
 
   abbrev pub files : List (Refusal Reply Session)
-  files = file_refusals {C = Cause} install_replies url texts shape
+  files = file_refusals url texts shape
 
   abbrev pub all : List (Refusal Reply Session)
-  all = install_refusals {C = Cause} install_replies LOCAL_COUNT_LIMIT url texts shape
+  all = install_refusals url texts shape
 
   pub by_address : (reply : Reply) → Refused addresses reply → Refused all reply
   by_address reply refused = refused_left (addresses ++ deployments ++ releases) files reply (refused_left (addresses ++ deployments) releases reply (refused_left addresses deployments reply refused))

@@ -256,7 +256,8 @@ module _ (room : Room) (tables : Tables) (lease : ℕ) (group : List ℕ) (view 
                           passed.1.1.1.0,
                           inl (
                             (
-                              (named, reasons),
+                              named,
+                              reasons,
                               (bare_row view, leased.bare, absent, among_wanted),
                               refl,
                             ),

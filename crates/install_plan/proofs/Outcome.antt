@@ -16,7 +16,6 @@ use Rattle.machine.specs.declared.reply.Reply.TheVariants.{Installed as IsInstal
 use Rattle.machine.specs.Current.{current_view, data_of, listed_by}
 use Rattle.machine.specs.Fields.{IsApplication, IsDeployment, IsTarget}
 use Rattle.machine.specs.Installed.{IsProvidedBy, with_view}
-use Rattle.machine.specs.InstallReplies.{install_replies}
 use Rattle.machine.specs.InstallRow.{InstallEffect, LacksEntry, OfDeployment, OfRelease, address_refusals, deployment_refusals, file_refusals, install_refusals, locals_after, release_refusals}
 use Rattle.machine.specs.Machine.{Answers}
 use Rattle.machine.specs.Migrated.{Migrated}
@@ -145,11 +144,11 @@ module _ (room : Room) (tables : Tables) (url : List ℕ) (texts : List (List �
 
   -- ---- all refusals are passed
 
-  pub plan_passes : PassesAll (install_refusals install_replies LOCAL_COUNT_LIMIT url texts shape)
+  pub plan_passes : PassesAll (install_refusals url texts shape)
   plan_passes =
-      joined_passes (address_refusals install_replies url) (deployment_refusals install_replies url texts shape ++ release_refusals install_replies LOCAL_COUNT_LIMIT url texts shape ++ file_refusals install_replies url texts shape) is.address
-      (joined_passes (deployment_refusals install_replies url texts shape) (release_refusals install_replies LOCAL_COUNT_LIMIT url texts shape ++ file_refusals install_replies url texts shape) is.deployment
-      (joined_passes (release_refusals install_replies LOCAL_COUNT_LIMIT url texts shape) (file_refusals install_replies url texts shape) is.release (tt, tt)))
+      joined_passes (address_refusals url) (deployment_refusals url texts shape ++ release_refusals url texts shape ++ file_refusals url texts shape) is.address
+      (joined_passes (deployment_refusals url texts shape) (release_refusals url texts shape ++ file_refusals url texts shape) is.deployment
+      (joined_passes (release_refusals url texts shape) (file_refusals url texts shape) is.release (tt, tt)))
 
   -- ---- what it leads to
 
@@ -177,7 +176,7 @@ module _ (room : Room) (tables : Tables) (url : List ℕ) (texts : List (List �
     next_is : old.store.next_view ≡ tables.next_view
     next_is = ap (λ (s : Store). s.next_view) shows.is
 
-    pub plan_effect : Sound old.store → InstallEffect install_replies url texts now old (IsInstalled d.identity.key d.identity.version tables.next_view) led
+    pub plan_effect : Sound old.store → InstallEffect url texts now old (IsInstalled d.identity.key d.identity.version tables.next_view) led
     plan_effect sound = record {
       target = plan.url;
       read = is.read;
@@ -203,7 +202,7 @@ module _ (room : Room) (tables : Tables) (url : List ℕ) (texts : List (List �
     }
 
     pub plan_step : Sound old.store → Answers now texts old (InstallCommand url) (IsInstalled d.identity.key d.identity.version tables.next_view) led
-    plan_step sound = inr ((tt, subst (λ (s : Shape). PassesAll (install_refusals install_replies LOCAL_COUNT_LIMIT url texts s)) (sym same_shape) plan_passes), plan_effect sound)
+    plan_step sound = inr ((tt, subst (λ (s : Shape). PassesAll (install_refusals url texts s)) (sym same_shape) plan_passes), plan_effect sound)
 
     pub plan_shows : InstallsShowTheView → (later : List ℕ) → Shows room (effect (change_of_plan tables plan plans contents now) tables) later led_store
     plan_shows law later =

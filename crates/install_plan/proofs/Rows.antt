@@ -9,7 +9,6 @@ use Rattle.addresses.specs.declared.fault.UrlFault.{UrlFault}
 use Rattle.addresses.specs.declared.fault.UrlFault.TheVariants.{BadUrl, NotHttp}
 use Rattle.addresses.specs.Address.{target_of_text}
 use Rattle.addresses.specs.Join.{app_target_of}
-use Rattle.causes.specs.declared.cause.Cause.{Cause}
 use Rattle.manifest_tree.specs.Tree.{Tree}
 use Rattle.manifest_tree.proofs.Refused.{spelled_unrefused}
 use Rattle.manifest_parts.specs.declared.fault.ManifestFault.{ManifestFault}
@@ -25,7 +24,6 @@ use Rattle.manifests.specs.Releases.{RefusesIdentity}
 use Rattle.machine.specs.declared.reply.Reply.{Reply}
 use Rattle.machine.specs.declared.reply.Reply.TheVariants as says
 use Rattle.machine.specs.Blocks.{free_blocks}
-use Rattle.machine.specs.InstallReplies.{install_replies}
 use Rattle.machine.specs.InstallRow.{IsBelowMinimum, IsNotNewer, IsRefused, LacksEntry, OfDeployment, OfRelease, OfWanted, base_of, deployment_refusals, files_after, locals_after, release_refusals}
 use Rattle.machine.specs.Rows.{PassesAll, Refusal}
 use Rattle.machine.specs.Shape.{Shape}
@@ -87,7 +85,7 @@ module _ (shape : Shape) (url : List ℕ) (heard : List (List ℕ)) (d : Deploym
   checks = deployment_checks shape d (app_target_of target d.codebase)
 
   abbrev rest : List (Refusal Reply Session)
-  rest = drop 2 (deployment_refusals {C = Cause} install_replies url heard shape)
+  rest = drop 2 (deployment_refusals url heard shape)
 
   alike : AreAlike checks rest
   alike =
@@ -101,16 +99,16 @@ module _ (shape : Shape) (url : List ℕ) (heard : List (List ℕ)) (d : Deploym
       (newer, (above, (apps, (views, (spent, (bad, (other, tt)))))))
 
   -- it was heard, and is not refused as a text
-  heard_text : (x : Target × List Cause) → (target_of_text url ≡ Ok x.0) × (slice_get heard 0 ≡ None) → ⊥
-  heard_text x lacks = some_is_not_none (slice_get heard 0) told.0 told.2 lacks.1
+  heard_text : (t : Target) → (target_of_text url ≡ Ok t) × (slice_get heard 0 ≡ None) → ⊥
+  heard_text t lacks = some_is_not_none (slice_get heard 0) told.0 told.2 lacks.1
 
   read_text : (x : ManifestFault) → IsRefused deployment_of 0 heard x → ⊥
   read_text x refused = unrefused deployment_of told.0 told.1 told.3 0 heard told.2 x refused
 
-  pub deployment_passed : PassesAll checks → PassesAll (deployment_refusals {C = Cause} install_replies url heard shape)
+  pub deployment_passed : PassesAll checks → PassesAll (deployment_refusals url heard shape)
   deployment_passed passes = (heard_text, (read_text, passes_alike checks rest alike passes))
 
-  pub deployment_refused : (reply : Reply) → Refused checks reply → Refused (deployment_refusals {C = Cause} install_replies url heard shape) reply
+  pub deployment_refused : (reply : Reply) → Refused checks reply → Refused (deployment_refusals url heard shape) reply
   deployment_refused reply (inl memory) = inl memory
   deployment_refused reply (inr refuses) = inr (λ old. inr (heard_text, inr (read_text, refuses_alike checks rest old reply old alike (refuses old))))
 
@@ -130,7 +128,7 @@ module _ (shape : Shape) (url : List ℕ) (heard : List (List ℕ)) (d : Deploym
   all_checks = release_checks url shape d a
 
   abbrev others : List (Refusal Reply Session)
-  others = drop 2 (release_refusals {C = Cause} install_replies LOCAL_COUNT_LIMIT url heard shape)
+  others = drop 2 (release_refusals url heard shape)
 
   similar : AreAlike all_checks others
   similar =
@@ -143,15 +141,15 @@ module _ (shape : Shape) (url : List ℕ) (heard : List (List ℕ)) (d : Deploym
       (λ need. of_both (λ x y. (need ≡ install_need shape x y) × (free_blocks shape < need))) (λ need. is_both (λ x y. (need ≡ install_need shape x y) × (free_blocks shape < need))) in
       (identity, (files, (locals, (targets, (room, tt)))))
 
-  heard_other : (x : Target × List Cause) → OfDeployment heard (λ y. base_of url y ≡ Ok x.0) × (slice_get heard 1 ≡ None) → ⊥
-  heard_other x lacks = some_is_not_none (slice_get heard 1) told.4.0 told.4.2 lacks.1
+  heard_other : (t : Target) → OfDeployment heard (λ y. base_of url y ≡ Ok t) × (slice_get heard 1 ≡ None) → ⊥
+  heard_other t lacks = some_is_not_none (slice_get heard 1) told.4.0 told.4.2 lacks.1
 
   read_other : (x : ManifestFault) → IsRefused application_of 1 heard x → ⊥
   read_other x refused = unrefused application_of told.4.0 told.4.1 told.4.3 1 heard told.4.2 x refused
 
-  pub release_passed : PassesAll all_checks → PassesAll (release_refusals {C = Cause} install_replies LOCAL_COUNT_LIMIT url heard shape)
+  pub release_passed : PassesAll all_checks → PassesAll (release_refusals url heard shape)
   release_passed passes = (heard_other, (read_other, passes_alike all_checks others similar passes))
 
-  pub release_refused : (reply : Reply) → Refused all_checks reply → Refused (release_refusals {C = Cause} install_replies LOCAL_COUNT_LIMIT url heard shape) reply
+  pub release_refused : (reply : Reply) → Refused all_checks reply → Refused (release_refusals url heard shape) reply
   release_refused reply (inl memory) = inl memory
   release_refused reply (inr refuses) = inr (λ old. inr (heard_other, inr (read_other, refuses_alike all_checks others old reply old similar (refuses old))))

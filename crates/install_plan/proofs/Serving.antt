@@ -2,7 +2,7 @@
 use Rattle.std.proofs.Common.{◌≡◌, ◌∙◌, ◌++◌, inl, inr, refl, sym, ap, subst, ℕ, List, [], ◌∷◌, map, Option, Some, None, Result, Ok, append_assoc}
 use Rattle.std.specs.Prelude.{Any, IfSome, slice_get}
 use Rattle.std.proofs.lemmas.List.{append-nil, map-append}
-use Rattle.small_types.specs.declared.limits.TheConstants.{LOCAL_COUNT_LIMIT, MANIFEST_LIMIT}
+use Rattle.small_types.specs.declared.limits.TheConstants.{MANIFEST_LIMIT}
 use Rattle.small_types.specs.declared.target.Target.{Target}
 use Rattle.addresses.specs.declared.fault.UrlFault.{UrlFault}
 use Rattle.addresses.specs.Join.{file_target_of}
@@ -15,7 +15,6 @@ use Rattle.manifests.specs.declared.facts.Deployment.{Deployment}
 use Rattle.manifests.specs.declared.facts.FileEntry.{FileEntry}
 use Rattle.machine.specs.declared.reply.Reply.{Reply}
 use Rattle.machine.specs.declared.reply.Reply.TheVariants.{AllLinks, Installed, Memory}
-use Rattle.machine.specs.InstallReplies.{install_replies}
 use Rattle.machine.specs.InstallRow.{OfRelease, OfWanted, address_refusals, deployment_refusals, file_refusals, install_refusals, release_refusals}
 use Rattle.machine.specs.Rows.{PassesAll, Refusal, Refuses}
 use Rattle.machine.specs.Shape.{Shape}
@@ -150,12 +149,12 @@ module _ (shape : Shape) (url : List ℕ) (texts : List (List ℕ)) (a b c : Lin
         let there = contains_in (wanted shape.views plan.application) part.entry (subst (λ (es : List FileEntry). In part.entry es) (sym part.are) (in_right part.earlier (part.entry ∷ part.later) part.entry (inl refl))) in
         (there.0, part.entry, there.1, there.2, at_named)
 
-    pub refuses : (old : Session) → Refuses (install_refusals install_replies LOCAL_COUNT_LIMIT url texts shape) old (AllLinks named reasons) old
+    pub refuses : (old : Session) → Refuses (install_refusals url texts shape) old (AllLinks named reasons) old
     refuses old =
-        passed_over (address_refusals install_replies url) (deployment_refusals install_replies url texts shape ++ release_refusals install_replies LOCAL_COUNT_LIMIT url texts shape ++ file_refusals install_replies url texts shape) old (AllLinks named reasons) old planned.is.address
-        (passed_over (deployment_refusals install_replies url texts shape) (release_refusals install_replies LOCAL_COUNT_LIMIT url texts shape ++ file_refusals install_replies url texts shape) old (AllLinks named reasons) old planned.is.deployment
-        (passed_over (release_refusals install_replies LOCAL_COUNT_LIMIT url texts shape) (file_refusals install_replies url texts shape) old (AllLinks named reasons) old planned.is.release
-        (inl (((named, reasons), of_release {P = λ d x. OfWanted url shape d x (λ target. target ≡ Ok named)} (plan.base, base_is url plan.deployment plan.url (Ok plan.base) planned.is.read planned.is.joined, among_wanted), refl), refl))))
+        passed_over (address_refusals url) (deployment_refusals url texts shape ++ release_refusals url texts shape ++ file_refusals url texts shape) old (AllLinks named reasons) old planned.is.address
+        (passed_over (deployment_refusals url texts shape) (release_refusals url texts shape ++ file_refusals url texts shape) old (AllLinks named reasons) old planned.is.deployment
+        (passed_over (release_refusals url texts shape) (file_refusals url texts shape) old (AllLinks named reasons) old planned.is.release
+        (inl ((named, reasons, of_release {P = λ d x. OfWanted url shape d x (λ target. target ≡ Ok named)} (plan.base, base_is url plan.deployment plan.url (Ok plan.base) planned.is.read planned.is.joined, among_wanted), refl), refl))))
 
   -- ---- where not all files were fetched
 

@@ -1,6 +1,6 @@
 -- What an install asked of its links and heard of them, from the beginning of its line to the end.
 use Rattle.std.specs.Prelude.{◌≡◌, ℕ, List, [], ◌∷◌, ◌++◌, map, IfSome, Ok, slice_get}
-use Rattle.small_types.specs.declared.limits.TheConstants.{LOCAL_COUNT_LIMIT, MANIFEST_LIMIT}
+use Rattle.small_types.specs.declared.limits.TheConstants.{MANIFEST_LIMIT}
 use Rattle.small_types.specs.declared.target.Target.{Target}
 use Rattle.addresses.specs.Address.{target_of_text}
 use Rattle.addresses.specs.Join.{app_target_of, file_target_of}
@@ -12,7 +12,6 @@ use Rattle.manifests.specs.declared.facts.FileEntry.{FileEntry}
 use Rattle.machine.specs.declared.reply.Reply.{Reply}
 use Rattle.machine.specs.declared.reply.Reply.TheVariants.{AllLinks, Memory}
 use Rattle.machine.specs.Asked.{AsksInstall}
-use Rattle.machine.specs.InstallReplies.{install_replies}
 use Rattle.machine.specs.InstallRow.{OfDeployment, OfRelease, base_of}
 use Rattle.machine.specs.Shape.{Shape}
 use Rattle.machine.specs.Wanted.{wanted}
@@ -53,7 +52,7 @@ pub record Hearing (shape : Shape) (url : List ℕ) (texts : List (List ℕ))
   pub asked : List Target
   pub grown : after.asked ≡ before.asked ++ asked
   pub front : (all : List Target)
-      → AsksInstall install_replies LOCAL_COUNT_LIMIT url texts shape all → IsFront asked all
+      → AsksInstall url texts shape all → IsFront asked all
 
 -- ---- the line's end
 
@@ -91,11 +90,11 @@ pub record LacksFile (shape : Shape) (url : List ℕ) (before after : LinksState
 abbrev pub LacksTarget : Shape → List ℕ → List (List ℕ) → LinksState → LinksState
     → List Target → Target → List Cause → Type 0
 LacksTarget shape url [] before after asked named reasons =
-    AsksInstall install_replies LOCAL_COUNT_LIMIT url [] shape asked
+    AsksInstall url [] shape asked
     × IsUngiven (IsTextCause MANIFEST_LIMIT named) (FitsText MANIFEST_LIMIT) named
     before after before reasons
 LacksTarget shape url (text ∷ []) before after asked named reasons =
-    AsksInstall install_replies LOCAL_COUNT_LIMIT url (text ∷ []) shape asked
+    AsksInstall url (text ∷ []) shape asked
     × OfDeployment (text ∷ []) (λ d.
     IsUngiven (IsFileCause d.app_list d.app_size named) (Matches d.app_list d.app_size) named
     before after before reasons)
@@ -109,7 +108,7 @@ Accounts shape url texts before after asked (AllLinks target reasons) =
     LacksTarget shape url texts before after asked target reasons
 Accounts shape url texts before after asked Memory = Unit {0}
 Accounts shape url texts before after asked _ =
-    AsksInstall install_replies LOCAL_COUNT_LIMIT url texts shape asked
+    AsksInstall url texts shape asked
 
 -- the whole line: what was asked, and where the reply names a target, why no link gave it
 pub record Served (shape : Shape) (url : List ℕ) (texts : List (List ℕ))

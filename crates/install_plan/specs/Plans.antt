@@ -5,8 +5,6 @@ use Rattle.addresses.specs.Address.{target_of_text}
 use Rattle.addresses.specs.Join.{app_target_of, file_target_of}
 use Rattle.machine.specs.declared.reply.Reply.{Reply}
 use Rattle.machine.specs.declared.reply.Reply.TheVariants.{Memory}
-use Rattle.small_types.specs.declared.limits.TheConstants.{LOCAL_COUNT_LIMIT}
-use Rattle.machine.specs.InstallReplies.{install_replies}
 use Rattle.machine.specs.InstallRow.{HearsRelease, OfRelease, address_refusals, deployment_refusals, install_refusals, release_refusals}
 use Rattle.machine.specs.Installed.{IsProvidedBy}
 use Rattle.machine.specs.Rows.{PassesAll, Refuses}
@@ -35,14 +33,14 @@ pub record IsPlan (shape : Shape) (url : List ℕ) (texts : List (List ℕ)) (pl
       map (λ entry. file_target_of plan.base plan.deployment.mapped entry.name)
       (wanted shape.views plan.application)
       ≡ map Ok (targets_of plan)
-  pub address : PassesAll (address_refusals install_replies url)
-  pub deployment : PassesAll (deployment_refusals install_replies url texts shape)
-  pub release : PassesAll (release_refusals install_replies LOCAL_COUNT_LIMIT url texts shape)
+  pub address : PassesAll (address_refusals url)
+  pub deployment : PassesAll (deployment_refusals url texts shape)
+  pub release : PassesAll (release_refusals url texts shape)
 
 -- both manifests were heard, and there is a plan; nothing else was asked for
 pub record IsPlanned (shape : Shape) (url : List ℕ) (texts : List (List ℕ))
     (before after : LinksState) (plan : Plan) : Type 0 where
-  pub hears : HearsRelease install_replies url shape texts
+  pub hears : HearsRelease url shape texts
   pub is : IsPlan shape url texts plan
   pub hearing : Hearing shape url texts before after
   pub asked : hearing.asked ≡ plan.url ∷ plan.base ∷ []
@@ -50,7 +48,7 @@ pub record IsPlanned (shape : Shape) (url : List ℕ) (texts : List (List ℕ))
 -- it found no memory, or the reply is its first refusal
 pub record IsRefused (shape : Shape) (url : List ℕ) (texts : List (List ℕ))
     (before after : LinksState) (reply : Reply) : Type 0 where
-  pub hears : HearsRelease install_replies url shape texts
+  pub hears : HearsRelease url shape texts
   pub refused : (reply ≡ Memory) ⊎ ((old : Session)
-      → Refuses (install_refusals install_replies LOCAL_COUNT_LIMIT url texts shape) old reply old)
+      → Refuses (install_refusals url texts shape) old reply old)
   pub served : Served shape url texts before after reply

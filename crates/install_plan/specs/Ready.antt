@@ -1,12 +1,11 @@
 -- What an install comes to once all that it wants is fetched: a change of the tables, and a reply.
 use Rattle.std.specs.Prelude.{◌≡◌, ◌<◌, ◌≤◌, ◌^◌, ℕ, List, [], ◌∷◌, ◌++◌, All, length}
 use Rattle.small_types.specs.declared.room.Room.{Room}
-use Rattle.small_types.specs.declared.limits.TheConstants.{FILE_COUNT_LIMIT, LOCAL_COUNT_LIMIT}
+use Rattle.small_types.specs.declared.limits.TheConstants.{FILE_COUNT_LIMIT}
 use Rattle.identity.specs.declared.key.Key.{Key}
 use Rattle.identity.specs.declared.version.Version.{Version}
 use Rattle.machine.specs.declared.reply.Reply.{Reply}
 use Rattle.machine.specs.declared.reply.Reply.TheVariants.{Installed}
-use Rattle.machine.specs.InstallReplies.{install_replies}
 use Rattle.machine.specs.InstallRow.{HearsRelease, InstallEffect, install_refusals}
 use Rattle.machine.specs.Rows.{PassesAll}
 use Rattle.machine.specs.Sound.{Sound}
@@ -36,15 +35,15 @@ pub record IsStep (room : Room) (tables : Tables) (url : List ℕ) (texts : List
     (before after : LinksState) (now : ℕ) (change : Change) (reply : Reply) (old : Session)
     : Type 0 where
   pub new : Session
-  pub installs : InstallEffect install_replies url texts now old reply new
+  pub installs : InstallEffect url texts now old reply new
   pub leads : LeadsIn room change tables old.store new.store
   pub brought : (view : View) → new.store.views ≡ old.store.views ++ view ∷ []
       → IsBrought old before after view
 
 pub record IsReady (room : Room) (tables : Tables) (url : List ℕ) (texts : List (List ℕ))
     (before after : LinksState) (now : ℕ) (change : Change) (reply : Reply) : Type 0 where
-  pub hears : HearsRelease install_replies url (table_shape room tables) texts
-  pub passes : PassesAll (install_refusals install_replies LOCAL_COUNT_LIMIT url texts
+  pub hears : HearsRelease url (table_shape room tables) texts
+  pub passes : PassesAll (install_refusals url texts
       (table_shape room tables))
   pub replied : (key : Key) × (version : Version) × (view : ℕ)
       × (reply ≡ Installed key version view)

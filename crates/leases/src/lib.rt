@@ -1,10 +1,10 @@
 //! Leases: each keeps a view as it is while it is in use.
 #![tactic(auto)]
 
-mod changing;
 mod fault;
-mod granting;
+mod grants;
+mod lease_changes;
 
-pub use changing::{finish, make, start};
 pub use fault::LeaseFault;
-pub use granting::{check_room, end, grant, holds};
+pub use grants::{check_room, end, grant, holds};
+pub use lease_changes::{finish, start};

@@ -16,7 +16,7 @@ use Rattle.machine.specs.declared.app.AppState.{AppState}
 use Rattle.machine.specs.declared.command.Command.TheVariants.{Check}
 use Rattle.machine.specs.declared.reply.Reply.{Reply}
 use Rattle.machine.specs.declared.reply.Reply.TheVariants as says
-use Rattle.machine.specs.CheckRow.{CheckEffect, check_refusals, checked, heard_app, provider_of, unheard, unheard_app}
+use Rattle.machine.specs.CheckRow.{CheckEffect, check_refusals, checked, heard_app, provider_of, unheard_app, unheard_store}
 use Rattle.machine.specs.Current.{current_of}
 use Rattle.machine.specs.Entries.{KeepsKeys, entry_of, with_entry}
 use Rattle.machine.specs.Fields.{IsDeployment}
@@ -30,7 +30,7 @@ use Rattle.machine.specs.Store.{Session}
 use Rattle.machine.specs.Valid.{IsApp, Ordered, Valid}
 use Rattle.machine.specs.Views.{View}
 use Rattle.machine.proofs.Changing.{same_part}
-use Rattle.machine.proofs.Choosing.{AllGive, exactly-exact, exactly_with-exact, leaving-exact}
+use Rattle.machine.proofs.Choosing.{AllGive, exactly-exact, exactly_with-exact, leaving-exact, unheard_exact}
 use Rattle.machine.proofs.Finding.{some_there, value_of}
 use Rattle.machine.proofs.InstallExact.{reason_one, some_is_not_none, text_one}
 use Rattle.machine.proofs.Installing.{version-above, version-raised_by}
@@ -79,7 +79,7 @@ module _ (key : Key) (text : List ℕ) (texts : List (List ℕ)) (shape : Shape)
   check_exact = (
     exactly-exact _ _,
     (
-      leaving-exact _ _ (exactly_with-exact _ _ (λ x y first second. some_is_not_none text first.1)),
+      leaving-exact _ _ (unheard_exact _ (λ target there. some_is_not_none text there.1)),
       (
         exactly_with-exact _ _
             (λ x y first second. ap says.Manifest
@@ -102,7 +102,7 @@ module _ (key : Key) (heard : List (List ℕ)) (shape : Shape) where
   check_none = (
     (λ r given. ap set given.1),
     (
-      (λ r given. ap set given.2),
+      (λ r given. ap set given.3),
       ((λ r given. ap set given.2), ((λ r given. ap set given.2), tt)),
     ),
   )
@@ -111,11 +111,11 @@ module _ (key : Key) (heard : List (List ℕ)) (shape : Shape) where
 pub check_refused : (key : Key) (heard : List (List ℕ)) (old : Session) (reply : Reply)
     (new : Session) → Refuses (check_refusals key heard (shape_of old)) old reply new
     → ((IsAllLinks reply → ⊥) × (new ≡ old))
-    ⊎ (IsAllLinks reply × (new ≡ record old { store = unheard key old.store }))
+    ⊎ (IsAllLinks reply × (new ≡ record old { store = unheard_store key old.store }))
 check_refused key heard old reply new (inl given) =
     inl ((λ is. not_installed_links (subst IsAllLinks given.0.1 is)), given.1)
 check_refused key heard old reply new (inr (_, inl given)) =
-    inr ((given.0.0.0, given.0.0.1, given.0.2), given.1)
+    inr ((given.0.0, given.0.1, given.0.3), given.1)
 check_refused key heard old reply new (inr (_, inr (_, inl given))) =
     inl ((λ is. manifest_links given.0.0 (subst IsAllLinks given.0.2 is)), given.1)
 check_refused key heard old reply new (inr (_, inr (_, inr (_, inl given)))) =
@@ -156,16 +156,16 @@ known_app key apps installed = by (entry_of key apps) refl
 
 unheard_kept : (key : Key) (old : Session) (target : Target) (causes : List Cause)
     → (current_of key old.store.apps ≡ None → ⊥)
-    → Kept (Check key) old (says.AllLinks target causes) (record old { store = unheard key old.store })
+    → Kept (Check key) old (says.AllLinks target causes) (record old { store = unheard_store key old.store })
 unheard_kept key old target causes installed = record {
   memory = λ e. absurd (all_links_is_other target causes e);
   room = refl;
   boot = refl;
   jobs = refl;
   next_job = refl;
-  minimums = rises_as old.store.apps (unheard key old.store).apps
+  minimums = rises_as old.store.apps (unheard_store key old.store).apps
       (unheard_minimum key old.store.apps);
-  leases = keeps_more old.store (unheard key old.store) [] refl refl
+  leases = keeps_more old.store (unheard_store key old.store) [] refl refl
       (sym (append-nil old.store.views));
   views = refl;
   next_view = refl;
@@ -241,13 +241,13 @@ module _ (now : ℕ) (heard : List (List ℕ)) (key : Key) where
       by (check_refused key heard old reply new given) (past_current key heard old reply new given)
     where
       by : ((IsAllLinks reply → ⊥) × (new ≡ old))
-          ⊎ (IsAllLinks reply × (new ≡ record old { store = unheard key old.store }))
+          ⊎ (IsAllLinks reply × (new ≡ record old { store = unheard_store key old.store }))
           → (new ≡ old) ⊎ (current_of key old.store.apps ≡ None → ⊥) → Kept (Check key) old reply new
       by (inl same) any = kept_same (Check key) old reply new same.1
       by (inr left) (inl same) = kept_same (Check key) old reply new same
       by (inr left) (inr installed) =
           subst (λ (s : Session). Kept (Check key) old reply s) (sym left.1)
-          (subst (λ (r : Reply). Kept (Check key) old r (record old { store = unheard key old.store }))
+          (subst (λ (r : Reply). Kept (Check key) old r (record old { store = unheard_store key old.store }))
           (sym left.0.2) (unheard_kept key old left.0.0 left.0.1 installed))
 
 -- ---- there is an answer
@@ -265,8 +265,8 @@ module _ (now : ℕ) (key : Key) (old : Session) where
       → provider_of key old.store.apps ≡ Some target → IsAnswered now [] old (Check key)
   unanswered installed target is = record {
     reply = says.AllLinks target [];
-    new = record old { store = unheard key old.store };
-    answers = inl (inr (tt, inr (installed, inl (((target, []), (is, refl), refl), refl))));
+    new = record old { store = unheard_store key old.store };
+    answers = inl (inr (tt, inr (installed, inl ((target, [], (is, refl), refl), refl))));
     other = all_links_is_other target [];
   }
 

@@ -20,7 +20,7 @@ use Rattle.machine.specs.declared.due.Due.TheVariants.{Required, CheckFirst, Off
 use Rattle.machine.specs.declared.reply.Reply.{Reply}
 use Rattle.machine.specs.declared.reply.Reply.TheVariants as says
 use Rattle.machine.specs.CheckLaws.{IsMade, ShowsHeld}
-use Rattle.machine.specs.CheckRow.{CheckEffect, check_refusals, checked, heard_app, unheard, unheard_app}
+use Rattle.machine.specs.CheckRow.{CheckEffect, check_refusals, checked, heard_app, unheard_app, unheard_store}
 use Rattle.machine.specs.Current.{current_bare}
 use Rattle.machine.specs.Due.{check_due, checks_first, due, due_of, first_due, is_equal, is_version, offered_to, required_by, unless_declined}
 use Rattle.machine.specs.Entries.{entry_of, entry_or_fresh}
@@ -77,7 +77,7 @@ none_checked : (key : Key) (heard : List (List ℕ)) (shape : Shape)
 none_checked key heard shape = (
   (λ r given o m e. not_installed_apart o m (sym given.1 ∙ e)),
   (
-    (λ r given o m e. links_apart o m _ _ (sym given.2 ∙ e)),
+    (λ r given o m e. links_apart o m _ _ (sym given.3 ∙ e)),
     (
       (λ r given o m e. manifest_apart o m _ (sym given.2 ∙ e)),
       ((λ r given o m e. identity_apart o m _ (sym given.2 ∙ e)), tt),
@@ -210,9 +210,9 @@ entry_due key store at app is checked e =
     (due_by (current_bare key (shape_of (session_over store))) at) o) is) ∙ e)
 
 unheard_due : (key : Key) (old : Store) (at : ℕ)
-    → due key (shape_of (session_over (unheard key old))) at ≢ Some CheckFirst
+    → due key (shape_of (session_over (unheard_store key old))) at ≢ Some CheckFirst
 unheard_due key old at =
-    entry_due key (unheard key old) at (unheard_app (entry_or_fresh key old.apps))
+    entry_due key (unheard_store key old) at (unheard_app (entry_or_fresh key old.apps))
     (entry_of-with_entry key unheard_app unheard_keys old.apps) refl
 
 pub made_counts : (now : ℕ) (heard : List (List ℕ)) (old : Session) (key : Key) (reply : Reply)
@@ -229,7 +229,7 @@ made_counts now heard old key reply new at (inl (inr refused)) (inr links) =
     by (check_refused key heard old reply new refused.1)
   where
     by : ((IsAllLinks reply → ⊥) × (new ≡ old))
-        ⊎ (IsAllLinks reply × (new ≡ record old { store = unheard key old.store }))
+        ⊎ (IsAllLinks reply × (new ≡ record old { store = unheard_store key old.store }))
         → due key (shape_of new) at ≢ Some CheckFirst
     by (inl other) = absurd (other.0 links)
     by (inr left) =

@@ -1,6 +1,8 @@
 -- The first refusal that is not passed.
 use Rattle.std.proofs.Common.{◌≡◌, ◌∙◌, ◌++◌, inl, inr, sym, ℕ, zero, suc, List, [], ◌∷◌}
+use Rattle.small_types.specs.declared.target.Target.{Target}
 use Rattle.machine.specs.Rows.{AreExact, ChangeNothing, GivesAt, IsExact, Passes, PassesAll, Refusal, Refuses, LeavesNothingAt, exactly, exactly_with, leaving}
+use Rattle.machine.specs.Unheard.{unheard}
 
 -- ---- refusals that are no free choice
 
@@ -16,6 +18,13 @@ pub exactly_with-exact : {R S A : Type 0} (when : A → Type 0) (reply : A → R
 exactly_with-exact when reply alone = record {
   settled = λ r gives passes. passes gives.0 gives.1;
   one = λ a b first second. first.2 ∙ alone first.0 second.0 first.1 second.1 ∙ sym second.2;
+}
+
+-- where none that meets the condition is unheard
+pub unheard_exact : (when : Target → Type 0) → ((target : Target) → when target → ⊥) → IsExact (unheard when)
+unheard_exact when none = record {
+  settled = λ r gives passes. passes gives.0 gives.2;
+  one = λ a b first second. absurd (none first.0 first.2);
 }
 
 -- what it leaves has no part in that

@@ -19,7 +19,6 @@ use Rattle.machine.specs.DataLaws.{ChangesData, HasData, IsDataOf, IsOn, NoneCha
 use Rattle.machine.specs.Grouped.{Grouped, with_group, with_view_at}
 use Rattle.machine.specs.GroupRow.{GroupEffect}
 use Rattle.machine.specs.Groups.{group_stands}
-use Rattle.machine.specs.InstallReplies.{install_replies}
 use Rattle.machine.specs.InstallRow.{InstallEffect}
 use Rattle.machine.specs.Installed.{new_view}
 use Rattle.machine.specs.InUse.{IsInUse, is_in_use}
@@ -320,7 +319,7 @@ module _ (number : ℕ) (name : List ℕ) where
       )) files))
 
   install_keeps : (url : List ℕ) (heard : List (List ℕ)) (now : ℕ) (old : Session) (reply : Reply)
-      (new : Session) → InstallEffect install_replies url heard now old reply new
+      (new : Session) → InstallEffect url heard now old reply new
       → KeepsData number name old.store new.store
   install_keeps url heard now old reply new done =
       λ view is. (

@@ -86,7 +86,7 @@ module _ (lease : ℕ) (group : List ℕ) (shape : Shape) where
       (λ r given. ap set given.1),
       (
         (λ r given. ap set given.1),
-        ((λ r given. ap set given.2), ((λ r given. ap set given.2), tt)),
+        ((λ r given. ap set given.2), ((λ r given. ap set given.3), tt)),
       ),
     ),
   )
@@ -316,7 +316,8 @@ module _ (now : ℕ) (heard : List (List ℕ)) (lease : ℕ) (group : List ℕ) 
                         fits,
                         inl (
                           (
-                            (t, []),
+                            t,
+                            [],
                             (
                               bare_view view,
                               bare,

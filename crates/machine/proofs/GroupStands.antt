@@ -128,7 +128,7 @@ no_group lease group shape = (
       (λ r given files e. bad_url_apart files (sym given.1 ∙ e)),
       (
         (λ r given files e. full_apart files _ _ (sym given.2 ∙ e)),
-        ((λ r given files e. links_apart files _ _ (sym given.2 ∙ e)), tt),
+        ((λ r given files e. links_apart files _ _ (sym given.3 ∙ e)), tt),
       ),
     ),
   ),

@@ -12,12 +12,13 @@ use Rattle.identity.specs.Version.{IsBelow, version_cmp}
 use Rattle.identity.proofs.VersionLemmas.{cmp_from_IsBelow}
 use Rattle.manifests.specs.declared.facts.Deployment.{Deployment}
 use Rattle.manifests.specs.Facts.{IsMinimum}
+use Rattle.machine.specs.declared.reply.Reply.{Reply}
 use Rattle.machine.specs.declared.app.AppState.{AppState}
 use Rattle.machine.specs.Current.{current_of, current_version, view_at}
 use Rattle.machine.specs.Entries.{entry_of, entry_or_fresh, fresh, key_cmp, with_entry}
 use Rattle.machine.specs.Installed.{installed_app, new_view, raised_by, with_view}
 use Rattle.machine.specs.InstallLaws.{IsCurrent, IsInstall}
-use Rattle.machine.specs.InstallRow.{InstallEffect, IsBelowMinimum, Replies}
+use Rattle.machine.specs.InstallRow.{InstallEffect, IsBelowMinimum}
 use Rattle.machine.specs.Minimums.{minimum_of}
 use Rattle.machine.specs.Shape.{BareView, bare_view, shape_of}
 use Rattle.machine.specs.Store.{Session, Store, session_over}
@@ -83,7 +84,7 @@ module _ (number : ℕ) (d : Deployment) (provider : Target) (now : ℕ) where
 -- ---- an install
 
 -- a minimum that held holds once it had its effect, or one that is not below it
-pub effect_minimum : {R C : Type 0} {says : Replies R C} {url : List ℕ} {heard : List (List ℕ)} {now : ℕ} {old : Session} {reply : R} {new : Session} → InstallEffect says url heard now old reply new → (key : Key) (minimum : Version) → minimum_of key old.store.apps ≡ Some minimum → IsSomeAnd (minimum_of key new.store.apps) (λ later. ¬ IsBelow later minimum)
+pub effect_minimum : {url : List ℕ} {heard : List (List ℕ)} {now : ℕ} {old : Session} {reply : Reply} {new : Session} → InstallEffect url heard now old reply new → (key : Key) (minimum : Version) → minimum_of key old.store.apps ≡ Some minimum → IsSomeAnd (minimum_of key new.store.apps) (λ later. ¬ IsBelow later minimum)
 effect_minimum {now = now} {old = old} done key minimum held =
     let d = done.deployment in
     subst (λ (s : Session). IsSomeAnd (minimum_of key s.store.apps) (λ later. ¬ IsBelow later minimum)) (sym done.is)
@@ -94,7 +95,7 @@ current_or_fresh : (key : Key) (entry : Option AppState) → (unwrap_or entry (f
 current_or_fresh key None = refl
 current_or_fresh key (Some app) = refl
 
-module _ {R C : Type 0} {says : Replies R C} {locals : ℕ} {url : List ℕ} {heard : List (List ℕ)} {now : ℕ} {old : Session} {reply : R} {new : Session} (is : IsInstall says locals url heard now old reply new) where
+module _ {url : List ℕ} {heard : List (List ℕ)} {now : ℕ} {old : Session} {reply : Reply} {new : Session} (is : IsInstall url heard now old reply new) where
   abbrev d : Deployment
   d = is.effect.deployment
 

@@ -13,12 +13,14 @@ use Rattle.manifests.specs.declared.releases.ReleaseFault.TheVariants as unlike
 use Rattle.manifests.specs.Applications.{application_of}
 use Rattle.manifests.specs.Deployments.{deployment_of}
 use Rattle.manifests.specs.Releases.{RefusesIdentity}
+use Rattle.machine.specs.declared.reply.Reply.{Reply}
+use Rattle.machine.specs.declared.reply.Reply.TheVariants as says
 use Rattle.machine.specs.Blocks.{free_blocks}
-use Rattle.machine.specs.InstallRow.{InstallEffect, IsRefused, OfDeployment, OfRelease, OfText, Replies, address_refusals, deployment_refusals, release_refusals}
+use Rattle.machine.specs.InstallRow.{InstallEffect, IsRefused, OfDeployment, OfRelease, OfText, address_refusals, deployment_refusals, release_refusals}
 use Rattle.machine.specs.Rows.{AreExact}
 use Rattle.machine.specs.Shape.{Shape}
 use Rattle.machine.specs.Store.{Session}
-use Rattle.machine.proofs.Choosing.{exactly-exact, exactly_with-exact}
+use Rattle.machine.proofs.Choosing.{exactly-exact, exactly_with-exact, unheard_exact}
 use Rattle.machine.proofs.Told.{refused_one, same_text, told_one}
 
 pub some_is_not_none : {P X : Type 0} (x : X) → ◌≡◌ {A = Option X} (Some x) None → P
@@ -69,62 +71,61 @@ one_fault d a (VersionDiffers k l) (VersionDiffers m n) first other second anoth
 
 -- ---- the refusals
 
-module _ {R C : Type 0} (says : Replies R C) where
-  pub address_exact : (url : List ℕ) → AreExact (address_refusals says url)
-  address_exact url = (exactly-exact _ _, (exactly_with-exact _ _ (λ x y first second. refl), tt))
+pub address_exact : (url : List ℕ) → AreExact (address_refusals url)
+address_exact url = (exactly-exact _ _, (exactly_with-exact _ _ (λ x y first second. refl), tt))
 
-  pub deployment_exact : (url text : List ℕ) (texts : List (List ℕ)) (shape : Shape) → AreExact (deployment_refusals says url (text ∷ texts) shape)
-  deployment_exact url text texts shape = (
-    exactly_with-exact _ _ (λ x y first second. some_is_not_none text first.1),
+pub deployment_exact : (url text : List ℕ) (texts : List (List ℕ)) (shape : Shape) → AreExact (deployment_refusals url (text ∷ texts) shape)
+deployment_exact url text texts shape = (
+  unheard_exact _ (λ target there. some_is_not_none text there.1),
+  (
+    exactly_with-exact _ _ (λ x y first second. ap says.Manifest (reason_one deployment_of 0 (text ∷ texts) x y first second)),
     (
-      exactly_with-exact _ _ (λ x y first second. ap says.manifest (reason_one deployment_of 0 (text ∷ texts) x y first second)),
+      exactly_with-exact _ _ (λ x y first second. (let both = both_of (text ∷ texts) first second in ap says.NotNewer (some_one _ x y both.1.0 both.2.0))),
       (
-        exactly_with-exact _ _ (λ x y first second. (let both = both_of (text ∷ texts) first second in ap says.not_newer (some_one _ x y both.1.0 both.2.0))),
-        (
-          exactly_with-exact _ _ (λ x y first second. (let both = both_of (text ∷ texts) first second in ap says.below_minimum (some_one _ x y both.1.0 both.2.0))),
-          (
-            exactly-exact _ _,
-            (
-              exactly-exact _ _,
-              (
-                exactly-exact _ _,
-                (
-                  exactly-exact _ _,
-                  (exactly_with-exact _ _ (λ x y first second. refl), tt),
-                ),
-              ),
-            ),
-          ),
-        ),
-      ),
-    ),
-  )
-
-  pub release_exact : (locals : ℕ) (url text other : List ℕ) (texts : List (List ℕ)) (shape : Shape) → AreExact (release_refusals says locals url (text ∷ other ∷ texts) shape)
-  release_exact locals url text other texts shape = (
-    exactly_with-exact _ _ (λ x y first second. some_is_not_none other first.1),
-    (
-      exactly_with-exact _ _ (λ x y first second. ap says.manifest (reason_one application_of 1 (text ∷ other ∷ texts) x y first second)),
-      (
-        exactly_with-exact _ _ (λ x y first second. (let both = both_release (text ∷ other ∷ texts) first.0 second.0 in ap says.release (one_fault both.0 both.1 x y both.2 first.1 both.3 second.1))),
+        exactly_with-exact _ _ (λ x y first second. (let both = both_of (text ∷ texts) first second in ap says.BelowMinimum (some_one _ x y both.1.0 both.2.0))),
         (
           exactly-exact _ _,
           (
             exactly-exact _ _,
             (
               exactly-exact _ _,
-              (exactly_with-exact _ _ (λ x y first second. (let both = both_release (text ∷ other ∷ texts) first second in ap (λ (n : ℕ). says.full n (free_blocks shape)) (both.2.0 ∙ sym both.3.0))), tt),
+              (
+                exactly-exact _ _,
+                (exactly_with-exact _ _ (λ x y first second. refl), tt),
+              ),
             ),
           ),
         ),
       ),
     ),
-  )
+  ),
+)
 
-  -- ---- the reply of an install
+pub release_exact : (url text other : List ℕ) (texts : List (List ℕ)) (shape : Shape) → AreExact (release_refusals url (text ∷ other ∷ texts) shape)
+release_exact url text other texts shape = (
+  unheard_exact _ (λ target there. some_is_not_none other there.1),
+  (
+    exactly_with-exact _ _ (λ x y first second. ap says.Manifest (reason_one application_of 1 (text ∷ other ∷ texts) x y first second)),
+    (
+      exactly_with-exact _ _ (λ x y first second. (let both = both_release (text ∷ other ∷ texts) first.0 second.0 in ap says.Release (one_fault both.0 both.1 x y both.2 first.1 both.3 second.1))),
+      (
+        exactly-exact _ _,
+        (
+          exactly-exact _ _,
+          (
+            exactly-exact _ _,
+            (exactly_with-exact _ _ (λ x y first second. (let both = both_release (text ∷ other ∷ texts) first second in ap (λ (n : ℕ). says.Full n (free_blocks shape)) (both.2.0 ∙ sym both.3.0))), tt),
+          ),
+        ),
+      ),
+    ),
+  ),
+)
 
-  pub one_reply : (url : List ℕ) (heard : List (List ℕ)) (now : ℕ) (old : Session) (a b : R) (x y : Session) → InstallEffect says url heard now old a x → InstallEffect says url heard now old b y → a ≡ b
-  one_reply url heard now old a b x y first second =
-      let both = both_release heard first.told second.told in
-      let same : first.deployment ≡ second.deployment = sym both.2.0 ∙ both.3.0 in
-      first.replied ∙ ap (λ (d : Deployment). says.installed d.identity.key d.identity.version old.store.next_view) same ∙ sym second.replied
+-- ---- the reply of an install
+
+pub one_reply : (url : List ℕ) (heard : List (List ℕ)) (now : ℕ) (old : Session) (a b : Reply) (x y : Session) → InstallEffect url heard now old a x → InstallEffect url heard now old b y → a ≡ b
+one_reply url heard now old a b x y first second =
+    let both = both_release heard first.told second.told in
+    let same : first.deployment ≡ second.deployment = sym both.2.0 ∙ both.3.0 in
+    first.replied ∙ ap (λ (d : Deployment). says.Installed d.identity.key d.identity.version old.store.next_view) same ∙ sym second.replied

@@ -1,6 +1,6 @@
 -- The row of `install`.
-use Rattle.std.proofs.Common.{◌≡◌, ◌≢◌, ◌∙◌, ◌++◌, ◌≤◌, inr, refl, sym, ap, subst, ℕ, List, [], ◌∷◌, Some, arith}
-use Rattle.small_types.specs.declared.limits.TheConstants.{LOCAL_COUNT_LIMIT, NUMBER_LIMIT}
+use Rattle.std.proofs.Common.{◌≡◌, ◌≢◌, ◌∙◌, ◌++◌, ◌≤◌, inr, refl, sym, ap, subst, ℕ, List, [], ◌∷◌, Some}
+use Rattle.small_types.specs.declared.limits.TheConstants.{NUMBER_LIMIT}
 use Rattle.addresses.specs.Address.{target_of_text}
 use Rattle.identity.specs.declared.key.Key.{Key}
 use Rattle.identity.specs.declared.version.Version.{Version}
@@ -10,8 +10,7 @@ use Rattle.machine.specs.declared.reply.Reply.{Reply}
 use Rattle.machine.specs.declared.reply.Reply.TheVariants as says
 use Rattle.machine.specs.Installed.{new_view, with_view}
 use Rattle.machine.specs.InstallLaws.{IsInstall}
-use Rattle.machine.specs.InstallReplies.{install_replies}
-use Rattle.machine.specs.InstallRow.{InstallEffect, Replies, address_refusals, deployment_refusals, file_refusals, install_refusals, release_refusals}
+use Rattle.machine.specs.InstallRow.{InstallEffect, address_refusals, deployment_refusals, file_refusals, install_refusals, release_refusals}
 use Rattle.machine.specs.Laws.{IsAnswered}
 use Rattle.machine.specs.Machine.{moment_set}
 use Rattle.machine.specs.Minimums.{minimum_of}
@@ -34,33 +33,33 @@ pub unchanged_both : {R S : Type 0} (xs ys : List (Refusal R S)) → ChangeNothi
 unchanged_both [] ys first second = second
 unchanged_both (x ∷ xs) ys first second = (first.0, unchanged_both xs ys first.1 second)
 
-module _ {R C : Type 0} (says : Replies R C) (locals : ℕ) (url : List ℕ) (heard : List (List ℕ))
+module _ (url : List ℕ) (heard : List (List ℕ))
     (shape : Shape) where
   same : (session : Session) → session ≡ session
   same session = refl
 
-  address_unchanged : ChangeNothing (address_refusals says url)
+  address_unchanged : ChangeNothing (address_refusals url)
   address_unchanged = (same, (same, tt))
 
-  deployment_unchanged : ChangeNothing (deployment_refusals says url heard shape)
+  deployment_unchanged : ChangeNothing (deployment_refusals url heard shape)
   deployment_unchanged =
       (same, (same, (same, (same, (same, (same, (same, (same, (same, tt)))))))))
 
-  release_unchanged : ChangeNothing (release_refusals says locals url heard shape)
+  release_unchanged : ChangeNothing (release_refusals url heard shape)
   release_unchanged = (same, (same, (same, (same, (same, (same, (same, tt)))))))
 
-  file_unchanged : ChangeNothing (file_refusals says url heard shape)
+  file_unchanged : ChangeNothing (file_refusals url heard shape)
   file_unchanged = (same, tt)
 
-  pub install_unchanged : ChangeNothing (install_refusals says locals url heard shape)
+  pub install_unchanged : ChangeNothing (install_refusals url heard shape)
   install_unchanged =
       unchanged_both
-      (address_refusals says url ++ deployment_refusals says url heard shape
-      ++ release_refusals says locals url heard shape)
-      (file_refusals says url heard shape)
-      (unchanged_both (address_refusals says url ++ deployment_refusals says url heard shape)
-      (release_refusals says locals url heard shape)
-      (unchanged_both (address_refusals says url) (deployment_refusals says url heard shape)
+      (address_refusals url ++ deployment_refusals url heard shape
+      ++ release_refusals url heard shape)
+      (file_refusals url heard shape)
+      (unchanged_both (address_refusals url ++ deployment_refusals url heard shape)
+      (release_refusals url heard shape)
+      (unchanged_both (address_refusals url) (deployment_refusals url heard shape)
       address_unchanged deployment_unchanged) release_unchanged) file_unchanged
 
 -- ---- its effect, where it is refused nowhere
@@ -72,23 +71,23 @@ installed_is_other key version view e = cc
 module _ (now : ℕ) (heard : List (List ℕ)) (url : List ℕ) (old : Session) (reply : Reply)
     (new : Session) where
   as_install : now ≤ NUMBER_LIMIT
-      → PassesAll (install_refusals install_replies LOCAL_COUNT_LIMIT url heard (shape_of old))
-      → InstallEffect install_replies url heard now old reply new
-      → IsInstall install_replies LOCAL_COUNT_LIMIT url heard now old reply new
+      → PassesAll (install_refusals url heard (shape_of old))
+      → InstallEffect url heard now old reply new
+      → IsInstall url heard now old reply new
   as_install few passes done =
-      record { few = omega arith; moment = few; passes = passes; effect = done }
+      record { moment = few; passes = passes; effect = done }
 
   -- it leaves the constants of a store, and what a session has beside it
   pub store_left : {X : Type 0} (part : Store → X)
       → ((provider base : _) (d : _) (a : _) (files : _) (data_files : _)
       → part (with_view provider base d a files data_files now old.store) ≡ part old.store)
-      → InstallEffect install_replies url heard now old reply new → part new.store ≡ part old.store
+      → InstallEffect url heard now old reply new → part new.store ≡ part old.store
   store_left part leaves done =
       ap (λ (s : Session). part s.store) done.is ∙ ap part done.installed.is
       ∙ leaves done.installed.provider done.base done.deployment done.application done.files
       done.installed.data_files
 
-  module _ (done : InstallEffect install_replies url heard now old reply new) where
+  module _ (done : InstallEffect url heard now old reply new) where
     abbrev d : Deployment
     d = done.deployment
 
@@ -133,8 +132,8 @@ pub install_facts : (now : ℕ) (heard : List (List ℕ)) (url : List ℕ)
 install_facts now heard url = record {
   refused = λ old reply new given.
       kept_unchanged (Install url)
-      (install_refusals install_replies LOCAL_COUNT_LIMIT url heard (shape_of old)) old reply new
-      (install_unchanged install_replies LOCAL_COUNT_LIMIT url heard (shape_of old)) given;
+      (install_refusals url heard (shape_of old)) old reply new
+      (install_unchanged url heard (shape_of old)) given;
   set_none = λ shape. install_none url heard shape;
   acts = λ old reply new done. install_acts now heard url old reply new done;
   valid = λ old reply new is few passes done valid.

@@ -15,12 +15,13 @@ use Rattle.manifests.specs.declared.facts.FileEntry.{FileEntry}
 use Rattle.manifests.specs.declared.releases.ReleaseFault.TheVariants.{IdentityDiffers, VersionDiffers}
 use Rattle.manifests.specs.Applications.{is_below_pre}
 use Rattle.manifests.specs.Releases.{RefusesIdentity}
+use Rattle.machine.specs.declared.reply.Reply.{Reply}
 use Rattle.machine.specs.Blocks.{free_blocks, used_blocks}
 use Rattle.machine.specs.Current.{bare_listed_by, current_bare, current_of, current_view, data_of, listed_by, view_at}
 use Rattle.machine.specs.Fields.{IsApplication, IsDeployment, IsTarget}
 use Rattle.machine.specs.Installed.{IsProvidedBy}
 use Rattle.machine.specs.InstallLaws.{IsInstall}
-use Rattle.machine.specs.InstallRow.{LacksEntry, OfDeployment, OfRelease, Replies, address_refusals, deployment_refusals, file_refusals, locals_after, release_refusals}
+use Rattle.machine.specs.InstallRow.{LacksEntry, OfDeployment, OfRelease, address_refusals, deployment_refusals, file_refusals, locals_after, release_refusals}
 use Rattle.machine.specs.Migrated.{migrated_names}
 use Rattle.machine.specs.Rows.{PassesAll, Refusal}
 use Rattle.machine.specs.Shape.{BareData, BareView, Shape, bare_data, bare_view, shape_of}
@@ -120,7 +121,7 @@ current_data key store was = data_then (current_of key store.apps) store.views w
 
 -- ---- an install
 
-module _ {R C : Type 0} {says : Replies R C} {locals : ℕ} {url : List ℕ} {heard : List (List ℕ)} {now : ℕ} {old : Session} {reply : R} {new : Session} (is : IsInstall says locals url heard now old reply new) where
+module _ {url : List ℕ} {heard : List (List ℕ)} {now : ℕ} {old : Session} {reply : Reply} {new : Session} (is : IsInstall url heard now old reply new) where
   abbrev shape : Shape
   shape = shape_of old
 
@@ -156,30 +157,30 @@ module _ {R C : Type 0} {says : Replies R C} {locals : ℕ} {url : List ℕ} {he
   held_provider None provider given = subst IsTarget (sym given) held_target
   held_provider (Some text) provider read = text_is_held text provider read
 
-  behind_release : List (Refusal R Session)
-  behind_release = file_refusals says url heard shape
+  behind_release : List (Refusal Reply Session)
+  behind_release = file_refusals url heard shape
 
-  behind_deployment : List (Refusal R Session)
-  behind_deployment = release_refusals says locals url heard shape ++ file_refusals says url heard shape
+  behind_deployment : List (Refusal Reply Session)
+  behind_deployment = release_refusals url heard shape ++ file_refusals url heard shape
 
-  behind_address : List (Refusal R Session)
-  behind_address = deployment_refusals says url heard shape ++ release_refusals says locals url heard shape ++ file_refusals says url heard shape
+  behind_address : List (Refusal Reply Session)
+  behind_address = deployment_refusals url heard shape ++ release_refusals url heard shape ++ file_refusals url heard shape
 
   past_address : PassesAll behind_address
   unfolding behind_address
-  past_address = (passes_both (address_refusals says url) behind_address is.passes).1
+  past_address = (passes_both (address_refusals url) behind_address is.passes).1
 
-  pub deployment_passes : PassesAll (deployment_refusals says url heard shape)
+  pub deployment_passes : PassesAll (deployment_refusals url heard shape)
   unfolding behind_address behind_deployment
-  deployment_passes = (passes_both (deployment_refusals says url heard shape) behind_deployment past_address).0
+  deployment_passes = (passes_both (deployment_refusals url heard shape) behind_deployment past_address).0
 
   past_deployment : PassesAll behind_deployment
   unfolding behind_address behind_deployment
-  past_deployment = (passes_both (deployment_refusals says url heard shape) behind_deployment past_address).1
+  past_deployment = (passes_both (deployment_refusals url heard shape) behind_deployment past_address).1
 
-  pub release_passes : PassesAll (release_refusals says locals url heard shape)
+  pub release_passes : PassesAll (release_refusals url heard shape)
   unfolding behind_deployment behind_release
-  release_passes = (passes_both (release_refusals says locals url heard shape) behind_release past_deployment).0
+  release_passes = (passes_both (release_refusals url heard shape) behind_release past_deployment).0
 
   -- ---- what was passed
 
@@ -203,9 +204,8 @@ module _ {R C : Type 0} {says : Replies R C} {locals : ℕ} {url : List ℕ} {he
 
   has_locals_room : locals_after shape d a ≤ LOCAL_COUNT_LIMIT
   has_locals_room =
-      let few = not_less locals (locals_after shape d a) (λ many. release_passes.1.1.1.1.0 (of_release {P = λ x y. locals < locals_after shape x y} many)) in
-      let most = is.few in
-      omega (arith, few, most)
+      let few = not_less LOCAL_COUNT_LIMIT (locals_after shape d a) (λ many. release_passes.1.1.1.1.0 (of_release {P = λ x y. LOCAL_COUNT_LIMIT < locals_after shape x y} many)) in
+      omega (arith, few)
 
   has_room : install_need shape d a ≤ free_blocks shape
   has_room = not_less (free_blocks shape) (install_need shape d a) (λ less. release_passes.1.1.1.1.1.1.0 (install_need shape d a) (of_release {P = λ x y. (install_need shape d a ≡ install_need shape x y) × (free_blocks shape < install_need shape d a)} (refl, less)))

@@ -103,7 +103,7 @@ unheard now old url (Ok target) is = record {
       (λ e. target_is_no_bad target (sym is ∙ e)),
       inr (
         (λ scheme e. target_has_scheme target scheme (sym is ∙ e)),
-        inl (((target, []), (is, refl), refl), refl),
+        inl ((target, [], (is, refl), refl), refl),
       ),
     ),
   ));

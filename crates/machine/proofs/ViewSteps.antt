@@ -12,7 +12,6 @@ use Rattle.machine.specs.DataFiles.{data_name, with_named, without_named}
 use Rattle.machine.specs.Grouped.{Grouped, with_group, with_view_at}
 use Rattle.machine.specs.GroupRow.{GroupEffect}
 use Rattle.machine.specs.Groups.{group_stands}
-use Rattle.machine.specs.InstallReplies.{install_replies}
 use Rattle.machine.specs.InstallRow.{InstallEffect}
 use Rattle.machine.specs.Installed.{new_view}
 use Rattle.machine.specs.LifeLaws.{IsSameRelease}
@@ -84,7 +83,7 @@ left old new is =
     (ap (λ (s : Session). s.store.views) is)
 
 install_numbers : (url : List ℕ) (heard : List (List ℕ)) (now : ℕ) (old : Session) (reply : Reply)
-    (new : Session) → InstallEffect install_replies url heard now old reply new
+    (new : Session) → InstallEffect url heard now old reply new
     → KeepsNumbers old.store new.store
 install_numbers url heard now old reply new done =
     subst (λ (s : Session). KeepsNumbers old.store s.store) (sym done.is)

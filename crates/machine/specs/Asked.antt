@@ -8,7 +8,7 @@ use Rattle.machine.specs.CheckRow.{provider_of}
 use Rattle.machine.specs.Current.{current_of}
 use Rattle.machine.specs.GroupRow.{OfComing, room_refusals}
 use Rattle.machine.specs.Groups.{group_stands, group_wanted}
-use Rattle.machine.specs.InstallRow.{OfDeployment, OfRelease, Replies, address_refusals, base_of, deployment_refusals, release_refusals}
+use Rattle.machine.specs.InstallRow.{OfDeployment, OfRelease, address_refusals, base_of, deployment_refusals, release_refusals}
 use Rattle.machine.specs.Leases.{leased_bare}
 use Rattle.machine.specs.Rows.{PassesAll}
 use Rattle.machine.specs.Shape.{BareView, Shape}
@@ -16,13 +16,12 @@ use Rattle.machine.specs.Wanted.{wanted}
 
 -- ---- an install
 
-module _ {R C : Type 0} (says : Replies R C) (locals : ℕ) (url : List ℕ) (heard : List (List ℕ))
-    (shape : Shape) where
+module _ (url : List ℕ) (heard : List (List ℕ)) (shape : Shape) where
   -- the wanted files, where the release is not refused
   abbrev pub AsksFiles : List Target → Type 0
   AsksFiles asked =
-      ((PassesAll (release_refusals says locals url heard shape) → ⊥) × (asked ≡ []))
-      ⊎ (PassesAll (release_refusals says locals url heard shape)
+      ((PassesAll (release_refusals url heard shape) → ⊥) × (asked ≡ []))
+      ⊎ (PassesAll (release_refusals url heard shape)
       × OfRelease heard (λ d a. (base : Target) × (base_of url d ≡ Ok base)
       × (map (λ entry. file_target_of base d.mapped entry.name) (wanted shape.views a)
       ≡ map Ok asked)))
@@ -30,15 +29,15 @@ module _ {R C : Type 0} (says : Replies R C) (locals : ℕ) (url : List ℕ) (he
   -- the application manifest and what follows, where the deployment is not refused
   abbrev pub AsksApplication : List Target → Type 0
   AsksApplication asked =
-      ((PassesAll (deployment_refusals says url heard shape) → ⊥) × (asked ≡ []))
-      ⊎ (PassesAll (deployment_refusals says url heard shape)
+      ((PassesAll (deployment_refusals url heard shape) → ⊥) × (asked ≡ []))
+      ⊎ (PassesAll (deployment_refusals url heard shape)
       × ((base : Target) × (rest : List Target) × (asked ≡ base ∷ rest)
       × OfDeployment heard (λ d. base_of url d ≡ Ok base) × AsksFiles rest))
 
   -- the given address and what follows, where it is one
   abbrev pub AsksInstall : List Target → Type 0
   AsksInstall asked =
-      ((PassesAll (address_refusals says url) → ⊥) × (asked ≡ []))
+      ((PassesAll (address_refusals url) → ⊥) × (asked ≡ []))
       ⊎ ((target : Target) × (rest : List Target) × (asked ≡ target ∷ rest)
       × (target_of_text url ≡ Ok target) × AsksApplication rest)
 

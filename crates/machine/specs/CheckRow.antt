@@ -1,7 +1,6 @@
 -- check KEY: what the application's provider offers.
 use Rattle.std.specs.Prelude.{◌≡◌, ◌≢◌, ℕ, true, List, [], ◌∷◌, slice_get, Option, Some, None, IsSome, option_and_then}
 use Rattle.small_types.specs.declared.target.Target.{Target}
-use Rattle.causes.specs.declared.cause.Cause.{Cause}
 use Rattle.identity.specs.declared.key.Key.{Key}
 use Rattle.identity.specs.declared.version.Version.{Version}
 use Rattle.manifests.specs.declared.facts.Deployment.{Deployment}
@@ -17,6 +16,7 @@ use Rattle.machine.specs.Minimums.{minimum_of}
 use Rattle.machine.specs.Rows.{Refusal, exactly, exactly_with, leaving}
 use Rattle.machine.specs.Shape.{Shape, shape_of}
 use Rattle.machine.specs.Store.{Session, Store}
+use Rattle.machine.specs.Unheard.{unheard}
 
 -- the address that is asked, where there is one
 abbrev pub provider_of : Key → List AppState → Option Target
@@ -28,8 +28,8 @@ provider_of key apps = option_and_then (λ app. app.provider) (entry_of key apps
 abbrev pub unheard_app : AppState → AppState
 unheard_app app = record app { checked = true }
 
-abbrev pub unheard : Key → Store → Store
-unheard key old = record old { apps = with_entry key unheard_app old.apps }
+abbrev pub unheard_store : Key → Store → Store
+unheard_store key old = record old { apps = with_entry key unheard_app old.apps }
 
 -- ---- refusals
 
@@ -41,10 +41,9 @@ HeardOther key heard found = OfDeployment heard (λ d. d.identity.key ≡ found)
 -- read, or is that of another application.
 abbrev pub offer_refusals : Key → List (List ℕ) → Shape → List (Refusal Reply Session)
 offer_refusals key heard shape =
-    leaving (exactly_with
-    (λ (x : Target × List Cause). (provider_of key shape.apps ≡ Some x.0)
-    × (slice_get heard 0 ≡ None))
-    (λ x. says.AllLinks x.0 x.1)) (λ old. record old { store = unheard key old.store })
+    leaving
+    (unheard (λ target. (provider_of key shape.apps ≡ Some target) × (slice_get heard 0 ≡ None)))
+    (λ old. record old { store = unheard_store key old.store })
     ∷ exactly_with (IsRefused deployment_of 0 heard) (λ fault. says.Manifest fault)
     ∷ exactly_with (HeardOther key heard) (λ found. says.IdentityDiffers found)
     ∷ []

@@ -1,7 +1,6 @@
 -- group L GROUP: the files of the group stand in the leased view.
 use Rattle.std.specs.Prelude.{◌≡◌, ◌⊎◌, ◌<◌, ℕ, true, false, List, [], ◌∷◌, ◌++◌, Any, length, Some, None, Result, Ok, Err}
 use Rattle.small_types.specs.declared.target.Target.{Target}
-use Rattle.causes.specs.declared.cause.Cause.{Cause}
 use Rattle.addresses.specs.declared.fault.UrlFault.{UrlFault}
 use Rattle.addresses.specs.declared.fault.UrlFault.TheVariants.{BadUrl}
 use Rattle.addresses.specs.Join.{file_target_of}
@@ -11,9 +10,10 @@ use Rattle.machine.specs.Blocks.{free_blocks}
 use Rattle.machine.specs.Grouped.{Grouped}
 use Rattle.machine.specs.Groups.{group_files, group_need, group_stands, group_wanted}
 use Rattle.machine.specs.Leases.{lease_of, leased_bare, leased_view}
-use Rattle.machine.specs.Rows.{Refusal, exactly, exactly_with, maybe_with}
+use Rattle.machine.specs.Rows.{Refusal, exactly, exactly_with}
 use Rattle.machine.specs.Shape.{BareView, Shape}
 use Rattle.machine.specs.Store.{Session, Store}
+use Rattle.machine.specs.Unheard.{may_be_unheard}
 use Rattle.machine.specs.Views.{View}
 
 -- ---- conditions
@@ -55,10 +55,7 @@ room_refusals lease group shape =
 -- no link gives a wanted file, which is a free choice
 abbrev pub missing_refusals : ℕ → List ℕ → Shape → List (Refusal Reply Session)
 missing_refusals lease group shape =
-    maybe_with
-    (λ (x : Target × List Cause). OfMissing lease group shape (λ target. target ≡ Ok x.0))
-    (λ x. says.AllLinks x.0 x.1)
-    ∷ []
+    may_be_unheard (λ target. OfMissing lease group shape (λ read. read ≡ Ok target)) ∷ []
 
 abbrev pub group_refusals : ℕ → List ℕ → Shape → List (Refusal Reply Session)
 group_refusals lease group shape =

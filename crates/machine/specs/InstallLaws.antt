@@ -1,7 +1,7 @@
 -- What is true of an install.
 use Rattle.std.specs.Prelude.{◌≡◌, ◌≢◌, ◌⊎◌, ◌<◌, ◌≤◌, ◌+◌, ℕ, true, false, List, ◌∷◌, All, AllPairs, Any, Contains, IsSome, filter, length, map, sum_by, Some, IfSome, IsSomeAnd, option_and_then}
 use Rattle.std.specs.declared.cmp.Ordering.TheVariants.{Less, Equal}
-use Rattle.small_types.specs.declared.limits.TheConstants.{LOCAL_COUNT_LIMIT, NUMBER_LIMIT}
+use Rattle.small_types.specs.declared.limits.TheConstants.{NUMBER_LIMIT}
 use Rattle.small_types.specs.declared.target.Target.{Target}
 use Rattle.small_types.specs.Name.{IsBelowPre}
 use Rattle.identity.specs.declared.key.Key.{Key}
@@ -12,11 +12,12 @@ use Rattle.manifests.specs.declared.facts.Application.{Application}
 use Rattle.manifests.specs.declared.facts.Deployment.{Deployment}
 use Rattle.manifests.specs.declared.facts.FileEntry.{FileEntry}
 use Rattle.manifests.specs.Facts.{AreApplicationFacts}
+use Rattle.machine.specs.declared.reply.Reply.{Reply}
 use Rattle.machine.specs.Blocks.{blocks_of, standing_files}
 use Rattle.machine.specs.Current.{current_of, current_version}
 use Rattle.machine.specs.Entries.{entry_of, key_cmp}
 use Rattle.machine.specs.Installed.{AreFetched, Installed}
-use Rattle.machine.specs.InstallRow.{InstallEffect, Replies, address_refusals, deployment_refusals, install_refusals, release_refusals}
+use Rattle.machine.specs.InstallRow.{InstallEffect, address_refusals, deployment_refusals, install_refusals, release_refusals}
 use Rattle.machine.specs.Migrated.{Migrated}
 use Rattle.machine.specs.Minimums.{minimum_of}
 use Rattle.machine.specs.Rows.{AreExact, PassesAll}
@@ -28,25 +29,23 @@ use Rattle.machine.specs.Views.{ContentKey, DataFile, ListedFile, content_key, i
 use Rattle.machine.specs.Wanted.{deployed_need, is_held, program_need, wanted}
 
 -- an install that is refused nowhere has its effect
-pub record IsInstall {R C : Type 0} (says : Replies R C) (locals : ℕ) (url : List ℕ)
-    (heard : List (List ℕ))
-    (now : ℕ) (old : Session) (reply : R) (new : Session) : Type 0 where
-  pub few : locals ≤ LOCAL_COUNT_LIMIT
+pub record IsInstall (url : List ℕ) (heard : List (List ℕ)) (now : ℕ) (old : Session)
+    (reply : Reply) (new : Session) : Type 0 where
   pub moment : now ≤ NUMBER_LIMIT
-  pub passes : PassesAll (install_refusals says locals url heard (shape_of old))
-  pub effect : InstallEffect says url heard now old reply new
+  pub passes : PassesAll (install_refusals url heard (shape_of old))
+  pub effect : InstallEffect url heard now old reply new
 
 -- it leads from a valid store to one
-abbrev pub InstallsKeepValid : (R C : Type 0) → Type 0
-InstallsKeepValid R C = (says : Replies R C) (locals : ℕ) (url : List ℕ) (heard : List (List ℕ))
-    (now : ℕ) (old : Session) (reply : R) (new : Session)
-    → IsInstall says locals url heard now old reply new → Valid old.store → Valid new.store
+abbrev pub InstallsKeepValid : Type 0
+InstallsKeepValid = (url : List ℕ) (heard : List (List ℕ)) (now : ℕ) (old : Session)
+    (reply : Reply) (new : Session) → IsInstall url heard now old reply new
+    → Valid old.store → Valid new.store
 
 -- and from a sound store to one
-abbrev pub InstallsKeepSound : (R C : Type 0) → Type 0
-InstallsKeepSound R C = (says : Replies R C) (locals : ℕ) (url : List ℕ) (heard : List (List ℕ))
-    (now : ℕ) (old : Session) (reply : R) (new : Session)
-    → IsInstall says locals url heard now old reply new → Sound old.store → Sound new.store
+abbrev pub InstallsKeepSound : Type 0
+InstallsKeepSound = (url : List ℕ) (heard : List (List ℕ)) (now : ℕ) (old : Session)
+    (reply : Reply) (new : Session) → IsInstall url heard now old reply new
+    → Sound old.store → Sound new.store
 
 -- ---- the application
 
@@ -61,25 +60,23 @@ pub record IsCurrent (d : Deployment) (number : ℕ) (old new : Store) : Type 0 
   pub others : (key : Key) → key_cmp d.identity.key key ≢ Equal
       → entry_of key new.apps ≡ entry_of key old.apps
 
-abbrev pub InstallsAreCurrent : (R C : Type 0) → Type 0
-InstallsAreCurrent R C = (says : Replies R C) (locals : ℕ) (url : List ℕ) (heard : List (List ℕ))
-    (now : ℕ) (old : Session) (reply : R) (new : Session)
-    (is : IsInstall says locals url heard now old reply new)
+abbrev pub InstallsAreCurrent : Type 0
+InstallsAreCurrent = (url : List ℕ) (heard : List (List ℕ)) (now : ℕ) (old : Session)
+    (reply : Reply) (new : Session) (is : IsInstall url heard now old reply new)
     → Ordered old.store → IsCurrent is.effect.deployment old.store.next_view old.store new.store
 
 -- a minimum that held holds, or a version that is not below it does
-abbrev pub InstallsKeepMinimums : (R C : Type 0) → Type 0
-InstallsKeepMinimums R C = (says : Replies R C) (locals : ℕ) (url : List ℕ) (heard : List (List ℕ))
-    (now : ℕ) (old : Session) (reply : R) (new : Session) (key : Key) (minimum : Version)
-    → IsInstall says locals url heard now old reply new
+abbrev pub InstallsKeepMinimums : Type 0
+InstallsKeepMinimums = (url : List ℕ) (heard : List (List ℕ)) (now : ℕ) (old : Session)
+    (reply : Reply) (new : Session) (key : Key) (minimum : Version)
+    → IsInstall url heard now old reply new
     → minimum_of key old.store.apps ≡ Some minimum
     → IsSomeAnd (minimum_of key new.store.apps) (λ later. ¬ IsBelow later minimum)
 
 -- the version is not below the minimum that then holds
-abbrev pub InstallsReachMinimums : (R C : Type 0) → Type 0
-InstallsReachMinimums R C = (says : Replies R C) (locals : ℕ) (url : List ℕ) (heard : List (List ℕ))
-    (now : ℕ) (old : Session) (reply : R) (new : Session)
-    (is : IsInstall says locals url heard now old reply new)
+abbrev pub InstallsReachMinimums : Type 0
+InstallsReachMinimums = (url : List ℕ) (heard : List (List ℕ)) (now : ℕ) (old : Session)
+    (reply : Reply) (new : Session) (is : IsInstall url heard now old reply new)
     → IfSome (minimum_of is.effect.deployment.identity.key new.store.apps)
     (λ minimum. ¬ IsBelow is.effect.deployment.identity.version minimum)
 
@@ -87,18 +84,18 @@ InstallsReachMinimums R C = (says : Replies R C) (locals : ℕ) (url : List ℕ)
 
 -- the refusals of an address, and where the texts are heard those of the deployment and of the
 -- release, are no free choices
-pub record InstallRefusalsAreExact (R C : Type 0) : Type 0 where
-  pub address : (says : Replies R C) (url : List ℕ) → AreExact (address_refusals says url)
-  pub deployment : (says : Replies R C) (url text : List ℕ) (texts : List (List ℕ)) (shape : Shape)
-      → AreExact (deployment_refusals says url (text ∷ texts) shape)
-  pub release : (says : Replies R C) (locals : ℕ) (url text other : List ℕ) (texts : List (List ℕ))
-      (shape : Shape) → AreExact (release_refusals says locals url (text ∷ other ∷ texts) shape)
+pub record InstallRefusalsAreExact : Type 0 where
+  pub address : (url : List ℕ) → AreExact (address_refusals url)
+  pub deployment : (url text : List ℕ) (texts : List (List ℕ)) (shape : Shape)
+      → AreExact (deployment_refusals url (text ∷ texts) shape)
+  pub release : (url text other : List ℕ) (texts : List (List ℕ)) (shape : Shape)
+      → AreExact (release_refusals url (text ∷ other ∷ texts) shape)
 
 -- two installs from one store that heard the same have one reply
-abbrev pub InstallsHaveOneReply : (R C : Type 0) → Type 0
-InstallsHaveOneReply R C = (says : Replies R C) (url : List ℕ) (heard : List (List ℕ)) (now : ℕ)
-    (old : Session) (a b : R) (x y : Session) → InstallEffect says url heard now old a x
-    → InstallEffect says url heard now old b y → a ≡ b
+abbrev pub InstallsHaveOneReply : Type 0
+InstallsHaveOneReply = (url : List ℕ) (heard : List (List ℕ)) (now : ℕ)
+    (old : Session) (a b : Reply) (x y : Session) → InstallEffect url heard now old a x
+    → InstallEffect url heard now old b y → a ≡ b
 
 -- ---- migrations
 

@@ -1,15 +1,13 @@
 -- install URL: the release at the address becomes the current view of its application.
 use Rattle.std.specs.Prelude.{◌≡◌, ◌≢◌, ◌<◌, ◌≤◌, ◌+◌, ℕ, not, List, [], ◌∷◌, ◌++◌, Any, length, map, count_by, sum_by, slice_get, Some, None, Result, Ok, Err}
-use Rattle.small_types.specs.declared.limit.Limit.{Limit}
 use Rattle.small_types.specs.declared.limit.Limit.TheVariants.{Applications, Views, Files, Locals}
-use Rattle.small_types.specs.declared.limits.TheConstants.{APPLICATION_LIMIT, FILE_COUNT_LIMIT, NUMBER_LIMIT, VIEW_LIMIT}
+use Rattle.small_types.specs.declared.limits.TheConstants.{APPLICATION_LIMIT, FILE_COUNT_LIMIT, LOCAL_COUNT_LIMIT, NUMBER_LIMIT, VIEW_LIMIT}
 use Rattle.small_types.specs.declared.target.Target.{Target}
 use Rattle.small_types.specs.Reading.{◌>>=◌}
 use Rattle.addresses.specs.declared.fault.UrlFault.{UrlFault}
 use Rattle.addresses.specs.declared.fault.UrlFault.TheVariants.{BadUrl, NotHttp}
 use Rattle.addresses.specs.Address.{target_of_text}
 use Rattle.addresses.specs.Join.{app_target_of, file_target_of}
-use Rattle.identity.specs.declared.key.Key.{Key}
 use Rattle.identity.specs.declared.version.Version.{Version}
 use Rattle.identity.specs.Version.{IsBelow}
 use Rattle.digest_list.specs.Matches.{Matches}
@@ -20,36 +18,24 @@ use Rattle.manifest_parts.specs.Elements.{Read}
 use Rattle.manifest_parts.specs.Parts.{RefusesBytes, Tells}
 use Rattle.manifests.specs.declared.facts.Application.{Application}
 use Rattle.manifests.specs.declared.facts.Deployment.{Deployment}
-use Rattle.manifests.specs.declared.releases.ReleaseFault.{ReleaseFault}
 use Rattle.manifests.specs.declared.releases.ReleaseFault.TheVariants as unlike
 use Rattle.manifests.specs.Applications.{application_of, is_below_pre}
 use Rattle.manifests.specs.Deployments.{deployment_of}
 use Rattle.manifests.specs.Releases.{RefusesIdentity}
+use Rattle.machine.specs.declared.reply.Reply.{Reply}
+use Rattle.machine.specs.declared.reply.Reply.TheVariants as says
 use Rattle.machine.specs.Blocks.{free_blocks}
 use Rattle.machine.specs.Current.{bare_data_of, bare_listed_by, current_bare, current_version}
 use Rattle.machine.specs.Entries.{entry_of}
 use Rattle.machine.specs.Installed.{AreFetched, Installed}
 use Rattle.machine.specs.Migrated.{migrated_names}
 use Rattle.machine.specs.Minimums.{minimum_of}
-use Rattle.machine.specs.Rows.{Refusal, PassesAll, exactly, exactly_with, maybe_with}
+use Rattle.machine.specs.Rows.{Refusal, PassesAll, exactly, exactly_with}
 use Rattle.machine.specs.Shape.{Shape}
 use Rattle.machine.specs.Store.{Session, Store}
+use Rattle.machine.specs.Unheard.{may_be_unheard, unheard}
 use Rattle.machine.specs.Views.{ListedFile}
 use Rattle.machine.specs.Wanted.{install_need, wanted}
-
--- The replies of the row. C is what is shown of a link that does not give a file.
-pub record Replies (R C : Type 0) : Type 0 where
-  pub installed : Key → Version → ℕ → R
-  pub bad_url : R
-  pub not_http : R
-  pub all_links : Target → List C → R
-  pub manifest : ManifestFault → R
-  pub not_newer : Version → R
-  pub below_minimum : Version → R
-  pub too_many : Limit → ℕ → R
-  pub spent : ℕ → R
-  pub release : ReleaseFault → R
-  pub full : ℕ → ℕ → R
 
 -- ---- what was heard
 
@@ -114,77 +100,68 @@ OfWanted url shape d a holds =
 -- ---- refusals
 
 -- the address is none
-abbrev pub address_refusals : {R C : Type 0} → Replies R C → List ℕ → List (Refusal R Session)
-address_refusals says url =
-    exactly (target_of_text url ≡ Err BadUrl) says.bad_url
-    ∷ exactly_with (λ scheme. target_of_text url ≡ Err (NotHttp scheme)) (λ scheme. says.not_http)
+abbrev pub address_refusals : List ℕ → List (Refusal Reply Session)
+address_refusals url =
+    exactly (target_of_text url ≡ Err BadUrl) says.BadUrl
+    ∷ exactly_with (λ scheme. target_of_text url ≡ Err (NotHttp scheme)) (λ scheme. says.NotHttp)
     ∷ []
 
 -- the deployment manifest is not heard, cannot be read, or its version may not come
-abbrev pub deployment_refusals : {R C : Type 0}
-    → Replies R C → List ℕ → List (List ℕ) → Shape → List (Refusal R Session)
-deployment_refusals {C = C} says url heard shape =
-    exactly_with
-    (λ (x : Target × List C). (target_of_text url ≡ Ok x.0) × (slice_get heard 0 ≡ None))
-    (λ x. says.all_links x.0 x.1)
-    ∷ exactly_with (IsRefused deployment_of 0 heard) says.manifest
-    ∷ exactly_with (λ have. OfDeployment heard (λ d. IsNotNewer shape d have)) says.not_newer
+abbrev pub deployment_refusals : List ℕ → List (List ℕ) → Shape → List (Refusal Reply Session)
+deployment_refusals url heard shape =
+    unheard (λ target. (target_of_text url ≡ Ok target) × (slice_get heard 0 ≡ None))
+    ∷ exactly_with (IsRefused deployment_of 0 heard) (λ reason. says.Manifest reason)
+    ∷ exactly_with (λ have. OfDeployment heard (λ d. IsNotNewer shape d have))
+    (λ have. says.NotNewer have)
     ∷ exactly_with (λ minimum. OfDeployment heard (λ d. IsBelowMinimum shape d minimum))
-    says.below_minimum
-    ∷ exactly (OfDeployment heard (LacksEntry shape)) (says.too_many Applications APPLICATION_LIMIT)
-    ∷ exactly (VIEW_LIMIT ≤ length shape.views) (says.too_many Views VIEW_LIMIT)
-    ∷ exactly (shape.next_view ≡ NUMBER_LIMIT) (says.spent shape.next_view)
-    ∷ exactly (OfDeployment heard (λ d. base_of url d ≡ Err BadUrl)) says.bad_url
+    (λ minimum. says.BelowMinimum minimum)
+    ∷ exactly (OfDeployment heard (LacksEntry shape)) (says.TooMany Applications APPLICATION_LIMIT)
+    ∷ exactly (VIEW_LIMIT ≤ length shape.views) (says.TooMany Views VIEW_LIMIT)
+    ∷ exactly (shape.next_view ≡ NUMBER_LIMIT) (says.Spent shape.next_view)
+    ∷ exactly (OfDeployment heard (λ d. base_of url d ≡ Err BadUrl)) says.BadUrl
     ∷ exactly_with (λ scheme. OfDeployment heard (λ d. base_of url d ≡ Err (NotHttp scheme)))
-    (λ scheme. says.not_http)
+    (λ scheme. says.NotHttp)
     ∷ []
 
 -- The application manifest is not heard, cannot be read or is not the listed one, or its files have
 -- no place. A view has at most so many data files outside `.pre`.
-abbrev pub release_refusals : {R C : Type 0}
-    → Replies R C → ℕ → List ℕ → List (List ℕ) → Shape → List (Refusal R Session)
-release_refusals {C = C} says locals url heard shape =
-    exactly_with
-    (λ (x : Target × List C). OfDeployment heard (λ d. base_of url d ≡ Ok x.0)
-    × (slice_get heard 1 ≡ None))
-    (λ x. says.all_links x.0 x.1)
-    ∷ exactly_with (IsRefused application_of 1 heard) says.manifest
+abbrev pub release_refusals : List ℕ → List (List ℕ) → Shape → List (Refusal Reply Session)
+release_refusals url heard shape =
+    unheard
+    (λ target. OfDeployment heard (λ d. base_of url d ≡ Ok target) × (slice_get heard 1 ≡ None))
+    ∷ exactly_with (IsRefused application_of 1 heard) (λ reason. says.Manifest reason)
     ∷ exactly_with
     (λ reason. OfRelease heard (λ d a. RefusesIdentity d a reason) × (reason ≢ unlike.Memory))
-    says.release
+    (λ reason. says.Release reason)
     ∷ exactly (OfRelease heard (λ d a. FILE_COUNT_LIMIT < files_after shape a))
-    (says.too_many Files FILE_COUNT_LIMIT)
-    ∷ exactly (OfRelease heard (λ d a. locals < locals_after shape d a))
-    (says.too_many Locals locals)
+    (says.TooMany Files FILE_COUNT_LIMIT)
+    ∷ exactly (OfRelease heard (λ d a. LOCAL_COUNT_LIMIT < locals_after shape d a))
+    (says.TooMany Locals LOCAL_COUNT_LIMIT)
     ∷ exactly (OfRelease heard (λ d a. OfWanted url shape d a (λ target. target ≡ Err BadUrl)))
-    says.bad_url
+    says.BadUrl
     ∷ exactly_with
     (λ need. OfRelease heard (λ d a. (need ≡ install_need shape d a) × (free_blocks shape < need)))
-    (λ need. says.full need (free_blocks shape))
+    (λ need. says.Full need (free_blocks shape))
     ∷ []
 
 -- no link gives a wanted file, which is a free choice
-abbrev pub file_refusals : {R C : Type 0}
-    → Replies R C → List ℕ → List (List ℕ) → Shape → List (Refusal R Session)
-file_refusals {C = C} says url heard shape =
-    maybe_with
-    (λ (x : Target × List C). OfRelease heard
-    (λ d a. OfWanted url shape d a (λ target. target ≡ Ok x.0)))
-    (λ x. says.all_links x.0 x.1)
+abbrev pub file_refusals : List ℕ → List (List ℕ) → Shape → List (Refusal Reply Session)
+file_refusals url heard shape =
+    may_be_unheard
+    (λ target. OfRelease heard (λ d a. OfWanted url shape d a (λ read. read ≡ Ok target)))
     ∷ []
 
-abbrev pub install_refusals : {R C : Type 0}
-    → Replies R C → ℕ → List ℕ → List (List ℕ) → Shape → List (Refusal R Session)
-install_refusals says locals url heard shape =
-    address_refusals says url ++ deployment_refusals says url heard shape
-    ++ release_refusals says locals url heard shape ++ file_refusals says url heard shape
+abbrev pub install_refusals : List ℕ → List (List ℕ) → Shape → List (Refusal Reply Session)
+install_refusals url heard shape =
+    address_refusals url ++ deployment_refusals url heard shape
+    ++ release_refusals url heard shape ++ file_refusals url heard shape
 
 -- ---- the effect
 
 -- the release that was heard is installed, with whole files; the reply shows its key, its version
 -- and the view's number
-pub record InstallEffect {R C : Type 0} (says : Replies R C) (url : List ℕ) (heard : List (List ℕ))
-    (now : ℕ) (old : Session) (reply : R) (new : Session) : Type 0 where
+pub record InstallEffect (url : List ℕ) (heard : List (List ℕ)) (now : ℕ) (old : Session)
+    (reply : Reply) (new : Session) : Type 0 where
   pub target : Target
   pub read : target_of_text url ≡ Ok target
   pub deployment : Deployment
@@ -199,17 +176,17 @@ pub record InstallEffect {R C : Type 0} (says : Replies R C) (url : List ℕ) (h
   pub installed : Installed target base deployment application files originals now old.store store
   pub is : new ≡ record old { store = store }
   pub replied : reply
-      ≡ says.installed deployment.identity.key deployment.identity.version old.store.next_view
+      ≡ says.Installed deployment.identity.key deployment.identity.version old.store.next_view
 
 -- ---- what it hears and asks
 
 -- Nothing; the deployment manifest, at an address; or behind it the application manifest that it
 -- lists, where the deployment is not refused.
-abbrev pub HearsRelease : {R C : Type 0} → Replies R C → List ℕ → Shape → List (List ℕ) → Type 0
-HearsRelease says url shape [] = Unit {0}
-HearsRelease says url shape (deployment ∷ []) = PassesAll (address_refusals says url)
-HearsRelease says url shape (deployment ∷ application ∷ []) =
-    PassesAll (address_refusals says url)
-    × PassesAll (deployment_refusals says url (deployment ∷ application ∷ []) shape)
+abbrev pub HearsRelease : List ℕ → Shape → List (List ℕ) → Type 0
+HearsRelease url shape [] = Unit {0}
+HearsRelease url shape (deployment ∷ []) = PassesAll (address_refusals url)
+HearsRelease url shape (deployment ∷ application ∷ []) =
+    PassesAll (address_refusals url)
+    × PassesAll (deployment_refusals url (deployment ∷ application ∷ []) shape)
     × OfDeployment (deployment ∷ application ∷ []) (λ d. Matches d.app_list d.app_size application)
-HearsRelease says url shape (deployment ∷ application ∷ other ∷ others) = ⊥
+HearsRelease url shape (deployment ∷ application ∷ other ∷ others) = ⊥

@@ -25,7 +25,7 @@ use Rattle.machine.specs.declared.event.Event.{Event}
 use Rattle.machine.specs.declared.event.Event.TheVariants.{Boot, Line, Unread}
 use Rattle.machine.specs.declared.reply.Reply.{Reply}
 use Rattle.machine.specs.declared.reply.Reply.TheVariants as says
-use Rattle.machine.specs.CheckRow.{unheard}
+use Rattle.machine.specs.CheckRow.{unheard_store}
 use Rattle.machine.specs.GroupRow.{room_refusals}
 use Rattle.machine.specs.Blocks.{blocks_of, blocks_with, distinct, free_blocks, standing_files, used_blocks}
 use Rattle.machine.specs.Entries.{AreInOrder, KeepsKeys, entry_of, entry_or_fresh, key_cmp, with_entry}
@@ -176,7 +176,7 @@ pub record RowsAreExact : Type 0 where
       → AreExact (refusals now heard shape (At next))
   pub require : (now : ℕ) (heard : List (List ℕ)) (shape : Shape) (key : Key) (version : Version)
       → AreExact (refusals now heard shape (Require key version))
-  pub install : InstallRefusalsAreExact Reply Cause
+  pub install : InstallRefusalsAreExact
   pub check : (now : ℕ) (text : List ℕ) (texts : List (List ℕ)) (shape : Shape) (key : Key)
       → AreExact (refusals now (text ∷ texts) shape (Check key))
   pub skip : (now : ℕ) (heard : List (List ℕ)) (shape : Shape) (key : Key)
@@ -275,7 +275,7 @@ RefusedChecksCount = (now : ℕ) (heard : List (List ℕ)) (old : Session) (key 
     (new : Session)
     → Refuses (refusals now heard (shape_of old) (Check key)) old reply new
     → ((IsAllLinks reply → ⊥) × (new ≡ old))
-    ⊎ (IsAllLinks reply × (new ≡ record old { store = unheard key old.store }))
+    ⊎ (IsAllLinks reply × (new ≡ record old { store = unheard_store key old.store }))
 
 -- an answer other than want of memory
 pub record IsAnswered (now : ℕ) (heard : List (List ℕ)) (old : Session) (command : Command)

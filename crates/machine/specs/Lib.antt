@@ -17,7 +17,6 @@ pub mod Grouped
 pub mod Groups
 pub mod InUse
 pub mod InstallLaws
-pub mod InstallReplies
 pub mod InstallRow
 pub mod Installed
 pub mod LaunchRow
@@ -43,6 +42,7 @@ pub mod SkipRow
 pub mod Sound
 pub mod SoundSession
 pub mod Store
+pub mod Unheard
 pub mod Valid
 pub mod Views
 pub mod Wanted

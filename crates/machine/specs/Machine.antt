@@ -24,8 +24,6 @@ use Rattle.machine.specs.FinishRow.{finish_effect, finish_refusals}
 use Rattle.machine.specs.CleanRow.{clean_effect, clean_refusals}
 use Rattle.machine.specs.ListRow.{list_effect, list_refusals}
 use Rattle.machine.specs.ShowRow.{ShowEffect, show_refusals}
-use Rattle.machine.specs.InstallReplies.{install_replies}
-use Rattle.small_types.specs.declared.limits.TheConstants.{LOCAL_COUNT_LIMIT}
 use Rattle.machine.specs.Rows.{Refusal, maybe, FirstOf}
 use Rattle.machine.specs.Shape.{Shape, shape_of}
 use Rattle.machine.specs.Store.{Session, booted}
@@ -36,7 +34,7 @@ use Rattle.machine.specs.Store.{Session, booted}
 abbrev pub Hears : Shape → Command → List (List ℕ) → Type 0
 Hears shape (At next) heard = heard ≡ []
 Hears shape (Require key version) heard = heard ≡ []
-Hears shape (Install url) heard = HearsRelease install_replies url shape heard
+Hears shape (Install url) heard = HearsRelease url shape heard
 Hears shape (Check key) heard = HearsOffer key shape heard
 Hears shape (Skip key) heard = heard ≡ []
 Hears shape (Rollback key) heard = heard ≡ []
@@ -56,8 +54,7 @@ Hears shape (Show key) heard = heard ≡ []
 abbrev pub refusals : ℕ → List (List ℕ) → Shape → Command → List (Refusal Reply Session)
 refusals now heard shape (At next) = at_refusals
 refusals now heard shape (Require key version) = require_refusals key shape
-refusals now heard shape (Install url) =
-    install_refusals install_replies LOCAL_COUNT_LIMIT url heard shape
+refusals now heard shape (Install url) = install_refusals url heard shape
 refusals now heard shape (Check key) = check_refusals key heard shape
 refusals now heard shape (Skip key) = skip_refusals key now shape
 refusals now heard shape (Rollback key) = rollback_refusals key shape
@@ -76,7 +73,7 @@ refusals now heard shape (Show key) = show_refusals key shape
 abbrev pub effect : ℕ → List (List ℕ) → Command → Session → Reply → Session → Type 0
 effect now heard (At next) = at_effect next
 effect now heard (Require key version) = require_effect key version
-effect now heard (Install url) = InstallEffect install_replies url heard now
+effect now heard (Install url) = InstallEffect url heard now
 effect now heard (Check key) = CheckEffect key heard now
 effect now heard (Skip key) = SkipEffect key
 effect now heard (Rollback key) = RollbackEffect key

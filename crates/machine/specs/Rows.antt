@@ -24,14 +24,6 @@ exactly_with {A = A} when reply = record {
 abbrev pub maybe : {R S : Type 0} → R → Refusal R S
 maybe reply = record { gives = λ r. r ≡ reply; otherwise = Unit {0}; leaves = λ s. s }
 
--- a free choice among replies that show something of which the condition holds; it changes nothing
-abbrev pub maybe_with : {R S A : Type 0} → (A → Type 0) → (A → R) → Refusal R S
-maybe_with {A = A} when reply = record {
-  gives = λ r. (x : A) × when x × (r ≡ reply x);
-  otherwise = Unit {0};
-  leaves = λ s. s;
-}
-
 -- the same refusal, which leaves something
 abbrev pub leaving : {R S : Type 0} → Refusal R S → (S → S) → Refusal R S
 leaving refusal f = record refusal { leaves = f }

@@ -70,6 +70,10 @@ content_key entry = record { size = entry.size; list = entry.list }
 abbrev pub same_digest : Digest → Digest → Bool
 same_digest a b = bytes_eq (name_of a.algorithm) (name_of b.algorithm) && bytes_eq a.value b.value
 
+-- two content keys are equal
+abbrev pub same_key : ContentKey → ContentKey → Bool
+same_key a b = a.size == b.size && pointwise same_digest a.list b.list
+
 -- two files have equal content keys
 abbrev pub same_content : FileEntry → FileEntry → Bool
-same_content a b = a.size == b.size && pointwise same_digest a.list b.list
+same_content a b = same_key (content_key a) (content_key b)

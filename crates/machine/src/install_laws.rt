@@ -2,32 +2,32 @@
 ghost use Rattle.machine.specs.InstallLaws.{InstallRefusalsAreExact, InstallsAreCurrent, InstallsHaveOneReply, InstallsKeepMinimums, InstallsKeepSound, InstallsKeepValid, InstallsReachMinimums, MigrationsAreOne, MigrationsExist, StoresMayBeUpdated, WantedFilesSuffice};
 
 /// An install leads from a valid store to one.
-pub fn installs_keep_valid<R, C>()
-    ensures { InstallsKeepValid R C }
+pub fn installs_keep_valid()
+    ensures { InstallsKeepValid }
 {}
 
 /// An install leads from a sound store to one: each view is one whole release.
-pub fn installs_keep_sound<R, C>()
-    ensures { InstallsKeepSound R C }
+pub fn installs_keep_sound()
+    ensures { InstallsKeepSound }
 {}
 
 /// After an install the new view is the current one, and the one that was is previous. No other application changes.
-pub fn installs_are_current<R, C>()
-    ensures { InstallsAreCurrent R C }
+pub fn installs_are_current()
+    ensures { InstallsAreCurrent }
 {}
 
 /// A minimum that held holds after an install, or one that is not below it; and the installed version is not below the
 /// minimum that then holds.
-pub fn installs_keep_minimums<R, C>()
-    ensures keep { InstallsKeepMinimums R C }
-    ensures reach { InstallsReachMinimums R C }
+pub fn installs_keep_minimums()
+    ensures keep { InstallsKeepMinimums }
+    ensures reach { InstallsReachMinimums }
 {}
 
 /// An install is refused in one way: where the manifests are heard, no refusal but one at a file is
 /// a free choice. And two installs from one store that heard the same have one reply.
-pub fn one_install_is_given<R, C>()
-    ensures refusals { InstallRefusalsAreExact R C }
-    ensures reply { InstallsHaveOneReply R C }
+pub fn one_install_is_given()
+    ensures refusals { InstallRefusalsAreExact }
+    ensures reply { InstallsHaveOneReply }
 {}
 
 /// The data files of a new version are one list, where the old ones are in order of their names.

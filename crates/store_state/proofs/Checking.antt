@@ -8,7 +8,7 @@ use Rattle.identity.specs.declared.key.Key.{Key}
 use Rattle.identity.specs.declared.version.Version.{Version}
 use Rattle.identity.specs.Key.{key_text}
 use Rattle.machine.specs.declared.app.AppState.{AppState}
-use Rattle.machine.specs.CheckRow.{heard_app, unheard}
+use Rattle.machine.specs.CheckRow.{heard_app, unheard_store}
 use Rattle.machine.specs.Current.{current_of}
 use Rattle.machine.specs.Current.{current_version as shape_version}
 use Rattle.machine.specs.Entries.{AreInOrder, KeepsKeys, entry_of, fresh, key_cmp, with_entry}
@@ -157,10 +157,10 @@ shows_heard room tables key have version minimum now image later store first sam
 
 pub shows_unheard : (room : Room) (tables : Tables) (key : Key) (image later : List ℕ)
     (store : Store) → Shows room tables image store → SameFiles room tables image later
-    → Shows room (effect (Unheard key) tables) later (unheard key store)
+    → Shows room (effect (Unheard key) tables) later (unheard_store key store)
 shows_unheard room tables key image later store first same =
     let shows = shows_same later same first in
-    record { is = ap (unheard key) shows.is; held = shows.held; measured = shows.measured }
+    record { is = ap (unheard_store key) shows.is; held = shows.held; measured = shows.measured }
 
 pub shows_skipped : (room : Room) (tables : Tables) (key : Key) (place : ℕ) (offer : Version)
     (image later : List ℕ) (store : Store) → Shows room tables image store

@@ -18,7 +18,7 @@ use Rattle.manifests.specs.Facts.{IsFile, IsValue}
 use Rattle.machine.specs.declared.app.AppState.{AppState}
 use Rattle.machine.specs.declared.lease.Lease.{Lease}
 use Rattle.machine.specs.Blocks.{used_blocks}
-use Rattle.machine.specs.CheckRow.{heard_app, unheard, unheard_app}
+use Rattle.machine.specs.CheckRow.{heard_app, unheard_app, unheard_store}
 use Rattle.machine.specs.CleanRow.{cleaned}
 use Rattle.machine.specs.Current.{current_of, view_at}
 use Rattle.machine.specs.DataFiles.{data_name, put_in, removed_in, with_named}
@@ -280,7 +280,7 @@ changed_shown room image old (Heard key version minimum now) fits holds shown =
           shown.ordered;
     }
 changed_shown room image old (Unheard key) fits holds shown = record {
-  store = unheard key shown.store;
+  store = unheard_store key shown.store;
   shows =
       shows_unheard room old key image image shown.store shown.shows (same_image room old image);
   ordered =

@@ -1,19 +1,21 @@
 -- Contents: the bytes that program files of equal content keys share.
-use Rattle.std.specs.Prelude.{◌≡◌, Bool, true, false, ◌==◌, ◌&&◌, List, ◌++◌, All, AllPairs, Any, IsSome, Option, find}
-use lib.Pointwise.{pointwise}
+use Rattle.std.specs.Prelude.{◌≡◌, Bool, true, false, List, ◌++◌, All, AllPairs, Any, IsSome, Option, find}
 use Rattle.manifests.specs.declared.facts.FileEntry.{FileEntry}
-use Rattle.machine.specs.Views.{same_digest}
+use Rattle.machine.specs.Views.{ContentKey, content_key, same_key}
 use Rattle.store_state.specs.declared.view.Content.{Content}
 use Rattle.store_state.specs.Stored.{IsHeldFor}
 
--- the content is that of the file: of its size and its list of digests
-abbrev pub is_content_of : FileEntry → Content → Bool
-is_content_of entry content =
-    entry.size == content.size && pointwise same_digest entry.list content.list
+-- what it is known by
+abbrev pub held_key : Content → ContentKey
+held_key content = record { size = content.size; list = content.list }
 
--- two contents of one size and one list of digests
+-- the content is that of the file
+abbrev pub is_content_of : FileEntry → Content → Bool
+is_content_of entry content = same_key (content_key entry) (held_key content)
+
+-- two contents have equal content keys
 abbrev pub is_same : Content → Content → Bool
-is_same a b = a.size == b.size && pointwise same_digest a.list b.list
+is_same a b = same_key (held_key a) (held_key b)
 
 -- the content of the file, where there is one
 abbrev pub content_of : List Content → FileEntry → Option Content

@@ -8,7 +8,7 @@ use Rattle.identity.specs.declared.key.Key.{Key}
 use Rattle.identity.specs.declared.version.Version.{Version}
 use Rattle.manifests.specs.declared.facts.Deployment.{Deployment}
 use Rattle.machine.specs.Blocks.{used_blocks}
-use Rattle.machine.specs.CheckRow.{checked, unheard}
+use Rattle.machine.specs.CheckRow.{checked, unheard_store}
 use Rattle.machine.specs.CleanRow.{cleaned}
 use Rattle.machine.specs.Current.{bare_view_at, current_of, current_version, view_at}
 use Rattle.machine.specs.DataFiles.{bare_data_named, data_named, put_in, removed_in}
@@ -134,7 +134,7 @@ ChecksShowTheEntry = (room : Room) (tables : Tables) (key : Key) (have : Version
 abbrev pub UnheardChecksShowTheEntry : Type 0
 UnheardChecksShowTheEntry = (room : Room) (tables : Tables) (key : Key) (image later : List ℕ)
     (store : Store) → Shows room tables image store → SameFiles room tables image later
-    → Shows room (effect (Unheard key) tables) later (unheard key store)
+    → Shows room (effect (Unheard key) tables) later (unheard_store key store)
 
 -- a skip of what is offered for a key leads to tables that show the store in which it is skipped
 abbrev pub SkipsShowTheEntry : Type 0

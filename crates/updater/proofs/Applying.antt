@@ -10,7 +10,6 @@ use Rattle.machine.specs.declared.command.Command.{Command}
 use Rattle.machine.specs.declared.command.Command.TheVariants.{Check, Group, Install}
 use Rattle.machine.specs.declared.reply.Reply.TheVariants as says
 use Rattle.machine.specs.CheckRow.{HearsOffer}
-use Rattle.machine.specs.InstallReplies.{install_replies}
 use Rattle.machine.specs.InstallRow.{HearsRelease}
 use Rattle.machine.specs.Machine.{Hears}
 use Rattle.machine.specs.Shape.{Shape}
@@ -78,7 +77,7 @@ memory_at_once on net now command updater disk links seen_left moment =
 -- ---- the most texts
 
 pub few_of_release : (url : List ℕ) (shape : Shape) (texts : List (List ℕ))
-    → HearsRelease install_replies url shape texts → length texts ≤ 2
+    → HearsRelease url shape texts → length texts ≤ 2
 few_of_release url shape [] hears = omega arith
 few_of_release url shape (deployment ∷ []) hears = omega arith
 few_of_release url shape (deployment ∷ application ∷ []) hears = omega arith

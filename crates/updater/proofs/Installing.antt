@@ -1,7 +1,7 @@
 -- How installs end.
 use Rattle.std.proofs.Common.{◌≡◌, ◌≢◌, ◌⊎◌, ◌≤◌, ◌+◌, ◌++◌, ◌∷◌, ℕ, List, [], length, length-append, Some, Result, Ok, inl, inr, refl, sym, ap, subst, ◌∙◌, arith}
 use Rattle.small_types.specs.declared.room.Room.{Room}
-use Rattle.small_types.specs.declared.limits.TheConstants.{LOCAL_COUNT_LIMIT, NUMBER_LIMIT}
+use Rattle.small_types.specs.declared.limits.TheConstants.{NUMBER_LIMIT}
 use Rattle.outside.specs.declared.failed.Failed.{Failed}
 use Rattle.disks.specs.declared.disk.Disk.{Ghosts}
 use Rattle.links.specs.declared.links.Links.{Ghosts as LinksGhosts}
@@ -9,7 +9,6 @@ use Rattle.links.specs.Links.{LinksState}
 use Rattle.machine.specs.declared.command.Command.TheVariants.{Install}
 use Rattle.machine.specs.declared.reply.Reply.{Reply}
 use Rattle.machine.specs.declared.reply.Reply.TheVariants as says
-use Rattle.machine.specs.InstallReplies.{install_replies}
 use Rattle.machine.specs.InstallRow.{InstallEffect, install_refusals}
 use Rattle.machine.specs.Machine.{Answers, moment_after}
 use Rattle.machine.specs.Rows.{PassesAll, Refuses}
@@ -46,14 +45,14 @@ serves_same url heard before after shape old reply same served =
 
 -- no refusal sets the moment
 refused_moment : (now : ℕ) (url : List ℕ) (heard : List (List ℕ)) (shape : Shape) (reply : Reply) → now ≤ NUMBER_LIMIT
-    → (reply ≡ says.Memory) ⊎ ((old : Session) → Refuses (install_refusals install_replies LOCAL_COUNT_LIMIT url heard shape) old reply old) → moment_after now (Some reply) ≤ NUMBER_LIMIT
+    → (reply ≡ says.Memory) ⊎ ((old : Session) → Refuses (install_refusals url heard shape) old reply old) → moment_after now (Some reply) ≤ NUMBER_LIMIT
 refused_moment now url heard shape reply few (inl memory) = subst (λ (r : Reply). moment_after now (Some r) ≤ NUMBER_LIMIT) (sym memory) few
 refused_moment now url heard shape reply few (inr refuses) =
     let old = session_over (stores.empty (stores.plain_room 1)) in
     subst (λ (n : ℕ). n ≤ NUMBER_LIMIT) (sym (refusal_moment now url heard shape old reply old (refuses old))) few
 
 -- an install raises the number of the next view
-other_store : (now : ℕ) (heard : List (List ℕ)) (url : List ℕ) (old : Session) (reply : Reply) (new : Session) → InstallEffect install_replies url heard now old reply new → new.store ≢ old.store
+other_store : (now : ℕ) (heard : List (List ℕ)) (url : List ℕ) (old : Session) (reply : Reply) (new : Session) → InstallEffect url heard now old reply new → new.store ≢ old.store
 other_store now heard url old reply new done same =
     let next : new.store.next_view ≡ old.store.next_view + 1 = ap (λ (s : Session). s.store.next_view) done.is ∙ ap (λ (s : Store). s.next_view) done.installed.is in
     let still : new.store.next_view ≡ old.store.next_view = ap (λ (s : Store). s.next_view) same in
@@ -69,7 +68,7 @@ module _ (now : ℕ) (url : List ℕ) (heard : List (List ℕ)) (before after : 
     served = serves_same url heard before after (table_shape (room_of updater) (tables_of updater)) old reply s.shape refused.served;
   }
     where
-      by : (reply ≡ says.Memory) ⊎ ((old : Session) → Refuses (install_refusals install_replies LOCAL_COUNT_LIMIT url heard (table_shape (room_of updater) (tables_of updater))) old reply old) → Answers now heard old (Install url) reply old
+      by : (reply ≡ says.Memory) ⊎ ((old : Session) → Refuses (install_refusals url heard (table_shape (room_of updater) (tables_of updater))) old reply old) → Answers now heard old (Install url) reply old
       by (inl memory) = inl (inl (memory, refl))
       by (inr refuses) = refused_answers now heard (room_of updater) (tables_of updater) old s.shape (Install url) reply old (refuses old)
 
@@ -87,8 +86,8 @@ module _ (now : ℕ) (url : List ℕ) (heard : List (List ℕ)) (before after : 
     step_of : (old : Session) → Shown image (Install url) updater old → IsStep (room_of updater) (tables_of updater) url heard before after now change reply old
     step_of old s = ready.step image old s.jobs s.shows s.sound
 
-    passes_by : (old : Session) → Shown image (Install url) updater old → PassesAll (install_refusals install_replies LOCAL_COUNT_LIMIT url heard (shape_of old))
-    passes_by old s = subst (λ (shape : Shape). PassesAll (install_refusals install_replies LOCAL_COUNT_LIMIT url heard shape)) (sym s.shape) ready.passes
+    passes_by : (old : Session) → Shown image (Install url) updater old → PassesAll (install_refusals url heard (shape_of old))
+    passes_by old s = subst (λ (shape : Shape). PassesAll (install_refusals url heard shape)) (sym s.shape) ready.passes
 
     leads_by : (old : Session) (s : Shown image (Install url) updater old) → Leads change (tables_of updater) old.store (step_of old s).new.store
     leads_by old s = let step = step_of old s in record {

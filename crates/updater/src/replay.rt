@@ -23,7 +23,7 @@ fn made(applied: Result<(), StateFault>) -> Result<bool, StateFault>
 }
 
 // Makes the change where it fits, and answers whether it does.
-fn make(alloc: Global, state: &mut StoreState, change: Change) -> Result<bool, StateFault>
+fn make_fitting(alloc: Global, state: &mut StoreState, change: Change) -> Result<bool, StateFault>
     ensures { IfOk result (Tests change state.old state.new) }
 {
     match state.fits(alloc, &change) {
@@ -35,7 +35,7 @@ fn make(alloc: Global, state: &mut StoreState, change: Change) -> Result<bool, S
             drop(change);
             Ok(false)
         }
-        Ok(true) => made(leases::make(alloc, state, change)),
+        Ok(true) => made(table_changes::make(alloc, state, change)),
     }
 }
 
@@ -45,7 +45,7 @@ fn replay_one(alloc: Global, state: &mut StoreState, text: &[u8]) -> Result<bool
     ensures { IfOk result (Tries text.now state.old state.new) }
 {
     match decode_change(alloc, text) {
-        Ok(change) => make(alloc, state, change),
+        Ok(change) => make_fitting(alloc, state, change),
         Err(CodecFault::Bad { .. }) => Ok(false),
         Err(CodecFault::Memory) => Err(StateFault::Memory),
     }

@@ -247,7 +247,7 @@ impl Updater {
             Ok(piece) => piece,
             Err(fault) => return Err(fault),
         };
-        leases::make(alloc, &mut self.state, change)?;
+        table_changes::make(alloc, &mut self.state, change)?;
         match self.log.append(disk, &mut piece) {
             Ok(()) => Ok(()),
             Err(_) => Err(StepFault::DiskFault),

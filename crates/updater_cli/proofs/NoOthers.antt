@@ -24,7 +24,6 @@ use Rattle.machine.specs.DataFiles.{data_name, with_data, without_data, without_
 use Rattle.machine.specs.Grouped.{Grouped, with_group, with_view_at}
 use Rattle.machine.specs.GroupRow.{Comes, GroupEffect}
 use Rattle.machine.specs.Groups.{group_wanted, is_in}
-use Rattle.machine.specs.InstallReplies.{install_replies}
 use Rattle.machine.specs.InstallRow.{InstallEffect}
 use Rattle.machine.specs.InUse.{is_in_use}
 use Rattle.machine.specs.Installed.{new_view}
@@ -149,7 +148,7 @@ module _ (Good : List ℕ → Type 0) where
     -- ---- an install
 
     module _ (url : List ℕ) (heard : List (List ℕ)) (now : ℕ) (old : Session) (reply : Reply)
-        (new : Session) (done : InstallEffect install_replies url heard now old reply new)
+        (new : Session) (done : InstallEffect url heard now old reply new)
         (sound : Sound old.store) (sites : IsOfSites links url heard old new)
         (good : GoodViews old.store.views) where
       abbrev the_view : View

@@ -4,7 +4,7 @@ use Rattle.std.specs.Prelude.{filter, option_and_then, option_map, slice_get}
 use Rattle.std.proofs.lemmas.List.Elements.{All-nil, All-cons}
 use Rattle.std.proofs.lemmas.Option.{none-some, same_Some}
 use Rattle.std.proofs.lemmas.Slice.Eq.{bytes_eq-Decides}
-use Rattle.small_types.specs.declared.limits.TheConstants.{LOCAL_COUNT_LIMIT, MANIFEST_LIMIT}
+use Rattle.small_types.specs.declared.limits.TheConstants.{MANIFEST_LIMIT}
 use Rattle.small_types.specs.declared.target.Target.{Target}
 use Rattle.small_types.specs.Name.{IsBelowPre}
 use Rattle.addresses.specs.declared.fault.UrlFault.{UrlFault}
@@ -34,7 +34,6 @@ use Rattle.machine.specs.Current.{current_view, data_of, listed_by, view_at}
 use Rattle.machine.specs.DataFiles.{data_named}
 use Rattle.machine.specs.DataLaws.{DataIsOfFiles, KeptDataFilesStay, data_at}
 use Rattle.machine.specs.Installed.{new_view}
-use Rattle.machine.specs.InstallReplies.{install_replies}
 use Rattle.machine.specs.InstallRow.{InstallEffect, install_refusals}
 use Rattle.machine.specs.Laws.{RunsKeepSound}
 use Rattle.machine.specs.LeaseLaws.{ReadsAreOfFiles}
@@ -93,13 +92,13 @@ is_installed _ = false
 abbrev IsOther : Reply → Type 0
 IsOther reply = is_installed reply ≡ false
 
-others : (url : List ℕ) (heard : List (List ℕ)) (shape : Shape) → AllGive IsOther (install_refusals install_replies LOCAL_COUNT_LIMIT url heard shape)
+others : (url : List ℕ) (heard : List (List ℕ)) (shape : Shape) → AllGive IsOther (install_refusals url heard shape)
 others url heard shape = (
   (λ r g. ap is_installed g.1),
   (
     (λ r g. ap is_installed g.2),
     (
-      (λ r g. ap is_installed g.2),
+      (λ r g. ap is_installed g.3),
       (
         (λ r g. ap is_installed g.2),
         (
@@ -117,7 +116,7 @@ others url heard shape = (
                     (
                       (λ r g. ap is_installed g.2),
                       (
-                        (λ r g. ap is_installed g.2),
+                        (λ r g. ap is_installed g.3),
                         (
                           (λ r g. ap is_installed g.2),
                           (
@@ -130,7 +129,7 @@ others url heard shape = (
                                   (λ r g. ap is_installed g.1),
                                   (
                                     (λ r g. ap is_installed g.2),
-                                    ((λ r g. ap is_installed g.2), tt),
+                                    ((λ r g. ap is_installed g.3), tt),
                                   ),
                                 ),
                               ),
@@ -155,10 +154,10 @@ not_other true is other = cc
 not_other false is other = cc
 
 install_done : (at : ℕ) (heard : List (List ℕ)) (old : Session) (url : List ℕ) (reply : Reply) (new : Session) → is_installed reply ≡ true
-    → Answers at heard old (Install url) reply new → InstallEffect install_replies url heard at old reply new
+    → Answers at heard old (Install url) reply new → InstallEffect url heard at old reply new
 install_done at heard old url reply new is (inl (inl memory)) = absurd (not_other (is_installed reply) is (ap is_installed memory.0))
 install_done at heard old url reply new is (inl (inr refused)) =
-    absurd (not_other (is_installed reply) is (given_reply IsOther (install_refusals install_replies LOCAL_COUNT_LIMIT url heard (shape_of old)) old reply new (others url heard (shape_of old)) refused.1))
+    absurd (not_other (is_installed reply) is (given_reply IsOther (install_refusals url heard (shape_of old)) old reply new (others url heard (shape_of old)) refused.1))
 install_done at heard old url reply new is (inr done) = done.1
 
 number_is : (a b : _) (v w : _) (m n : ℕ) → says.Installed a v m ≡ says.Installed b w n → m ≡ n
@@ -237,7 +236,7 @@ module _ (runs_sound : RunsKeepSound) (data_stay : KeptDataFilesStay) (data_is :
   answer_is : says.Installed c.key c.install.version c.number ≡ c.install.step.answer
   answer_is = same_Some (says.Installed c.key c.install.version c.number) c.install.step.answer c.install.step.replied
 
-  done : InstallEffect install_replies c.install.url c.install.heard.texts c.install.at c.before c.install.step.answer c.installed
+  done : InstallEffect c.install.url c.install.heard.texts c.install.at c.before c.install.step.answer c.installed
   done = install_done c.install.at c.install.heard.texts c.before c.install.url c.install.step.answer c.installed (ap is_installed (sym answer_is)) c.install.step.answers
 
   number : c.number ≡ c.before.store.next_view

@@ -2,4 +2,4 @@ use Rattle.machine.proofs.InstallSteps.{left_sound}
 use Rattle.machine.proofs.install_laws.installs_keep_sound.Goals as goal
 
 pub returns : goal.returns
-returns g c = λ says locals url heard now old reply new is. left_sound is
+returns c = λ url heard now old reply new is. left_sound is

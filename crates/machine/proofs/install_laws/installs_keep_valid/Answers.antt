@@ -2,4 +2,4 @@ use Rattle.machine.proofs.InstallSteps.{left_valid}
 use Rattle.machine.proofs.install_laws.installs_keep_valid.Goals as goal
 
 pub returns : goal.returns
-returns g c = λ says locals url heard now old reply new is. left_valid is
+returns c = λ url heard now old reply new is. left_valid is

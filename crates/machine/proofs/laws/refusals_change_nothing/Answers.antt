@@ -1,6 +1,4 @@
 use Rattle.std.proofs.Common.{refl}
-use Rattle.small_types.specs.declared.limits.TheConstants.{LOCAL_COUNT_LIMIT}
-use Rattle.machine.specs.InstallReplies.{install_replies}
 use Rattle.machine.specs.Machine.{refusals}
 use Rattle.machine.proofs.CheckFacts.{check_refused}
 use Rattle.machine.proofs.Choosing.{unchanged_at}
@@ -20,7 +18,7 @@ pub returns-clause-rows : goal.returns-clause-rows
 returns-clause-rows c = record {
   at = λ now heard shape next. tt;
   require = λ now heard shape key version. ((λ s. refl), tt);
-  install = λ now heard shape url. install_unchanged install_replies LOCAL_COUNT_LIMIT url heard shape;
+  install = λ now heard shape url. install_unchanged url heard shape;
   skip = λ now heard shape key. skip_unchanged key now shape;
   rollback = λ now heard shape key. rollback_unchanged key shape;
   launch = λ now heard shape key. launch_unchanged key now shape;

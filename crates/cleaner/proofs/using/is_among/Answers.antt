@@ -1,7 +1,0 @@
-use Rattle.cleaner.proofs.Searches.{search_any}
-use Rattle.cleaner.proofs.using.is_among.Goals as goal
-
-pub returns : goal.returns
-returns c =
-    rw c.is_ok.ensures.value (search_any c.args.used.now c.requires c.args.number
-    c.binary_search.result c.binary_search.ensures.bound c.binary_search.ensures.position)
