@@ -15,7 +15,7 @@ use Rattle.updater.specs.declared.fault.RecoverFault.{RecoverFault}
 use Rattle.updater.specs.declared.fault.RecoverFault.TheVariants as recover
 use Rattle.updater.specs.declared.updater.Updater.{Updater}
 use Rattle.updater.specs.Opened.{Opened}
-use Rattle.updater.specs.Stands.{Stands}
+use Rattle.updater.specs.StandsFor.{StandsFor}
 use Rattle.updater.proofs.Standing.{new_stands}
 use Rattle.demo.specs.declared.fault.DemoFault.{DemoFault}
 use Rattle.demo.specs.declared.fault.DemoFault.TheVariants.{DiskFault, Memory, NotAStore}
@@ -28,7 +28,7 @@ abbrev room : Room
 room = plain_room STORE_BLOCKS
 
 -- the new journal stands for the empty store
-fresh : (image : List ℕ) → IsStore STORE_BLOCKS [] image → Stands image (empty room)
+fresh : (image : List ℕ) → IsStore STORE_BLOCKS [] image → StandsFor image (empty room)
 fresh image journal = new_stands image room (record { store = journal; half = refl })
 
 module _ {D : Type 0} (on : Ghosts D) (disk disk_new : D) where

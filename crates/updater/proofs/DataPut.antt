@@ -46,9 +46,9 @@ use Rattle.links.specs.Links.{LinksState}
 use Rattle.install_plan.specs.Leading.{LeadsIn}
 use Rattle.updater.specs.declared.putting.Putting.{Putting}
 use Rattle.updater.specs.DataFiles.{bytes_named}
-use Rattle.updater.specs.Keeps.{Leads}
+use Rattle.updater.specs.MakesDurable.{LeadsBetween}
 use Rattle.updater.specs.Putting.{IsPutting, file_of}
-use Rattle.updater.proofs.Commanding.{Does, Rests, effect_answers}
+use Rattle.updater.proofs.Commanding.{Does, LeavesStore, effect_answers}
 use Rattle.updater.proofs.DataRemoved.{still_named}
 use Rattle.updater.proofs.LeasedData.{shown_named}
 use Rattle.updater.proofs.ShownViews.{leased_shown}
@@ -209,7 +209,7 @@ module _ (now lease : ℕ) (room : Room) (name bytes : List ℕ) (tables : Table
       ap (with_data file) one ∙ same_file stands ∙ sym one)
 
   pub put_rests : putting.stands ≡ true
-      → Rests now [] (command.Put lease name bytes) before after old says.Put
+      → LeavesStore now [] (command.Put lease name bytes) before after old says.Put
   put_rests stands = record {
     new = new;
     step = step;
@@ -224,7 +224,7 @@ module _ (now lease : ℕ) (room : Room) (name bytes : List ℕ) (tables : Table
     shows_put first later had same held =
         puts room tables of.row.number (file_of name bytes) first later old.store had same held
 
-    leads : Leads (change.Put putting.view made) tables old.store new.store
+    leads : LeadsBetween (change.Put putting.view made) tables old.store new.store
     leads = record {
       shows = subst
           (λ (n : Room). LeadsIn n (change.Put putting.view made) tables old.store new.store)

@@ -29,7 +29,7 @@ use Rattle.store_state.proofs.Showing.{shape_shown}
 use Rattle.links.specs.Links.{LinksState}
 use Rattle.install_plan.specs.Leading.{LeadsIn}
 use Rattle.updater.specs.DataFiles.{IsRemoval}
-use Rattle.updater.specs.Keeps.{Leads}
+use Rattle.updater.specs.MakesDurable.{LeadsBetween}
 use Rattle.updater.proofs.Commanding.{Does, effect_answers}
 use Rattle.updater.proofs.LeasedData.{is_row, local_passes, none_there, shown_named}
 use Rattle.updater.proofs.ShownViews.{leased_shown}
@@ -86,7 +86,7 @@ module _ (now lease : ℕ) (room : Room) (name : List ℕ) (tables : Tables) (im
         is = refl;
       })
 
-  leads : Leads (change.Remove number name) tables old.store new.store
+  leads : LeadsBetween (change.Remove number name) tables old.store new.store
   leads = record {
     shows = subst
         (λ (n : Room). LeadsIn n (change.Remove number name) tables old.store new.store)

@@ -31,7 +31,7 @@ use Rattle.install_plan.proofs.Entry.{entry_same}
 use Rattle.install_plan.specs.Leading.{LeadsIn}
 use Rattle.updater.specs.declared.going_back.GoingBack.{GoingBack}
 use Rattle.updater.specs.GoingBack.{IsGoingBack}
-use Rattle.updater.specs.Keeps.{Leads}
+use Rattle.updater.specs.MakesDurable.{LeadsBetween}
 use Rattle.updater.proofs.Commanding.{Does, effect_answers}
 
 module _ (now : ℕ) (key : Key) (room : Room) (tables : Tables) (image : List ℕ)
@@ -64,7 +64,7 @@ module _ (now : ℕ) (key : Key) (room : Room) (tables : Tables) (image : List �
         is = refl;
       })
 
-  leads : Leads (change.Rollback going.app) tables old.store new.store
+  leads : LeadsBetween (change.Rollback going.app) tables old.store new.store
   leads = record {
     shows = subst
         (λ (n : Room). LeadsIn n (change.Rollback going.app) tables old.store new.store)

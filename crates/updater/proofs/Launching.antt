@@ -32,7 +32,7 @@ use Rattle.links.specs.Links.{LinksState}
 use Rattle.install_plan.proofs.Currents.{current_shown}
 use Rattle.install_plan.specs.Leading.{LeadsIn}
 use Rattle.updater.specs.declared.start.Start.{Start}
-use Rattle.updater.specs.Keeps.{Leads}
+use Rattle.updater.specs.MakesDurable.{LeadsBetween}
 use Rattle.updater.specs.Start.{IsStart}
 use Rattle.updater.proofs.Commanding.{Does, effect_answers}
 
@@ -84,7 +84,7 @@ module _ (now : ℕ) (key : Key) (room : Room) (tables : Tables) (image : List �
       ∙ ap (λ (o : Option AppState). option_and_then (λ (a : AppState). a.current) o) app.1
       ∙ app.2
 
-  leads : Leads (change.Launch start.app) tables old.store new.store
+  leads : LeadsBetween (change.Launch start.app) tables old.store new.store
   leads = record {
     shows = subst
         (λ (n : Room). LeadsIn n (change.Launch start.app) tables old.store new.store)

@@ -16,11 +16,11 @@ use Rattle.updater.specs.declared.fault.StepFault.{StepFault}
 use Rattle.updater.specs.declared.fault.StepFault.TheVariants as step
 use Rattle.updater.specs.declared.updater.Updater.{Updater}
 use Rattle.updater.specs.Costs.{Costs}
-use Rattle.updater.specs.Keeps.{Keeps, Leads}
+use Rattle.updater.specs.MakesDurable.{MakesDurable, LeadsBetween}
 use Rattle.updater.specs.Loaded.{Loaded, IsLoaded}
 use Rattle.updater.specs.Moments.{LeavesSince}
 use Rattle.updater.specs.Opened.{Opened}
-use Rattle.updater.specs.Stands.{Stands, StandsForEither}
+use Rattle.updater.specs.StandsFor.{StandsFor, StandsForEither}
 use Rattle.updater.specs.Updater.{Holds, tables_of}
 use Rattle.updater.proofs.Changing.{boot_shown, booted_leads}
 use Rattle.updater.proofs.Standing.{one_stands}
@@ -70,7 +70,7 @@ abbrev boot_bytes : ℕ → ℕ
 boot_bytes boot = AROUND + length (change_text (Boot boot))
 
 -- what a boot costs
-boot_costs : (image : List ℕ) (boot : ℕ) (old : Store) → boot ≤ NUMBER_LIMIT → Stands image old → Costs old (booted boot old) (boot_bytes boot)
+boot_costs : (image : List ℕ) (boot : ℕ) (old : Store) → boot ≤ NUMBER_LIMIT → StandsFor image old → Costs old (booted boot old) (boot_bytes boot)
 boot_costs image boot old few stands = inr (
   Boot boot,
   record {
@@ -86,11 +86,11 @@ boot_costs image boot old few stands = inr (
 
 module _ {D : Type 0} (on : Ghosts D) (boot : ℕ) (few : boot ≤ NUMBER_LIMIT) (disk_old : D) (read : Result Updater RecoverFault) (mid : D) (loaded : Loaded on disk_old read mid) where
   -- from the sync on a stop leaves what was read
-  read_stands : read ≢ Err DiskFault → (old : Store) → Stands (on.seen disk_old) old → LeavesSince on (on.moment disk_old + 1) mid (λ image. Stands image old)
+  read_stands : read ≢ Err DiskFault → (old : Store) → StandsFor (on.seen disk_old) old → LeavesSince on (on.moment disk_old + 1) mid (λ image. StandsFor image old)
   read_stands other old stands t image from to left =
       let now : t ≡ on.moment mid = omega (arith, loaded.synced other, loaded.spends.within) in
       let is : image ≡ on.seen disk_old = loaded.durable other image (subst (λ (n : ℕ). on.left_at mid n image) now left) in
-      subst (λ (bytes : List ℕ). Stands bytes old) (sym is) stands
+      subst (λ (bytes : List ℕ). StandsFor bytes old) (sym is) stands
 
   -- no store was read
   pub unread : (fault : RecoverFault) → read ≡ Err fault → Opened on boot disk_old (Err fault) mid
@@ -135,10 +135,10 @@ module _ {D : Type 0} (on : Ghosts D) (boot : ℕ) (few : boot ≤ NUMBER_LIMIT)
     got : on.tells mid → IsLoaded on disk_old updater mid
     got told = subst (λ (r : Result Updater RecoverFault). IfOk r (λ u. IsLoaded on disk_old u mid)) is (loaded.found told)
 
-    held : on.tells mid → (old : Store) → Stands (on.seen disk_old) old → Holds on updater mid (session_over old)
+    held : on.tells mid → (old : Store) → StandsFor (on.seen disk_old) old → Holds on updater mid (session_over old)
     held told old stands = let l = got told in subst (λ (s : Store). Holds on updater mid (session_over s)) (one_stands (on.seen disk_old) l.store old l.stands stands) l.holds
 
-    kept_boot : on.tells mid → (old : Store) → Stands (on.seen disk_old) old → old.boot ≡ (tables_of updater).boot
+    kept_boot : on.tells mid → (old : Store) → StandsFor (on.seen disk_old) old → old.boot ≡ (tables_of updater).boot
     kept_boot told old stands = boot_shown ((held told old stands).shows (on.seen mid) seen_left)
 
     -- what was spent where that is not the end
@@ -191,11 +191,11 @@ module _ {D : Type 0} (on : Ghosts D) (boot : ℕ) (few : boot ≤ NUMBER_LIMIT)
       spends = spends_within on 1 0 5 (boot_bytes boot) disk_old mid _ (omega arith) (omega arith) (read_by {X = Updater × Bool} (Err Memory) memory_fault);
     }
 
-    module _ {T : Type 0} (tried : Result T StepFault) (updater_new : Updater) (disk_new : D) (keeps : Keeps on (Boot boot) updater mid tried updater_new disk_new) where
-      leads : on.tells mid → (old : Store) → Stands (on.seen disk_old) old → Leads (Boot boot) (tables_of updater) old (booted boot old)
+    module _ {T : Type 0} (tried : Result T StepFault) (updater_new : Updater) (disk_new : D) (keeps : MakesDurable on (Boot boot) updater mid tried updater_new disk_new) where
+      leads : on.tells mid → (old : Store) → StandsFor (on.seen disk_old) old → LeadsBetween (Boot boot) (tables_of updater) old (booted boot old)
       leads told old stands = let holds = held told old stands in booted_leads old.room (tables_of updater) (on.seen mid) old boot (holds.shows (on.seen mid) seen_left) few holds.valid
 
-      since : on.tells disk_new → (old : Store) → Stands (on.seen disk_old) old → LeavesSince on (on.moment disk_old + 1) disk_new (StandsForEither old (booted boot old))
+      since : on.tells disk_new → (old : Store) → StandsFor (on.seen disk_old) old → LeavesSince on (on.moment disk_old + 1) disk_new (StandsForEither old (booted boot old))
       since told old stands t image from to left =
           (keeps.stop told (session_over old) (booted boot old) (leads (keeps.spends.told told) old stands) (held (keeps.spends.told told) old stands)).each t image
           (omega (arith, loaded.synced fine, loaded.spends.within)) to left

@@ -80,7 +80,7 @@ fn most_texts(command: &Command) -> usize
 
 impl Updater {
     ghost use Rattle.updater.specs.Commanded.{Commanded, CommandedBehind};
-    ghost use Rattle.updater.specs.Keeps.{Keeps};
+    ghost use Rattle.updater.specs.MakesDurable.{MakesDurable};
     ghost use Rattle.updater.specs.Loaded.{Loaded};
     ghost use Rattle.updater.specs.Opened.{Opened};
     ghost use Rattle.updater.specs.Updater.{tables_of};
@@ -241,7 +241,7 @@ impl Updater {
         change: Change,
     ) -> Result<(), StepFault>
         requires { Fits (tables_of self.old) change × IsChange change }
-        ensures { Keeps D.Disk change self.old disk.old result self.new disk.new }
+        ensures { MakesDurable D.Disk change self.old disk.old result self.new disk.new }
     {
         let mut piece = match piece_of(alloc, &change) {
             Ok(piece) => piece,

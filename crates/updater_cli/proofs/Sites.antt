@@ -24,7 +24,7 @@ use Rattle.machine.specs.Shape.{Shape, shape_of}
 use Rattle.machine.specs.Store.{Session, Store}
 use Rattle.machine.specs.Views.{DataFile, ListedFile, View}
 use Rattle.machine.specs.Wanted.{wanted}
-use Rattle.updater.specs.Commanded.{Serves}
+use Rattle.updater.specs.Commanded.{LinksServe}
 use Rattle.updater_cli.specs.Report.{AreServed, IsServed, Origin, origin_after}
 use Rattle.updater_cli.specs.Sites.{AreOfSites, HeardOfSites, GroupOfSites, IsCarriedOrOfSite, IsFileOfSite, IsLineOfSites, OfferOfSites}
 
@@ -70,7 +70,7 @@ module _ (first before after : LinksState) (kept : Kept first before) (tell : Al
   group_of lease group old new brought = λ view leased.
       files_of (shape_of old) (group_wanted (shape_of old).views group view.application) view (brought.files view leased)
 
-  served_of : (command : Command) (texts : List (List ℕ)) (old new : Session) (reply : Reply) (now : ℕ) → Serves command texts before after old reply new
+  served_of : (command : Command) (texts : List (List ℕ)) (old new : Session) (reply : Reply) (now : ℕ) → LinksServe command texts before after old reply new
       → IsLineOfSites first (Line command now (record { texts = texts })) old new
   served_of (Install url) texts old new reply now serves = record {
     heard = heard_of (shape_of old) url texts serves.0.hearing;
@@ -91,8 +91,8 @@ line_of : {L : Type 0} (net : LinksGhosts L) (first : LinksState) (before after 
 line_of net first before after kept tell now old new (Boot boot) reply step served = tt
 line_of net first before after kept tell now old new (Unread fault) reply step served = tt
 line_of net first before after kept tell now old new (Line command at heard) reply step served =
-    let told : IfSome (Some step.answer) (λ answer. Serves command heard.texts (net.links before) (net.links after) old answer new) =
-    subst (λ (r : Option Reply). IfSome r (λ answer. Serves command heard.texts (net.links before) (net.links after) old answer new)) step.replied served.serves in
+    let told : IfSome (Some step.answer) (λ answer. LinksServe command heard.texts (net.links before) (net.links after) old answer new) =
+    subst (λ (r : Option Reply). IfSome r (λ answer. LinksServe command heard.texts (net.links before) (net.links after) old answer new)) step.replied served.serves in
     served_of first (net.links before) (net.links after) kept tell command heard.texts old new step.answer at told
 
 -- the same of all lines

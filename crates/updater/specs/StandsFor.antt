@@ -28,8 +28,8 @@ pub record IsJournal (room : Room) (changes : List (List ℕ)) (image : List ℕ
   pub store : IsStore room.blocks changes image
   pub half : room.half ≡ 0
 
--- The image reads as these tables: it is a journal of this room, whose changes lead to them from the
--- empty ones.
+-- The image reads as these tables: it is a journal of this room, whose changes lead to them from
+-- the empty ones.
 pub record ReadsAs (room : Room) (image : List ℕ) (tables : Tables) : Type 0 where
   pub changes : List (List ℕ)
   pub journal : IsJournal room changes image
@@ -37,7 +37,7 @@ pub record ReadsAs (room : Room) (image : List ℕ) (tables : Tables) : Type 0 w
 
 -- The bytes read as tables that show the store, which is within its order and its limits, and whose
 -- files have room.
-pub record Stands (image : List ℕ) (store : Store) : Type 0 where
+pub record StandsFor (image : List ℕ) (store : Store) : Type 0 where
   pub tables : Tables
   pub reads : ReadsAs store.room image tables
   pub shows : Shows store.room tables image store
@@ -45,8 +45,8 @@ pub record Stands (image : List ℕ) (store : Store) : Type 0 where
 
 -- the bytes stand for no store
 abbrev pub StandsForNone : List ℕ → Type 0
-StandsForNone image = (store : Store) → Stands image store → ⊥
+StandsForNone image = (store : Store) → StandsFor image store → ⊥
 
 -- the bytes stand for one of two stores
 abbrev pub StandsForEither : Store → Store → List ℕ → Type 0
-StandsForEither old new image = Stands image old ⊎ Stands image new
+StandsForEither old new image = StandsFor image old ⊎ StandsFor image new

@@ -14,28 +14,28 @@ use Rattle.install_plan.specs.Leading.{LeadsIn}
 use Rattle.updater.specs.declared.fault.StepFault.{StepFault}
 use Rattle.updater.specs.declared.fault.StepFault.TheVariants.{Memory, DiskFault}
 use Rattle.updater.specs.declared.updater.Updater.{Updater}
-use Rattle.updater.specs.Stands.{StandsForEither}
+use Rattle.updater.specs.StandsFor.{StandsForEither}
 use Rattle.updater.specs.Updater.{Holds, tables_of}
 
 -- The change leads from tables that show the old store to tables that show the new one, which is
 -- valid.
-pub record Leads (change : Change) (tables : Tables) (old new : Store) : Type 0 where
+pub record LeadsBetween (change : Change) (tables : Tables) (old new : Store) : Type 0 where
   pub shows : LeadsIn old.room change tables old new
   pub valid : Valid new
 
 -- What making a change durable does, for any session and any store between which it leads. It
 -- writes at most the change's encoding with the log's own bytes around it. For want of memory it
 -- does nothing.
-pub record Keeps {D T : Type 0} (on : Ghosts D) (change : Change)
+pub record MakesDurable {D T : Type 0} (on : Ghosts D) (change : Change)
     (updater_old : Updater) (disk_old : D) (result : Result T StepFault)
     (updater_new : Updater) (disk_new : D) : Type 0 where
   pub fits : Fits (tables_of updater_old) change
   pub has : IsChange change
   pub stored : on.tells disk_new → (old : Session) (new : Store)
-      → Leads change (tables_of updater_old) old.store new → Holds on updater_old disk_old old
+      → LeadsBetween change (tables_of updater_old) old.store new → Holds on updater_old disk_old old
       → OnOk result (Holds on updater_new disk_new (record old { store = new }))
   pub stop : on.tells disk_new → (old : Session) (new : Store)
-      → Leads change (tables_of updater_old) old.store new → Holds on updater_old disk_old old
+      → LeadsBetween change (tables_of updater_old) old.store new → Holds on updater_old disk_old old
       → LeavesOnly on disk_old disk_new (StandsForEither old.store new)
   pub past : (t : ℕ) (image : List ℕ) → t ≤ on.moment disk_old
       → on.left_at disk_new t image → on.left_at disk_old t image
