@@ -19,6 +19,7 @@ pub mod GroupOver
 pub mod GroupReadying
 pub mod GroupServing
 pub mod GroupStanding
+pub mod Joining
 pub mod Judged
 pub mod Keyed
 pub mod Knowing

@@ -6,7 +6,9 @@ use Rattle.hex.specs.Hex.{encode_lower}
 use Rattle.small_types.specs.declared.target.Target.{Target}
 use Rattle.addresses.specs.declared.fault.UrlFault.{UrlFault}
 use Rattle.addresses.specs.declared.fault.UrlFault.TheVariants.{BadUrl}
-use Rattle.addresses.specs.Join.{file_target_of}
+use Rattle.addresses.specs.declared.file_base.FileBase.{FileBase}
+use Rattle.addresses.specs.FileBase.{document_of}
+use Rattle.addresses.specs.Join.{file_target_beside, file_target_of}
 use Rattle.digest_list.specs.declared.digest.Digest.{Digest}
 use Rattle.digest_list.specs.Algorithm.{name_of}
 use Rattle.manifests.specs.declared.facts.FileEntry.{FileEntry}
@@ -64,6 +66,11 @@ pub record Takes {A : Type 0} (files held taken : List FileEntry) (entry : FileE
 abbrev pub target_at : Target → Bool → Option FileEntry → Result Target UrlFault
 target_at base mapped None = Err BadUrl
 target_at base mapped (Some entry) = file_target_of base mapped entry.name
+
+-- the same where the base was read
+abbrev pub joined_at : FileBase → Bool → Option FileEntry → Result Target UrlFault
+joined_at base mapped None = Err BadUrl
+joined_at base mapped (Some entry) = file_target_beside (document_of base) mapped entry.name
 
 -- its blocks
 abbrev pub blocks_at : Option FileEntry → ℕ

@@ -6,12 +6,12 @@ ghost use Rattle.addresses.specs.declared.fault.UrlFault.TheVariants as no_addre
 ghost use Rattle.machine.specs.Blocks.{blocks_of, standing_files};
 ghost use Rattle.machine.specs.Wanted.{wanted_beside};
 ghost use Rattle.store_state.specs.Tables.{bare_row};
-ghost use Rattle.install_plan.specs.Wanting.{Knows, Takes, blocks_at, target_at};
+ghost use Rattle.install_plan.specs.Wanting.{Knows, Takes, blocks_at, joined_at, target_at};
 
 use crate::WantedFile;
 use crate::replies::url_reply;
 use crate::taken::{is_noted, note, text_of};
-use addresses::file_target;
+use addresses::FileBase;
 use machine::Reply;
 use manifests::FileEntry;
 use small_types::limits::BLOCK_SIZE;
@@ -99,7 +99,7 @@ pub(crate) fn wanted_places(
 // The file at the place, with its address.
 fn wanted_file(
     alloc: Global,
-    base: &Target,
+    base: &FileBase,
     mapped: bool,
     files: &[FileEntry],
     place: usize,
@@ -107,18 +107,49 @@ fn wanted_file(
     requires { place < length files.now }
     ensures place { IfOk result (λ file. file.place ≡ place) }
     ensures target { IfOk result (λ file.
-        target_at base.now mapped (slice_get files.now place) ≡ Ok file.target) }
+        joined_at base.now mapped (slice_get files.now place) ≡ Ok file.target) }
     ensures refused { IfErr result (λ reply. (reply ≡ Reply.Memory) ⊎ ((reply ≡ Reply.BadUrl)
-        × (target_at base.now mapped (slice_get files.now place) ≡ Err no_address.BadUrl))) }
+        × (joined_at base.now mapped (slice_get files.now place)
+        ≡ Err no_address.BadUrl))) }
 {
     let entry = &files[place];
-    match file_target(alloc, base, mapped, &entry.name) {
+    match base.target(alloc, mapped, &entry.name) {
         Ok(target) => Ok(WantedFile { place, target }),
         Err(fault) => Err(url_reply(fault)),
     }
 }
 
 // The files at the places, with their addresses.
+fn joined_files(
+    alloc: Global,
+    base: &FileBase,
+    mapped: bool,
+    files: &[FileEntry],
+    places: &[usize],
+) -> Result<List<WantedFile>, Reply>
+    requires { All (λ place. place < length files.now) places.now }
+    ensures places { IfOk result (λ wanted. map (λ file. file.place) wanted ≡ places.now) }
+    ensures targets { IfOk result (λ wanted.
+        map (λ place. joined_at base.now mapped (slice_get files.now place))
+        places.now ≡ map (λ file. Ok file.target) wanted) }
+    ensures refused { IfErr result (λ reply. (reply ≡ Reply.Memory) ⊎ ((reply ≡ Reply.BadUrl)
+        × Any (λ place. joined_at base.now mapped (slice_get files.now place)
+        ≡ Err no_address.BadUrl) places.now)) }
+{
+    let mut wanted = Vec::new(alloc);
+    for place in places {
+        let file = match wanted_file(alloc, base, mapped, files, *place) {
+            Ok(file) => file,
+            Err(reply) => return Err(reply),
+        };
+        if let Err(AllocFailed { .. }) = wanted.push(file) {
+            return Err(Reply::Memory);
+        }
+    }
+    Ok(List::from_vec(wanted))
+}
+
+// The same, where the base is read first. Where no file is wanted, it is not read.
 pub(crate) fn wanted_files(
     alloc: Global,
     base: &Target,
@@ -135,17 +166,17 @@ pub(crate) fn wanted_files(
         × Any (λ place. target_at base.now mapped (slice_get files.now place)
         ≡ Err no_address.BadUrl) places.now)) }
 {
-    let mut wanted = Vec::new(alloc);
-    for place in places {
-        let file = match wanted_file(alloc, base, mapped, files, *place) {
-            Ok(file) => file,
-            Err(reply) => return Err(reply),
-        };
-        if let Err(AllocFailed { .. }) = wanted.push(file) {
-            return Err(Reply::Memory);
-        }
+    if places.is_empty() {
+        return Ok(List::from_vec(Vec::new(alloc)));
     }
-    Ok(List::from_vec(wanted))
+    let read = match FileBase::read(alloc, base) {
+        Ok(read) => read,
+        Err(fault) => return Err(url_reply(fault)),
+    };
+    match joined_files(alloc, &read, mapped, files, places) {
+        Ok(wanted) => Ok(wanted),
+        Err(reply) => Err(reply),
+    }
 }
 
 // The blocks of so many bytes.
