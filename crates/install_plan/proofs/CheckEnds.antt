@@ -55,6 +55,7 @@ use Rattle.install_plan.specs.Offers.{IsNoOffer, IsOfOther, IsOffer, OfferHearin
 use Rattle.install_plan.specs.Prepared.{IsCheckPrepared}
 use Rattle.install_plan.specs.Stages.{IsGot, IsNotRead, StopsOne}
 use Rattle.install_plan.proofs.Entry.{entry_same, entry_stays}
+use Rattle.install_plan.proofs.NewFiles.{leads_over}
 use Rattle.install_plan.proofs.Rows.{unrefused}
 use Rattle.install_plan.proofs.Told.{deployment_is}
 
@@ -221,8 +222,8 @@ module _ (room : Room) (tables : Tables) (key : Key) (now : ℕ)
             (unheard_refuses old);
         served = served_by old image idle shows [] missing unserved;
         leaves = record {
-          leads = λ first later had same new. shows_unheard room tables key first later old.store
-              had same;
+          leads = leads_over image (λ first later had same there.
+              shows_unheard room tables key first later old.store had same);
           other = differs old image idle shows [] unheard_app unheard_keys other;
         };
       };
@@ -379,8 +380,8 @@ module _ (room : Room) (tables : Tables) (key : Key) (now : ℕ)
                   (done old image idle shows);
               served = served_by old image idle shows (text ∷ []) (checked_of offered app) served;
               leaves = record {
-                leads = λ first later had same new. shows_heard room tables key have
-                    d.identity.version d.minimum now first later old.store had same version_is;
+                leads = leads_over image (λ first later had same there. shows_heard room tables key have
+                    d.identity.version d.minimum now first later old.store had same version_is);
                 other = differs old image idle shows (text ∷ []) (heard_of offered) keeps other;
               };
             };

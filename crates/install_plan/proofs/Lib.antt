@@ -25,6 +25,7 @@ pub mod Keyed
 pub mod Knowing
 pub mod LeasedRows
 pub mod Listed
+pub mod NewFiles
 pub mod Noted
 pub mod Outcome
 pub mod Parting

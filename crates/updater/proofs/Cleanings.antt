@@ -24,6 +24,7 @@ use Rattle.store_state.proofs.Cleaning.{cleans_shown}
 use Rattle.store_state.proofs.Showing.{shape_shown}
 use Rattle.links.specs.Links.{LinksState}
 use Rattle.install_plan.specs.Leading.{LeadsIn}
+use Rattle.install_plan.proofs.NewFiles.{leads_over}
 use Rattle.updater.specs.MakesDurable.{LeadsBetween}
 use Rattle.updater.proofs.Commanding.{Does, LeavesStore, effect_answers}
 
@@ -81,7 +82,7 @@ module _ (now : ℕ) (room : Room) (tables : Tables) (image : List ℕ) (before 
   leads = record {
     shows = subst (λ (n : Room). LeadsIn n change.Clean tables old.store new.store)
         (sym (ap (λ (s : Store). s.room) shows.is))
-        (λ first later had same held. cleans_shown room tables first later old.store had same);
+        (leads_over image (λ first later had same there. cleans_shown room tables first later old.store had same));
     valid = step_valid now old (Line command.Clean now (record { texts = [] }))
         (Some (says.Cleaned views)) new (tt, moment)
         (record {

@@ -44,6 +44,7 @@ use Rattle.store_state.proofs.Showing.{shape_shown}
 use Rattle.record_codec.specs.Values.{IsLocal}
 use Rattle.links.specs.Links.{LinksState}
 use Rattle.install_plan.specs.Leading.{LeadsIn}
+use Rattle.install_plan.proofs.NewFiles.{leads_over}
 use Rattle.updater.specs.declared.putting.Putting.{Putting}
 use Rattle.updater.specs.DataFiles.{bytes_named}
 use Rattle.updater.specs.MakesDurable.{LeadsBetween}
@@ -221,8 +222,9 @@ module _ (now lease : ℕ) (room : Room) (name bytes : List ℕ) (tables : Table
       (there : PutsAreThere) where
     shows_put : LeadsIn room (change.Put of.row.number (file_of name bytes)) tables old.store
         new.store
-    shows_put first later had same held =
-        puts room tables of.row.number (file_of name bytes) first later old.store had same held
+    shows_put = leads_over image (λ first later had same there.
+        puts room tables of.row.number (file_of name bytes) first later old.store had same
+        there.measured)
 
     leads : LeadsBetween (change.Put putting.view made) tables old.store new.store
     leads = record {

@@ -27,6 +27,7 @@ use Rattle.store_state.proofs.Showing.{shape_shown}
 use Rattle.links.specs.Links.{LinksState}
 use Rattle.install_plan.proofs.Entry.{entry_same, entry_stays}
 use Rattle.install_plan.specs.Leading.{LeadsIn}
+use Rattle.install_plan.proofs.NewFiles.{leads_over}
 use Rattle.updater.specs.declared.skipping.Skipping.{Skipping}
 use Rattle.updater.specs.MakesDurable.{LeadsBetween}
 use Rattle.updater.specs.Skipping.{IsSkipping}
@@ -83,9 +84,9 @@ module _ (now : ℕ) (key : Key) (room : Room) (tables : Tables) (image : List �
     shows = subst
         (λ (n : Room). LeadsIn n (change.Skip skipping.app) tables old.store new.store)
         (sym (ap (λ (s : Store). s.room) shows.is))
-        (λ first later had same held. shows_skipped room tables key skipping.app skipping.offer
+        (leads_over image (λ first later had same there. shows_skipped room tables key skipping.app skipping.offer
         first
-        later old.store had same in_order is.app offered);
+        later old.store had same in_order is.app offered));
     valid = step_valid now old (Line (command.Skip key) now (record { texts = [] })) (Some reply)
         new (is_key, moment)
         (record { moment = refl; hears = refl; answer = reply; replied = refl; answers = step })

@@ -17,6 +17,7 @@ use Rattle.store_state.specs.Shows.{Shows}
 use Rattle.store_state.specs.Tables.{Tables, empty}
 use Rattle.store_state.proofs.Images.{images_have, images_hold}
 use Rattle.store_state.proofs.Showing.{shows_same}
+use Rattle.install_plan.proofs.NewFiles.{has_new}
 use Rattle.updater.specs.declared.updater.Updater.{Updater}
 use Rattle.updater.specs.declared.fault.StepFault.{StepFault}
 use Rattle.updater.specs.declared.fault.StepFault.TheVariants.{DiskFault, Memory}
@@ -66,7 +67,8 @@ module _ {D : Type 0} (on : Ghosts D) (updater : Updater) (disk : D) (change : C
   old_shows = holds.shows (on.seen disk) seen_left
 
   led_shows : (image : List ℕ) → Shows old.store.room (effect change (tables_of updater)) image new
-  led_shows image = leads.shows (on.seen disk) image old_shows (images_have old.store.room (tables_of updater) (on.seen disk) image) (images_hold old.store.room (tables_of updater) change image fits)
+  led_shows image = leads.shows.shows (on.seen disk) image old_shows (images_have old.store.room (tables_of updater) (on.seen disk) image)
+      (has_new leads.shows image (images_hold old.store.room (tables_of updater) change image fits))
 
   room_stays : new.room ≡ old.store.room
   room_stays = ap (λ (s : Store). s.room) (led_shows (on.seen disk)).is

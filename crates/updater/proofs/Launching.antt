@@ -31,6 +31,7 @@ use Rattle.store_state.proofs.Showing.{shape_shown, shows_launched}
 use Rattle.links.specs.Links.{LinksState}
 use Rattle.install_plan.proofs.Currents.{current_shown}
 use Rattle.install_plan.specs.Leading.{LeadsIn}
+use Rattle.install_plan.proofs.NewFiles.{leads_over}
 use Rattle.updater.specs.declared.start.Start.{Start}
 use Rattle.updater.specs.MakesDurable.{LeadsBetween}
 use Rattle.updater.specs.Start.{IsStart}
@@ -89,8 +90,8 @@ module _ (now : ℕ) (key : Key) (room : Room) (tables : Tables) (image : List �
     shows = subst
         (λ (n : Room). LeadsIn n (change.Launch start.app) tables old.store new.store)
         (sym blocks_shown)
-        (λ first later had same held. shows_launched room tables key start.app is.row.number first
-        later old.store had same in_order is.app number_is);
+        (leads_over image (λ first later had same there. shows_launched room tables key start.app is.row.number first
+        later old.store had same in_order is.app number_is));
     valid = step_valid now old (Line (command.Launch key) now (record { texts = [] })) (Some reply)
         new (is_key, moment)
         (record { moment = refl; hears = refl; answer = reply; replied = refl; answers = step })
