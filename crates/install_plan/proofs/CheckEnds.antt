@@ -46,7 +46,7 @@ use Rattle.links.specs.Links.{LinksState}
 use Rattle.fetcher.specs.Causes.{IsTextCause}
 use Rattle.fetcher.specs.Fetched.{Kept, MayAsk, NoneGave}
 use Rattle.fetcher.specs.Given.{FitsText}
-use Rattle.install_plan.specs.declared.checking.Offered.{Offered}
+use Rattle.install_plan.specs.declared.check.Offered.{Offered}
 use Rattle.install_plan.specs.declared.prepared.Prepared.{Prepared}
 use Rattle.install_plan.specs.declared.prepared.Prepared.TheVariants as to
 use Rattle.install_plan.specs.Checks.{IsCheckOver, IsCheckReady, IsMissed, IsNoted, IsUnmissed, IsUnnoted, MissesTo, NotesTo, checked_of, heard_of, is_missing}

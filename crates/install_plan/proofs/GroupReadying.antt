@@ -30,7 +30,7 @@ use Rattle.store_state.proofs.Showing.{shape_shown, shows_same}
 use Rattle.links.specs.Links.{LinksState}
 use Rattle.install_plan.specs.Brought.{AreContentsFor}
 use Rattle.install_plan.specs.Checks.{LedBy}
-use Rattle.install_plan.specs.Fetching.{addresses}
+use Rattle.install_plan.specs.FetchedFiles.{addresses}
 use Rattle.install_plan.specs.GroupAsked.{AreBrought, GroupServed}
 use Rattle.install_plan.specs.GroupReady.{GroupStep, HasBrought, IsGroupOver, IsGroupReady, address_in, ungrouped}
 use Rattle.install_plan.proofs.Aligning.{contents_for, count_for, keys_for, whole_for}

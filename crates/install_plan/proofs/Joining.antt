@@ -14,7 +14,7 @@ use Rattle.manifests.specs.declared.facts.FileEntry.{FileEntry}
 use Rattle.machine.specs.declared.reply.Reply.{Reply}
 use Rattle.machine.specs.declared.reply.Reply.TheVariants as says
 use Rattle.install_plan.specs.Replies.{url_reply}
-use Rattle.install_plan.specs.Wanting.{joined_at, target_at}
+use Rattle.install_plan.specs.WantedFiles.{joined_at, target_at}
 use Rattle.install_plan.proofs.Judged.{refused_at}
 
 -- ---- the base was read

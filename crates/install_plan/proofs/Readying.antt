@@ -30,7 +30,7 @@ use Rattle.install_plan.specs.declared.plan.Plan.{Plan}
 use Rattle.install_plan.specs.Brought.{AreContentsFor}
 use Rattle.install_plan.specs.Carried.{ArePlansFor, row_locals}
 use Rattle.install_plan.specs.Changes.{AreShort, HasContents, IsChangeOf, change_of_plan, installed_of, listed_at, local_of, plan_contents, plan_locals, plan_originals}
-use Rattle.install_plan.specs.Fetching.{ArePlaces, HasFetched, IsContentAt}
+use Rattle.install_plan.specs.FetchedFiles.{ArePlaces, HasFetched, IsContentAt}
 use Rattle.install_plan.specs.Held.{given_data}
 use Rattle.install_plan.specs.Plans.{IsPlan, IsPlanned, IsRefused, targets_of}
 use Rattle.install_plan.specs.Ready.{IsReady, IsStep}

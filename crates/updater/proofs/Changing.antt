@@ -19,7 +19,7 @@ use Rattle.store_state.specs.Shows.{Shows}
 use Rattle.store_state.specs.Tables.{Tables, bare_row, empty}
 use Rattle.store_state.proofs.Showing.{shape_shown, shows_booted, shows_required}
 use Rattle.store_state.proofs.Validity.{loaded_ordered}
-use Rattle.install_plan.specs.Leading.{LeadsIn}
+use Rattle.install_plan.specs.LeadsIn.{LeadsIn}
 use Rattle.install_plan.proofs.NewFiles.{leads_over}
 use Rattle.updater.specs.MakesDurable.{LeadsBetween}
 use Rattle.updater.specs.StandsFor.{Loads}

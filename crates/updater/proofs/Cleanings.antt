@@ -23,7 +23,7 @@ use Rattle.store_state.specs.Tables.{Tables, table_shape}
 use Rattle.store_state.proofs.Cleaning.{cleans_shown}
 use Rattle.store_state.proofs.Showing.{shape_shown}
 use Rattle.links.specs.Links.{LinksState}
-use Rattle.install_plan.specs.Leading.{LeadsIn}
+use Rattle.install_plan.specs.LeadsIn.{LeadsIn}
 use Rattle.install_plan.proofs.NewFiles.{leads_over}
 use Rattle.updater.specs.MakesDurable.{LeadsBetween}
 use Rattle.updater.proofs.Commanding.{Does, LeavesStore, effect_answers}

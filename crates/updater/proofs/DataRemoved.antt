@@ -27,7 +27,7 @@ use Rattle.store_state.specs.Shows.{Shows, shown_data, shown_view}
 use Rattle.store_state.specs.Tables.{Tables}
 use Rattle.store_state.proofs.Showing.{shape_shown}
 use Rattle.links.specs.Links.{LinksState}
-use Rattle.install_plan.specs.Leading.{LeadsIn}
+use Rattle.install_plan.specs.LeadsIn.{LeadsIn}
 use Rattle.install_plan.proofs.NewFiles.{leads_over}
 use Rattle.updater.specs.DataFiles.{IsRemoval}
 use Rattle.updater.specs.MakesDurable.{LeadsBetween}

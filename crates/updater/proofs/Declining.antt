@@ -26,7 +26,7 @@ use Rattle.store_state.proofs.Checking.{shows_skipped}
 use Rattle.store_state.proofs.Showing.{shape_shown}
 use Rattle.links.specs.Links.{LinksState}
 use Rattle.install_plan.proofs.Entry.{entry_same, entry_stays}
-use Rattle.install_plan.specs.Leading.{LeadsIn}
+use Rattle.install_plan.specs.LeadsIn.{LeadsIn}
 use Rattle.install_plan.proofs.NewFiles.{leads_over}
 use Rattle.updater.specs.declared.skipping.Skipping.{Skipping}
 use Rattle.updater.specs.MakesDurable.{LeadsBetween}

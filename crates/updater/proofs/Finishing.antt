@@ -20,7 +20,7 @@ use Rattle.store_state.specs.Shows.{Shows}
 use Rattle.store_state.specs.Tables.{Tables, table_shape}
 use Rattle.store_state.proofs.Showing.{shape_shown, shows_finished}
 use Rattle.links.specs.Links.{LinksState}
-use Rattle.install_plan.specs.Leading.{LeadsIn}
+use Rattle.install_plan.specs.LeadsIn.{LeadsIn}
 use Rattle.install_plan.proofs.NewFiles.{leads_over}
 use Rattle.updater.specs.MakesDurable.{LeadsBetween}
 use Rattle.updater.proofs.Commanding.{Does, effect_answers}

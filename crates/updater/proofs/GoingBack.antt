@@ -28,7 +28,7 @@ use Rattle.store_state.proofs.RollingBack.{shows_rolled_back}
 use Rattle.store_state.proofs.Showing.{shape_shown}
 use Rattle.links.specs.Links.{LinksState}
 use Rattle.install_plan.proofs.Entry.{entry_same}
-use Rattle.install_plan.specs.Leading.{LeadsIn}
+use Rattle.install_plan.specs.LeadsIn.{LeadsIn}
 use Rattle.install_plan.proofs.NewFiles.{leads_over}
 use Rattle.updater.specs.declared.going_back.GoingBack.{GoingBack}
 use Rattle.updater.specs.GoingBack.{IsGoingBack}

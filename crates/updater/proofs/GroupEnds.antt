@@ -20,7 +20,7 @@ use Rattle.store_state.specs.Shows.{Shows}
 use Rattle.install_plan.specs.Checks.{LedBy}
 use Rattle.install_plan.specs.GroupReady.{GroupStep, IsGroupOver, IsGroupReady}
 use Rattle.install_plan.proofs.LeasedRows.{still_brought}
-use Rattle.install_plan.specs.Leading.{LeadsIn}
+use Rattle.install_plan.specs.LeadsIn.{LeadsIn}
 use Rattle.updater.specs.declared.fault.StepFault.{StepFault}
 use Rattle.updater.specs.declared.updater.Updater.{Updater}
 use Rattle.updater.specs.Answer.{IsAnswer}

@@ -26,7 +26,7 @@ use Rattle.install_plan.specs.Brought.{IsBrought}
 use Rattle.install_plan.specs.Hearing.{Served}
 use Rattle.install_plan.specs.Plans.{IsRefused}
 use Rattle.install_plan.specs.Ready.{IsReady, IsStep}
-use Rattle.install_plan.specs.Leading.{LeadsIn}
+use Rattle.install_plan.specs.LeadsIn.{LeadsIn}
 use Rattle.updater.specs.declared.fault.StepFault.{StepFault}
 use Rattle.updater.specs.declared.updater.Updater.{Updater}
 use Rattle.updater.specs.Answer.{IsAnswer}

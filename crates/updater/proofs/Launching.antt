@@ -30,7 +30,7 @@ use Rattle.store_state.specs.Tables.{Tables}
 use Rattle.store_state.proofs.Showing.{shape_shown, shows_launched}
 use Rattle.links.specs.Links.{LinksState}
 use Rattle.install_plan.proofs.Currents.{current_shown}
-use Rattle.install_plan.specs.Leading.{LeadsIn}
+use Rattle.install_plan.specs.LeadsIn.{LeadsIn}
 use Rattle.install_plan.proofs.NewFiles.{leads_over}
 use Rattle.updater.specs.declared.start.Start.{Start}
 use Rattle.updater.specs.MakesDurable.{LeadsBetween}

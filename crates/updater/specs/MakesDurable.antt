@@ -10,7 +10,7 @@ use Rattle.record_codec.specs.Codec.{IsChange, change_text}
 use Rattle.store_state.specs.declared.change.Change.{Change}
 use Rattle.store_state.specs.Change.{Fits}
 use Rattle.store_state.specs.Tables.{Tables}
-use Rattle.install_plan.specs.Leading.{LeadsIn}
+use Rattle.install_plan.specs.LeadsIn.{LeadsIn}
 use Rattle.updater.specs.declared.fault.StepFault.{StepFault}
 use Rattle.updater.specs.declared.fault.StepFault.TheVariants.{Memory, DiskFault}
 use Rattle.updater.specs.declared.updater.Updater.{Updater}

@@ -26,7 +26,7 @@ use crate::data_files::{local_of, removal_of};
 use crate::fault::StepFault;
 use crate::going_back::going_back_of;
 use crate::leased::{leased_file, part_of};
-use crate::listing::{list_rows, show_row};
+use crate::rows::{list_rows, show_row};
 use crate::piece::piece_of;
 use crate::putting::{local_file, putting_of};
 use crate::refusal::{finish_refusal, require_refusal};
