@@ -7,13 +7,13 @@ use Rattle.std.proofs.lemmas.Bool.{cond-true, cond-false, cond_both, cases_Bool,
 use Rattle.small_types.specs.declared.limits.TheConstants.{NAME_LIMIT, URL_LIMIT}
 use Rattle.small_types.specs.declared.target.Target.{Target}
 use Rattle.small_types.specs.Name.{name_parts, is_name_byte, is_name_part, is_name, IsName}
-use Rattle.small_types.specs.Reading.{◌>>=◌}
+use Rattle.small_types.specs.Reading.{◌>>=◌, FailsBut}
 use Rattle.url.specs.Parts.{Parts, HasSameHost, serialize}
 use Rattle.url.specs.Parser.{Parsed, parse_url}
 use Rattle.addresses.specs.declared.fault.UrlFault.{UrlFault}
 use Rattle.addresses.specs.declared.fault.UrlFault.TheVariants.{BadUrl, NotHttp, Memory}
-use Rattle.addresses.specs.Address.{http, url_of, is_too_long, address, Gives}
-use Rattle.addresses.specs.Join.{target_text, base_of, resolved, file_reference, file_target_of, short_address, IsUnreachable, NamesAreJoined}
+use Rattle.addresses.specs.Address.{http, url_of, is_too_long, is_memory, address, Gives}
+use Rattle.addresses.specs.Join.{target_text, base_of, resolved, file_reference, file_target_beside, file_target_of, short_address, IsUnreachable, NamesAreJoined}
 use Rattle.addresses.proofs.BaseLemmas.{IsHttp, front_http}
 use Rattle.addresses.proofs.ReferenceLemmas.{IsRelative, reference_plain, reference_relative, reference_joined}
 
@@ -92,6 +92,43 @@ resolved_http base mapped name url is joined =
     (λ none. let failed : refusal ≡ Ok url = sym (ap (λ (r : Result Parts UrlFault). r >>= (λ d. url_of (parse_url (Some d) (file_reference mapped name)))) none) ∙ joined in absurd cc)
     (base_cases base)
 
+-- ---- beside the document of the base
+
+-- what is joined to the document is joined to the base
+pub resolved_beside : (base : Target) (document : Parts) (reference : List ℕ) (url : Parts) → base_of base ≡ Ok document
+    → url_of (parse_url (Some document) reference) ≡ Ok url → resolved base reference ≡ Ok url
+unfolding resolved
+resolved_beside base document reference url read joined =
+    ap (λ (r : Result Parts UrlFault). r >>= (λ d. url_of (parse_url (Some d) reference))) read ∙ joined
+
+-- a file has the address that it has beside the document
+pub target_beside : (base : Target) (document : Parts) (mapped : Bool) (name : List ℕ) → base_of base ≡ Ok document
+    → file_target_of base mapped name ≡ file_target_beside document mapped name
+unfolding file_target_of resolved file_target_beside
+target_beside base document mapped name read =
+    ap (λ (r : Result Parts UrlFault). (r >>= (λ d. url_of (parse_url (Some d) (file_reference mapped name)))) >>= short_address) read
+
+-- where the base is no URL no file has one
+pub none_beside : (base : Target) (mapped : Bool) (name : List ℕ) (fault : UrlFault) → base_of base ≡ Err fault → file_target_of base mapped name ≡ Err fault
+unfolding file_target_of resolved
+none_beside base mapped name fault none =
+    ap (λ (r : Result Parts UrlFault). (r >>= (λ d. url_of (parse_url (Some d) (file_reference mapped name)))) >>= short_address) none
+
+-- so a call that does not read the base fails as each name does
+pub fails_beside : (fault : UrlFault) (base : Target) (mapped : Bool) (name : List ℕ) → FailsBut is_memory fault (base_of base) → FailsBut is_memory fault (file_target_of base mapped name)
+fails_beside Memory base mapped name none = tt
+fails_beside BadUrl base mapped name none = none_beside base mapped name BadUrl none
+fails_beside (NotHttp scheme) base mapped name none = none_beside base mapped name (NotHttp scheme) none
+
+-- the base is refused for no scheme
+parsed_never : (r : Parsed Parts) (scheme : List ℕ) → url_of r ≢ Err (NotHttp scheme)
+parsed_never (Ok url) scheme is = absurd cc
+parsed_never (Err e) scheme is = absurd cc
+
+pub read_never : (fault : UrlFault) (base : Target) (scheme : List ℕ) → FailsBut is_memory fault (base_of base) → fault ≢ NotHttp scheme
+read_never fault base scheme fails is =
+    parsed_never (parse_url None (target_text base)) scheme (subst (λ (f : UrlFault). FailsBut is_memory f (base_of base)) is fails)
+
 abbrev refused_target : Result Target UrlFault
 refused_target = Err BadUrl
 
@@ -155,6 +192,12 @@ url_never (Err e) scheme = λ is. absurd cc
 base_never : (r : Parsed Parts) (reference scheme : List ℕ) → ((url_of r >>= (λ d. url_of (parse_url (Some d) reference))) >>= short_address) ≢ Err (NotHttp scheme)
 base_never (Ok document) reference scheme = url_never (parse_url (Some document) reference) scheme
 base_never (Err e) reference scheme = λ is. absurd cc
+
+pub beside_never : (r : Result Target UrlFault) (document : Parts) (mapped : Bool) (name scheme : List ℕ) → Gives r (file_target_beside document mapped name) → r ≢ Err (NotHttp scheme)
+unfolding file_target_beside
+beside_never r document mapped name scheme gives is =
+    url_never (parse_url (Some document) (file_reference mapped name)) scheme
+    (subst (λ (x : Result Target UrlFault). Gives x (file_target_beside document mapped name)) is gives)
 
 file_never : (base : Target) (mapped : Bool) (name scheme : List ℕ) → file_target_of base mapped name ≢ Err (NotHttp scheme)
 unfolding file_target_of resolved

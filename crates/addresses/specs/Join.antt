@@ -41,6 +41,11 @@ short_address url = if is_too_long url then Err BadUrl else Ok (address url)
 unfoldable pub file_target_of : Target → Bool → List ℕ → Result Target UrlFault
 file_target_of base mapped name = resolved base (file_reference mapped name) >>= short_address
 
+-- the same where the URL of the base is this document's
+unfoldable pub file_target_beside : Parts → Bool → List ℕ → Result Target UrlFault
+file_target_beside document mapped name =
+    url_of (parse_url (Some document) (file_reference mapped name)) >>= short_address
+
 -- the base is no URL, or that of the file is too long
 abbrev pub IsUnreachable : Target → Bool → List ℕ → Type 0
 IsUnreachable base mapped name =

@@ -1,3 +1,4 @@
 pub mod Address
 pub mod Fault
+pub mod FileBase
 pub mod Join

@@ -1,10 +1,12 @@
 // The addresses beside another one.
-ghost use Rattle.std.specs.Prelude.{◌≡◌, ◌≢◌, ◌⊎◌, ℕ, List, [], Err, IfOk, codes, string_bytes, if◌then◌else◌};
+ghost use Rattle.std.specs.Prelude.{◌≡◌, ◌≢◌, ◌⊎◌, ℕ, List, [], Err, IfOk, Ok, Some, codes, string_bytes, if◌then◌else◌};
+ghost use Rattle.url.specs.Parser.{parse_url};
+ghost use Rattle.small_types.specs.declared.target.Target.{Target};
 ghost use Rattle.small_types.specs.Name.{IsName};
 ghost use Rattle.addresses.specs.declared.fault.UrlFault.TheVariants.{BadUrl, Memory, NotHttp};
-ghost use Rattle.addresses.specs.Address.{Gives, IsAddress, http};
+ghost use Rattle.addresses.specs.Address.{Gives, IsAddress, http, url_of};
 ghost use Rattle.addresses.specs.Join as spec;
-ghost use Rattle.addresses.specs.Join.{IsUnreachable, app_target_of, base_of, file_target_of, resolved};
+ghost use Rattle.addresses.specs.Join.{IsUnreachable, app_target_of, base_of, file_target_beside, file_target_of, resolved};
 
 use crate::UrlFault;
 use crate::address::{address_of, is_too_long, parse, target_of_parsed};
@@ -25,7 +27,7 @@ fn target_text(alloc: Global, target: &Target) -> Result<Text, AllocError>
 }
 
 // The URL of an address.
-fn base_url(alloc: Global, base: &Target) -> Result<Url, UrlFault>
+pub(crate) fn base_url(alloc: Global, base: &Target) -> Result<Url, UrlFault>
     ensures { Gives result (base_of base.now) }
 {
     let text = target_text(alloc, base)?;
@@ -84,15 +86,41 @@ fn short_address(alloc: Global, url: &Url) -> Result<Target, UrlFault>
     Ok(address_of(alloc, url)?)
 }
 
+// The URL of the file of that name, beside the document.
+fn file_url(alloc: Global, document: &Url, mapped: bool, name: &[u8]) -> Result<Url, UrlFault>
+    ensures { Gives result (url_of (parse_url (Some document.now)
+        (spec.file_reference mapped name.now))) }
+{
+    let reference = file_reference(alloc, mapped, name)?;
+    Ok(document.join(reference.as_str())?)
+}
+
+// The address of the file of that name, beside the document.
+#[tactic(auto, unfolding(crate::specs::Join::file_target_beside))]
+pub(crate) fn file_beside(
+    alloc: Global,
+    document: &Url,
+    mapped: bool,
+    name: &[u8],
+) -> Result<Target, UrlFault>
+    ensures exact { Gives result (file_target_beside document.now mapped name.now) }
+    ensures address { (base : Target) → base_of base ≡ Ok document.now → IsName name.now
+        → IfOk result IsAddress }
+{
+    let url = file_url(alloc, document, mapped, name)?;
+    short_address(alloc, &url)
+}
+
 // The address of the file of that name.
-#[tactic(auto, unfolding(crate::specs::Join::file_target_of))]
 fn file_address(alloc: Global, base: &Target, mapped: bool, name: &[u8]) -> Result<Target, UrlFault>
     ensures exact { Gives result (file_target_of base.now mapped name.now) }
     ensures address { IsName name.now → IfOk result IsAddress }
 {
-    let reference = file_reference(alloc, mapped, name)?;
-    let url = resolve(alloc, base, reference.as_str())?;
-    short_address(alloc, &url)
+    let document = match base_url(alloc, base) {
+        Ok(document) => document,
+        Err(fault) => return Err(fault),
+    };
+    file_beside(alloc, &document, mapped, name)
 }
 
 /// The address of a file of the application whose manifest is at the base: the name, word-escaped, in the directory

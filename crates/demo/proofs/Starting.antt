@@ -15,7 +15,7 @@ use Rattle.updater.specs.declared.fault.RecoverFault.{RecoverFault}
 use Rattle.updater.specs.declared.fault.RecoverFault.TheVariants as recover
 use Rattle.updater.specs.declared.updater.Updater.{Updater}
 use Rattle.updater.specs.Opened.{Opened}
-use Rattle.updater.specs.Stands.{Stands}
+use Rattle.updater.specs.StandsFor.{StandsFor}
 use Rattle.updater.proofs.Standing.{new_stands}
 use Rattle.demo.specs.declared.fault.DemoFault.{DemoFault}
 use Rattle.demo.specs.declared.fault.DemoFault.TheVariants.{DiskFault, Memory, NotAStore}
@@ -28,7 +28,7 @@ abbrev room : Room
 room = plain_room STORE_BLOCKS
 
 -- the new journal stands for the empty store
-fresh : (image : List ℕ) → IsStore STORE_BLOCKS [] image → Stands image (empty room)
+fresh : (image : List ℕ) → IsStore STORE_BLOCKS [] image → StandsFor image (empty room)
 fresh image journal = new_stands image room (record { store = journal; half = refl })
 
 module _ {D : Type 0} (on : Ghosts D) (disk disk_new : D) where
@@ -40,11 +40,11 @@ module _ {D : Type 0} (on : Ghosts D) (disk disk_new : D) where
       → (on.tells disk_new → ends ≢ Err NotAStore)
       → Touches on disk ends disk_new
   touches result ends opened there back stands = record {
-    told = opened.spends.told;
-    later = opened.spends.later;
-    count = opened.spends.count;
-    cause = λ is. opened.spends.cause (back is);
-    quiet = λ other. opened.spends.quiet (λ is. other (there is));
+    told = opened.spent.spends.told;
+    later = opened.spent.spends.later;
+    count = opened.spent.spends.count;
+    cause = λ is. opened.spent.spends.cause (back is);
+    quiet = λ other. opened.spent.spends.quiet (λ is. other (there is));
     store = stands;
   }
 
@@ -58,7 +58,7 @@ module _ {D : Type 0} (on : Ghosts D) (disk disk_new : D) where
         record {
           session = last;
           is = step;
-          holds = opened.stored tells (empty room) (fresh (on.seen disk) journal);
+          holds = opened.holds.stored tells (empty room) (fresh (on.seen disk) journal);
           sound = step_sound 0 start (Boot 1) None last (omega arith) step
               (empty_sound room (omega arith) (omega arith));
         };
@@ -78,7 +78,7 @@ module _ {D : Type 0} (on : Ghosts D) (disk disk_new : D) where
   reads_none opened journal = record {
     begins = λ tells. tt;
     touches = touches (Err recover.NotAStore) (Err NotAStore) opened (λ is. cc (is)) (λ is. cc (is))
-        (λ tells is. opened.not_a_store tells refl (empty room) (fresh (on.seen disk) journal));
+        (λ tells is. opened.holds.not_a_store tells refl (empty room) (fresh (on.seen disk) journal));
   }
 
   pub lacks : Opened on 1 disk (Err recover.Memory) disk_new → Opens on disk (Err Memory) disk_new

@@ -8,7 +8,7 @@ use Rattle.machine.specs.declared.reply.Reply.{Reply}
 use Rattle.machine.specs.declared.reply.Reply.TheVariants as says
 use Rattle.machine.specs.Machine.{Run, Step}
 use Rattle.machine.specs.Store.{Session, empty, plain_room, session_over}
-use Rattle.updater.specs.Stands.{Stands}
+use Rattle.updater.specs.StandsFor.{StandsFor}
 use Rattle.generated_release.specs.declared.release.Release.TheVariants.{One, Two, Three}
 use Rattle.demo.specs.declared.run.TheConstants.{STORE_BLOCKS}
 use Rattle.demo.specs.declared.summary.Summary.{Summary}
@@ -82,5 +82,5 @@ pub record Demonstrates {D : Type 0} (on : Ghosts D) (seed : ℕ) (summary : Sum
       (course.two.deployment ∷ course.two.application ∷ [])
       (course.three.deployment ∷ course.three.application ∷ []))
       replies last
-  pub stands : Stands (on.seen disk) last.store
+  pub stands : StandsFor (on.seen disk) last.store
   pub files : KeepsGenerated seed last.store

@@ -17,7 +17,7 @@ use Rattle.store_state.specs.declared.view.Content.{Content}
 use Rattle.links.specs.Links.{LinksState}
 use Rattle.install_plan.specs.declared.plan.WantedFile.{WantedFile}
 use Rattle.install_plan.specs.Brought.{AreContentsFor, IsContentFor}
-use Rattle.install_plan.specs.Fetching.{ArePlaces, IsContentAt, addresses}
+use Rattle.install_plan.specs.FetchedFiles.{ArePlaces, IsContentAt, addresses}
 use Rattle.install_plan.specs.Hearing.{WereGiven}
 use Rattle.install_plan.specs.Held.{given_bytes}
 use Rattle.install_plan.proofs.Keyed.{kept_key}

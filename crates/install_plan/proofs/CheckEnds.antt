@@ -46,7 +46,7 @@ use Rattle.links.specs.Links.{LinksState}
 use Rattle.fetcher.specs.Causes.{IsTextCause}
 use Rattle.fetcher.specs.Fetched.{Kept, MayAsk, NoneGave}
 use Rattle.fetcher.specs.Given.{FitsText}
-use Rattle.install_plan.specs.declared.checking.Offered.{Offered}
+use Rattle.install_plan.specs.declared.check.Offered.{Offered}
 use Rattle.install_plan.specs.declared.prepared.Prepared.{Prepared}
 use Rattle.install_plan.specs.declared.prepared.Prepared.TheVariants as to
 use Rattle.install_plan.specs.Checks.{IsCheckOver, IsCheckReady, IsMissed, IsNoted, IsUnmissed, IsUnnoted, MissesTo, NotesTo, checked_of, heard_of, is_missing}
@@ -55,6 +55,7 @@ use Rattle.install_plan.specs.Offers.{IsNoOffer, IsOfOther, IsOffer, OfferHearin
 use Rattle.install_plan.specs.Prepared.{IsCheckPrepared}
 use Rattle.install_plan.specs.Stages.{IsGot, IsNotRead, StopsOne}
 use Rattle.install_plan.proofs.Entry.{entry_same, entry_stays}
+use Rattle.install_plan.proofs.NewFiles.{leads_over}
 use Rattle.install_plan.proofs.Rows.{unrefused}
 use Rattle.install_plan.proofs.Told.{deployment_is}
 
@@ -221,8 +222,8 @@ module _ (room : Room) (tables : Tables) (key : Key) (now : ℕ)
             (unheard_refuses old);
         served = served_by old image idle shows [] missing unserved;
         leaves = record {
-          leads = λ first later had same new. shows_unheard room tables key first later old.store
-              had same;
+          leads = leads_over image (λ first later had same there.
+              shows_unheard room tables key first later old.store had same);
           other = differs old image idle shows [] unheard_app unheard_keys other;
         };
       };
@@ -379,8 +380,8 @@ module _ (room : Room) (tables : Tables) (key : Key) (now : ℕ)
                   (done old image idle shows);
               served = served_by old image idle shows (text ∷ []) (checked_of offered app) served;
               leaves = record {
-                leads = λ first later had same new. shows_heard room tables key have
-                    d.identity.version d.minimum now first later old.store had same version_is;
+                leads = leads_over image (λ first later had same there. shows_heard room tables key have
+                    d.identity.version d.minimum now first later old.store had same version_is);
                 other = differs old image idle shows (text ∷ []) (heard_of offered) keeps other;
               };
             };

@@ -28,7 +28,7 @@ use Rattle.fetcher.specs.Fetched.{Kept}
 use Rattle.fetcher.specs.Given.{FitsText}
 use Rattle.install_plan.specs.declared.plan.Plan.{Plan}
 use Rattle.install_plan.specs.declared.plan.WantedFile.{WantedFile}
-use Rattle.install_plan.specs.Judging.{Refused, address_checks, deployment_checks, release_checks}
+use Rattle.install_plan.specs.Judges.{Refused, address_checks, deployment_checks, release_checks}
 use Rattle.install_plan.specs.Plans.{IsPlanned, IsRefused}
 use Rattle.install_plan.specs.Stages.{HearsOne, StopsOne}
 use Rattle.install_plan.proofs.Ends.{address_end, application_end, deployment_end, judged_end, plan_end, release_end}

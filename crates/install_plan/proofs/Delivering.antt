@@ -24,7 +24,7 @@ use Rattle.store_state.specs.Shows.{bytes_in, shown_file}
 use Rattle.store_state.specs.Tables.{Tables, bare_row, table_shape}
 use Rattle.links.specs.Links.{LinksState}
 use Rattle.install_plan.specs.declared.plan.Plan.{Plan}
-use Rattle.install_plan.specs.Brought.{AreContentsFor, IsBrought, IsCarriedOrFetched, IsHeldOrFetched}
+use Rattle.install_plan.specs.Brought.{AreContentsFor, IsBrought, IsCarriedOrFetched, IsFileFrom, IsHeldOrCame}
 use Rattle.install_plan.specs.Given.{IsFrom}
 use Rattle.install_plan.specs.Held.{given_bytes}
 use Rattle.install_plan.specs.Plans.{IsPlan, targets_of}
@@ -101,12 +101,16 @@ module _ (room : Room) (tables : Tables) (image : List ℕ) (url : List ℕ) (te
   abbrev view : ℕ → List DataFile → KeptView
   view number others = new_view number plan.base plan.deployment plan.application (map (shown_file room image after) (standing_entries [] plan.application)) others
 
-  files_brought : (number : ℕ) (others : List DataFile) → All (IsHeldOrFetched (table_shape room tables) a c (view number others)) (view number others).program_files
+  -- a file of the view is held, or was got for a wanted one
+  abbrev IsHere : Shape → ℕ → List DataFile → ListedFile → Type 0
+  IsHere shape number others = IsHeldOrCame (IsFileFrom a c) shape (wanted shape.views plan.application) (view number others)
+
+  files_brought : (number : ℕ) (others : List DataFile) → All (IsHere (table_shape room tables) number others) (view number others).program_files
   unfolding IsFetchedFor
-  files_brought number others = in_all (IsHeldOrFetched (table_shape room tables) a c (view number others)) (view number others).program_files (λ file there.
+  files_brought number others = in_all (IsHere (table_shape room tables) number others) (view number others).program_files (λ file there.
       let of = map_in (shown_file room image after) (standing_entries [] plan.application) file there in
       let some = all_in (λ (e : FileEntry). IsSome (content_of after e)) (standing_entries [] plan.application) of.0 brings.each of.1 in
-      subst (IsHeldOrFetched (table_shape room tables) a c (view number others)) of.2 (either of.0 some))
+      subst (IsHere (table_shape room tables) number others) of.2 (either of.0 some))
 
   module _ (old : Session) (number : ℕ) (others : List DataFile) (originals : List ListedFile)
       (migrated : Migrated (data_of (current_view plan.deployment.identity.key old.store)) (listed_by (current_view plan.deployment.identity.key old.store)) plan.application.files originals others)
@@ -143,7 +147,7 @@ module _ (room : Room) (tables : Tables) (image : List ℕ) (url : List ℕ) (te
 
     brought_view : shape_of old ≡ table_shape room tables → IsBrought old a c (view number others)
     brought_view same = record {
-      files = subst (λ (s : Shape). All (IsHeldOrFetched s a c (view number others)) (view number others).program_files) (sym same) (files_brought number others);
+      files = subst (λ (s : Shape). All (IsHere s number others) (view number others).program_files) (sym same) (files_brought number others);
       data_files = in_all (IsCarriedOrFetched old.store a c (view number others)) others (λ file there. carried file ((migrated.files file).0 (contains_in others file there)));
     }
 

@@ -30,7 +30,7 @@ use Rattle.fetcher.proofs.Sequence.{kept_same, kept_then}
 use Rattle.install_plan.specs.declared.plan.Plan.{Plan}
 use Rattle.install_plan.specs.Given.{IsFrom, IsUngiven}
 use Rattle.install_plan.specs.Hearing.{Accounts, IsApplicationText, IsDeploymentText, IsFront, Served}
-use Rattle.install_plan.specs.Judging.{Refused, address_checks, deployment_checks, release_checks}
+use Rattle.install_plan.specs.Judges.{Refused, address_checks, deployment_checks, release_checks}
 use Rattle.install_plan.specs.Plans.{IsPlanned, IsRefused, targets_of}
 use Rattle.install_plan.specs.Stages.{IsGot, IsNotGiven, IsNotRead, StopsOne}
 use Rattle.install_plan.proofs.Causes.{file_follows}

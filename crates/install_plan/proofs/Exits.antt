@@ -13,7 +13,7 @@ use Rattle.machine.specs.Shape.{Shape}
 use Rattle.machine.specs.Store.{Session, empty, plain_room, session_over}
 use Rattle.links.specs.Links.{LinksState}
 use Rattle.install_plan.specs.Hearing.{Accounts}
-use Rattle.install_plan.specs.Judging.{Refused, address_checks}
+use Rattle.install_plan.specs.Judges.{Refused, address_checks}
 use Rattle.install_plan.proofs.Listed.{refused_left, refused_right}
 
 -- ---- plain replies: neither want of memory nor a target that no link gave

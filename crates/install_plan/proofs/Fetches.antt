@@ -17,7 +17,7 @@ use Rattle.fetcher.specs.Fetched.{Asked, Kept}
 use Rattle.fetcher.proofs.Sequence.{given_before, kept_same, kept_then, quiet_second}
 use Rattle.install_plan.specs.declared.plan.WantedFile.{WantedFile}
 use Rattle.install_plan.specs.Brought.{IsContentFor}
-use Rattle.install_plan.specs.Fetching.{ArePlaces, HasFetched, IsContentAt, IsFetched, IsFileUngiven, IsLack, IsStopped, Stops, addresses}
+use Rattle.install_plan.specs.FetchedFiles.{ArePlaces, HasFetched, IsContentAt, IsFetched, IsFileUngiven, IsLack, IsStopped, Stops, addresses}
 use Rattle.install_plan.specs.Held.{given_bytes}
 use Rattle.install_plan.proofs.Causes.{causes_from, file_follows}
 use Rattle.install_plan.proofs.Extends.{from_on, got_from}

@@ -33,7 +33,7 @@ use Rattle.links.specs.Links.{LinksState}
 use Rattle.fetcher.specs.Fetched.{Kept}
 use Rattle.install_plan.specs.GroupAsked.{AccountsGroup, GroupServed}
 use Rattle.install_plan.specs.GroupReady.{AreUnasked, IsGroupOver, IsNoFiles, address_in, lacking, ungrouped}
-use Rattle.install_plan.specs.Judging.{Refused, room_checks}
+use Rattle.install_plan.specs.Judges.{Refused, room_checks}
 use Rattle.install_plan.proofs.Exits.{some_session}
 use Rattle.install_plan.proofs.Fitting.{few_blocks}
 use Rattle.install_plan.proofs.LeasedRows.{IsLeased, lease_lives, no_lease, still_brought, view_shown, view_valid}

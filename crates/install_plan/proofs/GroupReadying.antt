@@ -30,7 +30,7 @@ use Rattle.store_state.proofs.Showing.{shape_shown, shows_same}
 use Rattle.links.specs.Links.{LinksState}
 use Rattle.install_plan.specs.Brought.{AreContentsFor}
 use Rattle.install_plan.specs.Checks.{LedBy}
-use Rattle.install_plan.specs.Fetching.{addresses}
+use Rattle.install_plan.specs.FetchedFiles.{addresses}
 use Rattle.install_plan.specs.GroupAsked.{AreBrought, GroupServed}
 use Rattle.install_plan.specs.GroupReady.{GroupStep, HasBrought, IsGroupOver, IsGroupReady, address_in, ungrouped}
 use Rattle.install_plan.proofs.Aligning.{contents_for, count_for, keys_for, whole_for}
@@ -39,6 +39,7 @@ use Rattle.install_plan.proofs.GroupOver.{by_effect}
 use Rattle.install_plan.proofs.GroupServing.{asks, at_addresses, at_places, entries, memory_behind, passes_all, served_of}
 use Rattle.install_plan.proofs.GroupStanding.{led_brought, led_grouped, led_other}
 use Rattle.install_plan.proofs.LeasedRows.{IsLeased, row_is, row_there, view_shown, view_valid}
+use Rattle.install_plan.proofs.NewFiles.{leads_over}
 use Rattle.install_plan.proofs.Sufficing.{IsWholeContent}
 use Rattle.install_plan.proofs.Ungrouping.{few_of_group, same_contents}
 
@@ -158,8 +159,8 @@ module _ (room : Room) (tables : Tables) (lease : ℕ) (group : List ℕ) (view 
             (led_brought room tables image lease group view leased contents are.contents brings a c
             (addresses got.wanted) contents_are named old.store shows);
         leaves = record {
-          leads = λ first later had same new.
-              shows_same later (images_have room (effect grows tables) image later) showing.shows;
+          leads = leads_over image (λ first later had same there.
+              shows_same later (images_have room (effect grows tables) image later) showing.shows);
           other = led_other room tables image lease group view leased contents are.contents brings a
               c
               (addresses got.wanted) contents_are named old.store shows absent;

@@ -30,7 +30,7 @@ use Rattle.fetcher.specs.Causes.{IsFileCause}
 use Rattle.fetcher.specs.Fetched.{Kept}
 use Rattle.install_plan.specs.declared.plan.WantedFile.{WantedFile}
 use Rattle.install_plan.specs.Brought.{AreContentsFor}
-use Rattle.install_plan.specs.Fetching.{IsFileUngiven, IsStopped, Stops, StopsAt, addresses}
+use Rattle.install_plan.specs.FetchedFiles.{IsFileUngiven, IsStopped, Stops, StopsAt, addresses}
 use Rattle.install_plan.specs.GroupAsked.{AccountsGroup, GroupServed, LacksOfGroup}
 use Rattle.install_plan.specs.GroupReady.{AreLacking, AreUnasked, IsGroupOver, IsNotBrought, IsUnasked, address_in, lacking, ungrouped}
 use Rattle.install_plan.specs.Hearing.{WereGiven}

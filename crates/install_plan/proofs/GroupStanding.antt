@@ -34,9 +34,9 @@ use Rattle.store_state.specs.Laws.{ShowsGroup, came_files, stand_files}
 use Rattle.store_state.specs.Shows.{Shows, bytes_in, shown_file, shown_view}
 use Rattle.store_state.specs.Tables.{Tables, bare_row, table_shape}
 use Rattle.links.specs.Links.{LinksState}
-use Rattle.install_plan.specs.Brought.{AreContentsFor}
+use Rattle.install_plan.specs.Brought.{AreContentsFor, IsFileFrom, IsHeldOrCame}
 use Rattle.install_plan.specs.Given.{IsFrom}
-use Rattle.install_plan.specs.GroupAsked.{AreBrought, IsHeldOrCame}
+use Rattle.install_plan.specs.GroupAsked.{AreBrought}
 use Rattle.install_plan.specs.GroupReady.{address_in}
 use Rattle.install_plan.specs.Held.{given_bytes}
 use Rattle.install_plan.proofs.Aligning.{for_one}
@@ -138,14 +138,19 @@ module _ (room : Room) (tables : Tables) (image : List ℕ) (lease : ℕ) (group
         either entry (all_in (λ (e : FileEntry). IsSome (content_of after e))
         (group_files group view.application) entry brings.each of)
 
-    grown_files : All (IsHeldOrCame group (table_shape room tables) a c grown_view) files
+    abbrev IsHere : KeptView → ListedFile → Type 0
+    IsHere one =
+        IsHeldOrCame (IsFileFrom a c) (table_shape room tables)
+        (group_wanted (map bare_row tables.views) group one.application) one
+
+    grown_files : All (IsHere grown_view) files
     unfolding IsFor
     grown_files =
-        in_all (IsHeldOrCame group (table_shape room tables) a c grown_view) files
+        in_all (IsHere grown_view) files
         (λ file there. (
         let stand = standing_entries (view.groups ++ group ∷ []) view.application in
         let from = map_in (shown_file room image after) stand file there in
-        subst (IsHeldOrCame group (table_shape room tables) a c grown_view) from.2
+        subst (IsHere grown_view) from.2
         (standing from.0 (standing_more view.groups group view.application from.0 from.1))
         ))
 
@@ -168,7 +173,7 @@ module _ (room : Room) (tables : Tables) (image : List ℕ) (lease : ℕ) (group
       led_brought = record {
         files = λ one is.
             subst (λ (v : KeptView).
-            All (IsHeldOrCame group (table_shape room tables) a c v) v.program_files)
+            All (IsHere v) v.program_files)
             (same_Some grown_view one (sym led_view ∙ is)) grown_files;
       }
 

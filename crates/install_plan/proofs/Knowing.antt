@@ -4,7 +4,7 @@ use Rattle.identity.specs.declared.version.Version.{Version}
 use Rattle.machine.specs.declared.app.AppState.{AppState}
 use Rattle.machine.specs.CheckRow.{unheard_app}
 use Rattle.machine.specs.Installed.{above, raised_by}
-use Rattle.install_plan.specs.declared.checking.Offered.{Offered}
+use Rattle.install_plan.specs.declared.check.Offered.{Offered}
 use Rattle.install_plan.specs.Checks.{heard_of}
 use Rattle.install_plan.proofs.Judged.{not_so}
 

@@ -8,6 +8,7 @@ use Rattle.machine.specs.declared.lease.Lease.{Lease}
 use Rattle.machine.specs.Blocks.{standing_files}
 use Rattle.machine.specs.Current.{view_at}
 use Rattle.machine.specs.Fields.{IsApplication}
+use Rattle.machine.specs.Groups.{group_wanted}
 use Rattle.machine.specs.Leases.{lease_of, leased_bare, leased_view}
 use Rattle.machine.specs.Shape.{BareView, bare_view, shape_of}
 use Rattle.machine.specs.Sound.{Sound}
@@ -25,7 +26,8 @@ use Rattle.store_state.specs.Rows.{leased_row, row_at}
 use Rattle.store_state.specs.Shows.{Shows, shown_view}
 use Rattle.store_state.specs.Tables.{Tables, bare_row, table_shape}
 use Rattle.links.specs.Links.{LinksState}
-use Rattle.install_plan.specs.GroupAsked.{AreBrought, IsHeldOrCame}
+use Rattle.install_plan.specs.Brought.{IsFileFrom, IsHeldOrCame}
+use Rattle.install_plan.specs.GroupAsked.{AreBrought}
 
 -- it is a view of the tables, that of its own number
 pub record IsLeased (room : Room) (tables : Tables) (lease : ℕ) (view : View) : Type 0 where
@@ -113,7 +115,8 @@ still_brought lease group old a c was = record {
   files = λ view leased.
       let there = leased_in lease old.store view leased in
       let is = all_in IsView old.store.views view was.views there in
-      in_all (IsHeldOrCame group (shape_of old) a c view) view.program_files (λ file of.
+      in_all (IsHeldOrCame (IsFileFrom a c) (shape_of old)
+      (group_wanted (shape_of old).views group view.application) view) view.program_files (λ file of.
       inl (in_passes (same_content file.entry) (standing_files (map bare_view old.store.views))
       file.entry
       (in_flat_map (λ (v : BareView). standing_entries v.groups v.application)

@@ -19,11 +19,13 @@ pub mod GroupOver
 pub mod GroupReadying
 pub mod GroupServing
 pub mod GroupStanding
+pub mod Joining
 pub mod Judged
 pub mod Keyed
 pub mod Knowing
 pub mod LeasedRows
 pub mod Listed
+pub mod NewFiles
 pub mod Noted
 pub mod Outcome
 pub mod Parting

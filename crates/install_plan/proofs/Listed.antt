@@ -3,7 +3,7 @@ use Rattle.std.proofs.Common.{◌≡◌, ◌∙◌, ◌++◌, inl, inr, refl, Li
 use Rattle.machine.specs.declared.reply.Reply.{Reply}
 use Rattle.machine.specs.Rows.{PassesAll, Refusal, Refuses, exactly, exactly_with}
 use Rattle.machine.specs.Store.{Session}
-use Rattle.install_plan.specs.Judging.{Refused}
+use Rattle.install_plan.specs.Judges.{Refused}
 
 -- ---- one list behind another one
 

@@ -13,7 +13,7 @@ use Rattle.manifests.specs.declared.facts.FileEntry.{FileEntry}
 use Rattle.machine.specs.Views.{ContentKey, is_required, same_content}
 use Rattle.machine.specs.Wanted.{is_held, wanted_beside}
 use Rattle.machine.proofs.Needing.{same_is}
-use Rattle.install_plan.specs.Wanting.{Knows, Takes, content_text, has_content, is_among, places_in, row}
+use Rattle.install_plan.specs.WantedFiles.{Knows, Takes, content_text, has_content, is_among, places_in, row}
 
 -- what stands at a place
 pub at_place : {X : Type 0} (P : X → Type 0) (xs : List X) (k : ℕ) (x : X) → slice_get xs k ≡ Some x → P x → HoldsAt P xs k

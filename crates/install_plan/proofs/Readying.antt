@@ -30,7 +30,7 @@ use Rattle.install_plan.specs.declared.plan.Plan.{Plan}
 use Rattle.install_plan.specs.Brought.{AreContentsFor}
 use Rattle.install_plan.specs.Carried.{ArePlansFor, row_locals}
 use Rattle.install_plan.specs.Changes.{AreShort, HasContents, IsChangeOf, change_of_plan, installed_of, listed_at, local_of, plan_contents, plan_locals, plan_originals}
-use Rattle.install_plan.specs.Fetching.{ArePlaces, HasFetched, IsContentAt}
+use Rattle.install_plan.specs.FetchedFiles.{ArePlaces, HasFetched, IsContentAt}
 use Rattle.install_plan.specs.Held.{given_data}
 use Rattle.install_plan.specs.Plans.{IsPlan, IsPlanned, IsRefused, targets_of}
 use Rattle.install_plan.specs.Ready.{IsReady, IsStep}
@@ -38,6 +38,7 @@ use Rattle.install_plan.proofs.Aligning.{are_places, contents_for, count_for}
 use Rattle.install_plan.proofs.Delivering.{brought_last}
 use Rattle.install_plan.proofs.Fetched.{ArePartsOf, parts_are}
 use Rattle.install_plan.proofs.Fetches.{all_from}
+use Rattle.install_plan.proofs.NewFiles.{leads_over}
 use Rattle.install_plan.proofs.Outcome.{held_application, led, led_data, led_migrated, plan_effect, plan_fits, plan_passes, plan_shows}
 use Rattle.install_plan.proofs.Planned.{IsInOrder, in_order}
 use Rattle.install_plan.proofs.Serving.{no_memory, served_all}
@@ -93,7 +94,7 @@ module _ (room : Room) (tables : Tables) (url : List ℕ) (texts : List (List �
     step image old idle shows sound = record {
       new = led room tables url texts plan planned.is plans shapes image old idle a c contents now shows are has parts fits;
       installs = plan_effect room tables url texts plan planned.is plans shapes image old idle a c contents now shows are has parts fits sound;
-      leads = λ first later had same new. plan_shows room tables url texts plan planned.is plans shapes image old idle a c contents now shows are has parts fits law later;
+      leads = leads_over image (λ first later had same there. plan_shows room tables url texts plan planned.is plans shapes image old idle a c contents now shows are has parts fits law later);
       brought = λ view same. brought_last room tables image url texts plan planned.is a c contents (plan_contents plan contents) parts.within are.contents contents_are fits.brings
           old old.store.next_view (led_data room tables url texts plan planned.is plans shapes image old idle a c contents now shows are has parts fits) (plan_originals plan contents)
           (led_migrated room tables url texts plan planned.is plans shapes image old idle a c contents now shows are has parts fits sound) parts.originals

@@ -16,7 +16,7 @@ use Rattle.machine.specs.Rows.{PassesAll}
 use Rattle.machine.specs.Shape.{Shape}
 use Rattle.machine.specs.Wanted.{install_need, wanted}
 use Rattle.install_plan.specs.declared.plan.WantedFile.{WantedFile}
-use Rattle.install_plan.specs.Judging.{Refused, file_checks, identity_checks, local_checks, release_checks, room_checks, target_checks}
+use Rattle.install_plan.specs.Judges.{Refused, file_checks, identity_checks, local_checks, release_checks, room_checks, target_checks}
 use Rattle.install_plan.proofs.Listed.{passes_both, refused_left, refused_right}
 use Rattle.install_plan.proofs.Told.{ok_one}
 use Rattle.install_plan.proofs.Wants.{none_refused}

@@ -30,7 +30,7 @@ use Rattle.machine.specs.Shape.{Shape}
 use Rattle.machine.specs.Store.{Session}
 use Rattle.machine.specs.Wanted.{install_need}
 use Rattle.machine.proofs.Told.{same_text, tells_one}
-use Rattle.install_plan.specs.Judging.{Refused, deployment_checks, release_checks}
+use Rattle.install_plan.specs.Judges.{Refused, deployment_checks, release_checks}
 use Rattle.install_plan.proofs.Listed.{AreAlike, exactly_alike, exactly_with_alike, passes_alike, refuses_alike}
 use Rattle.install_plan.proofs.Told.{deployment_is, release_is, release_map}
 

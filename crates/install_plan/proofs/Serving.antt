@@ -28,7 +28,7 @@ use Rattle.fetcher.specs.Given.{FitsText}
 use Rattle.fetcher.proofs.Sequence.{kept_then}
 use Rattle.install_plan.specs.declared.plan.Plan.{Plan}
 use Rattle.install_plan.specs.declared.plan.WantedFile.{WantedFile}
-use Rattle.install_plan.specs.Fetching.{IsFileUngiven, IsStopped, Stops, StopsAt, addresses}
+use Rattle.install_plan.specs.FetchedFiles.{IsFileUngiven, IsStopped, Stops, StopsAt, addresses}
 use Rattle.install_plan.specs.Hearing.{Hearing, IsApplicationText, IsDeploymentText, LacksFile, LacksTarget, Served}
 use Rattle.install_plan.specs.Plans.{IsPlanned, IsRefused, targets_of}
 use Rattle.install_plan.proofs.Aligning.{IsAmong, among, contents_for, given_for}

@@ -21,7 +21,7 @@ use Rattle.fetcher.specs.Causes.{IsFileCause, IsTextCause}
 use Rattle.fetcher.specs.Fetched.{IsFile, IsFileFault, IsText, IsTextFault}
 use Rattle.fetcher.specs.Given.{FitsText}
 use Rattle.install_plan.specs.Replies.{IsFetchReply, manifest_reply}
-use Rattle.install_plan.specs.Fetching.{IsLack}
+use Rattle.install_plan.specs.FetchedFiles.{IsLack}
 use Rattle.install_plan.specs.Stages.{HearsOne, IsGot, StopsOne}
 
 module _ (target : Target) (a b : LinksState) where

@@ -14,7 +14,7 @@ use Rattle.machine.specs.declared.reply.Reply.TheVariants as says
 use Rattle.machine.specs.Blocks.{blocks_of}
 use Rattle.machine.proofs.Members.{In, contains_in, in_contains, in_map, map_in, sum_map}
 use Rattle.install_plan.specs.declared.plan.WantedFile.{WantedFile}
-use Rattle.install_plan.specs.Wanting.{blocks_at, target_at}
+use Rattle.install_plan.specs.WantedFiles.{blocks_at, target_at}
 
 -- ---- elements
 

@@ -1,5 +1,5 @@
 -- The files that an install fetched.
-use Rattle.std.specs.Prelude.{◌≡◌, ◌⊎◌, List, [], ◌∷◌, true, All, Any, Ok}
+use Rattle.std.specs.Prelude.{◌≡◌, ◌⊎◌, ℕ, List, [], ◌∷◌, true, All, Any, Ok}
 use Rattle.small_types.specs.declared.target.Target.{Target}
 use Rattle.addresses.specs.Join.{file_target_of}
 use Rattle.digest_list.specs.Matches.{Matches}
@@ -37,31 +37,39 @@ AreContentsFor before after entries targets contents = ⊥
 
 -- ---- the files of the view
 
--- A kept view has the content of a program file, or its bytes were got at the address of a wanted
--- file of that content.
-abbrev pub IsHeldOrFetched : Shape → LinksState → LinksState → View → ListedFile → Type 0
-IsHeldOrFetched shape before after view file =
+-- A kept view has the content of a program file, or its bytes came from the address of a wanted
+-- file of that content. `Came` says how bytes come for a file from an address.
+abbrev pub IsHeldOrCame : (FileEntry → Target → List ℕ → Type 0)
+    → Shape → List FileEntry → View → ListedFile → Type 0
+IsHeldOrCame Came shape wants view file =
     (is_held (standing_files shape.views) file.entry ≡ true)
     ⊎ Any (λ entry. (target : Target)
     × (file_target_of view.base view.deployment.mapped entry.name ≡ Ok target)
     × (same_content entry file.entry ≡ true)
-    × IsFrom (Matches entry.list entry.size) target before after file.bytes)
-    (wanted shape.views view.application)
+    × Came entry target file.bytes)
+    wants
 
--- It is a data file of the view that was current, which stays or is kept aside; or its bytes were got
--- at the address of a data file that the release deploys under the name.
+-- Bytes that match the file were got at the target.
+abbrev pub IsFileFrom : LinksState → LinksState → FileEntry → Target → List ℕ → Type 0
+IsFileFrom before after entry target bytes =
+    IsFrom (Matches entry.list entry.size) target before after bytes
+
+-- It is a data file of the view that was current, which stays or is kept aside; or its bytes were
+-- got at the address of a data file that the release deploys under the name.
 abbrev pub IsCarriedOrFetched : Store → LinksState → LinksState → View → DataFile → Type 0
 IsCarriedOrFetched old before after view file =
     IsKept (data_of (current_view (key_of view) old)) (listed_by (current_view (key_of view) old))
     view.application.files file
     ⊎ IsAside (data_of (current_view (key_of view) old))
     (listed_by (current_view (key_of view) old)) view.application.files file
-    ⊎ Any (λ (entry : FileEntry). (target : Target) × (entry.local ≡ true) × (entry.name ≡ file.name)
+    ⊎ Any (λ (entry : FileEntry). (target : Target) × (entry.local ≡ true)
+    × (entry.name ≡ file.name)
     × (file_target_of view.base view.deployment.mapped entry.name ≡ Ok target)
     × IsFrom (Matches entry.list entry.size) target before after file.bytes)
     view.application.files
 
 -- so are all files of a view that an install brings to a session
 pub record IsBrought (old : Session) (before after : LinksState) (view : View) : Type 0 where
-  pub files : All (IsHeldOrFetched (shape_of old) before after view) view.program_files
+  pub files : All (IsHeldOrCame (IsFileFrom before after) (shape_of old)
+      (wanted (shape_of old).views view.application) view) view.program_files
   pub data_files : All (IsCarriedOrFetched old.store before after view) view.data_files

@@ -9,8 +9,8 @@ use Rattle.fetcher.specs.Fetched.{AllTell, AreGiven, AreQuiet}
 use Rattle.fetcher.specs.Given.{Given, IsOfSite}
 
 -- Bytes that fit were got at the target. Over links that tell they are those of one link's site,
--- and where no link failed those of the first link whose bytes fit. For the latter it is enough that
--- the links up to that one tell and did not fail.
+-- and where no link failed those of the first link whose bytes fit. For the latter it is enough
+-- that the links up to that one tell and did not fail.
 pub record IsFrom (Fits : List ℕ → Type 0) (target : Target) (before after : LinksState)
     (bytes : List ℕ) : Type 0 where
   pub fits : Fits bytes

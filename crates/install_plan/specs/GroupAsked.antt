@@ -1,5 +1,5 @@
 -- What a group asked of its links, from the beginning of its line to the end.
-use Rattle.std.specs.Prelude.{◌≡◌, ◌⊎◌, ℕ, true, List, ◌∷◌, [], ◌++◌, All, Any, Some, Ok, map}
+use Rattle.std.specs.Prelude.{◌≡◌, ℕ, List, ◌∷◌, [], ◌++◌, All, Some, Ok, map}
 use Rattle.small_types.specs.declared.target.Target.{Target}
 use Rattle.addresses.specs.Join.{file_target_of}
 use Rattle.causes.specs.declared.cause.Cause.{Cause}
@@ -8,18 +8,17 @@ use Rattle.manifests.specs.declared.facts.FileEntry.{FileEntry}
 use Rattle.machine.specs.declared.reply.Reply.{Reply}
 use Rattle.machine.specs.declared.reply.Reply.TheVariants.{AllLinks, Memory}
 use Rattle.machine.specs.Asked.{AsksGroup}
-use Rattle.machine.specs.Blocks.{standing_files}
 use Rattle.machine.specs.GroupRow.{OfComing}
 use Rattle.machine.specs.Groups.{group_wanted}
 use Rattle.machine.specs.Leases.{leased_view}
 use Rattle.machine.specs.Shape.{BareView, Shape}
 use Rattle.machine.specs.Store.{Store}
-use Rattle.machine.specs.Views.{ListedFile, View, same_content}
-use Rattle.machine.specs.Wanted.{is_held}
+use Rattle.machine.specs.Views.{View}
 use Rattle.links.specs.Links.{LinksState}
 use Rattle.fetcher.specs.Causes.{IsFileCause}
 use Rattle.fetcher.specs.Fetched.{Kept}
-use Rattle.install_plan.specs.Given.{IsFrom, IsUngiven}
+use Rattle.install_plan.specs.Brought.{IsFileFrom, IsHeldOrCame}
+use Rattle.install_plan.specs.Given.{IsUngiven}
 use Rattle.install_plan.specs.Hearing.{IsFront, WereGiven}
 
 -- ---- what was asked
@@ -60,20 +59,10 @@ pub record GroupServed (lease : ℕ) (group : List ℕ) (shape : Shape) (before 
 
 -- ---- the files of the view
 
--- A kept view has the content of a program file, or its bytes were got at the address of a wanted
--- file of that content.
-abbrev pub IsHeldOrCame :
-    List ℕ → Shape → LinksState → LinksState → View → ListedFile → Type 0
-IsHeldOrCame group shape before after view file =
-    (is_held (standing_files shape.views) file.entry ≡ true)
-    ⊎ Any (λ entry. (target : Target)
-    × (file_target_of view.base view.deployment.mapped entry.name ≡ Ok target)
-    × (same_content entry file.entry ≡ true)
-    × IsFrom (Matches entry.list entry.size) target before after file.bytes)
-    (group_wanted shape.views group view.application)
-
--- so are all program files of the leased view, once a group is answered to a store of this shape
+-- All program files of the leased view, once a group is answered to a store of this shape: a kept
+-- view has their contents, or they were got for a file that the group wants.
 pub record AreBrought (lease : ℕ) (group : List ℕ) (shape : Shape) (before after : LinksState)
     (new : Store) : Type 0 where
   pub files : (view : View) → leased_view lease new ≡ Some view
-      → All (IsHeldOrCame group shape before after view) view.program_files
+      → All (IsHeldOrCame (IsFileFrom before after) shape
+      (group_wanted shape.views group view.application) view) view.program_files

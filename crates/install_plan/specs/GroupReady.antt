@@ -32,9 +32,9 @@ use Rattle.links.specs.Links.{LinksState}
 use Rattle.fetcher.specs.Fetched.{Kept}
 use Rattle.install_plan.specs.declared.plan.WantedFile.{WantedFile}
 use Rattle.install_plan.specs.Checks.{LedBy}
-use Rattle.install_plan.specs.Fetching.{HasFetched, IsStopped}
+use Rattle.install_plan.specs.FetchedFiles.{HasFetched, IsStopped}
 use Rattle.install_plan.specs.GroupAsked.{AreBrought, GroupServed}
-use Rattle.install_plan.specs.Judging.{Refused, room_checks}
+use Rattle.install_plan.specs.Judges.{Refused, room_checks}
 
 -- ---- files without their group, which are wanted as required ones are
 

@@ -2,14 +2,14 @@ pub mod Brought
 pub mod Carried
 pub mod Changes
 pub mod Checks
-pub mod Fetching
+pub mod FetchedFiles
 pub mod Given
 pub mod GroupAsked
 pub mod GroupReady
 pub mod Hearing
 pub mod Held
-pub mod Judging
-pub mod Leading
+pub mod Judges
+pub mod LeadsIn
 pub mod Offers
 pub mod Parts
 pub mod Plans
@@ -17,4 +17,4 @@ pub mod Prepared
 pub mod Ready
 pub mod Replies
 pub mod Stages
-pub mod Wanting
+pub mod WantedFiles

@@ -20,7 +20,7 @@ use Rattle.store_state.specs.Tables.{Tables, table_shape}
 use Rattle.links.specs.Links.{LinksState}
 use Rattle.install_plan.specs.Brought.{IsBrought}
 use Rattle.install_plan.specs.Hearing.{Served}
-use Rattle.install_plan.specs.Leading.{LeadsIn}
+use Rattle.install_plan.specs.LeadsIn.{LeadsIn}
 
 -- It is an install of as many contents as a release may have files, and of no more data files. What
 -- each of these holds is shorter than a journal's number tells.

@@ -3,27 +3,27 @@
 #![tactic(auto)]
 
 mod basket;
-mod bringing;
-mod carrying;
-mod changing;
-mod checking;
-mod grouping;
-mod hearing;
-mod judging;
-mod migrating;
+mod check;
+mod deployment;
+mod fetch;
+mod group;
+mod install;
+mod local_plans;
+mod new_locals;
 mod offers;
 mod plan;
 mod prepared;
 mod release;
+mod release_plan;
 mod replies;
 mod taken;
 mod texts;
-mod wanting;
+mod wanted;
 
-pub use bringing::fetch_file_into;
-pub use changing::{install_change, prepare};
-pub use checking::prepare_check;
-pub use grouping::prepare_group;
-pub use hearing::hear;
+pub use check::prepare_check;
+pub use fetch::fetch_file_into;
+pub use group::prepare_group;
+pub use install::{install_change, prepare};
 pub use plan::{Plan, WantedFile};
 pub use prepared::Prepared;
+pub use release_plan::hear;

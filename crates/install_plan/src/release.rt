@@ -10,11 +10,11 @@ ghost use Rattle.machine.specs.InstallRow.{base_of};
 ghost use Rattle.machine.specs.Wanted.{wanted, wanted_beside};
 ghost use Rattle.store_state.specs.Rows.{listed_files};
 ghost use Rattle.store_state.specs.Tables.{bare_row, table_shape};
-ghost use Rattle.install_plan.specs.Judging.{Judges, file_checks, identity_checks, release_checks, room_checks};
+ghost use Rattle.install_plan.specs.Judges.{Judges, file_checks, identity_checks, release_checks, room_checks};
 
 use crate::WantedFile;
-use crate::carrying::{copied_blocks, judge_locals};
-use crate::wanting::{blocks_needed, wanted_files, wanted_places};
+use crate::local_plans::{copied_blocks, judge_locals};
+use crate::wanted::{blocks_needed, wanted_files, wanted_places};
 use identity::Key;
 use machine::Reply;
 use manifests::{Application, Deployment, FileEntry, ReleaseFault};

@@ -3,7 +3,7 @@ ghost use Rattle.std.specs.Prelude.{◌≡◌, ◌≢◌, Result, Err};
 ghost use Rattle.small_types.specs.declared.target.Target.{Target};
 ghost use Rattle.addresses.specs.declared.fault.UrlFault.{UrlFault};
 ghost use Rattle.addresses.specs.Address.{Gives};
-ghost use Rattle.install_plan.specs.Judging.{Refused, address_checks};
+ghost use Rattle.install_plan.specs.Judges.{Refused, address_checks};
 ghost use Rattle.fetcher.specs.declared.fault.FetchFault.{FetchFault};
 ghost use Rattle.fetcher.specs.declared.fault.FetchFault.TheVariants as fetch;
 ghost use Rattle.install_plan.specs.Replies.{IsFetchReply, manifest_reply, url_reply};

@@ -3,8 +3,8 @@ ghost use Rattle.std.specs.Prelude.{◌≡◌, ◌∷◌, [], ◌++◌, ℕ, Lis
 ghost use Rattle.std.specs.Str.{bytes_eq};
 ghost use Rattle.manifests.specs.declared.facts.FileEntry.{FileEntry};
 ghost use Rattle.machine.specs.Wanted.{is_held};
-ghost use Rattle.install_plan.specs.Wanting as spec;
-ghost use Rattle.install_plan.specs.Wanting.{Knows, is_among, row};
+ghost use Rattle.install_plan.specs.WantedFiles as spec;
+ghost use Rattle.install_plan.specs.WantedFiles.{Knows, is_among, row};
 
 use data_migration::same_content;
 use digest_list::Digest;

@@ -30,24 +30,11 @@ use Rattle.machine.specs.Store.{Session, booted}
 
 -- ---- commands
 
--- the manifest texts that a command may hear
+-- the manifest texts that a command may hear: an install and a check hear some, any other none
 abbrev pub Hears : Shape → Command → List (List ℕ) → Type 0
-Hears shape (At next) heard = heard ≡ []
-Hears shape (Require key version) heard = heard ≡ []
 Hears shape (Install url) heard = HearsRelease url shape heard
 Hears shape (Check key) heard = HearsOffer key shape heard
-Hears shape (Skip key) heard = heard ≡ []
-Hears shape (Rollback key) heard = heard ≡ []
-Hears shape (Launch key) heard = heard ≡ []
-Hears shape (Read lease name from count) heard = heard ≡ []
-Hears shape (Local lease name from count) heard = heard ≡ []
-Hears shape (Put lease name bytes) heard = heard ≡ []
-Hears shape (Remove lease name) heard = heard ≡ []
-Hears shape (Group lease group) heard = heard ≡ []
-Hears shape (Finish lease) heard = heard ≡ []
-Hears shape Clean heard = heard ≡ []
-Hears shape asks.List heard = heard ≡ []
-Hears shape (Show key) heard = heard ≡ []
+Hears shape _ heard = heard ≡ []
 
 -- the refusals of a command at a moment, in their order, by what it heard and by the shape of the
 -- session

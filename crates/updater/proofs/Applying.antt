@@ -17,14 +17,14 @@ use Rattle.machine.specs.Store.{Session}
 use Rattle.machine.specs.Valid.{Ordered}
 use Rattle.install_plan.proofs.LeasedRows.{still_brought}
 use Rattle.updater.specs.declared.updater.Updater.{Updater}
-use Rattle.updater.specs.Commanded.{Commanded, Serves}
+use Rattle.updater.specs.Commanded.{Commanded, LinksServe}
 use Rattle.updater.proofs.Commanding.{rested, unlinked}
 use Rattle.updater.proofs.Installing.{one_more}
 
 -- ---- want of memory before anything is asked
 
 served_at_once : (command : Command) (links : LinksState) (old : Session) → Ordered old.store
-    → Serves command [] links links old says.Memory old
+    → LinksServe command [] links links old says.Memory old
 served_at_once (Install url) links old ordered = (
   record {
     hearing = record {

@@ -19,9 +19,10 @@ use Rattle.store_state.specs.Shows.{Shows}
 use Rattle.store_state.specs.Tables.{Tables, bare_row, empty}
 use Rattle.store_state.proofs.Showing.{shape_shown, shows_booted, shows_required}
 use Rattle.store_state.proofs.Validity.{loaded_ordered}
-use Rattle.install_plan.specs.Leading.{LeadsIn}
-use Rattle.updater.specs.Keeps.{Leads}
-use Rattle.updater.specs.Stands.{Loads}
+use Rattle.install_plan.specs.LeadsIn.{LeadsIn}
+use Rattle.install_plan.proofs.NewFiles.{leads_over}
+use Rattle.updater.specs.MakesDurable.{LeadsBetween}
+use Rattle.updater.specs.StandsFor.{Loads}
 use Rattle.updater.proofs.Loading.{changes_in, loads_replays}
 
 module _ {room : Room} {tables : Tables} {image : List ℕ} {store : Store} (shows : Shows room tables image store) where
@@ -46,10 +47,10 @@ used_shown room tables image store used shows valid is =
     omega arith
 
 -- a boot number leads on from the store that is shown
-pub booted_leads : (room : Room) (tables : Tables) (image : List ℕ) (store : Store) (boot : ℕ) → Shows room tables image store → boot ≤ NUMBER_LIMIT → Valid store → Leads (Boot boot) tables store (booted boot store)
+pub booted_leads : (room : Room) (tables : Tables) (image : List ℕ) (store : Store) (boot : ℕ) → Shows room tables image store → boot ≤ NUMBER_LIMIT → Valid store → LeadsBetween (Boot boot) tables store (booted boot store)
 booted_leads room tables image store boot shows few valid = record {
   shows = subst (λ (n : Room). LeadsIn n (Boot boot) tables store (booted boot store)) (sym (blocks_shown shows))
-      (λ first after had same held. shows_booted after boot same had);
+      (leads_over image (λ first after had same there. shows_booted after boot same had));
   valid = booted_valid boot store few valid;
 }
 
@@ -57,12 +58,12 @@ room_is : (key : Key) (apps : List AppState) → (entry_of key apps ≡ None →
 room_is key apps room = λ full. (let few = room full.0 in let many = full.1 in absurd (omega arith))
 
 -- so does a requirement that fits
-pub required_leads : (room : Room) (tables : Tables) (image : List ℕ) (store : Store) (key : Key) (version : Version) → Shows room tables image store → Fits tables (Require key version) → Valid store → Leads (Require key version) tables store (record store { apps = required key version store.apps })
+pub required_leads : (room : Room) (tables : Tables) (image : List ℕ) (store : Store) (key : Key) (version : Version) → Shows room tables image store → Fits tables (Require key version) → Valid store → LeadsBetween (Require key version) tables store (record store { apps = required key version store.apps })
 required_leads room tables image store key version shows fits valid =
     let room = subst (λ (apps : List AppState). entry_of key apps ≡ None → length apps < APPLICATION_LIMIT) (sym (apps_shown shows)) fits.2 in
     record {
       shows = subst (λ (n : Room). LeadsIn n (Require key version) tables store (record store { apps = required key version store.apps })) (sym (blocks_shown shows))
-          (λ first after had same held. shows_required after key version same had);
+          (leads_over image (λ first after had same there. shows_required after key version same had));
       valid = required_valid key version store fits.0 fits.1 (room_is key store.apps room) valid;
     }
 

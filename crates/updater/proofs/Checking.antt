@@ -21,21 +21,21 @@ use Rattle.store_state.specs.declared.change.Change.{Change}
 use Rattle.store_state.specs.Change.{effect}
 use Rattle.store_state.specs.Shows.{Shows}
 use Rattle.install_plan.specs.Checks.{CheckStep, IsCheckOver, IsCheckReady, LedBy}
-use Rattle.install_plan.specs.Leading.{LeadsIn}
+use Rattle.install_plan.specs.LeadsIn.{LeadsIn}
 use Rattle.updater.specs.declared.fault.StepFault.{StepFault}
 use Rattle.updater.specs.declared.updater.Updater.{Updater}
 use Rattle.updater.specs.Answer.{IsAnswer}
 use Rattle.updater.specs.Commanded.{Commanded}
-use Rattle.updater.specs.Keeps.{Keeps, Leads}
+use Rattle.updater.specs.MakesDurable.{MakesDurable, LeadsBetween}
 use Rattle.updater.specs.Updater.{room_of, tables_of}
-use Rattle.updater.proofs.Commanding.{Does, Linked, Rests, Shown, kept, rested}
+use Rattle.updater.proofs.Commanding.{Does, Linked, LeavesStore, Shown, kept, rested}
 
 module _ (now : ℕ) (key : Key) (heard : List (List ℕ)) (before after : LinksState)
     (updater : Updater) (image : List ℕ) (is_key : IsKey key) (moment : now ≤ NUMBER_LIMIT) where
   over_rests : (reply : Reply)
       → IsCheckOver (room_of updater) (tables_of updater) key heard before after now reply
       → (old : Session) → Shown image (Check key) updater old
-      → Rests now heard (Check key) before after old reply
+      → LeavesStore now heard (Check key) before after old reply
   over_rests reply over old s =
       let step = over.step image old s.jobs s.shows s.valid in
       record { new = step.new; step = step.step; same = step.leaves; served = step.served }
@@ -49,7 +49,7 @@ module _ (now : ℕ) (key : Key) (heard : List (List ℕ)) (before after : Links
     step_of old s = ready.step image old s.jobs s.shows s.valid
 
     leads_by : (old : Session) (s : Shown image (Check key) updater old)
-        → Leads change (tables_of updater) old.store (step_of old s).new.store
+        → LeadsBetween change (tables_of updater) old.store (step_of old s).new.store
     leads_by old s = let step = step_of old s in record {
       shows = subst
           (λ (n : Room). LeadsIn n change (tables_of updater) old.store step.new.store) s.room
@@ -77,7 +77,7 @@ module _ (now : ℕ) (key : Key) (heard : List (List ℕ)) (before after : Links
 
     -- there was no memory at its end
     missed_rests : (old : Session) → Shown image (Check key) updater old
-        → Rests now heard (Check key) before after old says.Memory
+        → LeavesStore now heard (Check key) before after old says.Memory
     missed_rests old s = record {
       new = old;
       step = inl (inl (refl, refl));
@@ -110,7 +110,7 @@ module _ {D L : Type 0} (on : Ghosts D) (net : LinksGhosts L) (now : ℕ) (key :
   pub check_kept : {T : Type 0} (change : Change) (reply : Reply)
       → IsCheckReady (room_of updater) (tables_of updater) key heard before after now change reply
       → (updater_new : Updater) (disk_new : D) (tried : Result T StepFault)
-      (result : Result Reply Failed) → Keeps on change updater disk tried updater_new disk_new
+      (result : Result Reply Failed) → MakesDurable on change updater disk tried updater_new disk_new
       → IsAnswer reply tried result
       → Commanded on net now heard (Check key) updater disk links_old result updater_new disk_new
       links_new

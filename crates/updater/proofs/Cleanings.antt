@@ -23,9 +23,10 @@ use Rattle.store_state.specs.Tables.{Tables, table_shape}
 use Rattle.store_state.proofs.Cleaning.{cleans_shown}
 use Rattle.store_state.proofs.Showing.{shape_shown}
 use Rattle.links.specs.Links.{LinksState}
-use Rattle.install_plan.specs.Leading.{LeadsIn}
-use Rattle.updater.specs.Keeps.{Leads}
-use Rattle.updater.proofs.Commanding.{Does, Rests, effect_answers}
+use Rattle.install_plan.specs.LeadsIn.{LeadsIn}
+use Rattle.install_plan.proofs.NewFiles.{leads_over}
+use Rattle.updater.specs.MakesDurable.{LeadsBetween}
+use Rattle.updater.proofs.Commanding.{Does, LeavesStore, effect_answers}
 
 -- what a filter leaves of a list is all of it where it is as long
 filter_whole : {X : Type 0} (p : X → Bool) (xs : List X)
@@ -66,7 +67,7 @@ module _ (now : ℕ) (room : Room) (tables : Tables) (image : List ℕ) (before 
   all = gone_count old.store
 
   -- where no view goes the store stays as it was
-  pub cleaned_rests : views ≡ 0 → Rests now [] command.Clean before after old (says.Cleaned views)
+  pub cleaned_rests : views ≡ 0 → LeavesStore now [] command.Clean before after old (says.Cleaned views)
   cleaned_rests none = record {
     new = new;
     step = step;
@@ -77,11 +78,11 @@ module _ (now : ℕ) (room : Room) (tables : Tables) (image : List ℕ) (before 
     served = tt;
   }
 
-  leads : Leads change.Clean tables old.store new.store
+  leads : LeadsBetween change.Clean tables old.store new.store
   leads = record {
     shows = subst (λ (n : Room). LeadsIn n change.Clean tables old.store new.store)
         (sym (ap (λ (s : Store). s.room) shows.is))
-        (λ first later had same held. cleans_shown room tables first later old.store had same);
+        (leads_over image (λ first later had same there. cleans_shown room tables first later old.store had same));
     valid = step_valid now old (Line command.Clean now (record { texts = [] }))
         (Some (says.Cleaned views)) new (tt, moment)
         (record {

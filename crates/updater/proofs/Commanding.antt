@@ -31,9 +31,9 @@ use Rattle.updater.specs.declared.fault.StepFault.{StepFault}
 use Rattle.updater.specs.declared.fault.StepFault.TheVariants.{Memory, DiskFault}
 use Rattle.updater.specs.declared.updater.Updater.{Updater}
 use Rattle.updater.specs.Answer.{IsAnswer}
-use Rattle.updater.specs.Commanded.{Commanded, LeavesLinks, Serves, SoundFor}
+use Rattle.updater.specs.Commanded.{Commanded, LeavesLinks, LinksServe, SoundFor}
 use Rattle.updater.specs.Costs.{Costs}
-use Rattle.updater.specs.Keeps.{Keeps, Leads}
+use Rattle.updater.specs.MakesDurable.{MakesDurable, LeadsBetween}
 use Rattle.updater.specs.Updater.{Holds, room_of, tables_of}
 use Rattle.updater.proofs.Standing.{holds_as, still_stands}
 
@@ -57,7 +57,7 @@ nothing_left (Check key) links = tt
 nothing_left (Group lease group) links = tt
 nothing_left _ links = refl
 
-nothing_served : (command : Command) (heard : List (List ℕ)) (before after : LinksState) (old : Session) (reply : Reply) (new : Session) → IsPlain command → Serves command heard before after old reply new
+nothing_served : (command : Command) (heard : List (List ℕ)) (before after : LinksState) (old : Session) (reply : Reply) (new : Session) → IsPlain command → LinksServe command heard before after old reply new
 nothing_served (Install url) heard before after old reply new plain = absurd plain
 nothing_served (Check key) heard before after old reply new plain = absurd plain
 nothing_served (Group lease group) heard before after old reply new plain = absurd plain
@@ -66,19 +66,19 @@ nothing_served _ heard before after old reply new plain = tt
 -- ---- steps
 
 -- a step that leaves the store as it was
-pub record Rests (now : ℕ) (heard : List (List ℕ)) (command : Command) (before after : LinksState) (old : Session) (reply : Reply) : Type 0 where
+pub record LeavesStore (now : ℕ) (heard : List (List ℕ)) (command : Command) (before after : LinksState) (old : Session) (reply : Reply) : Type 0 where
   pub new : Session
   pub step : Answers now heard old command reply new
   pub same : new.store ≡ old.store
-  pub served : Serves command heard before after old reply new
+  pub served : LinksServe command heard before after old reply new
 
 -- what a change is to a session: a step to another store, to which it leads
 pub record Does (now : ℕ) (heard : List (List ℕ)) (command : Command) (before after : LinksState) (change : Change) (tables : Tables) (old : Session) (reply : Reply) : Type 0 where
   pub new : Session
   pub step : Answers now heard old command reply new
-  pub leads : Leads change tables old.store new.store
+  pub leads : LeadsBetween change tables old.store new.store
   pub other : new.store ≢ old.store
-  pub served : Serves command heard before after old reply new
+  pub served : LinksServe command heard before after old reply new
 
 -- what was heard of the links, and what is left of them
 pub record Linked {L : Type 0} (net : LinksGhosts L) (heard : List (List ℕ)) (command : Command) (updater : Updater) (links_old links_new : L) : Type 0 where
@@ -134,7 +134,7 @@ module _ {D L : Type 0} (on : Ghosts D) (net : LinksGhosts L) (now : ℕ) (heard
       (record { moment = refl; hears = heard_by old s; answer = reply; replied = refl; answers = step }) ∙ s.jobs
 
   -- the disk is not touched
-  pub rested : (reply : Reply) → moment_after now (Some reply) ≤ NUMBER_LIMIT → ((old : Session) → Shown (on.seen disk) command updater old → Rests now heard command (net.links links_old) (net.links links_new) old reply)
+  pub rested : (reply : Reply) → moment_after now (Some reply) ≤ NUMBER_LIMIT → ((old : Session) → Shown (on.seen disk) command updater old → LeavesStore now heard command (net.links links_old) (net.links links_new) old reply)
       → Commanded on net now heard command updater disk links_old (Ok reply) updater disk links_new
   rested reply few rests = record {
     answered = λ told old holds sound. let s = shown old holds sound in let r = rests old s in record {
@@ -164,7 +164,7 @@ module _ {D L : Type 0} (on : Ghosts D) (net : LinksGhosts L) (now : ℕ) (heard
       (does : (old : Session) → Shown (on.seen disk) command updater old → Does now heard command (net.links links_old) (net.links links_new) change (tables_of updater) old reply)
       (missed : Commanded on net now heard command updater disk links_old (Ok says.Memory) updater disk links_new) (updater_new : Updater) (disk_new : D) where
     -- what the step may write
-    costs_of : {T : Type 0} (tried : Result T StepFault) → Keeps on change updater disk tried updater_new disk_new
+    costs_of : {T : Type 0} (tried : Result T StepFault) → MakesDurable on change updater disk tried updater_new disk_new
         → (old : Session) (s : Shown (on.seen disk) command updater old) → Costs old.store (does old s).new.store (AROUND + length (change_text change))
     costs_of tried keeps old s = inr (
       change,
@@ -180,7 +180,7 @@ module _ {D L : Type 0} (on : Ghosts D) (net : LinksGhosts L) (now : ℕ) (heard
     )
 
     -- a change that was tried, whatever came of it
-    pub kept : {T : Type 0} (tried : Result T StepFault) (result : Result Reply Failed) → Keeps on change updater disk tried updater_new disk_new → IsAnswer reply tried result → Commanded on net now heard command updater disk links_old result updater_new disk_new links_new
+    pub kept : {T : Type 0} (tried : Result T StepFault) (result : Result Reply Failed) → MakesDurable on change updater disk tried updater_new disk_new → IsAnswer reply tried result → Commanded on net now heard command updater disk links_old result updater_new disk_new links_new
     kept (Ok done) result keeps is = subst (λ (r : Result Reply Failed). Commanded on net now heard command updater disk links_old r updater_new disk_new links_new) (sym is) (record {
       answered = λ told old holds sound. let s = shown old holds sound in let d = does old s in record {
         new = d.new;
@@ -234,7 +234,7 @@ module _ {D L : Type 0} (on : Ghosts D) (net : LinksGhosts L) (now : ℕ) (comma
   asked_none : Linked net [] command updater links links
   asked_none = unlinked net command updater links
 
-  served_none : (old : Session) (reply : Reply) (new : Session) → Serves command [] (net.links links) (net.links links) old reply new
+  served_none : (old : Session) (reply : Reply) (new : Session) → LinksServe command [] (net.links links) (net.links links) old reply new
   served_none old reply new = nothing_served command [] (net.links links) (net.links links) old reply new plain
 
   -- the tables give a refusal, which changes nothing

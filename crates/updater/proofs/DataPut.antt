@@ -43,12 +43,13 @@ use Rattle.store_state.specs.Tables.{Tables}
 use Rattle.store_state.proofs.Showing.{shape_shown}
 use Rattle.record_codec.specs.Values.{IsEncodableLocal}
 use Rattle.links.specs.Links.{LinksState}
-use Rattle.install_plan.specs.Leading.{LeadsIn}
+use Rattle.install_plan.specs.LeadsIn.{LeadsIn}
+use Rattle.install_plan.proofs.NewFiles.{leads_over}
 use Rattle.updater.specs.declared.putting.Putting.{Putting}
 use Rattle.updater.specs.DataFiles.{bytes_named}
-use Rattle.updater.specs.Keeps.{Leads}
+use Rattle.updater.specs.MakesDurable.{LeadsBetween}
 use Rattle.updater.specs.Putting.{IsPutting, file_of}
-use Rattle.updater.proofs.Commanding.{Does, Rests, effect_answers}
+use Rattle.updater.proofs.Commanding.{Does, LeavesStore, effect_answers}
 use Rattle.updater.proofs.DataRemoved.{still_named}
 use Rattle.updater.proofs.LeasedData.{shown_named}
 use Rattle.updater.proofs.ShownViews.{leased_shown}
@@ -209,7 +210,7 @@ module _ (now lease : ℕ) (room : Room) (name bytes : List ℕ) (tables : Table
       ap (with_data file) one ∙ same_file stands ∙ sym one)
 
   pub put_rests : putting.stands ≡ true
-      → Rests now [] (command.Put lease name bytes) before after old says.Put
+      → LeavesStore now [] (command.Put lease name bytes) before after old says.Put
   put_rests stands = record {
     new = new;
     step = step;
@@ -221,10 +222,11 @@ module _ (now lease : ℕ) (room : Room) (name bytes : List ℕ) (tables : Table
       (there : PutsAreThere) where
     shows_put : LeadsIn room (change.Put of.row.number (file_of name bytes)) tables old.store
         new.store
-    shows_put first later had same held =
-        puts room tables of.row.number (file_of name bytes) first later old.store had same held
+    shows_put = leads_over image (λ first later had same there.
+        puts room tables of.row.number (file_of name bytes) first later old.store had same
+        there.measured)
 
-    leads : Leads (change.Put putting.view made) tables old.store new.store
+    leads : LeadsBetween (change.Put putting.view made) tables old.store new.store
     leads = record {
       shows = subst
           (λ (n : Room). LeadsIn n (change.Put putting.view made) tables old.store new.store)

@@ -27,9 +27,10 @@ use Rattle.store_state.specs.Shows.{Shows, shown_data, shown_view}
 use Rattle.store_state.specs.Tables.{Tables}
 use Rattle.store_state.proofs.Showing.{shape_shown}
 use Rattle.links.specs.Links.{LinksState}
-use Rattle.install_plan.specs.Leading.{LeadsIn}
+use Rattle.install_plan.specs.LeadsIn.{LeadsIn}
+use Rattle.install_plan.proofs.NewFiles.{leads_over}
 use Rattle.updater.specs.DataFiles.{IsRemoval}
-use Rattle.updater.specs.Keeps.{Leads}
+use Rattle.updater.specs.MakesDurable.{LeadsBetween}
 use Rattle.updater.proofs.Commanding.{Does, effect_answers}
 use Rattle.updater.proofs.LeasedData.{is_row, local_passes, none_there, shown_named}
 use Rattle.updater.proofs.ShownViews.{leased_shown}
@@ -86,15 +87,15 @@ module _ (now lease : ℕ) (room : Room) (name : List ℕ) (tables : Tables) (im
         is = refl;
       })
 
-  leads : Leads (change.Remove number name) tables old.store new.store
+  leads : LeadsBetween (change.Remove number name) tables old.store new.store
   leads = record {
     shows = subst
         (λ (n : Room). LeadsIn n (change.Remove number name) tables old.store new.store)
         (sym (ap (λ (s : Store). s.room) shows.is))
         (subst (λ (n : ℕ). LeadsIn room (change.Remove n name) tables old.store new.store)
         (sym of.numbered)
-        (λ first later had same held. rest room tables of.row.number name first later old.store
-        had same));
+        (leads_over image (λ first later had same there. rest room tables of.row.number name first later old.store
+        had same)));
     valid = step_valid now old (Line (command.Remove lease name) now (record { texts = [] }))
         (Some says.Removed) new (words, moment)
         (record {

@@ -26,11 +26,12 @@ use Rattle.store_state.proofs.Checking.{shows_skipped}
 use Rattle.store_state.proofs.Showing.{shape_shown}
 use Rattle.links.specs.Links.{LinksState}
 use Rattle.install_plan.proofs.Entry.{entry_same, entry_stays}
-use Rattle.install_plan.specs.Leading.{LeadsIn}
+use Rattle.install_plan.specs.LeadsIn.{LeadsIn}
+use Rattle.install_plan.proofs.NewFiles.{leads_over}
 use Rattle.updater.specs.declared.skipping.Skipping.{Skipping}
-use Rattle.updater.specs.Keeps.{Leads}
+use Rattle.updater.specs.MakesDurable.{LeadsBetween}
 use Rattle.updater.specs.Skipping.{IsSkipping}
-use Rattle.updater.proofs.Commanding.{Does, Rests, effect_answers}
+use Rattle.updater.proofs.Commanding.{Does, LeavesStore, effect_answers}
 
 skipped_same : (app : AppState) → app.skipped ≡ app.offer → skipped_app app ≡ app
 skipped_same app is = ap (λ v. record app { skipped = v }) (sym is)
@@ -67,7 +68,7 @@ module _ (now : ℕ) (key : Key) (room : Room) (tables : Tables) (image : List �
 
   -- what is skipped already stays so
   pub skipped_rests : skipping.stands ≡ true
-      → Rests now [] (command.Skip key) before after old reply
+      → LeavesStore now [] (command.Skip key) before after old reply
   skipped_rests stands = record {
     new = new;
     step = step;
@@ -78,14 +79,14 @@ module _ (now : ℕ) (key : Key) (room : Room) (tables : Tables) (image : List �
     served = tt;
   }
 
-  leads : Leads (change.Skip skipping.app) tables old.store new.store
+  leads : LeadsBetween (change.Skip skipping.app) tables old.store new.store
   leads = record {
     shows = subst
         (λ (n : Room). LeadsIn n (change.Skip skipping.app) tables old.store new.store)
         (sym (ap (λ (s : Store). s.room) shows.is))
-        (λ first later had same held. shows_skipped room tables key skipping.app skipping.offer
+        (leads_over image (λ first later had same there. shows_skipped room tables key skipping.app skipping.offer
         first
-        later old.store had same in_order is.app offered);
+        later old.store had same in_order is.app offered));
     valid = step_valid now old (Line (command.Skip key) now (record { texts = [] })) (Some reply)
         new (is_key, moment)
         (record { moment = refl; hears = refl; answer = reply; replied = refl; answers = step })

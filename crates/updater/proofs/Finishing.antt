@@ -20,8 +20,9 @@ use Rattle.store_state.specs.Shows.{Shows}
 use Rattle.store_state.specs.Tables.{Tables, table_shape}
 use Rattle.store_state.proofs.Showing.{shape_shown, shows_finished}
 use Rattle.links.specs.Links.{LinksState}
-use Rattle.install_plan.specs.Leading.{LeadsIn}
-use Rattle.updater.specs.Keeps.{Leads}
+use Rattle.install_plan.specs.LeadsIn.{LeadsIn}
+use Rattle.install_plan.proofs.NewFiles.{leads_over}
+use Rattle.updater.specs.MakesDurable.{LeadsBetween}
 use Rattle.updater.proofs.Commanding.{Does, effect_answers}
 
 -- it fits where the row's refusal is passed
@@ -46,12 +47,12 @@ module _ (now lease : ℕ) (room : Room) (tables : Tables) (image : List ℕ) (b
   step = effect_answers now [] room tables old (shape_shown old no_jobs shows) (command.Finish lease)
       (says.Finished lease) new passes (refl, refl)
 
-  leads : Leads (change.Finish lease) tables old.store new.store
+  leads : LeadsBetween (change.Finish lease) tables old.store new.store
   leads = record {
     shows = subst
         (λ (n : Room). LeadsIn n (change.Finish lease) tables old.store new.store)
         (sym (ap (λ (s : Store). s.room) shows.is))
-        (λ first later had same held. shows_finished later lease same had);
+        (leads_over image (λ first later had same there. shows_finished later lease same had));
     valid = step_valid now old (Line (command.Finish lease) now (record { texts = [] }))
         (Some (says.Finished lease)) new (few, moment)
         (record {

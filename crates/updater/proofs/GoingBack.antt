@@ -28,10 +28,11 @@ use Rattle.store_state.proofs.RollingBack.{shows_rolled_back}
 use Rattle.store_state.proofs.Showing.{shape_shown}
 use Rattle.links.specs.Links.{LinksState}
 use Rattle.install_plan.proofs.Entry.{entry_same}
-use Rattle.install_plan.specs.Leading.{LeadsIn}
+use Rattle.install_plan.specs.LeadsIn.{LeadsIn}
+use Rattle.install_plan.proofs.NewFiles.{leads_over}
 use Rattle.updater.specs.declared.going_back.GoingBack.{GoingBack}
 use Rattle.updater.specs.GoingBack.{IsGoingBack}
-use Rattle.updater.specs.Keeps.{Leads}
+use Rattle.updater.specs.MakesDurable.{LeadsBetween}
 use Rattle.updater.proofs.Commanding.{Does, effect_answers}
 
 module _ (now : ℕ) (key : Key) (room : Room) (tables : Tables) (image : List ℕ)
@@ -64,14 +65,14 @@ module _ (now : ℕ) (key : Key) (room : Room) (tables : Tables) (image : List �
         is = refl;
       })
 
-  leads : Leads (change.Rollback going.app) tables old.store new.store
+  leads : LeadsBetween (change.Rollback going.app) tables old.store new.store
   leads = record {
     shows = subst
         (λ (n : Room). LeadsIn n (change.Rollback going.app) tables old.store new.store)
         (sym (ap (λ (s : Store). s.room) shows.is))
-        (λ first later had same held. shows_rolled_back room tables key going.app is.have first
+        (leads_over image (λ first later had same there. shows_rolled_back room tables key going.app is.have first
         later
-        old.store had same in_order is.app (is.current room));
+        old.store had same in_order is.app (is.current room)));
     valid = step_valid now old (Line (command.Rollback key) now (record { texts = [] }))
         (Some reply) new (is_key, moment)
         (record { moment = refl; hears = refl; answer = reply; replied = refl; answers = step })

@@ -20,14 +20,14 @@ use Rattle.store_state.specs.Shows.{Shows}
 use Rattle.install_plan.specs.Checks.{LedBy}
 use Rattle.install_plan.specs.GroupReady.{GroupStep, IsGroupOver, IsGroupReady}
 use Rattle.install_plan.proofs.LeasedRows.{still_brought}
-use Rattle.install_plan.specs.Leading.{LeadsIn}
+use Rattle.install_plan.specs.LeadsIn.{LeadsIn}
 use Rattle.updater.specs.declared.fault.StepFault.{StepFault}
 use Rattle.updater.specs.declared.updater.Updater.{Updater}
 use Rattle.updater.specs.Answer.{IsAnswer}
 use Rattle.updater.specs.Commanded.{Commanded}
-use Rattle.updater.specs.Keeps.{Keeps, Leads}
+use Rattle.updater.specs.MakesDurable.{MakesDurable, LeadsBetween}
 use Rattle.updater.specs.Updater.{room_of, tables_of}
-use Rattle.updater.proofs.Commanding.{Does, Linked, Rests, Shown, kept, rested}
+use Rattle.updater.proofs.Commanding.{Does, Linked, LeavesStore, Shown, kept, rested}
 
 module _ (now lease : ℕ) (group : List ℕ) (before after : LinksState) (updater : Updater)
     (image : List ℕ) (words : (lease ≤ NUMBER_LIMIT) × IsGroup group)
@@ -35,7 +35,7 @@ module _ (now lease : ℕ) (group : List ℕ) (before after : LinksState) (updat
   over_rests : (reply : Reply)
       → IsGroupOver (room_of updater) (tables_of updater) lease group before after reply
       → (old : Session) → Shown image (Group lease group) updater old
-      → Rests now [] (Group lease group) before after old reply
+      → LeavesStore now [] (Group lease group) before after old reply
   over_rests reply over old s =
       let step = over.step now image old s.jobs s.shows s.sound in
       record {
@@ -54,7 +54,7 @@ module _ (now lease : ℕ) (group : List ℕ) (before after : LinksState) (updat
     step_of old s = ready.step now image old s.jobs s.shows s.sound
 
     leads_by : (old : Session) (s : Shown image (Group lease group) updater old)
-        → Leads change (tables_of updater) old.store (step_of old s).new.store
+        → LeadsBetween change (tables_of updater) old.store (step_of old s).new.store
     leads_by old s = let step = step_of old s in record {
       shows = subst
           (λ (n : Room). LeadsIn n change (tables_of updater) old.store step.new.store) s.room
@@ -82,7 +82,7 @@ module _ (now lease : ℕ) (group : List ℕ) (before after : LinksState) (updat
 
     -- there was no memory at its end
     missed_rests : (old : Session) → Shown image (Group lease group) updater old
-        → Rests now [] (Group lease group) before after old says.Memory
+        → LeavesStore now [] (Group lease group) before after old says.Memory
     missed_rests old s = let served = (step_of old s).served in record {
       new = old;
       step = inl (inl (refl, refl));
@@ -124,7 +124,7 @@ module _ {D L : Type 0} (on : Ghosts D) (net : LinksGhosts L) (now lease : ℕ) 
   pub group_kept : {T : Type 0} (change : Change) (reply : Reply)
       → IsGroupReady (room_of updater) (tables_of updater) lease group before after change reply
       → (updater_new : Updater) (disk_new : D) (tried : Result T StepFault)
-      (result : Result Reply Failed) → Keeps on change updater disk tried updater_new disk_new
+      (result : Result Reply Failed) → MakesDurable on change updater disk tried updater_new disk_new
       → IsAnswer reply tried result
       → Commanded on net now [] (Group lease group) updater disk links_old result updater_new
       disk_new links_new

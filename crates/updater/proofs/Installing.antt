@@ -25,21 +25,21 @@ use Rattle.install_plan.specs.Brought.{IsBrought}
 use Rattle.install_plan.specs.Hearing.{Served}
 use Rattle.install_plan.specs.Plans.{IsRefused}
 use Rattle.install_plan.specs.Ready.{IsReady, IsStep}
-use Rattle.install_plan.specs.Leading.{LeadsIn}
+use Rattle.install_plan.specs.LeadsIn.{LeadsIn}
 use Rattle.updater.specs.declared.fault.StepFault.{StepFault}
 use Rattle.updater.specs.declared.updater.Updater.{Updater}
 use Rattle.updater.specs.Answer.{IsAnswer}
-use Rattle.updater.specs.Commanded.{Commanded, Serves}
-use Rattle.updater.specs.Keeps.{Keeps, Leads}
+use Rattle.updater.specs.Commanded.{Commanded, LinksServe}
+use Rattle.updater.specs.MakesDurable.{MakesDurable, LeadsBetween}
 use Rattle.updater.specs.Updater.{room_of, tables_of}
-use Rattle.updater.proofs.Commanding.{Does, Linked, Rests, Shown, effect_answers, kept, refused_answers, rested}
+use Rattle.updater.proofs.Commanding.{Does, Linked, LeavesStore, Shown, effect_answers, kept, refused_answers, rested}
 
 -- no list is one item longer than itself
 pub one_more : {X : Type 0} (xs : List X) (x : X) → xs ≡ xs ++ x ∷ [] → ⊥
 one_more xs x same = let long : length xs ≡ length (xs ++ x ∷ []) = ap length same in omega (arith, length-append xs (x ∷ []))
 
 -- a step that leaves the store brings no view
-serves_same : (url : List ℕ) (heard : List (List ℕ)) (before after : LinksState) (shape : Shape) (old : Session) (reply : Reply) → shape_of old ≡ shape → Served shape url heard before after reply → Serves (Install url) heard before after old reply old
+serves_same : (url : List ℕ) (heard : List (List ℕ)) (before after : LinksState) (shape : Shape) (old : Session) (reply : Reply) → shape_of old ≡ shape → Served shape url heard before after reply → LinksServe (Install url) heard before after old reply old
 serves_same url heard before after shape old reply same served =
     (subst (λ (s : Shape). Served s url heard before after reply) (sym same) served, λ view more. absurd (one_more old.store.views view more))
 
@@ -60,7 +60,7 @@ other_store now heard url old reply new done same =
 
 module _ (now : ℕ) (url : List ℕ) (heard : List (List ℕ)) (before after : LinksState) (updater : Updater) (image : List ℕ) (moment : now ≤ NUMBER_LIMIT) where
   -- what an install that was refused is to a session
-  pub refused_rests : (reply : Reply) → IsRefused (table_shape (room_of updater) (tables_of updater)) url heard before after reply → (old : Session) → Shown image (Install url) updater old → Rests now heard (Install url) before after old reply
+  pub refused_rests : (reply : Reply) → IsRefused (table_shape (room_of updater) (tables_of updater)) url heard before after reply → (old : Session) → Shown image (Install url) updater old → LeavesStore now heard (Install url) before after old reply
   refused_rests reply refused old s = record {
     new = old;
     step = by refused.refused;
@@ -73,7 +73,7 @@ module _ (now : ℕ) (url : List ℕ) (heard : List (List ℕ)) (before after : 
       by (inr refuses) = refused_answers now heard (room_of updater) (tables_of updater) old s.shape (Install url) reply old (refuses old)
 
   -- and one that found no memory at its end
-  pub missed_rests : Served (table_shape (room_of updater) (tables_of updater)) url heard before after says.Memory → (old : Session) → Shown image (Install url) updater old → Rests now heard (Install url) before after old says.Memory
+  pub missed_rests : Served (table_shape (room_of updater) (tables_of updater)) url heard before after says.Memory → (old : Session) → Shown image (Install url) updater old → LeavesStore now heard (Install url) before after old says.Memory
   missed_rests served old s = record {
     new = old;
     step = inl (inl (refl, refl));
@@ -89,7 +89,7 @@ module _ (now : ℕ) (url : List ℕ) (heard : List (List ℕ)) (before after : 
     passes_by : (old : Session) → Shown image (Install url) updater old → PassesAll (install_refusals url heard (shape_of old))
     passes_by old s = subst (λ (shape : Shape). PassesAll (install_refusals url heard shape)) (sym s.shape) ready.passes
 
-    leads_by : (old : Session) (s : Shown image (Install url) updater old) → Leads change (tables_of updater) old.store (step_of old s).new.store
+    leads_by : (old : Session) (s : Shown image (Install url) updater old) → LeadsBetween change (tables_of updater) old.store (step_of old s).new.store
     leads_by old s = let step = step_of old s in record {
       shows = subst (λ (n : Room). LeadsIn n change (tables_of updater) old.store step.new.store) s.room step.leads;
       valid = left_valid (record { few = omega arith; moment = moment; passes = passes_by old s; effect = step.installs }) s.valid;
@@ -128,7 +128,7 @@ module _ {D L : Type 0} (on : Ghosts D) (net : LinksGhosts L) (now : ℕ) (url :
 
   -- all was fetched, and the change was tried
   pub install_kept : {T : Type 0} (change : Change) (reply : Reply) → IsReady (room_of updater) (tables_of updater) url heard (net.links links_old) (net.links links_new) now change reply
-      → (updater_new : Updater) (disk_new : D) (tried : Result T StepFault) (result : Result Reply Failed) → Keeps on change updater disk tried updater_new disk_new → IsAnswer reply tried result
+      → (updater_new : Updater) (disk_new : D) (tried : Result T StepFault) (result : Result Reply Failed) → MakesDurable on change updater disk tried updater_new disk_new → IsAnswer reply tried result
       → Commanded on net now heard (Install url) updater disk links_old result updater_new disk_new links_new
   install_kept change reply ready updater_new disk_new tried result keeps is =
       let linked : Linked net heard (Install url) updater links_old links_new = record { kept = ready.served.hearing.kept; left = tt; hears = ready.hears } in

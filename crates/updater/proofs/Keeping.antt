@@ -17,11 +17,12 @@ use Rattle.store_state.specs.Shows.{Shows}
 use Rattle.store_state.specs.Tables.{Tables, empty}
 use Rattle.store_state.proofs.Images.{images_have, images_hold}
 use Rattle.store_state.proofs.Showing.{shows_same}
+use Rattle.install_plan.proofs.NewFiles.{has_new}
 use Rattle.updater.specs.declared.updater.Updater.{Updater}
 use Rattle.updater.specs.declared.fault.StepFault.{StepFault}
 use Rattle.updater.specs.declared.fault.StepFault.TheVariants.{DiskFault, Memory}
-use Rattle.updater.specs.Keeps.{Keeps, Leads}
-use Rattle.updater.specs.Stands.{Encodes, Loads, StandsForEither}
+use Rattle.updater.specs.MakesDurable.{MakesDurable, LeadsBetween}
+use Rattle.updater.specs.StandsFor.{Encodes, Loads, StandsForEither}
 use Rattle.updater.specs.Updater.{Holds, room_of, tables_of}
 use Rattle.updater.proofs.Loading.{loads-push}
 use Rattle.updater.proofs.Standing.{still_stands}
@@ -48,7 +49,7 @@ memory_no_fault : {T : Type 0} → ◌≢◌ {A = Result T StepFault} (Err Memor
 memory_no_fault e = cc
 
 -- there was no memory for a change that fits
-pub nothing_kept : {D T : Type 0} (on : Ghosts D) (change : Change) (updater : Updater) (disk : D) → Fits (tables_of updater) change × IsChange change → Keeps {T = T} on change updater disk (Err Memory) updater disk
+pub nothing_kept : {D T : Type 0} (on : Ghosts D) (change : Change) (updater : Updater) (disk : D) → Fits (tables_of updater) change × IsChange change → MakesDurable {T = T} on change updater disk (Err Memory) updater disk
 nothing_kept {T = T} on change updater disk may = record {
   fits = may.0;
   has = may.1;
@@ -61,12 +62,13 @@ nothing_kept {T = T} on change updater disk may = record {
       (spends_as on 0 0 disk disk ⊥ (◌≡◌ {A = Result T StepFault} (Err Memory) (Err DiskFault)) (λ no. absurd no) memory_no_fault (spends_none on disk));
 }
 
-module _ {D : Type 0} (on : Ghosts D) (updater : Updater) (disk : D) (change : Change) (entry : List ℕ) (fits : Fits (tables_of updater) change) (encodes : Encodes change entry) (old : Session) (new : Store) (leads : Leads change (tables_of updater) old.store new) (holds : Holds on updater disk old) (seen_left : on.left_at disk (on.moment disk) (on.seen disk)) where
+module _ {D : Type 0} (on : Ghosts D) (updater : Updater) (disk : D) (change : Change) (entry : List ℕ) (fits : Fits (tables_of updater) change) (encodes : Encodes change entry) (old : Session) (new : Store) (leads : LeadsBetween change (tables_of updater) old.store new) (holds : Holds on updater disk old) (seen_left : on.left_at disk (on.moment disk) (on.seen disk)) where
   old_shows : Shows old.store.room (tables_of updater) (on.seen disk) old.store
   old_shows = holds.shows (on.seen disk) seen_left
 
   led_shows : (image : List ℕ) → Shows old.store.room (effect change (tables_of updater)) image new
-  led_shows image = leads.shows (on.seen disk) image old_shows (images_have old.store.room (tables_of updater) (on.seen disk) image) (images_hold old.store.room (tables_of updater) change image fits)
+  led_shows image = leads.shows.shows (on.seen disk) image old_shows (images_have old.store.room (tables_of updater) (on.seen disk) image)
+      (has_new leads.shows image (images_hold old.store.room (tables_of updater) change image fits))
 
   room_stays : new.room ≡ old.store.room
   room_stays = ap (λ (s : Store). s.room) (led_shows (on.seen disk)).is

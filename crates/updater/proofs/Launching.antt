@@ -30,9 +30,10 @@ use Rattle.store_state.specs.Tables.{Tables}
 use Rattle.store_state.proofs.Showing.{shape_shown, shows_launched}
 use Rattle.links.specs.Links.{LinksState}
 use Rattle.install_plan.proofs.Currents.{current_shown}
-use Rattle.install_plan.specs.Leading.{LeadsIn}
+use Rattle.install_plan.specs.LeadsIn.{LeadsIn}
+use Rattle.install_plan.proofs.NewFiles.{leads_over}
 use Rattle.updater.specs.declared.start.Start.{Start}
-use Rattle.updater.specs.Keeps.{Leads}
+use Rattle.updater.specs.MakesDurable.{LeadsBetween}
 use Rattle.updater.specs.Start.{IsStart}
 use Rattle.updater.proofs.Commanding.{Does, effect_answers}
 
@@ -84,13 +85,13 @@ module _ (now : ℕ) (key : Key) (room : Room) (tables : Tables) (image : List �
       ∙ ap (λ (o : Option AppState). option_and_then (λ (a : AppState). a.current) o) app.1
       ∙ app.2
 
-  leads : Leads (change.Launch start.app) tables old.store new.store
+  leads : LeadsBetween (change.Launch start.app) tables old.store new.store
   leads = record {
     shows = subst
         (λ (n : Room). LeadsIn n (change.Launch start.app) tables old.store new.store)
         (sym blocks_shown)
-        (λ first later had same held. shows_launched room tables key start.app is.row.number first
-        later old.store had same in_order is.app number_is);
+        (leads_over image (λ first later had same there. shows_launched room tables key start.app is.row.number first
+        later old.store had same in_order is.app number_is));
     valid = step_valid now old (Line (command.Launch key) now (record { texts = [] })) (Some reply)
         new (is_key, moment)
         (record { moment = refl; hears = refl; answer = reply; replied = refl; answers = step })

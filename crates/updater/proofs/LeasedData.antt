@@ -27,7 +27,7 @@ use Rattle.links.specs.Links.{LinksState}
 use Rattle.install_plan.proofs.LeasedRows.{IsLeased, lease_lives, row_is}
 use Rattle.updater.specs.DataFiles.{IsLocalOf}
 use Rattle.updater.specs.Leased.{KeepsView}
-use Rattle.updater.proofs.Commanding.{Rests, effect_answers}
+use Rattle.updater.proofs.Commanding.{LeavesStore, effect_answers}
 use Rattle.updater.proofs.ShownViews.{leased_bare_row, leased_shown}
 
 -- ---- by name
@@ -137,7 +137,7 @@ module _ (lease : ℕ) (name : List ℕ) (room : Room) (tables : Tables) where
       → IsLocalOf lease name tables file → (size : ℕ) (shown : List ℕ)
       → size ≡ length (data_bytes room image file) → shown
       ≡ part from count (data_bytes room image file)
-      → Rests now [] (command.Local lease name from count) before after old (says.Read size shown)
+      → LeavesStore now [] (command.Local lease name from count) before after old (says.Read size shown)
   data_rests now from count image before after old no_jobs shows file of size shown long is = record {
     new = old;
     step = effect_answers now [] room tables old (shape_shown old no_jobs shows)

@@ -27,7 +27,7 @@ use Rattle.store_state.proofs.ContentsNamed.{contents_named}
 use Rattle.store_state.proofs.Showing.{shape_shown}
 use Rattle.links.specs.Links.{LinksState}
 use Rattle.updater.specs.Leased.{IsLeasedFile, KeepsView}
-use Rattle.updater.proofs.Commanding.{Rests, effect_answers}
+use Rattle.updater.proofs.Commanding.{LeavesStore, effect_answers}
 use Rattle.updater.proofs.ShownViews.{leased_bare_row, leased_shown}
 
 file_shown : (room : Room) (image : List ℕ) (contents : List Content) (name : List ℕ)
@@ -146,7 +146,7 @@ module _ (number : ℕ) (name : List ℕ) (tables : Tables) where
       (size : ℕ) → IsLeasedFile number name tables content
       → size ≡ length (content_bytes room image content)
       → shown ≡ part from count (content_bytes room image content)
-      → Rests now [] (command.Read number name from count) before after old (says.Read size shown)
+      → LeavesStore now [] (command.Read number name from count) before after old (says.Read size shown)
   read_rests now room from count image before after old no_jobs shows content shown size file long is =
       record { new = old; step = step; same = refl; served = tt }
     where

@@ -18,7 +18,7 @@ use Rattle.store_state.specs.Shows.{Shows}
 use Rattle.store_state.specs.Tables.{Tables, table_shape}
 use Rattle.store_state.proofs.Showing.{shape_shown}
 use Rattle.links.specs.Links.{LinksState}
-use Rattle.updater.proofs.Commanding.{Rests, effect_answers}
+use Rattle.updater.proofs.Commanding.{LeavesStore, effect_answers}
 
 -- a key that has no entry
 pub not_shown : (key : Key) (room : Room) (tables : Tables) (old : Session)
@@ -33,7 +33,7 @@ module _ (now : ℕ) (room : Room) (tables : Tables) (image : List ℕ) (before 
 
   pub listed_rests : (rows : List ListRow)
       → rows ≡ map (list_row (table_shape (plain_room 0) tables)) tables.apps
-      → Rests now [] command.List before after old (says.Listed rows)
+      → LeavesStore now [] command.List before after old (says.Listed rows)
   listed_rests rows is = record {
     new = old;
     step = effect_answers now [] room tables old (shape_shown old no_jobs shows) command.List
@@ -49,7 +49,7 @@ module _ (now : ℕ) (room : Room) (tables : Tables) (image : List ℕ) (before 
 
   pub shown_rests : (key : Key) (app : AppState) (row : ShowRow)
       → entry_of key tables.apps ≡ Some app → row ≡ show_row (table_shape (plain_room 0) tables) app
-      → Rests now [] (command.Show key) before after old (says.Shown row)
+      → LeavesStore now [] (command.Show key) before after old (says.Shown row)
   shown_rests key app row known is = record {
     new = old;
     step = effect_answers now [] room tables old (shape_shown old no_jobs shows) (command.Show key)

@@ -12,7 +12,7 @@ use Rattle.store_state.specs.declared.change.Change.{Change}
 use Rattle.store_state.specs.declared.change.Change.TheVariants.{Boot, Require, Install, Heard, Unheard, Skip, Rollback, Launch, Finish, Group, Put, Remove, Clean}
 use Rattle.store_state.specs.Change.{Fits, Replays, effect}
 use Rattle.store_state.specs.Tables.{Tables, empty}
-use Rattle.updater.specs.Stands.{Encodes, Loads}
+use Rattle.updater.specs.StandsFor.{Encodes, Loads}
 use Rattle.updater.specs.Replay.{FitsNone, IsMade, Makes, Tests, Tries}
 
 -- a change has some text

@@ -16,11 +16,11 @@ use Rattle.updater.specs.declared.fault.StepFault.{StepFault}
 use Rattle.updater.specs.declared.fault.StepFault.TheVariants as step
 use Rattle.updater.specs.declared.updater.Updater.{Updater}
 use Rattle.updater.specs.Costs.{Costs}
-use Rattle.updater.specs.Keeps.{Keeps, Leads}
+use Rattle.updater.specs.MakesDurable.{MakesDurable, LeadsBetween}
 use Rattle.updater.specs.Loaded.{Loaded, IsLoaded}
 use Rattle.updater.specs.Moments.{LeavesSince}
 use Rattle.updater.specs.Opened.{Opened}
-use Rattle.updater.specs.Stands.{Stands, StandsForEither}
+use Rattle.updater.specs.StandsFor.{StandsFor, StandsForEither}
 use Rattle.updater.specs.Updater.{Holds, tables_of}
 use Rattle.updater.proofs.Changing.{boot_shown, booted_leads}
 use Rattle.updater.proofs.Standing.{one_stands}
@@ -70,7 +70,7 @@ abbrev boot_bytes : ℕ → ℕ
 boot_bytes boot = AROUND + length (change_text (Boot boot))
 
 -- what a boot costs
-boot_costs : (image : List ℕ) (boot : ℕ) (old : Store) → boot ≤ NUMBER_LIMIT → Stands image old → Costs old (booted boot old) (boot_bytes boot)
+boot_costs : (image : List ℕ) (boot : ℕ) (old : Store) → boot ≤ NUMBER_LIMIT → StandsFor image old → Costs old (booted boot old) (boot_bytes boot)
 boot_costs image boot old few stands = inr (
   Boot boot,
   record {
@@ -86,34 +86,40 @@ boot_costs image boot old few stands = inr (
 
 module _ {D : Type 0} (on : Ghosts D) (boot : ℕ) (few : boot ≤ NUMBER_LIMIT) (disk_old : D) (read : Result Updater RecoverFault) (mid : D) (loaded : Loaded on disk_old read mid) where
   -- from the sync on a stop leaves what was read
-  read_stands : read ≢ Err DiskFault → (old : Store) → Stands (on.seen disk_old) old → LeavesSince on (on.moment disk_old + 1) mid (λ image. Stands image old)
+  read_stands : read ≢ Err DiskFault → (old : Store) → StandsFor (on.seen disk_old) old → LeavesSince on (on.moment disk_old + 1) mid (λ image. StandsFor image old)
   read_stands other old stands t image from to left =
       let now : t ≡ on.moment mid = omega (arith, loaded.synced other, loaded.spends.within) in
       let is : image ≡ on.seen disk_old = loaded.durable other image (subst (λ (n : ℕ). on.left_at mid n image) now left) in
-      subst (λ (bytes : List ℕ). Stands bytes old) (sym is) stands
+      subst (λ (bytes : List ℕ). StandsFor bytes old) (sym is) stands
 
   -- no store was read
   pub unread : (fault : RecoverFault) → read ≡ Err fault → Opened on boot disk_old (Err fault) mid
   unread fault is = record {
-    found = λ told. tt;
-    stored = λ told old stands. tt;
-    same_boot = λ told old stands. tt;
-    other_boot = λ told old stands. tt;
-    not_a_store = λ told e. loaded.not_a_store told (is ∙ ap Err (err_is e));
-    past = loaded.stop.past;
-    stop = λ told old stands other t image from to left. inl (read_stands (fine other) old stands t image from to left);
-    stop_fault = λ told old stands t image from to left. inr (omega (arith, loaded.spends.within), loaded.stop.each t image (omega arith) to left);
-    stop_memory = λ old stands e t image from to left. read_stands (fine (λ f. memory_fault {X = Updater × Bool} (sym e ∙ f))) old stands t image from to left;
-    seen = λ other. loaded.seen;
-    within = λ other. loaded.spends.within;
-    unwritten = λ e. no_bytes on 1 disk_old mid _ loaded.spends;
-    synced = tt;
-    quiet = tt;
-    marked = tt;
-    bytes = boot_bytes boot;
-    costs = λ told old stands. boot_costs (on.seen disk_old) boot old few stands;
-    spends = spends_within on 1 0 5 (boot_bytes boot) disk_old mid _ (omega arith) (omega arith)
-        (spends_as on 1 0 disk_old mid (read ≡ Err DiskFault) _ (λ e. as_fault (sym is ∙ e)) (λ e. is ∙ ap Err (err_is e)) loaded.spends);
+    holds = record {
+      found = λ told. tt;
+      stored = λ told old stands. tt;
+      same_boot = λ told old stands. tt;
+      other_boot = λ told old stands. tt;
+      not_a_store = λ told e. loaded.not_a_store told (is ∙ ap Err (err_is e));
+    };
+    leaves = record {
+      past = loaded.stop.past;
+      stop = λ told old stands other t image from to left. inl (read_stands (fine other) old stands t image from to left);
+      stop_fault = λ told old stands t image from to left. inr (omega (arith, loaded.spends.within), loaded.stop.each t image (omega arith) to left);
+      stop_memory = λ old stands e t image from to left. read_stands (fine (λ f. memory_fault {X = Updater × Bool} (sym e ∙ f))) old stands t image from to left;
+    };
+    spent = record {
+      seen = λ other. loaded.seen;
+      within = λ other. loaded.spends.within;
+      unwritten = λ e. no_bytes on 1 disk_old mid _ loaded.spends;
+      synced = tt;
+      quiet = tt;
+      marked = tt;
+      bytes = boot_bytes boot;
+      costs = λ told old stands. boot_costs (on.seen disk_old) boot old few stands;
+      spends = spends_within on 1 0 5 (boot_bytes boot) disk_old mid _ (omega arith) (omega arith)
+          (spends_as on 1 0 disk_old mid (read ≡ Err DiskFault) _ (λ e. as_fault (sym is ∙ e)) (λ e. is ∙ ap Err (err_is e)) loaded.spends);
+    };
   }
     where
       as_fault : ◌≡◌ {A = Result Updater RecoverFault} (Err fault) (Err DiskFault) → ◌≡◌ {A = Result (Updater × Bool) RecoverFault} (Err fault) (Err DiskFault)
@@ -135,10 +141,10 @@ module _ {D : Type 0} (on : Ghosts D) (boot : ℕ) (few : boot ≤ NUMBER_LIMIT)
     got : on.tells mid → IsLoaded on disk_old updater mid
     got told = subst (λ (r : Result Updater RecoverFault). IfOk r (λ u. IsLoaded on disk_old u mid)) is (loaded.found told)
 
-    held : on.tells mid → (old : Store) → Stands (on.seen disk_old) old → Holds on updater mid (session_over old)
+    held : on.tells mid → (old : Store) → StandsFor (on.seen disk_old) old → Holds on updater mid (session_over old)
     held told old stands = let l = got told in subst (λ (s : Store). Holds on updater mid (session_over s)) (one_stands (on.seen disk_old) l.store old l.stands stands) l.holds
 
-    kept_boot : on.tells mid → (old : Store) → Stands (on.seen disk_old) old → old.boot ≡ (tables_of updater).boot
+    kept_boot : on.tells mid → (old : Store) → StandsFor (on.seen disk_old) old → old.boot ≡ (tables_of updater).boot
     kept_boot told old stands = boot_shown ((held told old stands).shows (on.seen mid) seen_left)
 
     -- what was spent where that is not the end
@@ -148,54 +154,66 @@ module _ {D : Type 0} (on : Ghosts D) (boot : ℕ) (few : boot ≤ NUMBER_LIMIT)
     -- the boot number is the kept one
     pub same : (tables_of updater).boot ≡ boot → Opened on boot disk_old (Ok (updater, false)) mid
     same at = record {
-      found = λ told. let l = got told in (l.store, l.stands);
-      stored = λ told old stands. subst (λ (s : Store). Holds on updater mid (session_over s)) (sym (booted_same old boot (kept_boot told old stands ∙ at))) (held told old stands);
-      same_boot = λ told old stands answer. kept_boot told old stands ∙ at;
-      other_boot = λ told old stands answer. absurd (false_true answer);
-      not_a_store = λ told e. absurd (ok_none (updater, false) e);
-      past = loaded.stop.past;
-      stop = λ told old stands other t image from to left. inl (read_stands fine old stands t image from to left);
-      stop_fault = λ told old stands t image from to left. inl (inl (read_stands fine old stands t image from to left));
-      stop_memory = λ old stands e. absurd (ok_memory (updater, false) e);
-      seen = tt;
-      within = tt;
-      unwritten = λ e. absurd (ok_none (updater, false) e);
-      synced = loaded.synced fine;
-      quiet = λ answer. (loaded.spends.within, no_bytes on 1 disk_old mid _ loaded.spends);
-      marked = λ answer. absurd (false_true answer);
-      bytes = 0;
-      costs = λ told old stands. inl (booted_same old boot (kept_boot told old stands ∙ at), refl);
-      spends = spends_within on 1 0 5 0 disk_old mid _ (omega arith) (omega arith) (read_by (Ok (updater, false)) (ok_fault (updater, false)));
+      holds = record {
+        found = λ told. let l = got told in (l.store, l.stands);
+        stored = λ told old stands. subst (λ (s : Store). Holds on updater mid (session_over s)) (sym (booted_same old boot (kept_boot told old stands ∙ at))) (held told old stands);
+        same_boot = λ told old stands answer. kept_boot told old stands ∙ at;
+        other_boot = λ told old stands answer. absurd (false_true answer);
+        not_a_store = λ told e. absurd (ok_none (updater, false) e);
+      };
+      leaves = record {
+        past = loaded.stop.past;
+        stop = λ told old stands other t image from to left. inl (read_stands fine old stands t image from to left);
+        stop_fault = λ told old stands t image from to left. inl (inl (read_stands fine old stands t image from to left));
+        stop_memory = λ old stands e. absurd (ok_memory (updater, false) e);
+      };
+      spent = record {
+        seen = tt;
+        within = tt;
+        unwritten = λ e. absurd (ok_none (updater, false) e);
+        synced = loaded.synced fine;
+        quiet = λ answer. (loaded.spends.within, no_bytes on 1 disk_old mid _ loaded.spends);
+        marked = λ answer. absurd (false_true answer);
+        bytes = 0;
+        costs = λ told old stands. inl (booted_same old boot (kept_boot told old stands ∙ at), refl);
+        spends = spends_within on 1 0 5 0 disk_old mid _ (omega arith) (omega arith) (read_by (Ok (updater, false)) (ok_fault (updater, false)));
+      };
     }
 
     -- there was no memory for the boot number
     missed : Opened on boot disk_old (Err Memory) mid
     missed = record {
-      found = λ told. tt;
-      stored = λ told old stands. tt;
-      same_boot = λ told old stands. tt;
-      other_boot = λ told old stands. tt;
-      not_a_store = λ told e. absurd (memory_none e);
-      past = loaded.stop.past;
-      stop = λ told old stands other t image from to left. inl (read_stands fine old stands t image from to left);
-      stop_fault = λ told old stands t image from to left. inl (inl (read_stands fine old stands t image from to left));
-      stop_memory = λ old stands e t image from to left. read_stands fine old stands t image from to left;
-      seen = λ other. loaded.seen;
-      within = λ other. loaded.spends.within;
-      unwritten = λ e. absurd (memory_none e);
-      synced = tt;
-      quiet = tt;
-      marked = tt;
-      bytes = boot_bytes boot;
-      costs = λ told old stands. boot_costs (on.seen disk_old) boot old few stands;
-      spends = spends_within on 1 0 5 (boot_bytes boot) disk_old mid _ (omega arith) (omega arith) (read_by {X = Updater × Bool} (Err Memory) memory_fault);
+      holds = record {
+        found = λ told. tt;
+        stored = λ told old stands. tt;
+        same_boot = λ told old stands. tt;
+        other_boot = λ told old stands. tt;
+        not_a_store = λ told e. absurd (memory_none e);
+      };
+      leaves = record {
+        past = loaded.stop.past;
+        stop = λ told old stands other t image from to left. inl (read_stands fine old stands t image from to left);
+        stop_fault = λ told old stands t image from to left. inl (inl (read_stands fine old stands t image from to left));
+        stop_memory = λ old stands e t image from to left. read_stands fine old stands t image from to left;
+      };
+      spent = record {
+        seen = λ other. loaded.seen;
+        within = λ other. loaded.spends.within;
+        unwritten = λ e. absurd (memory_none e);
+        synced = tt;
+        quiet = tt;
+        marked = tt;
+        bytes = boot_bytes boot;
+        costs = λ told old stands. boot_costs (on.seen disk_old) boot old few stands;
+        spends = spends_within on 1 0 5 (boot_bytes boot) disk_old mid _ (omega arith) (omega arith) (read_by {X = Updater × Bool} (Err Memory) memory_fault);
+      };
     }
 
-    module _ {T : Type 0} (tried : Result T StepFault) (updater_new : Updater) (disk_new : D) (keeps : Keeps on (Boot boot) updater mid tried updater_new disk_new) where
-      leads : on.tells mid → (old : Store) → Stands (on.seen disk_old) old → Leads (Boot boot) (tables_of updater) old (booted boot old)
+    module _ {T : Type 0} (tried : Result T StepFault) (updater_new : Updater) (disk_new : D) (keeps : MakesDurable on (Boot boot) updater mid tried updater_new disk_new) where
+      leads : on.tells mid → (old : Store) → StandsFor (on.seen disk_old) old → LeadsBetween (Boot boot) (tables_of updater) old (booted boot old)
       leads told old stands = let holds = held told old stands in booted_leads old.room (tables_of updater) (on.seen mid) old boot (holds.shows (on.seen mid) seen_left) few holds.valid
 
-      since : on.tells disk_new → (old : Store) → Stands (on.seen disk_old) old → LeavesSince on (on.moment disk_old + 1) disk_new (StandsForEither old (booted boot old))
+      since : on.tells disk_new → (old : Store) → StandsFor (on.seen disk_old) old → LeavesSince on (on.moment disk_old + 1) disk_new (StandsForEither old (booted boot old))
       since told old stands t image from to left =
           (keeps.stop told (session_over old) (booted boot old) (leads (keeps.spends.told told) old stands) (held (keeps.spends.told told) old stands)).each t image
           (omega (arith, loaded.synced fine, loaded.spends.within)) to left
@@ -216,25 +234,31 @@ module _ {D : Type 0} (on : Ghosts D) (boot : ℕ) (few : boot ≤ NUMBER_LIMIT)
       other done ok differs =
           let marks : on.moment mid + 1 ≤ on.moment disk_new = subst (λ (r : Result T StepFault). OnOk r (on.moment mid + 1 ≤ on.moment disk_new)) ok keeps.marked in
           record {
-            found = λ told. let l = got (keeps.spends.told told) in (l.store, l.stands);
-            stored = λ told old stands. subst (λ (r : Result T StepFault). OnOk r (Holds on updater_new disk_new (session_over (booted boot old)))) ok
-                (keeps.stored told (session_over old) (booted boot old) (leads (keeps.spends.told told) old stands) (held (keeps.spends.told told) old stands));
-            same_boot = λ told old stands answer. absurd (true_false answer);
-            other_boot = λ told old stands answer e. differs (sym (kept_boot (keeps.spends.told told) old stands) ∙ e);
-            not_a_store = λ told e. absurd (ok_none (updater_new, true) e);
-            past = before;
-            stop = λ told old stands fault. since told old stands;
-            stop_fault = λ told old stands t image from to left. inl (since told old stands t image from to left);
-            stop_memory = λ old stands e. absurd (ok_memory (updater_new, true) e);
-            seen = tt;
-            within = tt;
-            unwritten = λ e. absurd (ok_none (updater_new, true) e);
-            synced = omega (arith, marks, loaded.synced fine);
-            quiet = λ answer. absurd (true_false answer);
-            marked = λ answer. omega (arith, marks, loaded.synced fine);
-            bytes = boot_bytes boot;
-            costs = λ told old stands. boot_costs (on.seen disk_old) boot old few stands;
-            spends = both (Ok (updater_new, true)) (λ e. absurd (step_ok done (sym ok ∙ e))) (λ e. absurd (ok_fault (updater_new, true) e));
+            holds = record {
+              found = λ told. let l = got (keeps.spends.told told) in (l.store, l.stands);
+              stored = λ told old stands. subst (λ (r : Result T StepFault). OnOk r (Holds on updater_new disk_new (session_over (booted boot old)))) ok
+                  (keeps.stored told (session_over old) (booted boot old) (leads (keeps.spends.told told) old stands) (held (keeps.spends.told told) old stands));
+              same_boot = λ told old stands answer. absurd (true_false answer);
+              other_boot = λ told old stands answer e. differs (sym (kept_boot (keeps.spends.told told) old stands) ∙ e);
+              not_a_store = λ told e. absurd (ok_none (updater_new, true) e);
+            };
+            leaves = record {
+              past = before;
+              stop = λ told old stands fault. since told old stands;
+              stop_fault = λ told old stands t image from to left. inl (since told old stands t image from to left);
+              stop_memory = λ old stands e. absurd (ok_memory (updater_new, true) e);
+            };
+            spent = record {
+              seen = tt;
+              within = tt;
+              unwritten = λ e. absurd (ok_none (updater_new, true) e);
+              synced = omega (arith, marks, loaded.synced fine);
+              quiet = λ answer. absurd (true_false answer);
+              marked = λ answer. omega (arith, marks, loaded.synced fine);
+              bytes = boot_bytes boot;
+              costs = λ told old stands. boot_costs (on.seen disk_old) boot old few stands;
+              spends = both (Ok (updater_new, true)) (λ e. absurd (step_ok done (sym ok ∙ e))) (λ e. absurd (ok_fault (updater_new, true) e));
+            };
           }
 
       -- there was no memory for it
@@ -244,22 +268,28 @@ module _ {D : Type 0} (on : Ghosts D) (boot : ℕ) (few : boot ≤ NUMBER_LIMIT)
       -- the disk failed
       pub fault : tried ≡ Err step.DiskFault → Opened on boot disk_old (Err DiskFault) disk_new
       fault is = record {
-        found = λ told. tt;
-        stored = λ told old stands. tt;
-        same_boot = λ told old stands. tt;
-        other_boot = λ told old stands. tt;
-        not_a_store = λ told e. absurd (fault_none e);
-        past = before;
-        stop = λ told old stands other. absurd (other refl);
-        stop_fault = λ told old stands t image from to left. inl (since told old stands t image from to left);
-        stop_memory = λ old stands e. absurd (fault_memory e);
-        seen = λ other. absurd (other refl);
-        within = λ other. absurd (other refl);
-        unwritten = λ e. absurd (fault_none e);
-        synced = tt;
-        quiet = tt;
-        marked = tt;
-        bytes = boot_bytes boot;
-        costs = λ told old stands. boot_costs (on.seen disk_old) boot old few stands;
-        spends = both {X = Updater × Bool} (Err DiskFault) (λ e. refl) (λ e. is);
+        holds = record {
+          found = λ told. tt;
+          stored = λ told old stands. tt;
+          same_boot = λ told old stands. tt;
+          other_boot = λ told old stands. tt;
+          not_a_store = λ told e. absurd (fault_none e);
+        };
+        leaves = record {
+          past = before;
+          stop = λ told old stands other. absurd (other refl);
+          stop_fault = λ told old stands t image from to left. inl (since told old stands t image from to left);
+          stop_memory = λ old stands e. absurd (fault_memory e);
+        };
+        spent = record {
+          seen = λ other. absurd (other refl);
+          within = λ other. absurd (other refl);
+          unwritten = λ e. absurd (fault_none e);
+          synced = tt;
+          quiet = tt;
+          marked = tt;
+          bytes = boot_bytes boot;
+          costs = λ told old stands. boot_costs (on.seen disk_old) boot old few stands;
+          spends = both {X = Updater × Bool} (Err DiskFault) (λ e. refl) (λ e. is);
+        };
       }

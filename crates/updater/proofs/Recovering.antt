@@ -23,7 +23,7 @@ use Rattle.updater.specs.declared.fault.RecoverFault.{RecoverFault}
 use Rattle.updater.specs.declared.fault.RecoverFault.TheVariants.{DiskFault, NotAStore, Memory as OutOfMemory}
 use Rattle.updater.specs.Loaded.{IsLoaded, Loaded}
 use Rattle.updater.specs.Replay.{Settled, SettleNone, Settles}
-use Rattle.updater.specs.Stands.{IsJournal, StandsForNone, Loads}
+use Rattle.updater.specs.StandsFor.{IsJournal, StandsForNone, Loads}
 use Rattle.updater.specs.Updater.{room_of, tables_of}
 use Rattle.updater.proofs.Changing.{blocks_shown, journal_shown, views_shown}
 use Rattle.updater.proofs.Loading.{loads_same}

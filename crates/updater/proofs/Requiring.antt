@@ -31,7 +31,7 @@ use Rattle.store_state.proofs.Showing.{shape_shown}
 use Rattle.links.specs.Links.{LinksState}
 use Rattle.updater.specs.Requirement.{Stays, Raises}
 use Rattle.updater.proofs.Changing.{apps_shown, required_leads}
-use Rattle.updater.proofs.Commanding.{Rests, Does, effect_answers}
+use Rattle.updater.proofs.Commanding.{LeavesStore, Does, effect_answers}
 
 -- ---- the minimum of the key
 
@@ -99,7 +99,7 @@ module _ (now : ℕ) (key : Key) (version : Version) (room : Room) (tables : Tab
   answers_with minimum is = effect_answers now [] room tables old (shape_shown old no_jobs shows) (command.Require key version) (says.Minimum minimum) (record old { store = record old.store { apps = required key version old.store.apps } }) passes
       (ap says.Minimum (sym (ap (λ (apps : List AppState). raised (minimum_of key apps) version) (apps_shown shows) ∙ is)), refl)
 
-  pub required_rests : (minimum : Version) → Stays key version minimum tables.apps → Rests now [] (command.Require key version) before after old (says.Minimum minimum)
+  pub required_rests : (minimum : Version) → Stays key version minimum tables.apps → LeavesStore now [] (command.Require key version) before after old (says.Minimum minimum)
   required_rests minimum kept = record {
     new = record old { store = record old.store { apps = required key version old.store.apps } };
     step = answers_with minimum kept.minimum;

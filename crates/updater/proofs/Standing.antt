@@ -13,13 +13,13 @@ use Rattle.store_state.specs.Shows.{Shows}
 use Rattle.store_state.specs.Tables.{Tables, empty}
 use Rattle.store_state.proofs.Showing.{one_shown, shows_empty}
 use Rattle.updater.specs.declared.updater.Updater.{Updater}
-use Rattle.updater.specs.Stands.{IsJournal, Loads, Stands, StandsForEither}
+use Rattle.updater.specs.StandsFor.{IsJournal, Loads, StandsFor, StandsForEither}
 use Rattle.updater.specs.Updater.{Holds, IsOpenAs, tables_of}
 use Rattle.updater.proofs.Loading.{loads_same}
 
 module _ {D : Type 0} (on : Ghosts D) (updater : Updater) (disk : D) where
   -- each image that a stop may leave now stands for the store
-  pub stored_stands : (session : Session) → Holds on updater disk session → Each on disk (λ image. Stands image session.store)
+  pub stored_stands : (session : Session) → Holds on updater disk session → Each on disk (λ image. StandsFor image session.store)
   stored_stands session holds image left = record {
     tables = tables_of updater;
     reads = record {
@@ -59,7 +59,7 @@ one_journal image a b before after first second =
     (room_is a b one.0 (first.half ∙ sym second.half), one.1)
 
 -- bytes stand for one store
-pub one_stands : (image : List ℕ) (a b : Store) → Stands image a → Stands image b → a ≡ b
+pub one_stands : (image : List ℕ) (a b : Store) → StandsFor image a → StandsFor image b → a ≡ b
 one_stands image a b first second =
     let one = one_journal image a.room b.room first.reads.changes second.reads.changes first.reads.journal second.reads.journal in
     let tables : first.tables ≡ second.tables = loads_same empty first.tables second.tables second.reads.changes (subst (λ (l : List (List ℕ)). Loads empty l first.tables) one.1 first.reads.loads) second.reads.loads in
@@ -68,7 +68,7 @@ one_stands image a b first second =
     one_shown b.room second.tables image a b shows second.shows
 
 -- a new journal stands for the empty store
-pub new_stands : (image : List ℕ) (room : Room) → IsJournal room [] image → Stands image (stores.empty room)
+pub new_stands : (image : List ℕ) (room : Room) → IsJournal room [] image → StandsFor image (stores.empty room)
 new_stands image room journal = record {
   tables = empty;
   reads = record { changes = []; journal = journal; loads = refl };

@@ -13,8 +13,7 @@ use Rattle.install_plan.specs.GroupAsked.{AreBrought, GroupServed}
 use Rattle.install_plan.specs.Hearing.{Served}
 use Rattle.install_plan.specs.Offers.{OfferServed}
 use Rattle.machine.specs.declared.command.Command.{Command}
-use Rattle.machine.specs.declared.command.Command.TheVariants.{At, Require, Install, Check, Skip, Rollback, Launch, Read, Local, Put, Remove, Group, Finish, Clean, Show}
-use Rattle.machine.specs.declared.command.Command.TheVariants as asks
+use Rattle.machine.specs.declared.command.Command.TheVariants.{Install, Check, Group}
 use Rattle.machine.specs.declared.reply.Reply.{Reply}
 use Rattle.machine.specs.Machine.{Answers, Hears, moment_after}
 use Rattle.machine.specs.Shape.{shape_of}
@@ -24,7 +23,7 @@ use Rattle.machine.specs.Views.{View}
 use Rattle.store_state.specs.Tables.{table_shape}
 use Rattle.updater.specs.declared.updater.Updater.{Updater}
 use Rattle.updater.specs.Costs.{Costs}
-use Rattle.updater.specs.Stands.{StandsForEither}
+use Rattle.updater.specs.StandsFor.{StandsForEither}
 use Rattle.updater.specs.Updater.{Holds, room_of, tables_of}
 
 -- ---- by the command
@@ -32,76 +31,39 @@ use Rattle.updater.specs.Updater.{Holds, room_of, tables_of}
 -- The store before the command. An install and a group take over the files of kept views, so it is
 -- to be sound.
 abbrev pub SoundFor : Command → Store → Type 0
-SoundFor (At next) store = Unit {0}
-SoundFor (Require key version) store = Unit {0}
 SoundFor (Install url) store = Sound store
-SoundFor (Check key) store = Unit {0}
-SoundFor (Skip key) store = Unit {0}
-SoundFor (Rollback key) store = Unit {0}
-SoundFor (Launch key) store = Unit {0}
-SoundFor (Read lease name from count) store = Unit {0}
-SoundFor (Local lease name from count) store = Unit {0}
-SoundFor (Put lease name bytes) store = Unit {0}
-SoundFor (Remove lease name) store = Unit {0}
 SoundFor (Group lease group) store = Sound store
-SoundFor (Finish lease) store = Unit {0}
-SoundFor Clean store = Unit {0}
-SoundFor asks.List store = Unit {0}
-SoundFor (Show key) store = Unit {0}
+SoundFor _ store = Unit {0}
 
--- a command that asks for nothing leaves the links alone
+-- An install, a check and a group ask the links. Any other command leaves them alone.
 abbrev pub LeavesLinks : {L : Type 0} → Command → L → L → Type 0
-LeavesLinks (At next) old new = new ≡ old
-LeavesLinks (Require key version) old new = new ≡ old
 LeavesLinks (Install url) old new = Unit {0}
 LeavesLinks (Check key) old new = Unit {0}
-LeavesLinks (Skip key) old new = new ≡ old
-LeavesLinks (Rollback key) old new = new ≡ old
-LeavesLinks (Launch key) old new = new ≡ old
-LeavesLinks (Read lease name from count) old new = new ≡ old
-LeavesLinks (Local lease name from count) old new = new ≡ old
-LeavesLinks (Put lease name bytes) old new = new ≡ old
-LeavesLinks (Remove lease name) old new = new ≡ old
 LeavesLinks (Group lease group) old new = Unit {0}
-LeavesLinks (Finish lease) old new = new ≡ old
-LeavesLinks Clean old new = new ≡ old
-LeavesLinks asks.List old new = new ≡ old
-LeavesLinks (Show key) old new = new ≡ old
+LeavesLinks _ old new = new ≡ old
 
--- What the links did for a step from one session to another. An install asked them for what it heard,
--- for each program file of the new view whose content no kept view has, and for each data file that
--- the release deploys. A check asked for the manifest that it heard, and a group for each of its
--- files whose content no kept view has.
-abbrev pub Serves :
+-- What the links did for a step from one session to another. An install asked them for what it
+-- heard, for each program file of the new view whose content no kept view has, and for each data
+-- file that the release deploys. A check asked for the manifest that it heard, and a group for each
+-- of its files whose content no kept view has.
+abbrev pub LinksServe :
     Command → List (List ℕ) → LinksState → LinksState → Session → Reply → Session → Type 0
-Serves (At next) heard before after old reply new = Unit {0}
-Serves (Require key version) heard before after old reply new = Unit {0}
-Serves (Install url) heard before after old reply new =
+LinksServe (Install url) heard before after old reply new =
     Served (shape_of old) url heard before after reply
     × ((view : View) → new.store.views ≡ old.store.views ++ view ∷ []
     → IsBrought old before after view)
-Serves (Check key) heard before after old reply new =
+LinksServe (Check key) heard before after old reply new =
     OfferServed key (shape_of old) heard before after reply
-Serves (Skip key) heard before after old reply new = Unit {0}
-Serves (Rollback key) heard before after old reply new = Unit {0}
-Serves (Launch key) heard before after old reply new = Unit {0}
-Serves (Read lease name from count) heard before after old reply new = Unit {0}
-Serves (Local lease name from count) heard before after old reply new = Unit {0}
-Serves (Put lease name bytes) heard before after old reply new = Unit {0}
-Serves (Remove lease name) heard before after old reply new = Unit {0}
-Serves (Group lease group) heard before after old reply new =
+LinksServe (Group lease group) heard before after old reply new =
     GroupServed lease group (shape_of old) before after reply
     × AreBrought lease group (shape_of old) before after new.store
-Serves (Finish lease) heard before after old reply new = Unit {0}
-Serves Clean heard before after old reply new = Unit {0}
-Serves asks.List heard before after old reply new = Unit {0}
-Serves (Show key) heard before after old reply new = Unit {0}
+LinksServe _ heard before after old reply new = Unit {0}
 
 -- ---- what it did
 
--- It answered: a step of the machine, whose session is held from now on. A stop at any moment of the
--- call leaves the store before it or that after it. Where the store stays as it was, no call that
--- changes the disk is made; else one is, at least. It writes at most what the step costs.
+-- It answered: a step of the machine, whose session is held from now on. A stop at any moment of
+-- the call leaves the store before it or that after it. Where the store stays as it was, no call
+-- that changes the disk is made; else one is, at least. It writes at most what the step costs.
 pub record Answered {D L : Type 0} (on : Ghosts D) (net : LinksGhosts L) (now : ℕ)
     (heard : List (List ℕ)) (command : Command) (disk_old : D) (links_old : L) (old : Session)
     (reply : Reply) (updater_new : Updater) (disk_new : D) (links_new : L) : Type 0 where
@@ -115,10 +77,10 @@ pub record Answered {D L : Type 0} (on : Ghosts D) (net : LinksGhosts L) (now : 
   pub bytes : ℕ
   pub costs : Costs old.store new.store bytes
   pub written : on.total disk_new ≤ on.total disk_old + bytes
-  pub served : Serves command heard (net.links links_old) (net.links links_new) old reply new
+  pub served : LinksServe command heard (net.links links_old) (net.links links_new) old reply new
 
--- The disk failed: a stop leaves the store before some step of the command or that after it. No more
--- is written than that step costs.
+-- The disk failed: a stop leaves the store before some step of the command or that after it. No
+-- more is written than that step costs.
 pub record Faulted {D L : Type 0} (on : Ghosts D) (net : LinksGhosts L) (now : ℕ)
     (heard : List (List ℕ)) (command : Command) (disk_old : D) (links_old : L) (old : Session)
     (disk_new : D) (links_new : L) : Type 0 where
@@ -130,12 +92,12 @@ pub record Faulted {D L : Type 0} (on : Ghosts D) (net : LinksGhosts L) (now : �
   pub bytes : ℕ
   pub costs : Costs old.store new.store bytes
   pub written : on.total disk_new ≤ on.total disk_old + bytes
-  pub served : Serves command heard (net.links links_old) (net.links links_new) old reply new
+  pub served : LinksServe command heard (net.links links_old) (net.links links_new) old reply new
 
 -- What a command does, for each session that is held, and whose store is sound where the command
 -- asks it, where the disk tells afterwards. What it tells then it told before. The count of faults
--- rises exactly where the disk failed. The links and their sites stay. What it heard, its tables let
--- it hear; and the moment of the next command is within its limit.
+-- rises exactly where the disk failed. The links and their sites stay. What it heard, its tables
+-- let it hear; and the moment of the next command is within its limit.
 pub record Commanded {D L : Type 0} (on : Ghosts D) (net : LinksGhosts L) (now : ℕ)
     (heard : List (List ℕ)) (command : Command) (updater_old : Updater) (disk_old : D)
     (links_old : L) (result : Result Reply Failed) (updater_new : Updater) (disk_new : D)

@@ -7,7 +7,7 @@ use Rattle.store_state.specs.declared.change.Change.{Change}
 use Rattle.store_state.specs.Change.{Fits}
 use Rattle.store_state.specs.Shows.{Shows}
 use Rattle.store_state.specs.Tables.{Tables}
-use Rattle.updater.specs.Keeps.{Leads}
+use Rattle.updater.specs.MakesDurable.{LeadsBetween}
 
 -- tables that show the old store come to show the new one by the change, which fits them and has an
 -- encoding
@@ -17,10 +17,10 @@ pub record IsChangeBetween (old new : Store) (change : Change) : Type 0 where
   pub shows : Shows old.room tables image old
   pub fits : Fits tables change
   pub has : IsChange change
-  pub leads : Leads change tables old new
+  pub leads : LeadsBetween change tables old new
 
--- nothing where the store stays; else the encoding of a change that leads from the one to the other,
--- and the log's own bytes around it
+-- nothing where the store stays; else the encoding of a change that leads from the one to the
+-- other, and the log's own bytes around it
 abbrev pub Costs : Store → Store → ℕ → Type 0
 Costs old new bytes =
     ((new ≡ old) × (bytes ≡ 0))

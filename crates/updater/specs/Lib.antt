@@ -3,15 +3,15 @@ pub mod Commanded
 pub mod Costs
 pub mod DataFiles
 pub mod GoingBack
-pub mod Keeps
 pub mod Leased
 pub mod Loaded
+pub mod MakesDurable
 pub mod Moments
 pub mod Opened
 pub mod Putting
 pub mod Replay
 pub mod Requirement
 pub mod Skipping
-pub mod Stands
+pub mod StandsFor
 pub mod Start
 pub mod Updater

@@ -8,14 +8,14 @@ use Rattle.machine.specs.Store.{Store, session_over}
 use Rattle.updater.specs.declared.fault.RecoverFault.{RecoverFault}
 use Rattle.updater.specs.declared.fault.RecoverFault.TheVariants.{NotAStore, DiskFault}
 use Rattle.updater.specs.declared.updater.Updater.{Updater}
-use Rattle.updater.specs.Stands.{Stands, StandsForNone}
+use Rattle.updater.specs.StandsFor.{StandsFor, StandsForNone}
 use Rattle.updater.specs.Updater.{Holds}
 
 -- a store for which reads stood is held, with no job
 pub record IsLoaded {D : Type 0} (on : Ghosts D) (disk_old : D) (updater : Updater) (disk_new : D)
     : Type 0 where
   pub store : Store
-  pub stands : Stands (on.seen disk_old) store
+  pub stands : StandsFor (on.seen disk_old) store
   pub holds : Holds on updater disk_new (session_over store)
 
 -- It makes one call that may change the disk, a sync, and writes nothing. From then on each stop

@@ -8,7 +8,7 @@ use Rattle.store_state.specs.Change.{Fits, effect}
 use Rattle.store_state.specs.Tables.{Tables, bare_row, empty}
 use Rattle.updater.specs.declared.fault.RecoverFault.{RecoverFault}
 use Rattle.updater.specs.declared.fault.RecoverFault.TheVariants.{NotAStore, DiskFault, Memory}
-use Rattle.updater.specs.Stands.{Encodes, Loads}
+use Rattle.updater.specs.StandsFor.{Encodes, Loads}
 
 -- the text is the encoding of a change which fits the old tables and leads to the new ones
 pub record Makes (text : List ℕ) (old new : Tables) : Type 0 where

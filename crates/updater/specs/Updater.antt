@@ -10,7 +10,7 @@ use Rattle.store_log.specs.Log.{IsOpen, head_of}
 use Rattle.store_state.specs.Tables.{Tables, empty}
 use Rattle.store_state.specs.Shows.{Shows}
 use Rattle.updater.specs.declared.updater.Updater.{Updater}
-use Rattle.updater.specs.Stands.{Loads}
+use Rattle.updater.specs.StandsFor.{Loads}
 
 -- its tables, as `state` shows them
 abbrev pub tables_of : Updater → Tables

@@ -2,7 +2,7 @@
 ghost use Rattle.std.specs.Prelude.{◌≤◌, IfOk, IfSome, IfNone};
 ghost use Rattle.small_types.specs.declared.limits.TheConstants.{BLOCK_LIMIT};
 ghost use Rattle.store_state.specs.Tables.{Tables, empty};
-ghost use Rattle.updater.specs.Stands.{Loads};
+ghost use Rattle.updater.specs.StandsFor.{Loads};
 ghost use Rattle.updater.specs.Replay.{IsMade, Settled, Tests, Tries};
 
 use crate::RecoverFault;

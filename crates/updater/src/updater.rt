@@ -26,7 +26,7 @@ use crate::data_files::{local_of, removal_of};
 use crate::fault::StepFault;
 use crate::going_back::going_back_of;
 use crate::leased::{leased_file, part_of};
-use crate::listing::{list_rows, show_row};
+use crate::rows::{list_rows, show_row};
 use crate::piece::piece_of;
 use crate::putting::{local_file, putting_of};
 use crate::refusal::{finish_refusal, require_refusal};
@@ -80,7 +80,7 @@ fn most_texts(command: &Command) -> usize
 
 impl Updater {
     ghost use Rattle.updater.specs.Commanded.{Commanded, CommandedBehind};
-    ghost use Rattle.updater.specs.Keeps.{Keeps};
+    ghost use Rattle.updater.specs.MakesDurable.{MakesDurable};
     ghost use Rattle.updater.specs.Loaded.{Loaded};
     ghost use Rattle.updater.specs.Opened.{Opened};
     ghost use Rattle.updater.specs.Updater.{tables_of};
@@ -241,7 +241,7 @@ impl Updater {
         change: Change,
     ) -> Result<(), StepFault>
         requires { Fits (tables_of self.old) change × IsChange change }
-        ensures { Keeps D.Disk change self.old disk.old result self.new disk.new }
+        ensures { MakesDurable D.Disk change self.old disk.old result self.new disk.new }
     {
         let mut piece = match piece_of(alloc, &change) {
             Ok(piece) => piece,

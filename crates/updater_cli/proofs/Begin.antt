@@ -13,7 +13,7 @@ use Rattle.machine.specs.Sound.{Sound}
 use Rattle.machine.specs.Store.{Session, Store, booted, session_over}
 use Rattle.machine.proofs.Sessions.{begins_sound}
 use Rattle.updater.specs.Costs.{Costs}
-use Rattle.updater.specs.Stands.{Stands, StandsForEither}
+use Rattle.updater.specs.StandsFor.{StandsFor, StandsForEither}
 use Rattle.updater.specs.Updater.{Holds}
 use Rattle.updater.specs.Moments.{LeavesSince, LeavesSinceOrNot}
 use Rattle.updater.proofs.Standing.{stored_stands}
@@ -73,9 +73,9 @@ module _ {D L : Type 0} (on : Ghosts D) (net : LinksGhosts L) (links : L) (old n
     since = rw no_lines (λ t image first to left. all_lines (origin_over now store) (session_over store) [] None 0 image none.steps (inl refl) (of image (stop t image first to left)));
   }
     where
-      of : (image : List ℕ) → StandsForEither store (booted boot store) image → Stands image store
+      of : (image : List ℕ) → StandsForEither store (booted boot store) image → StandsFor image store
       of image (inl stands) = stands
-      of image (inr stands) = subst (λ (s : Store). Stands image s) (booted_same store boot kept) stands
+      of image (inr stands) = subst (λ (s : Store). StandsFor image s) (booted_same store boot kept) stands
 
   -- it is another, which was made durable
   module _ (l : ReportLine) (lines : course.lines.items ≡ l ∷ []) (is_event : l.event ≡ Boot boot) (is_reply : l.reply ≡ None) (is_mark : l.mark ≡ on.moment new) (is_failures : l.failures ≡ failures_of (net.links links))
@@ -139,7 +139,7 @@ module _ {D : Type 0} (on : Ghosts D) (old new : D) (boot now : ℕ) (store : St
       at image (inr failed) = inr (record { fault = refl; none = refl; boot = tt; once = failed.0; left = failed.1 })
 
   -- there was no memory
-  pub survives_memory : LeavesSince on (on.moment old + 1) new (λ image. Stands image store)
+  pub survives_memory : LeavesSince on (on.moment old + 1) new (λ image. StandsFor image store)
       → Survives on old new (origin_over now store) 6 (report_of [] None)
   survives_memory since = record {
     past = past;

@@ -27,7 +27,7 @@ use Rattle.machine.specs.Machine.{Answers, Step, effect, refusals}
 use Rattle.machine.specs.Shape.{Shape, shape_of}
 use Rattle.machine.specs.Store.{Session}
 use Rattle.machine.proofs.Choosing.{AllGive, given_reply}
-use Rattle.updater.specs.Commanded.{Serves}
+use Rattle.updater.specs.Commanded.{LinksServe}
 use Rattle.updater_cli.specs.Downs.{DownsAreCounted, SaysDown, ServedDownsAreCounted}
 use Rattle.updater_cli.specs.Report.{IsServed, origin_after}
 
@@ -197,7 +197,7 @@ module _ (before after : LinksState) (kept : Kept before after) (now : ℕ) (hea
       (answer_other now heard old command reply new none answers))
 
   command_down : (command : Command) → Answers now heard old command reply new
-      → Serves command heard before after old reply new → Risen before after kept
+      → LinksServe command heard before after old reply new → Risen before after kept
   command_down (Install url) answers serves =
       install_down before after kept (shape_of old) url heard serves.0.hearing.asked reply
       serves.0.accounts there
@@ -233,7 +233,7 @@ line_down net before after now old new (Line command at heard) reply step served
     command_down (net.links before) (net.links after) served.kept now heard.texts old step.answer
     new (subst (λ (r : Option Reply). IsSomeAnd r SaysDown) step.replied down) command step.answers
     (subst (λ (r : Option Reply). IfSome r (λ answer.
-    Serves command heard.texts (net.links before) (net.links after) old answer new))
+    LinksServe command heard.texts (net.links before) (net.links after) old answer new))
     step.replied served.serves)
 
 -- the same of all lines

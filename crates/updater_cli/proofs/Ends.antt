@@ -18,7 +18,7 @@ use Rattle.machine.specs.declared.report.ReportLine.{ReportLine}
 use Rattle.machine.specs.Store.{Store, booted, session_over}
 use Rattle.command_text.specs.Lines.{AreEvents, IsEvent, texts_of}
 use Rattle.command_text.proofs.InputLemmas.{length_events}
-use Rattle.updater.specs.Stands.{Stands, StandsForNone}
+use Rattle.updater.specs.StandsFor.{StandsFor, StandsForNone}
 use Rattle.updater_cli.specs.declared.status.Status.{Status}
 use Rattle.updater_cli.specs.declared.status.Status.TheVariants.{Done, Words, SourceFault, SinkFault, DiskFault, NotAStore, Memory, TooMuchInput}
 use Rattle.updater_cli.specs.Devices.{devices_of}
@@ -211,7 +211,7 @@ module _ {S K D L : Type 0} (source : SourceGhosts S) (to : SinkGhosts K) (on : 
   }
 
   -- the lines
-  pub opened_lines : boot ≤ NUMBER_LIMIT → (on.tells new.disk → (store : Store) → Stands (on.seen disk) store → BootsFirst boot store.boot old.course.lines.items)
+  pub opened_lines : boot ≤ NUMBER_LIMIT → (on.tells new.disk → (store : Store) → StandsFor (on.seen disk) store → BootsFirst boot store.boot old.course.lines.items)
       → HeadlineLines source on net boot now (code_of (end_of outcome)) (devices_of source_old old.sink disk old.links) (devices_of source_new new.sink new.disk new.links)
       (report_of new.course.lines.items new.course.begun)
   opened_lines small boots = record {
@@ -304,13 +304,13 @@ Spent on boot now old new store status = (more : ℕ) × CostsBegun now (session
 -- and its run
 pub unopened_run : {S K D L : Type 0} (to : SinkGhosts K) (on : Ghosts D) (net : LinksGhosts L) (boot now : ℕ) (s : S) (k : K) (l : L) (old new : D) (status : Status) → IsOpeningEnd status
     → (on.tells new → status ≡ NotAStore → StandsForNone (on.seen old)) → (status ≢ DiskFault → on.moment new ≤ on.moment old + 1) → (status ≢ DiskFault → on.seen new ≡ on.seen old)
-    → (on.tells new → (store : Store) → Stands (on.seen old) store → status ≢ Memory → (more : ℕ) × CostsBegun now (session_over store) (begun_by boot status) more × (on.total new ≤ on.total old + more))
+    → (on.tells new → (store : Store) → StandsFor (on.seen old) store → status ≢ Memory → (more : ℕ) × CostsBegun now (session_over store) (begun_by boot status) more × (on.total new ≤ on.total old + more))
     → HeadlineRun to on net now (code_of status) (devices_of s k old l) (devices_of s k new l) (report_of [] (begun_by boot status))
 unopened_run to on net boot now s k l old new status end no_store within reads costs = record {
   leads = λ told store stands. record {
     session = session_over store;
     runs = runs_none now store stands.sound;
-    reads = λ other. subst (λ (image : List ℕ). Stands image store) (sym (reads (λ same. other (ap code_of same)))) stands.stands;
+    reads = λ other. subst (λ (image : List ℕ). StandsFor image store) (sym (reads (λ same. other (ap code_of same)))) stands.stands;
     last = on.moment old + 1;
     bytes = 0;
     counts = (refl, refl, refl);

@@ -3,7 +3,7 @@ use Rattle.std.proofs.Common.{◌≡◌, ◌⊎◌, ℕ, List, [], inl, inr, ref
 use Rattle.disks.specs.declared.disk.Disk.{Ghosts}
 use Rattle.machine.specs.Store.{plain_room}
 use Rattle.store_log.specs.Log.{Formats, IsNewOrNone, IsStore, NoStore}
-use Rattle.updater.specs.Stands.{StandsForNone}
+use Rattle.updater.specs.StandsFor.{StandsForNone}
 use Rattle.updater.proofs.Standing.{new_stands}
 use Rattle.updater_cli.specs.Format.{Renews, StandsForNew}
 

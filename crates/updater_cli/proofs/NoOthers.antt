@@ -9,6 +9,7 @@ use Rattle.identity.specs.declared.key.Key.{Key}
 use Rattle.links.specs.Links.{LinksState}
 use Rattle.fetcher.specs.Given.{IsOfSite}
 use Rattle.manifests.specs.declared.facts.FileEntry.{FileEntry}
+use Rattle.install_plan.specs.Brought.{IsHeldOrCame}
 use Rattle.machine.specs.declared.command.Command.{Command}
 use Rattle.machine.specs.declared.command.Command.TheVariants.{At, Require, Install, Check, Skip, Rollback, Launch, Read, Local, Put, Remove, Group, Finish, Clean, Show}
 use Rattle.machine.specs.declared.command.Command.TheVariants as asks
@@ -54,7 +55,7 @@ use Rattle.updater_cli.specs.Published.{AreNoOthers, Keeps, KeepsNoOthers}
 use Rattle.updater_cli.specs.Report.{AreRunFrom, Origin, origin_after}
 use Rattle.updater_cli.proofs.PublishedLaw.{any_in}
 use Rattle.updater_cli.proofs.Through.{is_event}
-use Rattle.updater_cli.specs.Sites.{AreOfSites, GroupOfSites, IsCarriedOrOfSite, IsHeldOrOfSite, IsLineOfSites, IsOfSites}
+use Rattle.updater_cli.specs.Sites.{AreOfSites, GroupOfSites, IsCarriedOrOfSite, IsFileOfSite, IsLineOfSites, IsOfSites}
 
 abbrev a_file : List ℕ → List ℕ → DataFile
 a_file name bytes = record { name = name; bytes = bytes }
@@ -119,7 +120,7 @@ module _ (Good : List ℕ → Type 0) where
 
     came_good : (old : Session) (wants : List FileEntry) (view : View) (files : List ListedFile)
         (file : ListedFile) → All IsView old.store.views → ShareBytes (program_files_of old.store ++ files)
-        → GoodViews old.store.views → In file files → IsHeldOrOfSite links (shape_of old) wants view file
+        → GoodViews old.store.views → In file files → IsHeldOrCame (IsFileOfSite links) (shape_of old) wants view file
         → Good file.bytes
     came_good old wants view files file valid shared good there (inl held) =
         held_good old files file valid shared good there held
@@ -161,7 +162,7 @@ module _ (Good : List ℕ → Type 0) where
       new_good = record {
         program = λ file there.
             came_good old (wanted (shape_of old).views done.application) the_view done.files file sound.valid.ordered.views done.fetched.shared good there
-            (all_in (IsHeldOrOfSite links (shape_of old) (wanted (shape_of old).views done.application) the_view) done.files file (sites.brought the_view views) there);
+            (all_in (IsHeldOrCame (IsFileOfSite links) (shape_of old) (wanted (shape_of old).views done.application) the_view) done.files file (sites.brought the_view views) there);
         local = λ file there.
             carried_good old.store the_view file good
             (all_in (IsCarriedOrOfSite links old.store the_view) done.installed.data_files file (sites.data_files the_view views) there);
@@ -215,7 +216,7 @@ module _ (Good : List ℕ → Type 0) where
                     let there : In file grouped.files =
                     subst (λ (fs : List ListedFile). In file fs) grouped.among.came (in_filter (λ (f : ListedFile). is_in group f.entry) grouped.program_files file came stands) in
                     came_good old (group_wanted (shape_of old).views group done.view.application) (with_group group grouped.program_files done.view) grouped.files file sound.valid.ordered.views grouped.fetched.shared good there
-                    (all_in (IsHeldOrOfSite links (shape_of old) (group_wanted (shape_of old).views group done.view.application) (with_group group grouped.program_files done.view)) grouped.program_files file
+                    (all_in (IsHeldOrCame (IsFileOfSite links) (shape_of old) (group_wanted (shape_of old).views group done.view.application) (with_group group grouped.program_files done.view)) grouped.program_files file
                     (sites (with_group group grouped.program_files done.view) leased) stands)
                 split false stayed =
                     let there : In file done.view.program_files =

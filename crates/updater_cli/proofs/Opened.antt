@@ -57,13 +57,13 @@ module _ {D L : Type 0} (on : Ghosts D) (net : LinksGhosts L) (boot now : ℕ) (
       boots = λ told store stands. tt;
       a_store = λ told. tt;
       ends = tt;
-      survives = λ told store stands. absurd (opened.not_a_store told refl store stands);
-      written = λ told store stands other. absurd (opened.not_a_store told refl store stands);
-      not_a_store = λ told _. opened.not_a_store told refl;
-      reads = λ _. opened.seen (λ is. cc (is));
-      within = λ _. opened.within (λ is. cc (is));
-      unwritten = λ _. opened.unwritten refl;
-      asks = record { told = opened.spends.told; later = opened.spends.later; count = rises_none _ (on.count old) (on.count new) (λ is. cc (is)) (opened.spends.quiet (λ is. cc (is))) };
+      survives = λ told store stands. absurd (opened.holds.not_a_store told refl store stands);
+      written = λ told store stands other. absurd (opened.holds.not_a_store told refl store stands);
+      not_a_store = λ told _. opened.holds.not_a_store told refl;
+      reads = λ _. opened.spent.seen (λ is. cc (is));
+      within = λ _. opened.spent.within (λ is. cc (is));
+      unwritten = λ _. opened.spent.unwritten refl;
+      asks = record { told = opened.spent.spends.told; later = opened.spent.spends.later; count = rises_none _ (on.count old) (on.count new) (λ is. cc (is)) (opened.spent.spends.quiet (λ is. cc (is))) };
     }
     refused faults.DiskFault opened = record {
       course = tt;
@@ -71,17 +71,17 @@ module _ {D L : Type 0} (on : Ghosts D) (net : LinksGhosts L) (boot now : ℕ) (
       boots = λ told store stands. tt;
       a_store = λ told. tt;
       ends = tt;
-      survives = λ told store stands. survives_fault on old new boot now store opened.past (opened.stop_fault told store stands);
+      survives = λ told store stands. survives_fault on old new boot now store opened.leaves.past (opened.leaves.stop_fault told store stands);
       written = λ told store stands other. (
-        opened.bytes,
-        (session_over (booted boot store), None, (refl, refl), opened.costs told store stands),
-        opened.spends.total_within,
+        opened.spent.bytes,
+        (session_over (booted boot store), None, (refl, refl), opened.spent.costs told store stands),
+        opened.spent.spends.total_within,
       );
       not_a_store = λ told is. absurd (cc (is));
       reads = λ other. absurd (other refl);
       within = λ other. absurd (other refl);
       unwritten = λ is. absurd (cc (is));
-      asks = record { told = opened.spends.told; later = opened.spends.later; count = record { later = opened.spends.count; rose = λ _. opened.spends.cause refl; quiet = λ none. absurd (none refl) } };
+      asks = record { told = opened.spent.spends.told; later = opened.spent.spends.later; count = record { later = opened.spent.spends.count; rose = λ _. opened.spent.spends.cause refl; quiet = λ none. absurd (none refl) } };
     }
     refused faults.Memory opened = record {
       course = tt;
@@ -89,13 +89,13 @@ module _ {D L : Type 0} (on : Ghosts D) (net : LinksGhosts L) (boot now : ℕ) (
       boots = λ told store stands. tt;
       a_store = λ told. tt;
       ends = tt;
-      survives = λ told store stands. survives_memory on old new boot now store opened.past (opened.stop_memory store stands refl);
+      survives = λ told store stands. survives_memory on old new boot now store opened.leaves.past (opened.leaves.stop_memory store stands refl);
       written = λ told store stands other. absurd (other refl);
       not_a_store = λ told is. absurd (cc (is));
-      reads = λ _. opened.seen (λ is. cc (is));
-      within = λ _. opened.within (λ is. cc (is));
+      reads = λ _. opened.spent.seen (λ is. cc (is));
+      within = λ _. opened.spent.within (λ is. cc (is));
       unwritten = λ is. absurd (cc (is));
-      asks = record { told = opened.spends.told; later = opened.spends.later; count = rises_none _ (on.count old) (on.count new) (λ is. cc (is)) (opened.spends.quiet (λ is. cc (is))) };
+      asks = record { told = opened.spent.spends.told; later = opened.spent.spends.later; count = rises_none _ (on.count old) (on.count new) (λ is. cc (is)) (opened.spent.spends.quiet (λ is. cc (is))) };
     }
 
     pub refused_as : (fault known : RecoverFault) → fault ≡ known → Opened on boot old (Err fault) new → Opens on net boot now links old (Err (status_for known)) new
@@ -104,7 +104,7 @@ module _ {D L : Type 0} (on : Ghosts D) (net : LinksGhosts L) (boot now : ℕ) (
     -- it was
     module _ (found : Updater × Bool) (opened : Opened on boot old (Ok found) new) (course : Course) (is_updater : course.updater ≡ found.0) (is_now : course.now ≡ now) (none : course.begun ≡ None) where
       asks : Asks on ((let outcome : Result Course Status = Ok course in outcome) ≡ Err DiskFault) old new
-      asks = record { told = opened.spends.told; later = opened.spends.later; count = rises_none _ (on.count old) (on.count new) (λ is. cc (is)) (opened.spends.quiet (λ is. cc (is))) }
+      asks = record { told = opened.spent.spends.told; later = opened.spent.spends.later; count = rises_none _ (on.count old) (on.count new) (λ is. cc (is)) (opened.spent.spends.quiet (λ is. cc (is))) }
 
       held : (session : Session) → Holds on found.0 new session → Holds on course.updater new session
       held session holds = subst (λ (u : Updater). Holds on u new session) (sym is_updater) holds
@@ -112,12 +112,12 @@ module _ {D L : Type 0} (on : Ghosts D) (net : LinksGhosts L) (boot now : ℕ) (
       -- with the kept boot number
       pub kept : found.1 ≡ false → course.lines.items ≡ [] → Opens on net boot now links old (Ok course) new
       kept is no_lines = record {
-        course = record { moment = is_now; lines = rw no_lines tt; begun = none; synced = opened.synced };
+        course = record { moment = is_now; lines = rw no_lines tt; begun = none; synced = opened.spent.synced };
         machine = λ told store stands.
-            same on net links old new boot now store stands.sound course is_now (held (session_over (booted boot store)) (opened.stored told store stands.stands)) (opened.stop told store stands.stands (λ fault. cc (fault))) opened.synced opened.past
-            no_lines (opened.same_boot told store stands.stands is) (omega (arith, opened.synced, (opened.quiet is).0)) (omega (arith, (opened.quiet is).1));
-        boots = λ told store stands. record { other = λ differs. absurd (differs (opened.same_boot told store stands is)); same = λ _. rw no_lines tt };
-        a_store = λ told no_store. no_store (opened.found told).0 (opened.found told).1;
+            same on net links old new boot now store stands.sound course is_now (held (session_over (booted boot store)) (opened.holds.stored told store stands.stands)) (opened.leaves.stop told store stands.stands (λ fault. cc (fault))) opened.spent.synced opened.leaves.past
+            no_lines (opened.holds.same_boot told store stands.stands is) (omega (arith, opened.spent.synced, (opened.spent.quiet is).0)) (omega (arith, (opened.spent.quiet is).1));
+        boots = λ told store stands. record { other = λ differs. absurd (differs (opened.holds.same_boot told store stands is)); same = λ _. rw no_lines tt };
+        a_store = λ told no_store. no_store (opened.holds.found told).0 (opened.holds.found told).1;
         ends = tt;
         survives = λ told store stands. tt;
         written = λ told store stands. tt;
@@ -134,15 +134,15 @@ module _ {D L : Type 0} (on : Ghosts D) (net : LinksGhosts L) (boot now : ℕ) (
       changed small is l lines is_event is_reply is_failures is_mark = record {
         course = record {
           moment = is_now;
-          lines = rw lines (is_event, is_reply, is_failures, omega (arith, is_mark, opened.spends.later), omega (arith, is_mark));
+          lines = rw lines (is_event, is_reply, is_failures, omega (arith, is_mark, opened.spent.spends.later), omega (arith, is_mark));
           begun = none;
-          synced = opened.synced;
+          synced = opened.spent.synced;
         };
         machine = λ told store stands.
-            other on net links old new boot now store stands.sound course is_now (held (session_over (booted boot store)) (opened.stored told store stands.stands)) (opened.stop told store stands.stands (λ fault. cc (fault))) opened.synced opened.past
-            l lines is_event is_reply is_mark is_failures small (opened.other_boot told store stands.stands is) (opened.marked is) opened.bytes (opened.costs told store stands.stands) opened.spends.total_within;
-        boots = λ told store stands. record { other = λ _. rw lines (is_event, is_reply); same = λ kept. absurd (opened.other_boot told store stands is kept) };
-        a_store = λ told no_store. no_store (opened.found told).0 (opened.found told).1;
+            other on net links old new boot now store stands.sound course is_now (held (session_over (booted boot store)) (opened.holds.stored told store stands.stands)) (opened.leaves.stop told store stands.stands (λ fault. cc (fault))) opened.spent.synced opened.leaves.past
+            l lines is_event is_reply is_mark is_failures small (opened.holds.other_boot told store stands.stands is) (opened.spent.marked is) opened.spent.bytes (opened.spent.costs told store stands.stands) opened.spent.spends.total_within;
+        boots = λ told store stands. record { other = λ _. rw lines (is_event, is_reply); same = λ kept. absurd (opened.holds.other_boot told store stands is kept) };
+        a_store = λ told no_store. no_store (opened.holds.found told).0 (opened.holds.found told).1;
         ends = tt;
         survives = λ told store stands. tt;
         written = λ told store stands. tt;

@@ -13,7 +13,7 @@ use Rattle.machine.specs.declared.report.ReportLine.{ReportLine}
 use Rattle.machine.specs.Machine.{Step, Run, moment_after}
 use Rattle.machine.specs.Store.{Session}
 use Rattle.updater.specs.declared.updater.Updater.{Updater}
-use Rattle.updater.specs.Stands.{Stands, StandsForEither}
+use Rattle.updater.specs.StandsFor.{StandsFor, StandsForEither}
 use Rattle.updater.proofs.Standing.{stored_stands}
 use Rattle.updater_cli.specs.declared.course.Course.{Course}
 use Rattle.updater_cli.specs.Lines.{Ran, Broke}
@@ -43,7 +43,7 @@ module _ (from : Origin) where
 
   -- one that stands for the session of all lines
   pub all_lines : (s : Session) (lines : List ReportLine) (begun : Option Event) (k : ℕ) (image : List ℕ) → Run from.now from.session (events_of lines) (replies_of lines) s
-      → (length lines ≡ k) ⊎ (length lines ≡ k + 1) → Stands image s.store → StandsForPrefix from (report_of lines begun) k image
+      → (length lines ≡ k) ⊎ (length lines ≡ k + 1) → StandsFor image s.store → StandsForPrefix from (report_of lines begun) k image
   all_lines s lines begun k image runs holds stands = record {
     n = length lines;
     holds = holds;
@@ -54,7 +54,7 @@ module _ (from : Origin) where
 
   -- one that stands for what was begun
   pub and_begun : (s new : Session) (lines : List ReportLine) (e : Event) (r : Option Reply) (k : ℕ) (image : List ℕ) → Run from.now from.session (events_of lines) (replies_of lines) s
-      → Step (moment_behind from.now lines) s e r new → (length lines + 1 ≡ k) ⊎ (length lines + 1 ≡ k + 1) → Stands image new.store
+      → Step (moment_behind from.now lines) s e r new → (length lines + 1 ≡ k) ⊎ (length lines + 1 ≡ k + 1) → StandsFor image new.store
       → StandsForPrefix from (report_of lines (Some e)) k image
   and_begun s new lines e r k image runs step holds stands = record {
     n = length lines + 1;

@@ -7,10 +7,11 @@ use Rattle.links.specs.Links.{LinksState}
 use Rattle.fetcher.specs.Fetched.{AllTell, Kept}
 use Rattle.fetcher.proofs.Sequence.{kept_then, site_before, tell_after}
 use Rattle.identity.specs.declared.key.Key.{Key}
-use Rattle.install_plan.specs.Brought.{IsBrought, IsCarriedOrFetched, IsHeldOrFetched}
-use Rattle.install_plan.specs.GroupAsked.{AreBrought, IsHeldOrCame}
+use Rattle.install_plan.specs.Brought.{IsBrought, IsCarriedOrFetched, IsFileFrom, IsHeldOrCame}
+use Rattle.install_plan.specs.GroupAsked.{AreBrought}
 use Rattle.install_plan.specs.Hearing.{Hearing, IsApplicationText, IsDeploymentText}
 use Rattle.install_plan.specs.Offers.{IsOfferText, OfferHearing}
+use Rattle.manifests.specs.declared.facts.FileEntry.{FileEntry}
 use Rattle.machine.specs.declared.command.Command.{Command}
 use Rattle.machine.specs.declared.command.Command.TheVariants.{Check, Group, Install}
 use Rattle.machine.specs.declared.event.Event.{Event}
@@ -23,9 +24,9 @@ use Rattle.machine.specs.Shape.{Shape, shape_of}
 use Rattle.machine.specs.Store.{Session, Store}
 use Rattle.machine.specs.Views.{DataFile, ListedFile, View}
 use Rattle.machine.specs.Wanted.{wanted}
-use Rattle.updater.specs.Commanded.{Serves}
+use Rattle.updater.specs.Commanded.{LinksServe}
 use Rattle.updater_cli.specs.Report.{AreServed, IsServed, Origin, origin_after}
-use Rattle.updater_cli.specs.Sites.{AreOfSites, HeardOfSites, GroupOfSites, IsCarriedOrOfSite, IsHeldOrOfSite, IsLineOfSites, OfferOfSites}
+use Rattle.updater_cli.specs.Sites.{AreOfSites, HeardOfSites, GroupOfSites, IsCarriedOrOfSite, IsFileOfSite, IsLineOfSites, OfferOfSites}
 
 some_as : {A : Type 0} (o : Option A) (P Q : A → Type 0) → ((x : A) → P x → Q x) → IfSome o P → IfSome o Q
 some_as None P Q on is = tt
@@ -46,10 +47,11 @@ module _ (first before after : LinksState) (kept : Kept first before) (tell : Al
       some_as (slice_get texts 0) (IsOfferText key (shape_of old) before after) _
       (λ text is. (is.0, is.1, site_before first before is.0 text kept tell (is.2.site (tell_after first before kept tell)))) hearing.text
 
-  -- what an install brought
-  file_of : (shape : Shape) (view : View) (file : ListedFile) → IsHeldOrFetched shape before after view file → IsHeldOrOfSite first shape (wanted shape.views view.application) view file
-  file_of shape view file (inl held) = inl held
-  file_of shape view file (inr fetched) =
+  -- what an install or a group brought
+  file_of : (shape : Shape) (wants : List FileEntry) (view : View) (file : ListedFile) → IsHeldOrCame (IsFileFrom before after) shape wants view file
+      → IsHeldOrCame (IsFileOfSite first) shape wants view file
+  file_of shape wants view file (inl held) = inl held
+  file_of shape wants view file (inr fetched) =
       let from = fetched.4 in
       inr (fetched.0, fetched.1, fetched.2, fetched.3, (from.0, from.1, from.2, site_before first before from.0 file.bytes kept tell (from.3.site (tell_after first before kept tell))))
 
@@ -60,25 +62,21 @@ module _ (first before after : LinksState) (kept : Kept first before) (tell : Al
       let from = fetched.4 in
       inr (inr (fetched.0, fetched.1, fetched.2, fetched.3, (from.0, from.1, from.2, from.3, from.4.fits, site_before first before from.0 file.bytes kept tell (from.4.site (tell_after first before kept tell)))))
 
-  -- what a group brought
-  came_of : (group : List ℕ) (shape : Shape) (view : View) (file : ListedFile) → IsHeldOrCame group shape before after view file → IsHeldOrOfSite first shape (group_wanted shape.views group view.application) view file
-  came_of group shape view file (inl held) = inl held
-  came_of group shape view file (inr came) =
-      let from = came.4 in
-      inr (came.0, came.1, came.2, came.3, (from.0, from.1, from.2, site_before first before from.0 file.bytes kept tell (from.3.site (tell_after first before kept tell))))
+  files_of : (shape : Shape) (wants : List FileEntry) (view : View) → All (IsHeldOrCame (IsFileFrom before after) shape wants view) view.program_files
+      → All (IsHeldOrCame (IsFileOfSite first) shape wants view) view.program_files
+  files_of shape wants view = All-weaker (IsHeldOrCame (IsFileFrom before after) shape wants view) (IsHeldOrCame (IsFileOfSite first) shape wants view) (file_of shape wants view) view.program_files
 
   group_of : (lease : ℕ) (group : List ℕ) (old new : Session) → AreBrought lease group (shape_of old) before after new.store → GroupOfSites first lease group old new
   group_of lease group old new brought = λ view leased.
-      All-weaker (IsHeldOrCame group (shape_of old) before after view) (IsHeldOrOfSite first (shape_of old) (group_wanted (shape_of old).views group view.application) view) (came_of group (shape_of old) view)
-      view.program_files (brought.files view leased)
+      files_of (shape_of old) (group_wanted (shape_of old).views group view.application) view (brought.files view leased)
 
-  served_of : (command : Command) (texts : List (List ℕ)) (old new : Session) (reply : Reply) (now : ℕ) → Serves command texts before after old reply new
+  served_of : (command : Command) (texts : List (List ℕ)) (old new : Session) (reply : Reply) (now : ℕ) → LinksServe command texts before after old reply new
       → IsLineOfSites first (Line command now (record { texts = texts })) old new
   served_of (Install url) texts old new reply now serves = record {
     heard = heard_of (shape_of old) url texts serves.0.hearing;
     brought = λ view is.
         let brought : IsBrought old before after view = serves.1 view is in
-        All-weaker (IsHeldOrFetched (shape_of old) before after view) (IsHeldOrOfSite first (shape_of old) (wanted (shape_of old).views view.application) view) (file_of (shape_of old) view) view.program_files brought.files;
+        files_of (shape_of old) (wanted (shape_of old).views view.application) view brought.files;
     data_files = λ view is.
         let brought : IsBrought old before after view = serves.1 view is in
         All-weaker (IsCarriedOrFetched old.store before after view) (IsCarriedOrOfSite first old.store view) (carried_of old.store view) view.data_files brought.data_files;
@@ -93,8 +91,8 @@ line_of : {L : Type 0} (net : LinksGhosts L) (first : LinksState) (before after 
 line_of net first before after kept tell now old new (Boot boot) reply step served = tt
 line_of net first before after kept tell now old new (Unread fault) reply step served = tt
 line_of net first before after kept tell now old new (Line command at heard) reply step served =
-    let told : IfSome (Some step.answer) (λ answer. Serves command heard.texts (net.links before) (net.links after) old answer new) =
-    subst (λ (r : Option Reply). IfSome r (λ answer. Serves command heard.texts (net.links before) (net.links after) old answer new)) step.replied served.serves in
+    let told : IfSome (Some step.answer) (λ answer. LinksServe command heard.texts (net.links before) (net.links after) old answer new) =
+    subst (λ (r : Option Reply). IfSome r (λ answer. LinksServe command heard.texts (net.links before) (net.links after) old answer new)) step.replied served.serves in
     served_of first (net.links before) (net.links after) kept tell command heard.texts old new step.answer at told
 
 -- the same of all lines

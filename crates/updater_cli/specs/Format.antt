@@ -6,13 +6,13 @@ use Rattle.disks.specs.Spends.{Spends}
 use Rattle.store_log.specs.declared.form.TheConstants.{HEAD_SIZE}
 use Rattle.store_log.specs.Log.{IsStore, IsCutOrOld, IsClosedNew}
 use Rattle.machine.specs.Store as stores
-use Rattle.updater.specs.Stands.{Stands, StandsForNone}
+use Rattle.updater.specs.StandsFor.{StandsFor, StandsForNone}
 
 -- the bytes are the journal of this number of blocks without a change, and so stand for the empty
 -- store of so many
 pub record StandsForNew (blocks : ℕ) (image : List ℕ) : Type 0 where
   pub journal : IsStore blocks [] image
-  pub stands : Stands image (stores.empty (stores.plain_room blocks))
+  pub stands : StandsFor image (stores.empty (stores.plain_room blocks))
 
 -- What stops leave over a format. Its calls are a cut and a sync, the write of a head block and a
 -- closed gate and a sync, the write of the head gate and a sync. A stop leaves an old image or a cut one, until

@@ -13,7 +13,7 @@ use Rattle.machine.specs.declared.report.Report.{Report}
 use Rattle.machine.specs.declared.report.ReportLine.{ReportLine}
 use Rattle.machine.specs.Store.{Session, Store}
 use Rattle.command_text.specs.Lines.{AreEvents}
-use Rattle.updater.specs.Stands.{Stands}
+use Rattle.updater.specs.StandsFor.{StandsFor}
 use Rattle.updater_cli.specs.declared.limits.TheConstants.{INPUT_LIMIT}
 use Rattle.updater_cli.specs.Devices.{Devices}
 use Rattle.updater_cli.specs.Downs.{DownsAreCounted}
@@ -78,7 +78,7 @@ pub record IsOpened {S K D L : Type 0} (on : Ghosts D) (boot status : ℕ)
     (old new : Devices S K D L) (report : Report) : Type 0 where
   pub store : status ≢ 5
   pub synced : on.moment old.disk + 1 ≤ on.moment new.disk
-  pub boots : on.tells new.disk → (store : Store) → Stands (on.seen old.disk) store
+  pub boots : on.tells new.disk → (store : Store) → StandsFor (on.seen old.disk) store
       → BootsFirst boot store.boot report.lines
   pub begun : IsLineOrNone report.begun
 
@@ -121,7 +121,7 @@ pub record LeadsTo {S K D L : Type 0} (on : Ghosts D) (net : LinksGhosts L) (now
     (old new : Devices S K D L) (report : Report) (store : Store) : Type 0 where
   pub session : Session
   pub runs : RunsTo (origin_over now store) report.lines session
-  pub reads : status ≢ 4 → Stands (on.seen new.disk) session.store
+  pub reads : status ≢ 4 → StandsFor (on.seen new.disk) session.store
   pub last : ℕ
   pub bytes : ℕ
   pub counts : Counts (origin_over now store) (on.moment old.disk + 1) report.lines session last

@@ -8,7 +8,7 @@ use Rattle.machine.specs.declared.event.Event.TheVariants.{Boot, Line, Unread}
 use Rattle.machine.specs.declared.report.Report.{Report}
 use Rattle.machine.specs.declared.report.ReportLine.{ReportLine}
 use Rattle.machine.specs.Store.{Store, session_over}
-use Rattle.updater.specs.Stands.{Stands, StandsForNone}
+use Rattle.updater.specs.StandsFor.{StandsFor, StandsForNone}
 use Rattle.updater_cli.specs.declared.course.Course.{Course}
 use Rattle.updater_cli.specs.declared.status.Status.{Status}
 use Rattle.updater_cli.specs.declared.status.Status.TheVariants.{Done, Words, SourceFault, SinkFault, DiskFault, NotAStore, Memory, TooMuchInput}
@@ -122,14 +122,14 @@ pub record Opens {D L : Type 0} (on : Ghosts D) (net : LinksGhosts L) (boot now 
   pub machine : on.tells disk → (store : Store) → StandsSound (on.seen disk_old) store
       → IfOk result (λ course.
       Between on net (start_over now disk_old links store) course disk links)
-  pub boots : on.tells disk → (store : Store) → Stands (on.seen disk_old) store
+  pub boots : on.tells disk → (store : Store) → StandsFor (on.seen disk_old) store
       → IfOk result (λ course. BootsFirst boot store.boot course.lines.items)
   pub a_store : on.tells disk → OnOk result (StandsForNone (on.seen disk_old) → ⊥)
   pub ends : IfErr result IsOpeningEnd
-  pub survives : on.tells disk → (store : Store) → Stands (on.seen disk_old) store
+  pub survives : on.tells disk → (store : Store) → StandsFor (on.seen disk_old) store
       → IfErr result (λ status. Survives on disk_old disk (origin_over now store) (code_of status)
       (report_of [] (begun_by boot status)))
-  pub written : on.tells disk → (store : Store) → Stands (on.seen disk_old) store
+  pub written : on.tells disk → (store : Store) → StandsFor (on.seen disk_old) store
       → IfErr result (λ status. status ≢ Memory → (more : ℕ)
       × CostsBegun now (session_over store) (begun_by boot status) more
       × (on.total disk ≤ on.total disk_old + more))

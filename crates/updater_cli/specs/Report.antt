@@ -18,9 +18,9 @@ use Rattle.machine.specs.SoundSession.{SoundSession}
 use Rattle.machine.specs.Store.{Session, Store, session_over}
 use Rattle.machine.specs.Words.{IsCommand}
 use Rattle.command_text.specs.Lines.{texts_of}
-use Rattle.updater.specs.Commanded.{LeavesLinks, Serves}
+use Rattle.updater.specs.Commanded.{LeavesLinks, LinksServe}
 use Rattle.updater.specs.Costs.{Costs}
-use Rattle.updater.specs.Stands.{Stands}
+use Rattle.updater.specs.StandsFor.{StandsFor}
 
 abbrev pub events_of : List ReportLine → List Event
 events_of lines = map (λ l. l.event) lines
@@ -74,7 +74,7 @@ pub record KeepsMoments (now : ℕ) (report : Report) : Type 0 where
 
 -- the bytes stand for a sound store, as `format` and every session leave them
 pub record StandsSound (image : List ℕ) (store : Store) : Type 0 where
-  pub stands : Stands image store
+  pub stands : StandsFor image store
   pub sound : Sound store
 
 -- where a run begins: a session at a moment
@@ -148,7 +148,7 @@ pub record StandsForPrefix (from : Origin) (report : Report) (acknowledged : ℕ
   pub holds : (n ≡ acknowledged) ⊎ (n ≡ acknowledged + 1)
   pub session : Session
   pub reached : Reaches from report n session
-  pub stands : Stands image session.store
+  pub stands : StandsFor image session.store
 
 -- ---- what the links gave
 
@@ -163,7 +163,7 @@ abbrev pub ServesLine :
     Event → Option Reply → LinksState → LinksState → Session → Session → Type 0
 ServesLine (Boot boot) reply before after old new = Unit {0}
 ServesLine (Line command at heard) reply before after old new =
-    IfSome reply (λ answer. Serves command heard.texts before after old answer new)
+    IfSome reply (λ answer. LinksServe command heard.texts before after old answer new)
 ServesLine (Unread fault) reply before after old new = Unit {0}
 
 -- what the links did for a line; they and their sites stay

@@ -4,7 +4,7 @@ use Rattle.disks.specs.declared.disk.Disk.{Ghosts}
 use Rattle.links.specs.declared.links.Links.{Ghosts as LinksGhosts}
 use Rattle.machine.specs.declared.report.Report.{Report}
 use Rattle.machine.specs.Store.{Session, Store}
-use Rattle.updater.specs.Stands.{Stands}
+use Rattle.updater.specs.StandsFor.{StandsFor}
 use Rattle.updater.specs.Updater.{Holds}
 use Rattle.updater_cli.specs.declared.course.Course.{Course}
 use Rattle.updater_cli.specs.Report.{Origin, origin_over, RunsTo, AreServed, Counts, CostsBegun, IsBegunServed, StandsForPrefix, AreMarkedBy, report_of, moment_behind, marked_by, answered}
@@ -67,4 +67,4 @@ pub record Ended {D L : Type 0} (on : Ghosts D) (net : LinksGhosts L) (start : S
   pub since : (t : ℕ) (image : List ℕ) → on.moment start.disk + 1 ≤ t → t ≤ on.moment disk
       → on.left_at disk t image
       → StandsForPrefix start.from report (marked_by (answered status report.lines) t) image
-  pub reads : status ≢ 4 → Stands (on.seen disk) session.store
+  pub reads : status ≢ 4 → StandsFor (on.seen disk) session.store

@@ -13,7 +13,6 @@ use Rattle.machine.specs.declared.command.Command.TheVariants as asks
 use Rattle.machine.specs.declared.event.Event.{Event}
 use Rattle.machine.specs.declared.event.Event.TheVariants.{Boot, Line, Unread}
 use Rattle.machine.specs.declared.report.ReportLine.{ReportLine}
-use Rattle.machine.specs.Blocks.{standing_files}
 use Rattle.machine.specs.CheckRow.{provider_of}
 use Rattle.machine.specs.Current.{current_view, data_of, listed_by}
 use Rattle.machine.specs.Groups.{group_wanted}
@@ -21,10 +20,11 @@ use Rattle.machine.specs.InstallRow.{OfDeployment, base_of}
 use Rattle.machine.specs.Leases.{leased_view}
 use Rattle.machine.specs.Machine.{Step}
 use Rattle.machine.specs.Migrated.{IsAside, IsKept}
-use Rattle.machine.specs.Shape.{Shape, shape_of}
+use Rattle.machine.specs.Shape.{shape_of}
 use Rattle.machine.specs.Store.{Session, Store}
-use Rattle.machine.specs.Views.{DataFile, ListedFile, View, key_of, same_content}
-use Rattle.machine.specs.Wanted.{is_held, wanted}
+use Rattle.machine.specs.Views.{DataFile, View, key_of}
+use Rattle.machine.specs.Wanted.{wanted}
+use Rattle.install_plan.specs.Brought.{IsHeldOrCame}
 use Rattle.updater_cli.specs.Report.{Origin, origin_after}
 
 -- ---- what is heard
@@ -47,15 +47,9 @@ OfferOfSites links key texts store =
 
 -- ---- what is brought
 
--- a kept view has the file's content, or it is of a site at the address of a wanted file of that
--- content
-abbrev pub IsHeldOrOfSite : LinksState → Shape → List FileEntry → View → ListedFile → Type 0
-IsHeldOrOfSite links shape wants view file =
-    (is_held (standing_files shape.views) file.entry ≡ true)
-    ⊎ Any (λ entry. (target : Target)
-    × (file_target_of view.base view.deployment.mapped entry.name ≡ Ok target)
-    × (same_content entry file.entry ≡ true) × IsOfSite links target file.bytes)
-    wants
+-- the bytes are those of a site at the target, whatever file they are for
+abbrev pub IsFileOfSite : LinksState → FileEntry → Target → List ℕ → Type 0
+IsFileOfSite links entry target bytes = IsOfSite links target bytes
 
 -- It is a data file of the view that was current, which stays or is kept aside; or its bytes match and
 -- are of a site at the address of a data file that the release deploys under the name.
@@ -75,8 +69,8 @@ pub record IsOfSites (links : LinksState) (url : List ℕ) (texts : List (List �
     (old new : Session) : Type 0 where
   pub heard : HeardOfSites links url texts
   pub brought : (view : View) → new.store.views ≡ old.store.views ++ view ∷ []
-      → All (IsHeldOrOfSite links (shape_of old) (wanted (shape_of old).views view.application)
-      view) view.program_files
+      → All (IsHeldOrCame (IsFileOfSite links) (shape_of old)
+      (wanted (shape_of old).views view.application) view) view.program_files
   pub data_files : (view : View) → new.store.views ≡ old.store.views ++ view ∷ []
       → All (IsCarriedOrOfSite links old.store view) view.data_files
 
@@ -85,7 +79,7 @@ pub record IsOfSites (links : LinksState) (url : List ℕ) (texts : List (List �
 abbrev pub GroupOfSites : LinksState → ℕ → List ℕ → Session → Session → Type 0
 GroupOfSites links lease group old new =
     (view : View) → leased_view lease new.store ≡ Some view
-    → All (IsHeldOrOfSite links (shape_of old)
+    → All (IsHeldOrCame (IsFileOfSite links) (shape_of old)
     (group_wanted (shape_of old).views group view.application) view) view.program_files
 
 -- ---- lines

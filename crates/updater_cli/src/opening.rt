@@ -1,7 +1,7 @@
 // How a session begins and ends.
 ghost use Rattle.std.specs.Prelude.{◌≡◌, ◌≢◌, ◌⊎◌, ◌≤◌, []};
 ghost use Rattle.small_types.specs.declared.limits.TheConstants.{NUMBER_LIMIT};
-ghost use Rattle.updater.specs.Stands.{StandsForNone};
+ghost use Rattle.updater.specs.StandsFor.{StandsForNone};
 ghost use Rattle.updater_cli.specs.declared.status.Status.TheVariants as exit;
 ghost use Rattle.updater_cli.specs.Devices.{Asks, RisesWith, devices_of};
 ghost use Rattle.updater_cli.specs.Headline.{Headline, IsNothing};

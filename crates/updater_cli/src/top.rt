@@ -4,7 +4,7 @@ ghost use Rattle.small_types.specs.declared.limits.TheConstants.{BLOCK_LIMIT};
 ghost use Rattle.outside.specs.Streams.{Rose};
 ghost use Rattle.inspection.specs.declared.manifest.Kind.{Kind};
 ghost use Rattle.publish_plan.specs.declared.options.Options.{Options};
-ghost use Rattle.updater.specs.Stands.{StandsForNone};
+ghost use Rattle.updater.specs.StandsFor.{StandsForNone};
 ghost use Rattle.updater_cli.specs.declared.status.Status.TheVariants as exit;
 ghost use Rattle.updater_cli.specs.declared.words.Request.TheVariants as asked;
 ghost use Rattle.updater_cli.specs.Demonstration.{RunsDemo};

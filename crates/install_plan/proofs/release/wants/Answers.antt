@@ -3,7 +3,7 @@ use Rattle.std.specs.Prelude.{min, slice_get, sum_by}
 use Rattle.machine.specs.Blocks.{standing_files}
 use Rattle.machine.specs.Wanted.{wanted_beside}
 use Rattle.store_state.specs.Tables.{bare_row}
-use Rattle.install_plan.specs.Wanting.{blocks_at, target_at}
+use Rattle.install_plan.specs.WantedFiles.{blocks_at, target_at}
 use Rattle.install_plan.proofs.Wants.{at_entries, blocks_are, places_within, refused_entry, wanted_at}
 use Rattle.install_plan.proofs.release.wants.Goals as goal
 

@@ -1,6 +1,6 @@
 use Rattle.std.proofs.Common.{◌≡◌, ◌++◌, drop}
 use Rattle.std.specs.Prelude.{flat_map, string_bytes}
-use Rattle.install_plan.specs.Wanting.{content_text, digest_text}
+use Rattle.install_plan.specs.WantedFiles.{content_text, digest_text}
 use Rattle.install_plan.proofs.taken.content_text.Given as goal
 
 abbrev pub invariant-loop-digest : goal.invariant-loop-digest

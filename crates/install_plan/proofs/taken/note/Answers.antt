@@ -1,7 +1,7 @@
 use Rattle.std.proofs.Common.{◌∙◌, ◌++◌, ◌∷◌, [], ℕ, List, Some, ap}
 use Rattle.std.specs.Prelude.{string_bytes}
 use Rattle.std.proofs.lemmas.Map.Text.{btree_map_updates_text}
-use Rattle.install_plan.specs.Wanting.{row}
+use Rattle.install_plan.specs.WantedFiles.{row}
 use Rattle.install_plan.proofs.Noted.{row_added}
 use Rattle.install_plan.proofs.taken.note.Goals as goal
 

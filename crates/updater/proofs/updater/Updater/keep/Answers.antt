@@ -3,8 +3,8 @@ use Rattle.store_log.specs.declared.piece.TheConstants.{AROUND}
 use Rattle.store_log.specs.Log.{entry_in}
 use Rattle.record_codec.specs.Codec.{change_text}
 use Rattle.updater.specs.declared.fault.StepFault.{StepFault}
-use Rattle.updater.specs.Keeps.{Keeps}
-use Rattle.updater.specs.Stands.{Encodes}
+use Rattle.updater.specs.MakesDurable.{MakesDurable}
+use Rattle.updater.specs.StandsFor.{Encodes}
 use Rattle.updater.specs.Updater.{room_of}
 use Rattle.updater.proofs.Keeping.{either_store, false_not_true, holds_more, nothing_kept, ok_no_fault, piece_length, spends_sized}
 use Rattle.updater.proofs.updater.Updater.keep.Goals as goal
@@ -12,7 +12,7 @@ use Rattle.updater.proofs.updater.Updater.keep.Goals as goal
 -- there was no memory for the piece
 pub returns-in-Err : goal.returns-in-Err
 returns-in-Err g c =
-    subst (λ (fault : StepFault). Keeps g.D.Disk c.args.change c.args.self.now c.args.disk.now (Err fault) c.args.self.now c.args.disk.now) (sym c.in-Err.ensures.fault)
+    subst (λ (fault : StepFault). MakesDurable g.D.Disk c.args.change c.args.self.now c.args.disk.now (Err fault) c.args.self.now c.args.disk.now) (sym c.in-Err.ensures.fault)
     (nothing_kept g.D.Disk c.args.change c.args.self.now c.args.disk.now c.requires)
 
 pub returns-in-Ok-append : goal.returns-in-Ok-append

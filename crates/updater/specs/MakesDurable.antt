@@ -1,0 +1,45 @@
+-- The durable step: a change is made in the tables and in the journal, or not at all.
+use Rattle.std.specs.Prelude.{◌≡◌, ◌+◌, ◌≤◌, ℕ, List, length, Result, Err, OnOk}
+use Rattle.disks.specs.declared.disk.Disk.{Ghosts}
+use Rattle.disks.specs.Moments.{LeavesOnly}
+use Rattle.disks.specs.Spends.{Spends}
+use Rattle.machine.specs.Store.{Session, Store}
+use Rattle.machine.specs.Valid.{Valid}
+use Rattle.store_log.specs.declared.piece.TheConstants.{AROUND}
+use Rattle.record_codec.specs.Codec.{IsChange, change_text}
+use Rattle.store_state.specs.declared.change.Change.{Change}
+use Rattle.store_state.specs.Change.{Fits}
+use Rattle.store_state.specs.Tables.{Tables}
+use Rattle.install_plan.specs.LeadsIn.{LeadsIn}
+use Rattle.updater.specs.declared.fault.StepFault.{StepFault}
+use Rattle.updater.specs.declared.fault.StepFault.TheVariants.{Memory, DiskFault}
+use Rattle.updater.specs.declared.updater.Updater.{Updater}
+use Rattle.updater.specs.StandsFor.{StandsForEither}
+use Rattle.updater.specs.Updater.{Holds, tables_of}
+
+-- The change leads from tables that show the old store to tables that show the new one, which is
+-- valid.
+pub record LeadsBetween (change : Change) (tables : Tables) (old new : Store) : Type 0 where
+  pub shows : LeadsIn old.room change tables old new
+  pub valid : Valid new
+
+-- What making a change durable does, for any session and any store between which it leads. It
+-- writes at most the change's encoding with the log's own bytes around it. For want of memory it
+-- does nothing.
+pub record MakesDurable {D T : Type 0} (on : Ghosts D) (change : Change)
+    (updater_old : Updater) (disk_old : D) (result : Result T StepFault)
+    (updater_new : Updater) (disk_new : D) : Type 0 where
+  pub fits : Fits (tables_of updater_old) change
+  pub has : IsChange change
+  pub stored : on.tells disk_new → (old : Session) (new : Store)
+      → LeadsBetween change (tables_of updater_old) old.store new → Holds on updater_old disk_old old
+      → OnOk result (Holds on updater_new disk_new (record old { store = new }))
+  pub stop : on.tells disk_new → (old : Session) (new : Store)
+      → LeadsBetween change (tables_of updater_old) old.store new → Holds on updater_old disk_old old
+      → LeavesOnly on disk_old disk_new (StandsForEither old.store new)
+  pub past : (t : ℕ) (image : List ℕ) → t ≤ on.moment disk_old
+      → on.left_at disk_new t image → on.left_at disk_old t image
+  pub memory : result ≡ Err Memory → (updater_new ≡ updater_old) × (disk_new ≡ disk_old)
+  pub marked : OnOk result (on.moment disk_old + 1 ≤ on.moment disk_new)
+  pub spends : Spends on 4 (AROUND + length (change_text change)) disk_old disk_new
+      (result ≡ Err DiskFault)
