@@ -20,7 +20,7 @@ use std::env;
 use std::fmt::Display;
 use std::io::ErrorKind;
 use std::process::ExitCode;
-use updater_cli::Report;
+use updater_cli::{DemoFault, Report};
 
 const HELP: &[u8] = b"usage: clickstore STORE FOLDER COMMAND
 
@@ -69,9 +69,6 @@ const INPUT: &str = "standard input";
 const OUTPUT: &str = "standard output";
 
 const NO_MEMORY: &str = "no memory";
-
-// What is said of a generated run that ends early, and not for the disk.
-const NOT_AS_IT_MUST: &str = "no memory, or the generated run did not come out as it must";
 
 const VERSION: &[u8] = b"clickstore 0.1.0\n";
 
@@ -146,16 +143,23 @@ struct Failures<'a> {
     folder: Failure<'a>,
 }
 
-// Whether the words ask for a generated run.
-fn is_demo(words: &[Word]) -> bool {
-    match words.first() {
-        Some(word) => word.as_slice() == b"demo".as_slice(),
-        None => false,
+// Says why there was no memory, or why a generated run ended early, if that is noted.
+fn explain_early(rt: &HostRuntime, note: Option<DemoFault>) {
+    match note {
+        Some(fault) => say(rt, fault),
+        None => say(rt, NO_MEMORY),
     }
 }
 
-// Says why a run of these words ended with this status, if it was not done.
-fn explain(rt: &HostRuntime, status: u8, words: &[Word], failures: &Failures) {
+// Says why a run of these words ended with this status, if it was not done. Of a generated run that
+// ended early it is noted why.
+fn explain(
+    rt: &HostRuntime,
+    status: u8,
+    words: &[Word],
+    note: Option<DemoFault>,
+    failures: &Failures,
+) {
     match status {
         1 => say(rt, what_is_wrong(words)),
         2 => say(rt, failures.source.or(failures.folder)),
@@ -165,8 +169,7 @@ fn explain(rt: &HostRuntime, status: u8, words: &[Word], failures: &Failures) {
             let path = failures.disk.name();
             say(rt, format_args!("{path}: no store; 'format' makes one"));
         }
-        6 if is_demo(words) => say(rt, NOT_AS_IT_MUST),
-        6 => say(rt, NO_MEMORY),
+        6 => explain_early(rt, note),
         8 => say(rt, "more input than a session takes"),
         _ => {}
     }
@@ -191,6 +194,7 @@ fn run_over_links<S: Start, L: Links>(
         lines: List::from_vec(Vec::new(alloc)),
         begun: None,
     };
+    let mut note = None;
     let status = run_over_file(
         alloc,
         words,
@@ -200,6 +204,7 @@ fn run_over_links<S: Start, L: Links>(
         &mut folder,
         links,
         &mut report,
+        &mut note,
     );
     let failures = Failures {
         source: Failure::new(INPUT, source.why()),
@@ -207,7 +212,7 @@ fn run_over_links<S: Start, L: Links>(
         disk: Failure::new(disk.path(), disk.why()),
         folder: Failure::new(folder.path(), folder.why()),
     };
-    explain(rt, status, words, &failures);
+    explain(rt, status, words, note, &failures);
     Ok(status)
 }
 

@@ -13,7 +13,7 @@ use outside::{Sink, Source};
 use outside_real::{FileDisk, RealFolder, StdSink, StdSource};
 use small_types::Word;
 use std::alloc::Global;
-use updater_cli::{Report, run};
+use updater_cli::{DemoFault, Report, run};
 
 /// Does what the words ask for over a store in a file, the standard input and output, a folder and
 /// any links, and answers the exit status. The start says what the file held when it was opened.
@@ -28,6 +28,7 @@ pub(crate) fn run_over_file<S: Start, L: Links>(
     folder: &mut RealFolder<HostRuntime>,
     links: &mut L,
     report: &mut Report,
+    note: &mut Option<DemoFault>,
 ) -> u8
     // A session: its lines, their run, what its links did, what a stop at any moment leaves, which
     // views its launches hand out and when, and what its reads show.
@@ -62,5 +63,7 @@ pub(crate) fn run_over_file<S: Start, L: Links>(
     ensures format { (blocks : ℕ) → request_of words.now ≡ Some (asked.Format blocks)
         → MakesStore ⟦<FileDisk<HostRuntime, S> as Disk>⟧ blocks result disk.old disk.new }
 {
-    run(alloc, words, source, sink, disk, folder, links, report)
+    run(
+        alloc, words, source, sink, disk, folder, links, report, note,
+    )
 }

@@ -109,6 +109,7 @@ fn ran_over<F: Folder>(
     let mut source = MemSource::new(alloc, input, only(alloc, next.source)?);
     let output = Bytes::from_vec(Vec::new(alloc));
     let mut sink = MemSink::new(alloc, output, only(alloc, next.sink)?);
+    let mut note = None;
     let status = run(
         alloc,
         words,
@@ -118,6 +119,7 @@ fn ran_over<F: Folder>(
         folder,
         links,
         report,
+        &mut note,
     );
     let output = sink.taken().to_vec(alloc);
     drop(sink);

@@ -1,5 +1,6 @@
 -- How a generated run ends.
-use Rattle.std.proofs.Common.{◌≡◌, ◌⊎◌, ℕ, Result, Err, inl, inr, refl, arith}
+use Rattle.std.proofs.Common.{◌≡◌, ◌≢◌, ◌⊎◌, ℕ, Option, Some, Result, Err, inl, inr, refl, sym, subst, arith}
+use Rattle.std.specs.Prelude.{IsSomeAnd}
 use Rattle.outside.specs.Streams.{Appends, AppendsPart}
 use Rattle.outside.specs.declared.sink.Sink.{Ghosts as SinkGhosts}
 use Rattle.disks.specs.declared.disk.Disk.{Ghosts}
@@ -11,7 +12,7 @@ use Rattle.demo.specs.Run.{Demonstrates}
 use Rattle.demo.specs.Summary.{summary_line}
 use Rattle.updater_cli.specs.declared.demonstrating.DemoEnd.{DemoEnd}
 use Rattle.updater_cli.specs.declared.demonstrating.DemoEnd.TheVariants as end
-use Rattle.updater_cli.specs.Demonstration.{RunsDemo}
+use Rattle.updater_cli.specs.Demonstration.{NotesFault, RunsDemo}
 use Rattle.updater_cli.specs.Devices.{Asks}
 
 -- what is asked of the disk
@@ -29,6 +30,29 @@ asks_by on disk_old disk result is touches back there = record {
     quiet = λ other. touches.quiet (λ fault. other (there fault));
   };
 }
+
+-- why it ended early is noted
+module _ {D : Type 0} (on : Ghosts D) (disk : D) (old : Option DemoFault) where
+  pub noted : (new : Option DemoFault) (fault : DemoFault) → new ≡ Some fault
+      → fault ≢ faults.DiskFault → (on.tells disk → fault ≢ faults.NotAStore)
+      → NotesFault on 6 disk old new
+  noted new fault is other tells = record {
+    noted = λ six. subst (λ (n : Option DemoFault). IsSomeAnd n (λ f. (f ≢ faults.DiskFault)
+        × (on.tells disk → f ≢ faults.NotAStore))) (sym is) (other, tells);
+    kept = λ not. absurd (not refl);
+  }
+
+  -- or it did not end so
+  pub not_noted : (status : ℕ) → status ≢ 6 → NotesFault on status disk old old
+  not_noted status other = record { noted = λ six. absurd (other six); kept = λ _. refl }
+
+-- the run itself ended early
+pub ended_early : {D T : Type 0} (on : Ghosts D) (disk_old disk : D) (result : Result T DemoFault)
+    (old : Option DemoFault) (fault : DemoFault) → Touches on disk_old result disk
+    → result ≡ Err fault → fault ≢ faults.DiskFault → NotesFault on 6 disk old (Some fault)
+ended_early on disk_old disk result old fault touches is other =
+    noted on disk old (Some fault) fault refl other
+    (λ tells same. touches.store tells (subst (λ (f : DemoFault). result ≡ Err f) same is))
 
 -- neither done nor stopped by the sink
 apart : (status : ℕ) → (status ≡ 0) ⊎ (status ≡ 3) → (status ≡ 4) ⊎ (status ≡ 6) → ⊥

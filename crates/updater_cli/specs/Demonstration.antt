@@ -1,21 +1,22 @@
 -- What is done for a generated run.
-use Rattle.std.specs.Prelude.{◌≡◌, ◌⊎◌, ℕ}
+use Rattle.std.specs.Prelude.{◌≡◌, ◌≢◌, ◌⊎◌, ℕ, Option, IsSomeAnd}
 use Rattle.outside.specs.Streams.{Appends, AppendsPart}
 use Rattle.outside.specs.declared.sink.Sink.{Ghosts as SinkGhosts}
 use Rattle.disks.specs.declared.disk.Disk.{Ghosts}
+use Rattle.demo.specs.declared.fault.DemoFault.{DemoFault}
+use Rattle.demo.specs.declared.fault.DemoFault.TheVariants as faults
 use Rattle.demo.specs.declared.summary.Summary.{Summary}
 use Rattle.demo.specs.Run.{Demonstrates}
 use Rattle.demo.specs.Summary.{summary_line}
 use Rattle.updater_cli.specs.declared.demonstrating.DemoEnd.{DemoEnd}
-use Rattle.updater_cli.specs.declared.demonstrating.DemoEnd.TheVariants.{Done, SinkFault, DiskFault, Memory, Wrong}
+use Rattle.updater_cli.specs.declared.demonstrating.DemoEnd.TheVariants.{Done, SinkFault, DiskFault, Early}
 
 -- The exit status. A run that did not come out as it must ends as one for which there was no memory.
 abbrev pub demo_code : DemoEnd → ℕ
 demo_code Done = 0
 demo_code SinkFault = 3
 demo_code DiskFault = 4
-demo_code Memory = 6
-demo_code Wrong = 6
+demo_code Early = 6
 
 -- The run was done to its end: where the disk tells, its reads stand for the store to which it
 -- leads, and the summary has its numbers. The line of the summary was written, or a first part of
@@ -36,3 +37,11 @@ pub record RunsDemo {K D : Type 0} (to : SinkGhosts K) (on : Ghosts D) (seed sta
   pub done : (status ≡ 0) ⊎ (status ≡ 3) → IsDone to on seed status sink_old sink disk
   pub nothing : (status ≡ 4) ⊎ (status ≡ 6) → sink ≡ sink_old
   pub statuses : (status ≡ 0) ⊎ ((status ≡ 3) ⊎ ((status ≡ 4) ⊎ (status ≡ 6)))
+
+-- With status 6, and with it alone, it is noted why the run ended early: not for the disk, nor, where
+-- the disk tells, since the new store did not read as one. Else what was noted stays.
+pub record NotesFault {D : Type 0} (on : Ghosts D) (status : ℕ) (disk : D)
+    (old new : Option DemoFault) : Type 0 where
+  pub noted : status ≡ 6 → IsSomeAnd new (λ fault. (fault ≢ faults.DiskFault)
+      × (on.tells disk → fault ≢ faults.NotAStore))
+  pub kept : status ≢ 6 → new ≡ old

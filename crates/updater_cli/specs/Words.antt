@@ -80,6 +80,11 @@ abbrev pub AsksForSession : Option Request → Type 0
 AsksForSession (Some (Session boot now)) = Unit {0}
 AsksForSession _ = ⊥
 
+-- a generated run is
+abbrev pub AsksForDemo : Option Request → Type 0
+AsksForDemo (Some (Demo seed)) = Unit {0}
+AsksForDemo _ = ⊥
+
 -- the numbers of what is asked for are within their limits, and the options of a publish can be
 -- written
 abbrev pub IsRequest : Request → Type 0

@@ -1,7 +1,7 @@
 // The generated run, and the line that says what it came to.
 ghost use Rattle.std.specs.Prelude.{◌≡◌};
 ghost use Rattle.updater_cli.specs.declared.demonstrating.DemoEnd.TheVariants as end;
-ghost use Rattle.updater_cli.specs.Demonstration.{RunsDemo, demo_code};
+ghost use Rattle.updater_cli.specs.Demonstration.{NotesFault, RunsDemo, demo_code};
 ghost use Rattle.updater_cli.specs.Devices.{Asks, RisesWith};
 
 use demo::{DemoFault, demo};
@@ -18,10 +18,8 @@ pub(crate) enum DemoEnd {
     SinkFault,
     /// The disk failed.
     DiskFault,
-    /// There was no memory.
-    Memory,
-    /// It did not come out as it must.
-    Wrong,
+    /// There was no memory, or it did not come out as it must.
+    Early,
 }
 
 impl DemoEnd {
@@ -33,33 +31,40 @@ impl DemoEnd {
             DemoEnd::Done => 0,
             DemoEnd::SinkFault => 3,
             DemoEnd::DiskFault => 4,
-            DemoEnd::Memory => 6,
-            DemoEnd::Wrong => 6,
+            DemoEnd::Early => 6,
         }
     }
 }
 
 /// The generated run of the number over the disk. The line of its summary is written to the sink.
+/// Where it ends early, and not for the disk, why is noted.
 pub(crate) fn demonstrate<K: Sink, D: Disk>(
     alloc: Global,
     seed: u64,
     sink: &mut K,
     disk: &mut D,
+    note: &mut Option<DemoFault>,
 ) -> DemoEnd
     ensures runs { RunsDemo K.Sink D.Disk seed (demo_code result) sink.old sink.new disk.old
         disk.new }
+    ensures notes { NotesFault D.Disk (demo_code result) disk.new note.old note.new }
     ensures writes { RisesWith (result ≡ end.SinkFault) (K.count sink.old) (K.count sink.new) }
     ensures asks { Asks D.Disk (result ≡ end.DiskFault) disk.old disk.new }
 {
     let summary = match demo(alloc, seed, disk) {
         Ok(summary) => summary,
         Err(DemoFault::DiskFault) => return DemoEnd::DiskFault,
-        Err(DemoFault::Memory) => return DemoEnd::Memory,
-        Err(_) => return DemoEnd::Wrong,
+        Err(fault) => {
+            *note = Some(fault);
+            return DemoEnd::Early;
+        }
     };
     let line = match summary.line(alloc) {
         Ok(line) => line,
-        Err(AllocError) => return DemoEnd::Memory,
+        Err(AllocError) => {
+            *note = Some(DemoFault::Memory);
+            return DemoEnd::Early;
+        }
     };
     match write_all(sink, line.as_bytes()) {
         Ok(()) => DemoEnd::Done,

@@ -12,6 +12,7 @@ mod status;
 mod top;
 mod words;
 
+pub use demo::DemoFault;
 pub use laws::{
     downs_are_counted, no_others_come, one_site_is_given, pages_have_releases,
     published_data_is_read, published_is_given, published_is_read, publishes_write,

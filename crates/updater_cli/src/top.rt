@@ -7,18 +7,19 @@ ghost use Rattle.publish_plan.specs.declared.options.Options.{Options};
 ghost use Rattle.updater.specs.StandsFor.{StandsForNone};
 ghost use Rattle.updater_cli.specs.declared.status.Status.TheVariants as exit;
 ghost use Rattle.updater_cli.specs.declared.words.Request.TheVariants as asked;
-ghost use Rattle.updater_cli.specs.Demonstration.{RunsDemo};
+ghost use Rattle.updater_cli.specs.Demonstration.{NotesFault, RunsDemo};
 ghost use Rattle.updater_cli.specs.Devices.{Asks, devices_of};
 ghost use Rattle.updater_cli.specs.Format.{MakesStore};
 ghost use Rattle.updater_cli.specs.Headline.{Headline, IsNothing};
 ghost use Rattle.updater_cli.specs.Requests.{InspectsInput, PublishesBy};
 ghost use Rattle.updater_cli.specs.Status.{code_of};
-ghost use Rattle.updater_cli.specs.Words.{AsksForSession, AsksToPublish, IsUntaken, is_publish, request_of};
+ghost use Rattle.updater_cli.specs.Words.{AsksForDemo, AsksForSession, AsksToPublish, IsUntaken, is_publish, request_of};
 
 use crate::demonstrating::demonstrate;
 use crate::opening::session;
 use crate::status::Status;
 use crate::words::{Request, read_words};
+use demo::DemoFault;
 use disks::Disk;
 use folders::Folder;
 use inspection::inspect;
@@ -72,7 +73,7 @@ fn format<D: Disk>(alloc: Global, disk: &mut D, blocks: u64) -> Status
 /// number makes: three releases of 200 generated files are published in memory, each is installed,
 /// and the first is launched, its lease is finished, and it is cleaned away. The line of its summary
 /// is written to the sink: how many targets each install asked for, and how many blocks were used
-/// behind each install and at the end.
+/// behind each install and at the end. Where the status is 6, the note then says why.
 ///
 /// The status is 0 where all was done, 1 where the words are none of these, 2 where the source
 /// failed, 3 the sink, 4 the disk, 5 where the disk holds no store, 6 where there was no memory or a
@@ -91,6 +92,7 @@ pub fn run<S: Source, K: Sink, D: Disk, F: Folder, L: Links>(
     folder: &mut F,
     links: &mut L,
     report: &mut Report,
+    note: &mut Option<DemoFault>,
 ) -> u8
 
     // A session: its lines, their run, what a stop at any moment leaves, which views its launches
@@ -126,6 +128,11 @@ pub fn run<S: Source, K: Sink, D: Disk, F: Folder, L: Links>(
         → RunsDemo K.Sink D.Disk seed result sink.old sink.new disk.old disk.new }
     ensures demo_others { (seed : ℕ) → request_of words.now ≡ Some (asked.Demo seed)
         → (source.new ≡ source.old) × (report.new ≡ report.old) }
+
+    // Why a generated run ended early, and not for the disk, is noted, and nothing else is.
+    ensures demo_note { (seed : ℕ) → request_of words.now ≡ Some (asked.Demo seed)
+        → NotesFault D.Disk result disk.new note.old note.new }
+    ensures note_kept { ¬ AsksForDemo (request_of words.now) → note.new ≡ note.old }
 
     // Only a session asks a link.
     ensures links_kept { ¬ AsksForSession (request_of words.now) → links.new ≡ links.old }
@@ -178,6 +185,6 @@ pub fn run<S: Source, K: Sink, D: Disk, F: Folder, L: Links>(
         }
         Ok(Request::Inspect { kind }) => inspect(alloc, kind, source, sink).code(),
         Ok(Request::Publish { options }) => publish_options(alloc, &options, folder, sink).code(),
-        Ok(Request::Demo { seed }) => demonstrate(alloc, seed, sink, disk).code(),
+        Ok(Request::Demo { seed }) => demonstrate(alloc, seed, sink, disk, note).code(),
     }
 }

@@ -53,6 +53,7 @@ fn run_words<L: Links>(
     let mut sink = MemSink::new(alloc, Bytes::from_vec(Vec::new(alloc)), none(alloc));
     let files = List::from_vec(Vec::new(alloc));
     let mut folder = MemFolder::new(alloc, files, none(alloc));
+    let mut note = None;
     let status = run(
         alloc,
         &words,
@@ -62,6 +63,7 @@ fn run_words<L: Links>(
         &mut folder,
         links,
         report,
+        &mut note,
     );
     let told = tell(rt, status, sink.taken());
     drop(folder);

@@ -1,7 +1,7 @@
 use Rattle.std.proofs.Common.{rules, arith, ◌≡◌, ◌≢◌, Some, Err, inr, refl, sym, ◌∙◌, ap}
 use Rattle.updater_cli.specs.declared.status.Status.{Status}
 use Rattle.updater_cli.specs.declared.status.Status.TheVariants.{Done, Words, SourceFault, SinkFault, DiskFault, NotAStore, Memory, TooMuchInput}
-use Rattle.updater_cli.specs.Demonstration.{RunsDemo}
+use Rattle.updater_cli.specs.Demonstration.{NotesFault, RunsDemo}
 use Rattle.updater_cli.specs.Devices.{devices_of}
 use Rattle.updater_cli.specs.Format.{MakesStore}
 use Rattle.updater_cli.specs.Headline.{Headline}
@@ -49,6 +49,11 @@ returns-in-Ok-Demo-clause-demo g c =
     for_demo (request_of c.args.words.now) (λ seed. RunsDemo g.K.Sink g.D.Disk seed c.code-in-Ok-Demo.result c.args.sink.now c.demonstrate.new.sink c.args.disk.now c.demonstrate.new.disk)
     c.in-Ok-Demo.seed (c.in-Ok-Demo.ensures.request ∙ ap Some c.in-Ok-Demo.field-0-is) (rw c.code-in-Ok-Demo.ensures c.demonstrate.ensures.runs)
 
+pub returns-in-Ok-Demo-clause-demo_note : goal.returns-in-Ok-Demo-clause-demo_note
+returns-in-Ok-Demo-clause-demo_note g c =
+    for_demo (request_of c.args.words.now) (λ seed. NotesFault g.D.Disk c.code-in-Ok-Demo.result c.demonstrate.new.disk c.args.note.now c.demonstrate.new.note)
+    c.in-Ok-Demo.seed (c.in-Ok-Demo.ensures.request ∙ ap Some c.in-Ok-Demo.field-0-is) (rw c.code-in-Ok-Demo.ensures c.demonstrate.ensures.notes)
+
 pub returns-in-Ok-Publish-clause-publish : goal.returns-in-Ok-Publish-clause-publish
 returns-in-Ok-Publish-clause-publish g c =
     for_publish (request_of c.args.words.now) (λ options. c.code-in-Ok-Publish.result ≢ 1 → PublishesBy g.F.Folder g.K.Sink options c.code-in-Ok-Publish.result c.args.folder.now c.publish_options.new.folder c.args.sink.now c.publish_options.new.sink)
@@ -71,6 +76,9 @@ returns-in-Err-Unreadable-clause-inspect g c = λ kind asked. absurd (refused_in
 
 pub returns-in-Err-Unreadable-clause-demo : goal.returns-in-Err-Unreadable-clause-demo
 returns-in-Err-Unreadable-clause-demo g c = λ seed asked. absurd (refused_demo c.args.words.now (c.in-Err-Unreadable.ensures.none (ap Err c.in-Err-Unreadable.field-0-is)) seed asked)
+
+pub returns-in-Err-Unreadable-clause-demo_note : goal.returns-in-Err-Unreadable-clause-demo_note
+returns-in-Err-Unreadable-clause-demo_note g c = λ seed asked. absurd (refused_demo c.args.words.now (c.in-Err-Unreadable.ensures.none (ap Err c.in-Err-Unreadable.field-0-is)) seed asked)
 
 pub returns-in-Err-Unreadable-clause-publish : goal.returns-in-Err-Unreadable-clause-publish
 returns-in-Err-Unreadable-clause-publish g c = λ options asked other. absurd (other c.code.ensures)
@@ -95,6 +103,9 @@ returns-in-Err-Memory-clause-inspect g c = λ kind asked. absurd (no_inspect c.a
 
 pub returns-in-Err-Memory-clause-demo : goal.returns-in-Err-Memory-clause-demo
 returns-in-Err-Memory-clause-demo g c = λ seed asked. absurd (no_demo c.args.words.now (c.in-Err-Memory.ensures.memory (ap Err c.in-Err-Memory.field-0-is)) seed asked)
+
+pub returns-in-Err-Memory-clause-demo_note : goal.returns-in-Err-Memory-clause-demo_note
+returns-in-Err-Memory-clause-demo_note g c = λ seed asked. absurd (no_demo c.args.words.now (c.in-Err-Memory.ensures.memory (ap Err c.in-Err-Memory.field-0-is)) seed asked)
 
 pub returns-in-Err-Memory-clause-no_request : goal.returns-in-Err-Memory-clause-no_request
 returns-in-Err-Memory-clause-no_request g c = λ none. inr (c.in-Err-Memory.ensures.memory (ap Err c.in-Err-Memory.field-0-is), c.code-in-Err-Memory.ensures)
