@@ -1,3 +1,4 @@
+// Tests of commands over a disk in memory.
 ghost use Rattle.std.specs.Prelude.{◌≤◌, IfOk};
 ghost use Rattle.small_types.specs.declared.limits.TheConstants.{NUMBER_LIMIT};
 ghost use Rattle.identity.specs.Version.{IsVersion};

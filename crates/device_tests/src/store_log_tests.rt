@@ -1,3 +1,4 @@
+// Tests of the log over a disk in memory.
 ghost use Rattle.std.specs.Prelude.{◌≤◌};
 
 use crate::made::{all_right, bytes, numbers, same};

@@ -1,3 +1,4 @@
+// Room for the digest of an algorithm, in no memory of its own.
 ghost use Rattle.std.specs.Prelude.{◌≡◌, ◌≤◌, [], length, vec_capacity};
 
 use small_types::Bytes;

@@ -1,3 +1,4 @@
+-- The count of a real source.
 use Rattle.std.specs.Prelude.{ℕ}
 use Rattle.outside_real.specs.declared.std_source.StdSource.{StdSource}
 

@@ -1,3 +1,4 @@
+-- The counts of a real door.
 use Rattle.std.specs.Prelude.{ℕ}
 use Rattle.outside_real.specs.declared.tcp_door.TcpDoor.{TcpDoor}
 

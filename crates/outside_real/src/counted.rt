@@ -1,3 +1,4 @@
+// Counts of faults, and results that are counted.
 ghost use Rattle.std.specs.Prelude.{◌≡◌, ◌+◌, ◌≤◌, min, IfErr, OnOk, OnErr};
 ghost use Rattle.outside.specs.Streams.{Causes, Rose};
 

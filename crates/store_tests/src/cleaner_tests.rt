@@ -1,3 +1,4 @@
+// Tests of which views a clean takes.
 use crate::store_state_tests::make;
 use cleaner::{CleanFault, clean, removable};
 use leases::{end, grant};

@@ -1,3 +1,4 @@
+// Tests of lines and replies.
 ghost use Rattle.outside.specs.MemSink.{sink_taken, sink_faults};
 
 use command_text::{print_reply, read_line, read_number, strip_carriage_return};

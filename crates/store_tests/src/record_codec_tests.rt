@@ -1,3 +1,4 @@
+// Tests of changes as bytes.
 ghost use Rattle.identity.specs.Key.{IsKey};
 ghost use Rattle.record_codec.specs.Codec.{IsChange};
 

@@ -1,3 +1,4 @@
+// Tests of changes of the tables.
 ghost use Rattle.store_state.specs.Change.{IsPlain};
 
 use identity::{Key, Version};

@@ -1,3 +1,4 @@
+// Tests of addresses: what texts are read as, and what is joined to them.
 use addresses::{UrlFault, app_target, file_target, target_of};
 use small_types::{Name, Target, Text};
 use std::alloc::{AllocError, Global};

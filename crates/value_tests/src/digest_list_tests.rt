@@ -1,3 +1,4 @@
+// Tests of digests: outside vectors, and what matches.
 ghost use Rattle.std.specs.Prelude.{◌≡◌, ◌+◌, ◌<◌, ◌^◌};
 ghost use Rattle.digest_list.specs.Checker.{count_of};
 

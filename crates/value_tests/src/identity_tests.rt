@@ -1,3 +1,4 @@
+// Tests of versions and keys.
 use identity::{Identity, Key, KeyFault, Version, VersionFault, word_escape};
 use small_types::{Duplicate, Text};
 use std::alloc::{AllocError, Global};

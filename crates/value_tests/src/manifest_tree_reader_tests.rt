@@ -1,3 +1,4 @@
+// Tests of the reader of manifest texts: trees, and faults with their places.
 use manifest_tree::{Node, TreeError, TreeFault, TreeKind, read_tree};
 use std::alloc::{AllocError, Global};
 use std::test::Fail;

@@ -1,3 +1,4 @@
+// Tests of the writer of manifest texts.
 use manifest_tree::{Attribute, Node, WriteFault, is_writable, read_tree, write_tree};
 use small_types::{Bytes, List, Text};
 use std::alloc::{AllocError, Global};
