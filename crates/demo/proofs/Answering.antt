@@ -30,8 +30,8 @@ use Rattle.demo.specs.declared.fault.DemoFault.{DemoFault}
 use Rattle.demo.specs.declared.fault.DemoFault.TheVariants.{DiskFault}
 use Rattle.demo.specs.declared.site.Site.{Site}
 use Rattle.demo.specs.declared.summary.Installed.{Installed}
-use Rattle.demo.specs.Parts.{Goes, IsAsPublished, IsOther, Reaches, Replies}
-use Rattle.demo.specs.Steps.{Answers, Installs, IsSite, event_of, installed_reply}
+use Rattle.demo.specs.Parts.{Goes, IsAsPublished, IsNeitherFault, ReachesHeld, CommandReplies}
+use Rattle.demo.specs.Steps.{AnswersAtZero, Installs, IsSite, event_of, installed_reply}
 use Rattle.demo.proofs.Touching.{fails, with_answer, with_other}
 use Rattle.demo.proofs.Urls.{is_url}
 
@@ -58,7 +58,7 @@ module _ {D L : Type 0} (on : Ghosts D) (net : LinksGhosts L) (command : Command
   pub replied : (heard : Heard) (reply : Reply)
       → Commanded on net 0 heard.texts command updater disk links (Ok reply)
       updater_new disk_new links_new
-      → Replies on net command updater disk links (Ok (heard, reply)) updater_new disk_new links_new
+      → CommandReplies on net command updater disk links (Ok (heard, reply)) updater_new disk_new links_new
   replied heard reply commanded = record {
     line = λ tells old holds sound.
         commanded.answered tells old holds (sound_for command old.store sound);
@@ -74,7 +74,7 @@ module _ {D L : Type 0} (on : Ghosts D) (net : LinksGhosts L) (command : Command
 
   pub failed : (heard : List (List ℕ)) (why : Failed)
       → Commanded on net 0 heard command updater disk links (Err why) updater_new disk_new links_new
-      → Replies on net command updater disk links (Err DiskFault) updater_new disk_new links_new
+      → CommandReplies on net command updater disk links (Err DiskFault) updater_new disk_new links_new
   failed heard why commanded = record {
     line = λ tells old holds sound. tt;
     touches = record {
@@ -94,9 +94,9 @@ module _ {D L : Type 0} (on : Ghosts D) (net : LinksGhosts L) (command : Command
   reached : (old : Session) (texts : List (List ℕ)) (reply : Reply)
       → Answered on net 0 texts command disk links old reply updater_new disk_new links_new
       → IsCommand command → Sound old.store
-      → Reaches on (Answers command texts reply old) updater_new disk_new
+      → ReachesHeld on (AnswersAtZero command texts reply old) updater_new disk_new
   reached old texts reply it is sound =
-      let step : Answers command texts reply old it.new = record {
+      let step : AnswersAtZero command texts reply old it.new = record {
         moment = refl;
         hears = it.hears;
         answer = reply;
@@ -118,9 +118,9 @@ module _ {D L : Type 0} (on : Ghosts D) (net : LinksGhosts L) (command : Command
   goes : {T : Type 0} (x : T) (wanted : Command) (heard : Heard) (reply said : Reply)
       → ((shape : Shape) (texts : List (List ℕ)) → Hears shape command texts → texts ≡ [])
       → IsCommand command → command ≡ wanted
-      → Replies on net command updater disk links (Ok (heard, reply)) updater_new disk_new links_new
+      → CommandReplies on net command updater disk links (Ok (heard, reply)) updater_new disk_new links_new
       → reply ≡ said
-      → Goes on (λ (_ : T). Answers wanted [] said) updater disk (Ok x) updater_new disk_new
+      → Goes on (λ (_ : T). AnswersAtZero wanted [] said) updater disk (Ok x) updater_new disk_new
   goes x wanted heard reply said none is same replies says_so = record {
     leads = λ tells old holds sound.
         let done : Answered on net 0 heard.texts command disk links old reply updater_new disk_new
@@ -147,9 +147,9 @@ module _ {D L : Type 0} (on : Ghosts D) (net : LinksGhosts L) (command : Command
       (reply said : Reply)
       → ((shape : Shape) (texts : List (List ℕ)) → Hears shape command texts → texts ≡ [])
       → IsCommand command → command ≡ wanted
-      → Replies on net command updater disk links (Ok (heard, reply)) updater_new disk_new links_new
-      → OnOk result (reply ≡ said) → IfErr result IsOther
-      → Goes on (λ (_ : T). Answers wanted [] said) updater disk result updater_new disk_new
+      → CommandReplies on net command updater disk links (Ok (heard, reply)) updater_new disk_new links_new
+      → OnOk result (reply ≡ said) → IfErr result IsNeitherFault
+      → Goes on (λ (_ : T). AnswersAtZero wanted [] said) updater disk result updater_new disk_new
   judged (Ok x) wanted heard reply said none is same replies says_so other =
       goes on net command updater disk links updater_new disk_new links_new x wanted heard reply said
       none is same replies says_so
@@ -169,7 +169,7 @@ module _ {D L : Type 0} (on : Ghosts D) (net : LinksGhosts L) (seed : ℕ) (rele
       → (old : Session) → Sound old.store
       → Answered on net 0 (deployment ∷ application ∷ []) (Install (url_of release)) disk links old
       (installed_reply release) updater_new disk_new links_new
-      → Reaches on (Installs seed release installed old) updater_new disk_new
+      → ReachesHeld on (Installs seed release installed old) updater_new disk_new
   unfolding reached
   installs_by deployment application installed published unasked asked blocks seen old sound it =
       let texts = deployment ∷ application ∷ [] in
@@ -197,7 +197,7 @@ module _ {D L : Type 0} (on : Ghosts D) (net : LinksGhosts L) (seed : ℕ) (rele
   -- an install was answered so, and heard what was published
   pub installs : (site : Site) (said : Heard × Reply) (installed : Installed)
       → IsSite seed release site → (net.links links).asked ≡ []
-      → Replies on net (Install (url_of release)) updater disk links (Ok said) updater_new disk_new
+      → CommandReplies on net (Install (url_of release)) updater disk links (Ok said) updater_new disk_new
       links_new
       → IsAsPublished said release site
       → installed.asked ≡ length (net.links links_new).asked

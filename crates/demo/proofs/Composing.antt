@@ -16,7 +16,7 @@ use Rattle.generated_release.specs.declared.release.Release.TheVariants.{One, Tw
 use Rattle.demo.specs.declared.summary.Installed.{Installed}
 use Rattle.demo.specs.declared.summary.Summary.{Summary}
 use Rattle.demo.specs.Kept.{TablesKeep}
-use Rattle.demo.specs.Parts.{Begun, Ended, Goes, Left, Reaches}
+use Rattle.demo.specs.Parts.{FirstLaunched, ThirdInstalled, Goes, FirstLeft, ReachesHeld}
 use Rattle.demo.specs.Run.{Demonstrates, start}
 use Rattle.demo.specs.Steps.{Cleans, Finishes, Installs, Launches}
 use Rattle.demo.proofs.ShownViews.{keeps_shown}
@@ -27,12 +27,12 @@ module _ {D : Type 0} (on : Ghosts D) where
   pub begun : {S : Type 0} (seed : ℕ) (installed : Installed) (done : S) (u v w : Updater)
       (a b c : D) → Goes on (Installs seed One) u a (Ok installed) v b
       → Goes on (λ (_ : S). Launches) v b (Ok done) w c
-      → Goes on (Begun seed) u a (Ok installed) w c
+      → Goes on (FirstLaunched seed) u a (Ok installed) w c
   begun seed installed done u v w a b c one launch = record {
     leads = λ tells old holds sound.
-        let first : Reaches on (Installs seed One installed old) v b =
+        let first : ReachesHeld on (Installs seed One installed old) v b =
         one.leads (launch.touches.told tells) old holds sound in
-        let then : Reaches on (Launches first.session) w c =
+        let then : ReachesHeld on (Launches first.session) w c =
         launch.leads tells first.session first.holds first.sound in
         record {
           session = then.session;
@@ -48,15 +48,15 @@ module _ {D : Type 0} (on : Ghosts D) where
       → Goes on (λ (_ : S). Cleans 0) u a (Ok one) v b
       → Goes on (λ (_ : S). Finishes) v b (Ok two) w c
       → Goes on (λ (_ : S). Cleans 1) w c (Ok three) x d
-      → Goes on (λ (_ : S). Left) u a (Ok three) x d
+      → Goes on (λ (_ : S). FirstLeft) u a (Ok three) x d
   left one two three u v w x a b c d clean finish again = record {
     leads = λ tells old holds sound.
         let before = again.touches.told tells in
-        let first : Reaches on (Cleans 0 old) v b =
+        let first : ReachesHeld on (Cleans 0 old) v b =
         clean.leads (finish.touches.told before) old holds sound in
-        let second : Reaches on (Finishes first.session) w c =
+        let second : ReachesHeld on (Finishes first.session) w c =
         finish.leads before first.session first.holds first.sound in
-        let third : Reaches on (Cleans 1 second.session) x d =
+        let third : ReachesHeld on (Cleans 1 second.session) x d =
         again.leads tells second.session second.holds second.sound in
         record {
           session = third.session;
@@ -76,13 +76,13 @@ module _ {D : Type 0} (on : Ghosts D) where
   -- an install, and what follows
   pub ended : {S : Type 0} (seed : ℕ) (installed : Installed) (done : S) (u v w : Updater)
       (a b c : D) → Goes on (Installs seed Three) u a (Ok installed) v b
-      → Goes on (λ (_ : S). Left) v b (Ok done) w c
-      → Goes on (Ended seed) u a (Ok installed) w c
+      → Goes on (λ (_ : S). FirstLeft) v b (Ok done) w c
+      → Goes on (ThirdInstalled seed) u a (Ok installed) w c
   ended seed installed done u v w a b c three leave = record {
     leads = λ tells old holds sound.
-        let first : Reaches on (Installs seed Three installed old) v b =
+        let first : ReachesHeld on (Installs seed Three installed old) v b =
         three.leads (leave.touches.told tells) old holds sound in
-        let then : Reaches on (Left first.session) w c =
+        let then : ReachesHeld on (FirstLeft first.session) w c =
         leave.leads tells first.session first.holds first.sound in
         record {
           session = then.session;
@@ -95,10 +95,10 @@ module _ {D : Type 0} (on : Ghosts D) where
 
   -- the whole run
   pub demonstrates : (seed : ℕ) (s : Summary) (u v w x : Updater) (a b c d : D) → on.tells d
-      → s.seed ≡ seed → Reaches on (Step 0 start (Boot 1) None) u a
-      → Goes on (Begun seed) u a (Ok s.one) v b
+      → s.seed ≡ seed → ReachesHeld on (Step 0 start (Boot 1) None) u a
+      → Goes on (FirstLaunched seed) u a (Ok s.one) v b
       → Goes on (Installs seed Two) v b (Ok s.two) w c
-      → Goes on (Ended seed) w c (Ok s.three) x d
+      → Goes on (ThirdInstalled seed) w c (Ok s.three) x d
       → ((room : Room) (image : List ℕ) → TablesKeep room image seed (tables_of x))
       → ((room : Room) (image : List ℕ) (store : Store) → Shows room (tables_of x) image store
       → Valid store → s.blocks ≡ used_blocks (map bare_view store.views))
@@ -106,11 +106,11 @@ module _ {D : Type 0} (on : Ghosts D) where
       → Demonstrates on seed s d
   demonstrates seed s u v w x a b c d tells shown opened begins updates ends keeps blocks seen =
       let before = ends.touches.told tells in
-      let one : Reaches on (Begun seed s.one opened.session) v b =
+      let one : ReachesHeld on (FirstLaunched seed s.one opened.session) v b =
       begins.leads (updates.touches.told before) opened.session opened.holds opened.sound in
-      let two : Reaches on (Installs seed Two s.two one.session) w c =
+      let two : ReachesHeld on (Installs seed Two s.two one.session) w c =
       updates.leads before one.session one.holds one.sound in
-      let three : Reaches on (Ended seed s.three two.session) x d =
+      let three : ReachesHeld on (ThirdInstalled seed s.three two.session) x d =
       ends.leads tells two.session two.holds two.sound in
       let first = one.is in
       let second = two.is in

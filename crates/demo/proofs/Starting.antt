@@ -20,7 +20,7 @@ use Rattle.updater.proofs.Standing.{new_stands}
 use Rattle.demo.specs.declared.fault.DemoFault.{DemoFault}
 use Rattle.demo.specs.declared.fault.DemoFault.TheVariants.{DiskFault, Memory, NotAStore}
 use Rattle.demo.specs.declared.run.TheConstants.{STORE_BLOCKS}
-use Rattle.demo.specs.Parts.{Opens, Touches}
+use Rattle.demo.specs.Parts.{OpensNew, Touches}
 use Rattle.demo.specs.Run.{start}
 
 -- the new room
@@ -50,7 +50,7 @@ module _ {D : Type 0} (on : Ghosts D) (disk disk_new : D) where
 
   -- the new store is opened
   pub begins : (r : Updater × Bool) → Opened on 1 disk (Ok r) disk_new
-      → IsStore STORE_BLOCKS [] (on.seen disk) → Opens on disk (Ok r.0) disk_new
+      → IsStore STORE_BLOCKS [] (on.seen disk) → OpensNew on disk (Ok r.0) disk_new
   begins r opened journal = record {
     begins = λ tells.
         let last = session_over (booted 1 (empty room)) in
@@ -66,7 +66,7 @@ module _ {D : Type 0} (on : Ghosts D) (disk disk_new : D) where
   }
 
   -- the disk failed, the store does not read as one, or there was no memory
-  pub breaks : Opened on 1 disk (Err recover.DiskFault) disk_new → Opens on disk (Err DiskFault) disk_new
+  pub breaks : Opened on 1 disk (Err recover.DiskFault) disk_new → OpensNew on disk (Err DiskFault) disk_new
   breaks opened = record {
     begins = λ tells. tt;
     touches = touches (Err recover.DiskFault) (Err DiskFault) opened (λ is. refl) (λ is. refl)
@@ -74,14 +74,14 @@ module _ {D : Type 0} (on : Ghosts D) (disk disk_new : D) where
   }
 
   pub reads_none : Opened on 1 disk (Err recover.NotAStore) disk_new
-      → IsStore STORE_BLOCKS [] (on.seen disk) → Opens on disk (Err NotAStore) disk_new
+      → IsStore STORE_BLOCKS [] (on.seen disk) → OpensNew on disk (Err NotAStore) disk_new
   reads_none opened journal = record {
     begins = λ tells. tt;
     touches = touches (Err recover.NotAStore) (Err NotAStore) opened (λ is. cc (is)) (λ is. cc (is))
         (λ tells is. opened.not_a_store tells refl (empty room) (fresh (on.seen disk) journal));
   }
 
-  pub lacks : Opened on 1 disk (Err recover.Memory) disk_new → Opens on disk (Err Memory) disk_new
+  pub lacks : Opened on 1 disk (Err recover.Memory) disk_new → OpensNew on disk (Err Memory) disk_new
   lacks opened = record {
     begins = λ tells. tt;
     touches = touches (Err recover.Memory) (Err Memory) opened (λ is. cc (is)) (λ is. cc (is))

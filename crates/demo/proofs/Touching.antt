@@ -6,7 +6,7 @@ use Rattle.machine.specs.Store.{Session}
 use Rattle.updater.specs.declared.updater.Updater.{Updater}
 use Rattle.demo.specs.declared.fault.DemoFault.{DemoFault}
 use Rattle.demo.specs.declared.fault.DemoFault.TheVariants.{DiskFault, NotAStore}
-use Rattle.demo.specs.Parts.{Goes, IsOther, Touches}
+use Rattle.demo.specs.Parts.{Goes, IsNeitherFault, Touches}
 
 module _ {D : Type 0} (on : Ghosts D) where
   -- nothing was called
@@ -21,7 +21,7 @@ module _ {D : Type 0} (on : Ghosts D) where
     store = λ tells. stands;
   }
 
-  pub untouched : {T : Type 0} (disk : D) (fault : DemoFault) → IsOther fault
+  pub untouched : {T : Type 0} (disk : D) (fault : DemoFault) → IsNeitherFault fault
       → Touches {T = T} on disk (Err fault) disk
   untouched disk fault other = still disk (Err fault)
       (λ is. let same : fault ≡ DiskFault = cc (is) in other.0 same)
@@ -46,7 +46,7 @@ module _ {D : Type 0} (on : Ghosts D) where
       → Touches on a (Ok y) b
   with_answer {b = b} y first = after first (still b (Ok y) (λ is. cc (is)) (λ is. cc (is)))
 
-  pub with_other : {S T : Type 0} {a b : D} {x : S} (fault : DemoFault) → IsOther fault
+  pub with_other : {S T : Type 0} {a b : D} {x : S} (fault : DemoFault) → IsNeitherFault fault
       → Touches on a (Ok x) b → Touches {T = T} on a (Err fault) b
   with_other {b = b} fault other first = after first (untouched b fault other)
 

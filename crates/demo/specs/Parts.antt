@@ -38,13 +38,13 @@ pub record Touches {D T : Type 0} (on : Ghosts D) (old : D) (result : Result T D
   pub store : on.tells new → result ≢ Err NotAStore
 
 -- a fault that stands for neither
-abbrev pub IsOther : DemoFault → Type 0
-IsOther fault = (fault ≢ DiskFault) × (fault ≢ NotAStore)
+abbrev pub IsNeitherFault : DemoFault → Type 0
+IsNeitherFault fault = (fault ≢ DiskFault) × (fault ≢ NotAStore)
 
 -- ---- lines
 
 -- a sound session that is held, and of which P holds
-pub record Reaches {D : Type 0} (on : Ghosts D) (P : Session → Type 0) (updater : Updater)
+pub record ReachesHeld {D : Type 0} (on : Ghosts D) (P : Session → Type 0) (updater : Updater)
     (disk : D) : Type 0 where
   pub session : Session
   pub is : P session
@@ -57,24 +57,24 @@ pub record Goes {D T : Type 0} (on : Ghosts D) (P : T → Session → Session �
     (updater_old : Updater) (disk_old : D) (result : Result T DemoFault) (updater_new : Updater)
     (disk_new : D) : Type 0 where
   pub leads : on.tells disk_new → (old : Session) → Holds on updater_old disk_old old
-      → Sound old.store → IfOk result (λ x. Reaches on (P x old) updater_new disk_new)
+      → Sound old.store → IfOk result (λ x. ReachesHeld on (P x old) updater_new disk_new)
   pub touches : Touches on disk_old result disk_new
 
 -- a new store was made and opened
-pub record Opens {D : Type 0} (on : Ghosts D) (disk_old : D) (result : Result Updater DemoFault)
+pub record OpensNew {D : Type 0} (on : Ghosts D) (disk_old : D) (result : Result Updater DemoFault)
     (disk_new : D) : Type 0 where
   pub begins : on.tells disk_new
-      → IfOk result (λ updater. Reaches on (Step 0 start (Boot 1) None) updater disk_new)
+      → IfOk result (λ updater. ReachesHeld on (Step 0 start (Boot 1) None) updater disk_new)
   pub touches : Touches on disk_old result disk_new
 
 -- the first release was installed and launched
-pub record Begun (seed : ℕ) (installed : Installed) (old new : Session) : Type 0 where
+pub record FirstLaunched (seed : ℕ) (installed : Installed) (old new : Session) : Type 0 where
   pub first : Session
   pub one : Installs seed One installed old first
   pub launch : Launches first new
 
 -- a clean takes nothing away; once the lease is finished another one takes a view
-pub record Left (old new : Session) : Type 0 where
+pub record FirstLeft (old new : Session) : Type 0 where
   pub cleaned : Session
   pub finished : Session
   pub clean : Cleans 0 old cleaned
@@ -82,13 +82,13 @@ pub record Left (old new : Session) : Type 0 where
   pub clean_again : Cleans 1 finished new
 
 -- the third release was installed, and the first was left
-pub record Ended (seed : ℕ) (installed : Installed) (old new : Session) : Type 0 where
+pub record ThirdInstalled (seed : ℕ) (installed : Installed) (old new : Session) : Type 0 where
   pub third : Session
   pub three : Installs seed Three installed old third
-  pub left : Left third new
+  pub left : FirstLeft third new
 
 -- A command was answered, or the disk failed.
-pub record Replies {D L : Type 0} (on : Ghosts D) (net : LinksGhosts L) (command : Command)
+pub record CommandReplies {D L : Type 0} (on : Ghosts D) (net : LinksGhosts L) (command : Command)
     (updater_old : Updater) (disk_old : D) (links_old : L)
     (result : Result (Heard × Reply) DemoFault) (updater_new : Updater) (disk_new : D)
     (links_new : L) : Type 0 where

@@ -49,7 +49,7 @@ replies =
     ∷ []
 
 -- The sessions between the lines. The numbers of the summary are those of this run.
-pub record Course (seed : ℕ) (s : Summary) (last : Session) : Type 0 where
+pub record DemoCourse (seed : ℕ) (s : Summary) (last : Session) : Type 0 where
   pub opened : Session
   pub first : Session
   pub launched : Session
@@ -75,7 +75,7 @@ pub record Course (seed : ℕ) (s : Summary) (last : Session) : Type 0 where
 pub record Demonstrates {D : Type 0} (on : Ghosts D) (seed : ℕ) (summary : Summary) (disk : D)
     : Type 0 where
   pub last : Session
-  pub course : Course seed summary last
+  pub course : DemoCourse seed summary last
   pub run : Run 0 start
       (events_of
       (course.one.deployment ∷ course.one.application ∷ [])

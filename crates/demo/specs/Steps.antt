@@ -36,8 +36,8 @@ abbrev pub event_of : Command → List (List ℕ) → Event
 event_of command heard = Line command 0 (record { texts = heard })
 
 -- the command hears these texts and gives this reply
-abbrev pub Answers : Command → List (List ℕ) → Reply → Session → Session → Type 0
-Answers command heard reply old new = Step 0 old (event_of command heard) (Some reply) new
+abbrev pub AnswersAtZero : Command → List (List ℕ) → Reply → Session → Session → Type 0
+AnswersAtZero command heard reply old new = Step 0 old (event_of command heard) (Some reply) new
 
 -- how many blocks the files of a store take
 abbrev pub blocks_in : Store → ℕ
@@ -54,7 +54,7 @@ pub record Installs (seed : ℕ) (release : Release) (installed : Installed) (ol
   pub deployment : List ℕ
   pub application : List ℕ
   pub published : ArePublished seed release deployment application
-  pub step : Answers (Install (url_of release)) (deployment ∷ application ∷ [])
+  pub step : AnswersAtZero (Install (url_of release)) (deployment ∷ application ∷ [])
       (installed_reply release) old new
   pub targets : List Target
   pub asks : AsksInstall install_replies LOCAL_COUNT_LIMIT (url_of release)
@@ -64,12 +64,12 @@ pub record Installs (seed : ℕ) (release : Release) (installed : Installed) (ol
 
 -- the first release is launched, and gets lease 1
 abbrev pub Launches : Session → Session → Type 0
-Launches = Answers (Launch demo_key) [] (says.Lease 1 (version_of One) false)
+Launches = AnswersAtZero (Launch demo_key) [] (says.Lease 1 (version_of One) false)
 
 -- the views that are not in use, which are so many, are taken away
 abbrev pub Cleans : ℕ → Session → Session → Type 0
-Cleans count = Answers Clean [] (says.Cleaned count)
+Cleans count = AnswersAtZero Clean [] (says.Cleaned count)
 
 -- lease 1 ends
 abbrev pub Finishes : Session → Session → Type 0
-Finishes = Answers (Finish 1) [] (says.Finished 1)
+Finishes = AnswersAtZero (Finish 1) [] (says.Finished 1)

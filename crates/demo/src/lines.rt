@@ -6,7 +6,7 @@ ghost use Rattle.machine.specs.Words.{IsCommand};
 ghost use Rattle.identity.specs.Key.{IsKey};
 ghost use Rattle.generated_release.specs.declared.release.Release.TheVariants as releases;
 ghost use Rattle.generated_release.specs.Options.{demo_key, number_of, url_of, version_of};
-ghost use Rattle.demo.specs.Parts.{Goes, IsAsPublished, IsOther, Replies};
+ghost use Rattle.demo.specs.Parts.{Goes, IsAsPublished, IsNeitherFault, CommandReplies};
 ghost use Rattle.demo.specs.Steps.{Cleans, Finishes, Installs, IsSite, Launches};
 
 use crate::site::Site;
@@ -42,7 +42,7 @@ fn answer<D: Disk, L: Links>(
     command: &Command,
 ) -> Result<(Heard, Reply), DemoFault>
     requires { IsCommand command.now }
-    ensures { Replies D.Disk L.Links command.now updater.old disk.old links.old result updater.new
+    ensures { CommandReplies D.Disk L.Links command.now updater.old disk.old links.old result updater.new
         disk.new links.new }
 {
     let mut heard = nothing_heard(alloc);
@@ -61,7 +61,7 @@ fn answer_once<D: Disk, L: Links>(
     updater: &mut Updater,
 ) -> Result<(Heard, Reply), DemoFault>
     requires { IsCommand command }
-    ensures { Replies D.Disk L.Links command updater.old disk.old links.old result updater.new
+    ensures { CommandReplies D.Disk L.Links command updater.old disk.old links.old result updater.new
         disk.new links.new }
 {
     answer(alloc, disk, links, updater, &command)
@@ -69,7 +69,7 @@ fn answer_once<D: Disk, L: Links>(
 
 // The fault of a line that is answered so, and not as it must be.
 fn other_answer(asked: Asked, reply: &Reply) -> DemoFault
-    ensures { IsOther result }
+    ensures { IsNeitherFault result }
 {
     let came = words_of(reply);
     match reply {
@@ -118,7 +118,7 @@ fn ask_install<D: Disk, L: Links>(
     links: &mut L,
     updater: &mut Updater,
 ) -> Result<(Heard, Reply), DemoFault>
-    ensures { Replies D.Disk L.Links (command.Install (url_of release)) updater.old disk.old
+    ensures { CommandReplies D.Disk L.Links (command.Install (url_of release)) updater.old disk.old
         links.old result updater.new disk.new links.new }
 {
     match Bytes::from_slice(alloc, release.url()) {
@@ -130,7 +130,7 @@ fn ask_install<D: Disk, L: Links>(
 // The release is installed as the view of its number, and the published texts were heard.
 fn judge_install(said: &(Heard, Reply), release: Release, site: &Site) -> Result<(), DemoFault>
     ensures published { OnOk result (IsAsPublished said.now release site.now) }
-    ensures fault { IfErr result IsOther }
+    ensures fault { IfErr result IsNeitherFault }
 {
     if !is_installed(&said.1, &site.key, release) {
         return Err(other_answer(Asked::Install { release }, &said.1));
@@ -144,7 +144,7 @@ fn judge_install(said: &(Heard, Reply), release: Release, site: &Site) -> Result
 // It was answered so. What was answered is let go.
 fn as_published(said: (Heard, Reply), release: Release, site: &Site) -> Result<(), DemoFault>
     ensures published { OnOk result (IsAsPublished said release site.now) }
-    ensures fault { IfErr result IsOther }
+    ensures fault { IfErr result IsNeitherFault }
 {
     judge_install(&said, release, site)
 }
@@ -190,7 +190,7 @@ fn is_leased(reply: &Reply) -> bool
 // It was answered so.
 fn judge_launch(reply: &Reply) -> Result<(), DemoFault>
     ensures leased { OnOk result (reply.now ≡ says.Lease 1 (version_of releases.One) false) }
-    ensures fault { IfErr result IsOther }
+    ensures fault { IfErr result IsNeitherFault }
 {
     if !is_leased(reply) {
         return Err(other_answer(Asked::Launch, reply));
@@ -201,7 +201,7 @@ fn judge_launch(reply: &Reply) -> Result<(), DemoFault>
 // It was answered so. What was answered is let go.
 fn leased(said: (Heard, Reply)) -> Result<(), DemoFault>
     ensures leased { OnOk result (said.1 ≡ says.Lease 1 (version_of releases.One) false) }
-    ensures fault { IfErr result IsOther }
+    ensures fault { IfErr result IsNeitherFault }
 {
     judge_launch(&said.1)
 }
@@ -215,7 +215,7 @@ fn ask_launch<D: Disk, L: Links>(
     updater: &mut Updater,
 ) -> Result<(Heard, Reply), DemoFault>
     requires { IsKey key.now }
-    ensures { Replies D.Disk L.Links (command.Launch key.now) updater.old disk.old links.old result
+    ensures { CommandReplies D.Disk L.Links (command.Launch key.now) updater.old disk.old links.old result
         updater.new disk.new links.new }
 {
     match key.copy(alloc) {
@@ -254,7 +254,7 @@ fn is_cleaned(reply: &Reply, count: u64) -> bool
 // It was answered so.
 fn judge_clean(reply: &Reply, count: u64) -> Result<(), DemoFault>
     ensures cleaned { OnOk result (reply.now ≡ says.Cleaned count) }
-    ensures fault { IfErr result IsOther }
+    ensures fault { IfErr result IsNeitherFault }
 {
     if !is_cleaned(reply, count) {
         return Err(other_answer(Asked::Clean, reply));
@@ -265,7 +265,7 @@ fn judge_clean(reply: &Reply, count: u64) -> Result<(), DemoFault>
 // It was answered so. What was answered is let go.
 fn cleaned(said: (Heard, Reply), count: u64) -> Result<(), DemoFault>
     ensures cleaned { OnOk result (said.1 ≡ says.Cleaned count) }
-    ensures fault { IfErr result IsOther }
+    ensures fault { IfErr result IsNeitherFault }
 {
     judge_clean(&said.1, count)
 }
@@ -300,7 +300,7 @@ fn is_finished(reply: &Reply) -> bool
 // It was answered so.
 fn judge_finish(reply: &Reply) -> Result<(), DemoFault>
     ensures finished { OnOk result (reply.now ≡ says.Finished 1) }
-    ensures fault { IfErr result IsOther }
+    ensures fault { IfErr result IsNeitherFault }
 {
     if !is_finished(reply) {
         return Err(other_answer(Asked::Finish, reply));
@@ -311,7 +311,7 @@ fn judge_finish(reply: &Reply) -> Result<(), DemoFault>
 // It was answered so. What was answered is let go.
 fn finished(said: (Heard, Reply)) -> Result<(), DemoFault>
     ensures finished { OnOk result (said.1 ≡ says.Finished 1) }
-    ensures fault { IfErr result IsOther }
+    ensures fault { IfErr result IsNeitherFault }
 {
     judge_finish(&said.1)
 }

@@ -3,7 +3,7 @@ ghost use Rattle.std.specs.Prelude.{◌≡◌, ℕ, [], IfOk, None};
 ghost use Rattle.machine.specs.declared.event.Event.TheVariants.{Boot};
 ghost use Rattle.machine.specs.Machine.{Step};
 ghost use Rattle.store_log.specs.Log.{IsStore};
-ghost use Rattle.demo.specs.Parts.{Begun, Ended, Goes, Left, Opens, Reaches, Touches};
+ghost use Rattle.demo.specs.Parts.{FirstLaunched, ThirdInstalled, Goes, FirstLeft, OpensNew, ReachesHeld, Touches};
 ghost use Rattle.demo.specs.Run.{Demonstrates, start};
 ghost use Rattle.demo.specs.Steps.{Installs, IsSite};
 ghost use Rattle.generated_release.specs.Options.{demo_key};
@@ -28,7 +28,7 @@ const BOOT: u64 = 1;
 // Opens the new store, which is there.
 fn open_new<D: Disk>(alloc: Global, disk: &mut D) -> Result<Updater, DemoFault>
     requires { IsStore STORE_BLOCKS [] (D.seen disk.old) }
-    ensures { Opens D.Disk disk.old result disk.new }
+    ensures { OpensNew D.Disk disk.old result disk.new }
 {
     match Updater::recover(alloc, disk, BOOT) {
         Ok(opened) => {
@@ -43,7 +43,7 @@ fn open_new<D: Disk>(alloc: Global, disk: &mut D) -> Result<Updater, DemoFault>
 
 // Makes a new store, and opens it.
 fn open<D: Disk>(alloc: Global, disk: &mut D) -> Result<Updater, DemoFault>
-    ensures { Opens D.Disk disk.old result disk.new }
+    ensures { OpensNew D.Disk disk.old result disk.new }
 {
     match Log::format(alloc, disk, STORE_BLOCKS, 0, &[]) {
         Ok(()) => open_new(alloc, disk),
@@ -61,7 +61,7 @@ fn begin_at<D: Disk>(
     updater: &mut Updater,
 ) -> Result<Installed, DemoFault>
     requires { site.old.key ≡ demo_key }
-    ensures { (seed : ℕ) → IsSite seed releases.One site.old → Goes D.Disk (Begun seed) updater.old
+    ensures { (seed : ℕ) → IsSite seed releases.One site.old → Goes D.Disk (FirstLaunched seed) updater.old
         disk.old result updater.new disk.new }
 {
     let installed = match install(alloc, Release::One, site, disk, updater) {
@@ -81,7 +81,7 @@ fn begin<D: Disk>(
     disk: &mut D,
     updater: &mut Updater,
 ) -> Result<Installed, DemoFault>
-    ensures { Goes D.Disk (Begun seed) updater.old disk.old result updater.new disk.new }
+    ensures { Goes D.Disk (FirstLaunched seed) updater.old disk.old result updater.new disk.new }
 {
     match open_site(alloc, seed, Release::One) {
         Ok(mut site) => begin_at(alloc, &mut site, disk, updater),
@@ -112,7 +112,7 @@ fn leave<D: Disk>(
     disk: &mut D,
     updater: &mut Updater,
 ) -> Result<(), DemoFault>
-    ensures { Goes D.Disk (λ (_ : Unit {0}). Left) updater.old disk.old result updater.new
+    ensures { Goes D.Disk (λ (_ : Unit {0}). FirstLeft) updater.old disk.old result updater.new
         disk.new }
 {
     match clean(alloc, 0, site, disk, updater) {
@@ -136,7 +136,7 @@ fn end_at<D: Disk>(
     disk: &mut D,
     updater: &mut Updater,
 ) -> Result<Installed, DemoFault>
-    ensures { (seed : ℕ) → IsSite seed releases.Three site.old → Goes D.Disk (Ended seed)
+    ensures { (seed : ℕ) → IsSite seed releases.Three site.old → Goes D.Disk (ThirdInstalled seed)
         updater.old disk.old result updater.new disk.new }
 {
     let installed = match install(alloc, Release::Three, site, disk, updater) {
@@ -156,7 +156,7 @@ fn end<D: Disk>(
     disk: &mut D,
     updater: &mut Updater,
 ) -> Result<Installed, DemoFault>
-    ensures { Goes D.Disk (Ended seed) updater.old disk.old result updater.new disk.new }
+    ensures { Goes D.Disk (ThirdInstalled seed) updater.old disk.old result updater.new disk.new }
 {
     match open_site(alloc, seed, Release::Three) {
         Ok(mut site) => end_at(alloc, &mut site, disk, updater),
@@ -171,7 +171,7 @@ fn live<D: Disk>(
     disk: &mut D,
     updater: &mut Updater,
 ) -> Result<Summary, DemoFault>
-    ensures run { D.tells disk.new → Reaches D.Disk (Step 0 start (Boot 1) None) updater.old disk.old
+    ensures run { D.tells disk.new → ReachesHeld D.Disk (Step 0 start (Boot 1) None) updater.old disk.old
         → IfOk result (λ summary. Demonstrates D.Disk seed summary disk.new) }
     ensures touches { Touches D.Disk disk.old result disk.new }
 {

@@ -1,6 +1,6 @@
 // Links to a release that is published in memory.
 ghost use Rattle.std.specs.Prelude.{◌≡◌, IfErr, IfOk};
-ghost use Rattle.demo.specs.Parts.{IsOther};
+ghost use Rattle.demo.specs.Parts.{IsNeitherFault};
 ghost use Rattle.demo.specs.Steps.{IsSite};
 
 use crate::DemoFault;
@@ -25,7 +25,7 @@ pub(crate) struct Site {
 /// Publishes the generated files of the release in a folder in memory, and links to it.
 pub(crate) fn open_site(alloc: Global, seed: u64, release: Release) -> Result<Site, DemoFault>
     ensures site { IfOk result (IsSite seed release) }
-    ensures fault { IfErr result IsOther }
+    ensures fault { IfErr result IsNeitherFault }
 {
     let published = match publish_release(alloc, seed, release) {
         Ok(published) => published,

@@ -9,8 +9,8 @@ use Rattle.fetcher.proofs.Sequence.{kept_same, kept_then}
 use Rattle.updater_cli.specs.declared.status.Status.{Status}
 use Rattle.updater_cli.specs.declared.status.Status.TheVariants.{SinkFault, DiskFault}
 use Rattle.updater_cli.specs.Devices.{RisesWith, Asks}
-use Rattle.updater_cli.specs.Lines.{IsReady, Place, Keeps}
-use Rattle.updater_cli.specs.Status.{Outcome, code_of}
+use Rattle.updater_cli.specs.Lines.{IsReady, Place, KeepsSession}
+use Rattle.updater_cli.specs.Status.{PartOutcome, code_of}
 use Rattle.updater_cli.proofs.Prefix.{ended_at}
 
 -- ---- counts
@@ -65,12 +65,12 @@ module _ {D : Type 0} (on : Ghosts D) where
 
 -- ---- a part of a session
 
-went_on : (status : Status) → let ok : Outcome = Ok tt in ok ≡ Err status → ⊥
+went_on : (status : Status) → let ok : PartOutcome = Ok tt in ok ≡ Err status → ⊥
 went_on status same = cc (same)
 
 module _ {K D L : Type 0} (to : SinkGhosts K) (on : Ghosts D) (net : LinksGhosts L) where
   -- nothing was done
-  pub keeps_none : (place : Place K D L) → IsReady place.course → Keeps to on net place (Ok tt) place
+  pub keeps_none : (place : Place K D L) → IsReady place.course → KeepsSession to on net place (Ok tt) place
   keeps_none place ready = record {
     machine = λ told start between. between;
     goes_on = ready;
@@ -80,7 +80,7 @@ module _ {K D L : Type 0} (to : SinkGhosts K) (on : Ghosts D) (net : LinksGhosts
   }
 
   -- one part after another
-  pub keeps_then : (old mid new : Place K D L) (result : Outcome) → Keeps to on net old (Ok tt) mid → Keeps to on net mid result new → Keeps to on net old result new
+  pub keeps_then : (old mid new : Place K D L) (result : PartOutcome) → KeepsSession to on net old (Ok tt) mid → KeepsSession to on net mid result new → KeepsSession to on net old result new
   keeps_then old mid new result first second = record {
     machine = λ told start between. second.machine told start (first.machine (second.asks.told told) start between);
     goes_on = second.goes_on;
@@ -91,7 +91,7 @@ module _ {K D L : Type 0} (to : SinkGhosts K) (on : Ghosts D) (net : LinksGhosts
 
   -- it stops where neither the sink nor the disk failed
   pub keeps_stop : (old new : Place K D L) (status : Status) → status ≢ SinkFault → status ≢ DiskFault → code_of status ≢ 3
-      → on.left_at new.disk (on.moment new.disk) (on.seen new.disk) → Keeps to on net old (Ok tt) new → Keeps to on net old (Err status) new
+      → on.left_at new.disk (on.moment new.disk) (on.seen new.disk) → KeepsSession to on net old (Ok tt) new → KeepsSession to on net old (Err status) new
   keeps_stop old new status no_sink no_disk other seen_left keeps = record {
     machine = λ told start between. ended_at on net start (code_of status) new.course new.disk new.links (keeps.machine told start between) keeps.goes_on.begun other seen_left;
     goes_on = tt;
@@ -100,5 +100,5 @@ module _ {K D L : Type 0} (to : SinkGhosts K) (on : Ghosts D) (net : LinksGhosts
     kept = keeps.kept;
   }
     where
-      err_is : (fault : Status) → (let it : Outcome = Err status in it ≡ Err fault) → status ≡ fault
+      err_is : (fault : Status) → (let it : PartOutcome = Err status in it ≡ Err fault) → status ≡ fault
       err_is fault is = cc (is)

@@ -23,7 +23,7 @@ use Rattle.links.specs.Links.{failures_of}
 use Rattle.fetcher.proofs.Sequence.{kept_same}
 use Rattle.updater_cli.specs.declared.course.Course.{Course}
 use Rattle.updater_cli.specs.Opening.{Survives, IsUnopened}
-use Rattle.updater_cli.specs.Report.{IsSettled, RunsTo, Counts, IsServed, StandsForPrefix, origin_over, report_of, marked_by}
+use Rattle.updater_cli.specs.Report.{IsSettled, RunsTo, Counts, IsLineServed, StandsForPrefix, origin_over, report_of, marked_by}
 use Rattle.updater_cli.specs.Session.{Between, start_over}
 use Rattle.updater_cli.proofs.Runs.{step_settled, runs_push, counts_push, served_push, counts_early, counts_late}
 use Rattle.updater_cli.proofs.Prefix.{longer, all_lines, and_begun}
@@ -36,9 +36,9 @@ pub runs_none : (now : ℕ) (store : Store) → Sound store → RunsTo (origin_o
 runs_none now store sound = record { steps = refl; settled = settled_first store sound }
 
 -- a boot asks the links for nothing
-pub boot_served : {L : Type 0} (net : LinksGhosts L) (links : L) (boot : ℕ) (event : Event) (reply : Option Reply) (old new : Session) → event ≡ Boot boot → IsServed net event reply links links old new
+pub boot_served : {L : Type 0} (net : LinksGhosts L) (links : L) (boot : ℕ) (event : Event) (reply : Option Reply) (old new : Session) → event ≡ Boot boot → IsLineServed net event reply links links old new
 boot_served net links boot event reply old new is =
-    subst (λ (e : Event). IsServed net e reply links links old new) (sym is) (record { kept = kept_same (net.links links); left = refl; serves = tt })
+    subst (λ (e : Event). IsLineServed net e reply links links old new) (sym is) (record { kept = kept_same (net.links links); left = refl; serves = tt })
 
 -- a boot of the kept number changes nothing
 kept_leases : (a b : ℕ) (leases : List Lease) → a ≡ b → (if a == b then leases else []) ≡ leases

@@ -29,7 +29,7 @@ use Rattle.machine.specs.Store.{Session}
 use Rattle.machine.proofs.Choosing.{AllGive, given_reply}
 use Rattle.updater.specs.Commanded.{Serves}
 use Rattle.updater_cli.specs.Downs.{DownsAreCounted, SaysDown, ServedDownsAreCounted}
-use Rattle.updater_cli.specs.Report.{IsServed, origin_after}
+use Rattle.updater_cli.specs.Report.{IsLineServed, origin_after}
 
 -- ---- where the links were asked
 
@@ -223,7 +223,7 @@ module _ (before after : LinksState) (kept : Kept before after) (now : ℕ) (hea
 
 line_down : {L : Type 0} (net : LinksGhosts L) (before after : L) (now : ℕ) (old new : Session)
     (event : Event) (reply : Option Reply) → Step now old event reply new
-    → IsServed net event reply before after old new → IsSomeAnd reply SaysDown
+    → IsLineServed net event reply before after old new → IsSomeAnd reply SaysDown
     → Rose (failures_of (net.links before)) (failures_of (net.links after))
 line_down net before after now old new (Boot boot) reply step served down =
     absurd (subst (λ (r : Option Reply). IsSomeAnd r SaysDown) step.0 down)

@@ -24,9 +24,9 @@ use Rattle.updater_cli.specs.declared.status.Status.TheVariants.{Done, Words, So
 use Rattle.updater_cli.specs.Devices.{devices_of}
 use Rattle.updater_cli.specs.Headline.{after_boot, ReadsLines, BeginsOnFault, MadeCalls, HeadlineLines, HeadlineRun}
 use Rattle.updater_cli.specs.Lines.{IsReady, Place, AreInputs, InputAnswered}
-use Rattle.updater_cli.specs.Opening.{Begun, IsNoBoot, IsNoBootFirst, IsLineOrNone, BootsFirst, HasBootLine, IsOpeningEnd, begun_by}
-use Rattle.updater_cli.specs.Report.{report_of, events_of, replies_of, moment_behind, CostsBegun, IsRunAt, AreRunFrom, KeepsMoments, MarksRise, FailuresRise, IsBegunServed, Writes}
-use Rattle.updater_cli.specs.Status.{Outcome, code_of, end_of, IsSessionEnd}
+use Rattle.updater_cli.specs.Opening.{BeginsAt, IsNoBoot, IsNoBootFirst, IsLineOrNone, BootsFirst, HasBootLine, IsOpeningEnd, begun_by}
+use Rattle.updater_cli.specs.Report.{report_of, events_of, replies_of, moment_behind, CostsBegun, IsRunAt, AreRunFrom, KeepsMoments, MarksRise, FailuresRise, IsBegunServed, WritesReplies}
+use Rattle.updater_cli.specs.Status.{PartOutcome, code_of, end_status, IsSessionEnd}
 use Rattle.updater_cli.proofs.Begin.{boot_served, runs_none}
 use Rattle.updater_cli.proofs.Runs.{rise_on, failures_on, run_from_append, moment-append}
 use Rattle.updater_cli.proofs.Traces.{writes_on}
@@ -135,7 +135,7 @@ not_five Words begun end same = end
 not_five NotAStore begun end same = end
 
 -- how the whole input ended
-session_end : (outcome : Outcome) (begun : Option Event) → OnOk outcome (begun ≡ None) → IfErr outcome (λ status. IsSessionEnd status begun) → IsSessionEnd (end_of outcome) begun
+session_end : (outcome : PartOutcome) (begun : Option Event) → OnOk outcome (begun ≡ None) → IfErr outcome (λ status. IsSessionEnd status begun) → IsSessionEnd (end_status outcome) begun
 session_end (Ok done) begun none end = none
 session_end (Err status) begun none end = end
 
@@ -172,8 +172,8 @@ reads_lines boot status input left report events inputs are is none = record {
     not_four (inl two) four = omega (arith, two, four)
     not_four (inr eight) four = omega (arith, eight, four)
 
-module _ {S K D L : Type 0} (source : SourceGhosts S) (to : SinkGhosts K) (on : Ghosts D) (net : LinksGhosts L) (boot now : ℕ) (disk : D) (source_old source_new : S) (old new : Place K D L) (outcome : Outcome)
-    (begun : Begun on boot now (failures_of (net.links old.links)) disk old.course old.disk) (answered : InputAnswered source to on net source_old old outcome source_new new) where
+module _ {S K D L : Type 0} (source : SourceGhosts S) (to : SinkGhosts K) (on : Ghosts D) (net : LinksGhosts L) (boot now : ℕ) (disk : D) (source_old source_new : S) (old new : Place K D L) (outcome : PartOutcome)
+    (begun : BeginsAt on boot now (failures_of (net.links old.links)) disk old.course old.disk) (answered : InputAnswered source to on net source_old old outcome source_new new) where
   first : List ReportLine
   first = old.course.lines.items
 
@@ -183,11 +183,11 @@ module _ {S K D L : Type 0} (source : SourceGhosts S) (to : SinkGhosts K) (on : 
   report : Report
   report = report_of new.course.lines.items new.course.begun
 
-  goes_on_begun : (outcome : Outcome) → OnOk outcome (IsReady new.course) → OnOk outcome (new.course.begun ≡ None)
+  goes_on_begun : (outcome : PartOutcome) → OnOk outcome (IsReady new.course) → OnOk outcome (new.course.begun ≡ None)
   goes_on_begun (Ok done) ready = ready.begun
   goes_on_begun (Err status) ready = tt
 
-  ending : IsSessionEnd (end_of outcome) new.course.begun
+  ending : IsSessionEnd (end_status outcome) new.course.begun
   ending = session_end outcome new.course.begun (goes_on_begun outcome answered.keeps.goes_on) answered.ends
 
   le : on.moment disk ≤ on.moment old.disk
@@ -212,18 +212,18 @@ module _ {S K D L : Type 0} (source : SourceGhosts S) (to : SinkGhosts K) (on : 
 
   -- the lines
   pub opened_lines : boot ≤ NUMBER_LIMIT → (on.tells new.disk → (store : Store) → Stands (on.seen disk) store → BootsFirst boot store.boot old.course.lines.items)
-      → HeadlineLines source on net boot now (code_of (end_of outcome)) (devices_of source_old old.sink disk old.links) (devices_of source_new new.sink new.disk new.links)
+      → HeadlineLines source on net boot now (code_of (end_status outcome)) (devices_of source_old old.sink disk old.links) (devices_of source_new new.sink new.disk new.links)
       (report_of new.course.lines.items new.course.begun)
   opened_lines small boots = record {
     reads = λ told.
         let same : after_boot (events_of new.course.lines.items) ≡ events_of answered.trace.more =
         ap (λ (ls : List ReportLine). after_boot (events_of ls)) answered.trace.grown
         ∙ after_first boot (failures_of (net.links old.links)) (on.moment disk) (on.moment old.disk) old.course.lines.items answered.trace.more answered.inputs (option_to_list new.course.begun) begun.lines answered.trace.events in
-        subst (λ (es : List Event). ReadsLines boot (code_of (end_of outcome)) (source.left source_old) (source.left source_new) (report_of new.course.lines.items new.course.begun) es) (sym same)
-        (reads_lines boot (code_of (end_of outcome)) (source.left source_old) (source.left source_new) (report_of new.course.lines.items new.course.begun) (events_of answered.trace.more) answered.inputs answered.trace.events
-        (answered.given told) (begins_on_fault (end_of outcome) new.course.begun ending).none);
+        subst (λ (es : List Event). ReadsLines boot (code_of (end_status outcome)) (source.left source_old) (source.left source_new) (report_of new.course.lines.items new.course.begun) es) (sym same)
+        (reads_lines boot (code_of (end_status outcome)) (source.left source_old) (source.left source_new) (report_of new.course.lines.items new.course.begun) (events_of answered.trace.more) answered.inputs answered.trace.events
+        (answered.given told) (begins_on_fault (end_status outcome) new.course.begun ending).none);
     moments = moments small;
-    begun = begins_on_fault (end_of outcome) new.course.begun ending;
+    begun = begins_on_fault (end_status outcome) new.course.begun ending;
     marks =
         subst (λ (ls : List ReportLine). MarksRise (on.moment disk) ls (on.moment new.disk)) (sym answered.trace.grown)
         (rise_on (on.moment disk) (on.moment old.disk) (on.moment new.disk) old.course.lines.items answered.trace.more
@@ -234,7 +234,7 @@ module _ {S K D L : Type 0} (source : SourceGhosts S) (to : SinkGhosts K) (on : 
         (first_failures boot (failures_of (net.links old.links)) (on.moment disk) (on.moment old.disk) old.course.lines.items begun.lines) answered.trace.failures);
     links = answered.keeps.kept;
     opening = inr (record {
-      store = not_five (end_of outcome) new.course.begun ending;
+      store = not_five (end_status outcome) new.course.begun ending;
       synced = omega (arith, begun.synced, answered.keeps.asks.later);
       boots = λ told store stands.
           subst (λ (ls : List ReportLine). BootsFirst boot store.boot ls) (sym answered.trace.grown)
@@ -244,10 +244,10 @@ module _ {S K D L : Type 0} (source : SourceGhosts S) (to : SinkGhosts K) (on : 
   }
 
   -- what was written
-  pub opened_output : to.tells → Writes (code_of (end_of outcome)) (to.taken old.sink) (to.taken new.sink) new.course.lines.items
+  pub opened_output : to.tells → WritesReplies (code_of (end_status outcome)) (to.taken old.sink) (to.taken new.sink) new.course.lines.items
   opened_output told =
-      subst (λ (ls : List ReportLine). Writes (code_of (end_of outcome)) (to.taken old.sink) (to.taken new.sink) ls) (sym answered.trace.grown)
-      (writes_on (code_of (end_of outcome)) (to.taken old.sink) (to.taken old.sink) (to.taken new.sink) old.course.lines.items answered.trace.more
+      subst (λ (ls : List ReportLine). WritesReplies (code_of (end_status outcome)) (to.taken old.sink) (to.taken new.sink) ls) (sym answered.trace.grown)
+      (writes_on (code_of (end_status outcome)) (to.taken old.sink) (to.taken old.sink) (to.taken new.sink) old.course.lines.items answered.trace.more
       (sym (ap (λ (l : List ℕ). to.taken old.sink ++ l) (no_texts boot (failures_of (net.links old.links)) (on.moment disk) (on.moment old.disk) old.course.lines.items begun.lines) ∙ append-nil (to.taken old.sink)))
       (answered.trace.output told))
 

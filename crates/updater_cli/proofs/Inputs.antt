@@ -9,8 +9,8 @@ use Rattle.links.specs.declared.links.Links.{Ghosts as LinksGhosts}
 use Rattle.machine.specs.declared.event.Event.{Event}
 use Rattle.updater_cli.specs.declared.status.Status.{Status}
 use Rattle.updater_cli.specs.declared.status.Status.TheVariants.{Done, Words, SourceFault, SinkFault, DiskFault, NotAStore, Memory, TooMuchInput}
-use Rattle.updater_cli.specs.Lines.{InputAnswered, Keeps, PieceAnswered, Place, RestAnswered, Trace, stage_of, status_of}
-use Rattle.updater_cli.specs.Status.{Outcome, code_of, IsLineEnd, IsSessionEnd}
+use Rattle.updater_cli.specs.Lines.{InputAnswered, KeepsSession, PieceAnswered, Place, RestAnswered, Trace, stage_of, outcome_code}
+use Rattle.updater_cli.specs.Status.{PartOutcome, code_of, IsLineEnd, IsSessionEnd}
 use Rattle.updater_cli.proofs.Asking.{keeps_stop, keeps_then, rises_none}
 use Rattle.updater_cli.proofs.Reading.{Answered, Read, read_on, rest_read, source_fault, stopped, too_much}
 
@@ -31,15 +31,15 @@ session_end SourceFault begun end = absurd end
 session_end NotAStore begun end = absurd end
 session_end TooMuchInput begun end = absurd end
 
-ends_session : (outcome : Outcome) (begun : Option Event) → IfErr outcome (λ status. IsLineEnd status begun) → IfErr outcome (λ status. IsSessionEnd status begun)
+ends_session : (outcome : PartOutcome) (begun : Option Event) → IfErr outcome (λ status. IsLineEnd status begun) → IfErr outcome (λ status. IsSessionEnd status begun)
 ends_session (Ok done) begun end = tt
 ends_session (Err status) begun end = session_end status begun end
 
 -- no line ends it by the source
-no_source : (outcome : Outcome) (begun : Option Event) → IfErr outcome (λ status. IsLineEnd status begun) → outcome ≡ Err SourceFault → ⊥
-no_source outcome begun end is = subst (λ (o : Outcome). IfErr o (λ status. IsLineEnd status begun)) is end
+no_source : (outcome : PartOutcome) (begun : Option Event) → IfErr outcome (λ status. IsLineEnd status begun) → outcome ≡ Err SourceFault → ⊥
+no_source outcome begun end is = subst (λ (o : PartOutcome). IfErr o (λ status. IsLineEnd status begun)) is end
 
-module _ {S K D L : Type 0} (from : SourceGhosts S) (to : SinkGhosts K) (on : Ghosts D) (net : LinksGhosts L) (source_old source_mid source : S) (old mid : Place K D L) (keeps : Keeps to on net old (Ok tt) mid)
+module _ {S K D L : Type 0} (from : SourceGhosts S) (to : SinkGhosts K) (on : Ghosts D) (net : LinksGhosts L) (source_old source_mid source : S) (old mid : Place K D L) (keeps : KeepsSession to on net old (Ok tt) mid)
     (room : ℕ) (pending : List ℕ) (read : Read from.tells (from.left source_old) (from.left source_mid) room pending to.tells (stage_of to on net old) (stage_of to on net mid))
     (reads : from.count source_mid ≡ from.count source_old) where
   -- the source failed
@@ -74,10 +74,10 @@ module _ {S K D L : Type 0} (from : SourceGhosts S) (to : SinkGhosts K) (on : Gh
 
   -- the input ended
   pub rest_answered : (piece line : List ℕ) → line ≡ pending → (from.tells → from.left source_mid ≡ []) → (from.tells → from.left source_mid ≡ piece ++ from.left source) → from.count source ≡ from.count source_mid
-      → (outcome : Outcome) (new : Place K D L) → RestAnswered to on net line mid outcome new → InputAnswered from to on net source_old old outcome source new
+      → (outcome : PartOutcome) (new : Place K D L) → RestAnswered to on net line mid outcome new → InputAnswered from to on net source_old old outcome source new
   rest_answered piece line is none given quiet outcome new rest =
       let same : RestAnswered to on net pending mid outcome new = subst (λ (l : List ℕ). RestAnswered to on net l mid outcome new) is rest in
-      let all : Answered (status_of outcome) from.tells (from.left source_old) (from.left source) to.tells (stage_of to on net old) (stage_of to on net new) new.course.begun =
+      let all : Answered (outcome_code outcome) from.tells (from.left source_old) (from.left source) to.tells (stage_of to on net old) (stage_of to on net new) new.course.begun =
       rest_read from.tells (from.left source_old) (from.left source_mid) room pending to.tells (stage_of to on net old) (stage_of to on net mid) (stage_of to on net new) read outcome new.course.begun (from.left source) piece none given same.ends same.trace in
       record {
         keeps = keeps_then to on net old mid new outcome keeps same.keeps;

@@ -32,7 +32,7 @@ use Rattle.machine.proofs.Members.{all_in}
 use Rattle.machine.proofs.Stepping.{run_leases}
 use Rattle.updater_cli.specs.Headline.{HeadlineLeased, HeadlineStop}
 use Rattle.updater_cli.specs.Opening.{IsUnopened}
-use Rattle.updater_cli.specs.Report.{AreRunFrom, KeepsMoments, Origin, Reaches, StandsForPrefix, answered, events_of, marked_by, moment_behind, origin_over, replies_of, report_of}
+use Rattle.updater_cli.specs.Report.{AreRunFrom, KeepsMoments, Origin, ReachesAfter, StandsForPrefix, answered, events_of, marked_by, moment_behind, origin_over, replies_of, report_of}
 use Rattle.updater_cli.specs.Views.{HandsOut, IsLineOf, IsRead, KeepsViews, LaunchesHold, LeadsThrough, Reading, ShowOneFile, ShowsLeased, StandsWhole, ViewsHold}
 use Rattle.updater_cli.proofs.Runs.{moment-append}
 use Rattle.updater_cli.proofs.Through.{halves, joined, line_answers, reached_run, reached_sound, run_before, sound_behind}
@@ -147,7 +147,7 @@ launches_hold from lines l old new key moment heard is asked may =
 -- ---- stops
 
 module _ (from : Origin) (sound : Sound from.session.store) (report : Report) (moments : KeepsMoments from.now report) where
-  stands_whole : (n number : ℕ) (last : Session) → Reaches from report n last → IsSome (lease_of number last.store.leases) → StandsWhole from report n number last
+  stands_whole : (n number : ℕ) (last : Session) → ReachesAfter from report n last → IsSome (lease_of number last.store.leases) → StandsWhole from report n number last
   stands_whole n number last reached alive =
       let whole : Sound last.store = reached_sound from sound report n last moments reached in
       let view = the_value IsSoundView (leased_view number last.store) (lease_is_sound last.store number whole alive) in

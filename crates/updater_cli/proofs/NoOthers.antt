@@ -50,8 +50,8 @@ use Rattle.machine.proofs.RowFacts.{Kept}
 use Rattle.machine.proofs.Shared.{each_alike}
 use Rattle.machine.proofs.Stepping.{run_sound}
 use Rattle.updater_cli.specs.NoOthers.{EventPutsNoOthers, NoOthersCome, PutsNoOthers, SitesHaveNoOthers}
-use Rattle.updater_cli.specs.Offered.{Publication}
-use Rattle.updater_cli.specs.Published.{AreNoOthers, Keeps, KeepsNoOthers}
+use Rattle.updater_cli.specs.Offered.{PublishInput}
+use Rattle.updater_cli.specs.Published.{AreNoOthers, KeepsBytes, KeepsNoOthers}
 use Rattle.updater_cli.specs.Report.{AreRunFrom, Origin, origin_after}
 use Rattle.updater_cli.proofs.PublishedLaw.{any_in}
 use Rattle.updater_cli.proofs.Through.{is_event}
@@ -226,7 +226,7 @@ module _ (Good : List ℕ → Type 0) where
 
 -- ---- a line
 
-module _ (p : Publication) (folder : List Held) (links : LinksState)
+module _ (p : PublishInput) (folder : List Held) (links : LinksState)
     (have : SitesHaveNoOthers p folder links) where
   abbrev Good : List ℕ → Type 0
   Good bytes = AreNoOthers p folder bytes
@@ -309,7 +309,7 @@ module _ (p : Publication) (folder : List Held) (links : LinksState)
   good_keeps : (session : Session) → GoodViews Good session.store.views → KeepsNoOthers p folder session
   good_keeps session good = λ bytes kept. by bytes kept
     where
-      by : (bytes : List ℕ) → Keeps session bytes → Good bytes
+      by : (bytes : List ℕ) → KeepsBytes session bytes → Good bytes
       by bytes (inl any) =
           let view = in_contains session.store.views any.1 (any.0, any.2, any.3) in
           let file = any.4 in

@@ -16,7 +16,7 @@ use Rattle.updater_cli.specs.declared.course.Course.{Course}
 use Rattle.updater_cli.specs.declared.status.Status.{Status}
 use Rattle.updater_cli.specs.declared.status.Status.TheVariants.{DiskFault, NotAStore, Memory}
 use Rattle.updater_cli.specs.Devices.{Asks}
-use Rattle.updater_cli.specs.Opening.{Opens}
+use Rattle.updater_cli.specs.Opening.{OpensSession}
 use Rattle.updater_cli.proofs.Asking.{asks_none, rises_none}
 use Rattle.updater_cli.proofs.Begin.{same, other, survives_fault, survives_memory}
 
@@ -28,7 +28,7 @@ status_for faults.Memory = Memory
 
 module _ {D L : Type 0} (on : Ghosts D) (net : LinksGhosts L) (boot now : ℕ) (links : L) (old : D) where
   -- there was no memory for the boot event
-  pub no_room : Opens on net boot now links old (Err Memory) old
+  pub no_room : OpensSession on net boot now links old (Err Memory) old
   no_room = record {
     course = tt;
     machine = λ told store stands. tt;
@@ -50,7 +50,7 @@ module _ {D L : Type 0} (on : Ghosts D) (net : LinksGhosts L) (boot now : ℕ) (
 
   module _ (new : D) where
     -- the store was not opened
-    refused : (fault : RecoverFault) → Opened on boot old (Err fault) new → Opens on net boot now links old (Err (status_for fault)) new
+    refused : (fault : RecoverFault) → Opened on boot old (Err fault) new → OpensSession on net boot now links old (Err (status_for fault)) new
     refused faults.NotAStore opened = record {
       course = tt;
       machine = λ told store stands. tt;
@@ -98,7 +98,7 @@ module _ {D L : Type 0} (on : Ghosts D) (net : LinksGhosts L) (boot now : ℕ) (
       asks = record { told = opened.spends.told; later = opened.spends.later; count = rises_none _ (on.count old) (on.count new) (λ is. cc (is)) (opened.spends.quiet (λ is. cc (is))) };
     }
 
-    pub refused_as : (fault known : RecoverFault) → fault ≡ known → Opened on boot old (Err fault) new → Opens on net boot now links old (Err (status_for known)) new
+    pub refused_as : (fault known : RecoverFault) → fault ≡ known → Opened on boot old (Err fault) new → OpensSession on net boot now links old (Err (status_for known)) new
     refused_as fault known is opened = refused known (subst (λ (f : RecoverFault). Opened on boot old (Err f) new) is opened)
 
     -- it was
@@ -110,7 +110,7 @@ module _ {D L : Type 0} (on : Ghosts D) (net : LinksGhosts L) (boot now : ℕ) (
       held session holds = subst (λ (u : Updater). Holds on u new session) (sym is_updater) holds
 
       -- with the kept boot number
-      pub kept : found.1 ≡ false → course.lines.items ≡ [] → Opens on net boot now links old (Ok course) new
+      pub kept : found.1 ≡ false → course.lines.items ≡ [] → OpensSession on net boot now links old (Ok course) new
       kept is no_lines = record {
         course = record { moment = is_now; lines = rw no_lines tt; begun = none; synced = opened.synced };
         machine = λ told store stands.
@@ -130,7 +130,7 @@ module _ {D L : Type 0} (on : Ghosts D) (net : LinksGhosts L) (boot now : ℕ) (
 
       -- with another
       pub changed : boot ≤ NUMBER_LIMIT → found.1 ≡ true → (l : ReportLine) → course.lines.items ≡ l ∷ [] → l.event ≡ Boot boot → l.reply ≡ None → l.failures ≡ failures_of (net.links links) → l.mark ≡ on.moment new
-          → Opens on net boot now links old (Ok course) new
+          → OpensSession on net boot now links old (Ok course) new
       changed small is l lines is_event is_reply is_failures is_mark = record {
         course = record {
           moment = is_now;

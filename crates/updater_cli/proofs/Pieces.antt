@@ -14,7 +14,7 @@ use Rattle.command_text.specs.Input.{HasNoFeed, kept_of}
 use Rattle.command_text.proofs.LongLines.{at_feed, kept_within, without_feed}
 use Rattle.updater_cli.specs.declared.status.Status.{Status}
 use Rattle.updater_cli.specs.declared.status.Status.TheVariants.{Done, Words, SourceFault, SinkFault, DiskFault, NotAStore, Memory, TooMuchInput}
-use Rattle.updater_cli.specs.Lines.{IsPending, IsReady, Keeps, LineAnswered, PieceAnswered, Place, Progress, RestAnswered, Stage, Stopped, Trace, stage_of, taken_of}
+use Rattle.updater_cli.specs.Lines.{IsPending, IsReady, KeepsSession, LineAnswered, PieceAnswered, Place, Progress, RestAnswered, Stage, Stopped, Trace, stage_of, taken_of}
 use Rattle.updater_cli.specs.Status.{code_of, IsLineEnd}
 use Rattle.updater_cli.proofs.Asking.{keeps_none, keeps_stop, keeps_then}
 use Rattle.updater_cli.proofs.Traces.{pending_none, trace_none, progress_line, stopped_here, stopped_line, stopped_none, progress_none, progress_on, progress_part, stopped_on}
@@ -108,7 +108,7 @@ feed_found rest part more cut =
     record { free = found.0; is = found.1; shorter = omega (arith, ap length found.1, length-append part (10 ∷ more)) }
 
 module _ {K D L : Type 0} (to : SinkGhosts K) (on : Ghosts D) (net : LinksGhosts L) (first piece rest pending : List ℕ) (old mid new : Place K D L)
-    (done : UpTo to.tells first piece rest pending (stage_of to on net old) (stage_of to on net mid)) (keeps : Keeps to on net old (Ok tt) mid) where
+    (done : UpTo to.tells first piece rest pending (stage_of to on net old) (stage_of to on net mid)) (keeps : KeepsSession to on net old (Ok tt) mid) where
   module _ (part more next : List ℕ) (feed : HasFeed rest part more) where
     -- a line more was answered
     pub piece_on : PieceAnswered to on net (pending ++ (part ++ 10 ∷ [])) mid (Ok tt) next new → UpTo to.tells first piece more next (stage_of to on net old) (stage_of to on net new)

@@ -17,7 +17,7 @@ use Rattle.updater.specs.Stands.{Stands, StandsForEither}
 use Rattle.updater.proofs.Standing.{stored_stands}
 use Rattle.updater_cli.specs.declared.course.Course.{Course}
 use Rattle.updater_cli.specs.Lines.{Ran, Broke}
-use Rattle.updater_cli.specs.Report.{Origin, report_of, events_of, replies_of, marked_by, moment_behind, answered, Reaches, RunsTo, IsServed, AreServed, Counts, StandsForPrefix}
+use Rattle.updater_cli.specs.Report.{Origin, report_of, events_of, replies_of, marked_by, moment_behind, answered, ReachesAfter, RunsTo, IsLineServed, AreServed, Counts, StandsForPrefix}
 use Rattle.updater_cli.specs.Session.{Start, Between, Ended}
 use Rattle.updater_cli.proofs.Runs.{runs_push, counts_push, served_push, counts_early, counts_late, marked-push, marked_all, marked_later, marked_push, moment-append, answered_cut}
 
@@ -27,7 +27,7 @@ module _ (from : Origin) where
       → StandsForPrefix from (report_of lines None) k image → StandsForPrefix from (report_of (lines ++ l ∷ []) begun) k image
   longer lines l begun k image p = record { n = p.n; holds = p.holds; session = p.session; reached = on p.reached; stands = p.stands }
     where
-      on : Reaches from (report_of lines None) p.n p.session → Reaches from (report_of (lines ++ l ∷ []) begun) p.n p.session
+      on : ReachesAfter from (report_of lines None) p.n p.session → ReachesAfter from (report_of (lines ++ l ∷ []) begun) p.n p.session
       on (inl r) =
           let same : take p.n lines ≡ take p.n (lines ++ l ∷ []) = sym (take-append-le p.n lines (l ∷ []) r.0) in
           inl (omega (arith, r.0, length-append lines (l ∷ [])), subst (λ (ls : List ReportLine). Run from.now from.session (events_of ls) (replies_of ls) p.session) same r.1)
@@ -37,7 +37,7 @@ module _ (from : Origin) where
       → StandsForPrefix from (report_of lines None) k image → StandsForPrefix from (report_of lines begun) k image
   begins lines begun k image p = record { n = p.n; holds = p.holds; session = p.session; reached = on p.reached; stands = p.stands }
     where
-      on : Reaches from (report_of lines None) p.n p.session → Reaches from (report_of lines begun) p.n p.session
+      on : ReachesAfter from (report_of lines None) p.n p.session → ReachesAfter from (report_of lines begun) p.n p.session
       on (inl r) = inl r
       on (inr r) = absurd r.1
 
@@ -166,7 +166,7 @@ module _ {D L : Type 0} (on : Ghosts D) (net : LinksGhosts L) (start : Start D L
     served : AreServed net start.from start.links (course.lines.items ++ l ∷ []) ran.new links_new
     served =
         served_push net start.from start.links course.lines.items between.session ran.new links_old links_new l between.served step
-        (subst (λ (r : Option Reply). IsServed net l.event r links_old links_new between.session ran.new) (sym is_reply) ran.served) is_failures
+        (subst (λ (r : Option Reply). IsLineServed net l.event r links_old links_new between.session ran.new) (sym is_reply) ran.served) is_failures
 
     size : length (course.lines.items ++ l ∷ []) ≡ length course.lines.items + 1
     size = length-append course.lines.items (l ∷ [])

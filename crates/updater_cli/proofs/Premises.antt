@@ -23,7 +23,7 @@ use Rattle.published_paths.specs.Reached.{Reaches}
 use Rattle.machine.specs.InstallRow.{OfDeployment, base_of}
 use Rattle.install_plan.specs.Given.{IsFrom}
 use Rattle.install_plan.proofs.Told.{base_is}
-use Rattle.updater_cli.specs.Offered.{Holds, IsFirstSite, Publication, Writes, links_of}
+use Rattle.updater_cli.specs.Offered.{HasFiles, IsFirstSite, PublishInput, WritesRelease, links_of}
 use Rattle.updater_cli.specs.Premises.{OneSiteIsGiven, PublishesWrite, ServedIsGiven, sites_of}
 use Rattle.updater_cli.specs.Published.{HeardGiven}
 use Rattle.updater_cli.proofs.PublishedDigests.{digests_match}
@@ -36,9 +36,9 @@ use Rattle.updater_cli.proofs.PublishedRelease.{is_out}
 first_or : (x y : Option (List ℕ)) (bytes : List ℕ) → x ≡ Some bytes → option_or x y ≡ Some bytes
 first_or x y bytes is = ap (λ (o : Option (List ℕ)). option_or o y) is
 
-module _ (p : Publication) (new : List Held) where
+module _ (p : PublishInput) (new : List Held) where
   wrote : (outcome : Result (List Held) PublishFault) → Publishes outcome p.input new
-      → (files : List Held) × (outcome ≡ Ok files) × Holds new files
+      → (files : List Held) × (outcome ≡ Ok files) × HasFiles new files
   wrote (Ok files) puts = (
     files,
     refl,
@@ -81,8 +81,8 @@ no_text some = absurd (by some)
 -- Both texts came from where the install asks for them. Where the first link's site has bytes that
 -- fit, what came is these.
 module _ (links : LinksState) (Came : (List ℕ → Type 0) → Target → List ℕ → Type 0)
-    (p : Publication) (files folder : List Held) (url : List ℕ) (texts : List (List ℕ))
-    (w : Writes p files) (holds : Holds folder files)
+    (p : PublishInput) (files folder : List Held) (url : List ℕ) (texts : List (List ℕ))
+    (w : WritesRelease p files) (holds : HasFiles folder files)
     (first : IsFirstSite p url folder (sites_of links))
     (reaches : (given : Target) → target_of_text url ≡ Ok given
     → Reaches given (deployment_name p.options))

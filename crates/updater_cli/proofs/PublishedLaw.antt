@@ -56,8 +56,8 @@ use Rattle.machine.proofs.Leasing.{lease_below}
 use Rattle.machine.proofs.Members.{In, all_in, contains_in, filter_in, in_all, in_contains, in_map}
 use Rattle.machine.proofs.Names.{aside_below}
 use Rattle.machine.proofs.ViewSteps.{view_below}
-use Rattle.updater_cli.specs.Offered.{IsAskedFor, Publication, Sites, input_file, links_of, listed}
-use Rattle.updater_cli.specs.Published.{Course, GivesInput, IsFreshData, IsGiven, IsOffered, Keeps, KeepsNoOthers, Leads, PublishedDataIsRead, PublishedIsGiven, PublishedIsRead, ReadsInput, ReadsInputData, ShowsInput}
+use Rattle.updater_cli.specs.Offered.{IsAskedFor, PublishInput, Sites, input_file, links_of, listed}
+use Rattle.updater_cli.specs.Published.{PublishedRun, GivesInput, IsFreshData, IsGiven, IsOffered, KeepsBytes, KeepsNoOthers, RunsOn, PublishedDataIsRead, PublishedIsGiven, PublishedIsRead, ReadsInput, ReadsInputData, ShowsInput}
 use Rattle.updater_cli.proofs.PublishedDigests.{digests_match}
 use Rattle.updater_cli.proofs.PublishedOut.{IsOut}
 use Rattle.updater_cli.proofs.PublishedRelease.{is_out}
@@ -177,10 +177,10 @@ module _ (runs_sound : RunsKeepSound) where
   one_sound at old event reply new is step sound =
       runs_sound at old (event ∷ []) (reply ∷ []) new (All-cons IsEvent event [] is (All-nil IsEvent)) (new, step, refl) sound
 
-  leads_sound : (old new : Session) → Leads old new → Sound old.store → Sound new.store
+  leads_sound : (old new : Session) → RunsOn old new → Sound old.store → Sound new.store
   leads_sound old new l sound = runs_sound l.now old l.events l.replies new l.each l.run sound
 
-leads_uses : (old new : Session) → Leads old new → KeepsUses old.store new.store
+leads_uses : (old new : Session) → RunsOn old new → KeepsUses old.store new.store
 leads_uses old new l = run_uses l.now old l.events l.replies new l.run
 
 mapped_some : {X Y : Type 0} (f : X → Y) (o : Option X) (y : Y) → option_map f o ≡ Some y → (x : X) × (o ≡ Some x) × (f x ≡ y)
@@ -193,8 +193,8 @@ any_in P xs x there holds = let at = contains_in xs x there in (at.0, x, at.1, a
 -- ---- the law
 
 module _ (runs_sound : RunsKeepSound) (data_stay : KeptDataFilesStay) (data_is : DataIsOfFiles)
-    (reads_are : ReadsAreOfFiles) (views_new : ViewsAreNew) (p : Publication)
-    (files folder : List Held) (sites : Sites) (c : Course p sites)
+    (reads_are : ReadsAreOfFiles) (views_new : ViewsAreNew) (p : PublishInput)
+    (files folder : List Held) (sites : Sites) (c : PublishedRun p sites)
     (offered : IsOffered p files folder sites c) where
   out : IsOut p folder
   out = is_out p files folder offered.writes offered.holds
@@ -389,7 +389,7 @@ module _ (runs_sound : RunsKeepSound) (data_stay : KeptDataFilesStay) (data_is :
 
   -- ---- bytes that match are those of the input file
 
-  shows : (session : Session) (entry : FileEntry) (name whole : List ℕ) (from count shown : ℕ) (bytes : List ℕ) → KeepsNoOthers p folder session → Contains (listed p) entry → Keeps session whole
+  shows : (session : Session) (entry : FileEntry) (name whole : List ℕ) (from count shown : ℕ) (bytes : List ℕ) → KeepsNoOthers p folder session → Contains (listed p) entry → KeepsBytes session whole
       → Matches entry.list entry.size whole → entry.name ≡ name → shown ≡ length whole → bytes ≡ part from count whole → ShowsInput p name from count shown bytes
   shows session entry name whole from count shown bytes only there keeps matching named size is =
       let f = out.files entry there in
@@ -413,7 +413,7 @@ module _ (runs_sound : RunsKeepSound) (data_stay : KeptDataFilesStay) (data_is :
       subst (λ (es : List FileEntry). In r.file.entry es) valid.files (in_map (λ (f : ListedFile). f.entry) r.view.program_files r.file found.0) in
       let own = filter_in (λ (e : FileEntry). not e.local && stands_by r.view.groups e.group) r.view.application.files r.file.entry standing in
       let there = contains_in (listed p) r.file.entry (subst (λ (a : Application). In r.file.entry a.files) release own.1) in
-      let keeps : Keeps c.last r.file.bytes =
+      let keeps : KeepsBytes c.last r.file.bytes =
       inl (any_in (λ (view : View). Any (λ (file : ListedFile). file.bytes ≡ r.file.bytes) view.program_files) c.last.store.views r.view (leased_in c.lease c.last.store r.view r.leased)
       (any_in (λ (file : ListedFile). file.bytes ≡ r.file.bytes) r.view.program_files r.file found.0 refl)) in
       shows c.last r.file.entry name r.file.bytes from count shown bytes only there keeps r.whole ((bytes_eq-Decides r.file.entry.name name).0 found.1) r.size r.is_part
@@ -448,7 +448,7 @@ module _ (runs_sound : RunsKeepSound) (data_stay : KeptDataFilesStay) (data_is :
           subst (λ (es : List FileEntry). In came.original.entry es) done.fetched.deployed (in_map (λ (f : ListedFile). f.entry) done.originals came.original inside) in
           let own = filter_in (λ (e : FileEntry). e.local) done.application.files came.original.entry deployed in
           let entry = contains_in (listed p) came.original.entry (subst (λ (a : Application). In came.original.entry a.files) application_is own.1) in
-          let keeps : Keeps c.installed file.bytes =
+          let keeps : KeepsBytes c.installed file.bytes =
           inr (any_in (λ (view : View). Any (λ (f : DataFile). f.bytes ≡ file.bytes) view.data_files) c.installed.store.views the_view (view_in c.number c.installed.store.views the_view the_there).0
           (any_in (λ (f : DataFile). f.bytes ≡ file.bytes) done.installed.data_files file there refl)) in
           let matching : Matches came.original.entry.list came.original.entry.size file.bytes =

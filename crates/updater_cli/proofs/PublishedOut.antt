@@ -17,16 +17,16 @@ use Rattle.manifests.specs.Deployments.{deployment_of}
 use Rattle.publish_plan.specs.Places.{codebase, deployment_name, manifest_name, target_name}
 use Rattle.publisher.specs.Publication as writes
 use Rattle.published_paths.specs.Reached.{Reaches}
-use Rattle.updater_cli.specs.Offered.{Publication, input_file, listed}
+use Rattle.updater_cli.specs.Offered.{PublishInput, input_file, listed}
 
 -- a file of the release: the input file stands in the folder where it was written, and matches
-pub record IsFileOut (p : Publication) (folder : List Held) (entry : FileEntry) : Type 0 where
+pub record IsFileOut (p : PublishInput) (folder : List Held) (entry : FileEntry) : Type 0 where
   pub whole : List ℕ
   pub input : input_file p entry.name ≡ Some whole
   pub out : file_in (target_name p.options entry.name) folder ≡ Some whole
   pub matching : Matches entry.list entry.size whole
 
-pub record IsOut (p : Publication) (folder : List Held) : Type 0 where
+pub record IsOut (p : PublishInput) (folder : List Held) : Type 0 where
   pub text : List ℕ
   pub last : List ℕ
   pub deployment : file_in (deployment_name p.options) folder ≡ Some last

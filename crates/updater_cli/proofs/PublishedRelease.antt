@@ -49,7 +49,7 @@ use Rattle.publisher.proofs.PlanFacts.{IsGoodPlan}
 use Rattle.publisher.proofs.ReleaseFacts.{entries_fit, files_fit}
 use Rattle.published_paths.specs.Reached.{IsReached, Reaches}
 use Rattle.published_paths.proofs.Planned.{plans_reached}
-use Rattle.updater_cli.specs.Offered.{Holds, Publication, Writes, input_file, listed}
+use Rattle.updater_cli.specs.Offered.{HasFiles, PublishInput, WritesRelease, input_file, listed}
 use Rattle.updater_cli.proofs.PublishedOut.{IsFileOut, IsOut}
 use Rattle.updater_cli.proofs.PublishedDigests.{digests_held, digests_match, digests_sized}
 use Rattle.updater_cli.proofs.PublishedFiles.{Among, among_all, among_left, among_map, among_of, among_right, found_by_name, input_there, inputs_named, map_among}
@@ -131,7 +131,7 @@ entries_ok held (f ∷ fs) entries read =
 
 -- ---- what was made
 
-pub record IsMade (p : Publication) (files : List Held) : Type 0 where
+pub record IsMade (p : PublishInput) (files : List Held) : Type 0 where
   pub early : early_of p.options ≡ None
   pub plan : Plan
   pub planned_is : plan_of p.options p.names ≡ Ok plan
@@ -147,7 +147,7 @@ pub record IsMade (p : Publication) (files : List Held) : Type 0 where
   pub files_are : files ≡ map (copy_in p.input) plan.files ++ record { name = plan.manifest; bytes = text } ∷ record { name = plan.deployment; bytes = last } ∷ []
   pub differ : distinct files ≡ true
 
-module _ (p : Publication) (files : List Held) (w : Writes p files) where
+module _ (p : PublishInput) (files : List Held) (w : WritesRelease p files) where
   made_of : (plan : Plan) → early_of p.options ≡ None → plan_of p.options p.names ≡ Ok plan → release_of p.options p.input plan ≡ Ok files → IsMade p files
   unfolding release_of manifests_of
   made_of plan early is made =
@@ -192,7 +192,7 @@ module _ (p : Publication) (files : List Held) (w : Writes p files) where
 
 -- ---- what is out
 
-module _ (p : Publication) (files folder : List Held) (w : Writes p files) (holds : Holds folder files) where
+module _ (p : PublishInput) (files folder : List Held) (w : WritesRelease p files) (holds : HasFiles folder files) where
   made : IsMade p files
   made = is_made p files w
 

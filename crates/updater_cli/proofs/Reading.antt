@@ -9,8 +9,8 @@ use Rattle.command_text.proofs.InputLemmas.{lines_cut, lines_before, feeds_cut}
 use Rattle.updater_cli.specs.declared.limits.TheConstants.{INPUT_LIMIT}
 use Rattle.updater_cli.specs.declared.status.Status.{Status}
 use Rattle.updater_cli.specs.declared.status.Status.TheVariants.{Done, Words, SourceFault, SinkFault, DiskFault, NotAStore, Memory, TooMuchInput}
-use Rattle.updater_cli.specs.Lines.{Stage, Trace, AreInputs, Progress, Stopped, status_of, taken_of}
-use Rattle.updater_cli.specs.Status.{Outcome, code_of, IsLineEnd}
+use Rattle.updater_cli.specs.Lines.{Stage, Trace, AreInputs, Progress, Stopped, outcome_code, taken_of}
+use Rattle.updater_cli.specs.Status.{PartOutcome, code_of, IsLineEnd}
 use Rattle.updater_cli.proofs.Traces.{pending_none, trace_as, trace_last, traces_on, progress_none, progress_on, stopped_on}
 
 -- So many bytes of the input may still be taken. Those that were are answered, up to the line that is pending.
@@ -195,8 +195,8 @@ no_lines : (b : Bool) → (let l : List (List ℕ) = [] in (if b then l else l) 
 no_lines true = refl
 no_lines false = refl
 
-rest_ends : (pending : List ℕ) (outcome : Outcome) (begun : Option Event) → IfErr outcome (λ status. IsLineEnd status begun)
-    → RestOf pending (if length pending == 0 then [] else taken_of outcome pending) (status_of outcome)
+rest_ends : (pending : List ℕ) (outcome : PartOutcome) (begun : Option Event) → IfErr outcome (λ status. IsLineEnd status begun)
+    → RestOf pending (if length pending == 0 then [] else taken_of outcome pending) (outcome_code outcome)
 rest_ends pending (Ok done) begun end = ends_whole pending 0 (pending ∷ []) refl (λ same. omega (arith, same)) (λ same. omega (arith, same))
 rest_ends pending (Err Memory) begun end = inr (no_lines (length pending == 0), refl)
 rest_ends pending (Err SinkFault) begun end = ends_whole pending 3 (pending ∷ []) refl (λ same. omega (arith, same)) (λ same. omega (arith, same))
@@ -209,12 +209,12 @@ rest_ends pending (Err TooMuchInput) begun end = absurd end
 
 -- the input ended
 pub rest_read : (tells : Type 0) (left_old left_mid : List ℕ) (room : ℕ) (pending : List ℕ) (told : Type 0) (old mid new : Stage) → Read tells left_old left_mid room pending told old mid
-    → (outcome : Outcome) (begun : Option Event) (left piece : List ℕ) → (tells → left_mid ≡ []) → (tells → left_mid ≡ piece ++ left)
-    → IfErr outcome (λ status. IsLineEnd status begun) → Trace told (status_of outcome) (if length pending == 0 then [] else taken_of outcome pending) mid new begun
-    → Answered (status_of outcome) tells left_old left told old new begun
+    → (outcome : PartOutcome) (begun : Option Event) (left piece : List ℕ) → (tells → left_mid ≡ []) → (tells → left_mid ≡ piece ++ left)
+    → IfErr outcome (λ status. IsLineEnd status begun) → Trace told (outcome_code outcome) (if length pending == 0 then [] else taken_of outcome pending) mid new begun
+    → Answered (outcome_code outcome) tells left_old left told old new begun
 rest_read tells left_old left_mid room pending told old mid new read outcome begun left piece none given end trace =
     let rest = read.progress.read.rest in
-    rest_by tells left_old left_mid room pending told old mid read (status_of outcome) (if length rest == 0 then [] else taken_of outcome rest) begun new left none
+    rest_by tells left_old left_mid room pending told old mid read (outcome_code outcome) (if length rest == 0 then [] else taken_of outcome rest) begun new left none
     (λ is. nothing piece left (sym (none is) ∙ given is)) (rest_ends rest outcome begun end) (trace_last told outcome rest pending mid new begun read.progress.read.is trace)
 
 -- before the first byte

@@ -11,15 +11,15 @@ use Rattle.http_plain.specs.Path.{name_in_path}
 use Rattle.http_plain.specs.Sites.{file_named as file_at, served}
 use Rattle.publish_plan.specs.Places.{deployment_name, manifest_name, target_name}
 use Rattle.published_paths.specs.Reached.{Reaches}
-use Rattle.updater_cli.specs.Offered.{IsAskedFor, Publication, Sites, Writes}
+use Rattle.updater_cli.specs.Offered.{IsAskedFor, PublishInput, Sites, WritesRelease}
 use Rattle.updater_cli.specs.Releases.{AreReleasePages, HasPage, HasRelease, PagesHaveReleases, ReleasesAreOffered}
 use Rattle.updater_cli.proofs.Pages.{page_found}
 use Rattle.updater_cli.proofs.PublishedLaw.{ok_is}
 use Rattle.updater_cli.proofs.PublishedOut.{IsOut}
 use Rattle.updater_cli.proofs.PublishedRelease.{is_out}
 
-module _ (p : Publication) (files : List Held) (url : List ℕ) (given : Target) (sites : Sites)
-    (w : Writes p files) (read : target_of_text url ≡ Ok given)
+module _ (p : PublishInput) (files : List Held) (url : List ℕ) (given : Target) (sites : Sites)
+    (w : WritesRelease p files) (read : target_of_text url ≡ Ok given)
     (reaches : Reaches given (deployment_name p.options)) (has : HasRelease p files given sites) where
   out : IsOut p files
   out = is_out p files files w (λ name bytes there. there)
@@ -55,8 +55,8 @@ releases_are_offered p files url given sites w read reaches has = (
 
 -- ---- pages in memory
 
-module _ (p : Publication) (files : List Held) (given : Target) (sites : Sites)
-    (pages : List Page) (w : Writes p files) (some : 0 < sites.sources)
+module _ (p : PublishInput) (files : List Held) (given : Target) (sites : Sites)
+    (pages : List Page) (w : WritesRelease p files) (some : 0 < sites.sources)
     (paged : (target : Target) → sites.site 0 target ≡ page_in target pages)
     (are : AreReleasePages p files given pages) where
   written : IsOut p files

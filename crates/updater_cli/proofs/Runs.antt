@@ -15,7 +15,7 @@ use Rattle.machine.proofs.Sessions.{step_jobs, step_session}
 use Rattle.machine.specs.Store.{Session}
 use Rattle.links.specs.declared.links.Links.{Ghosts as LinksGhosts}
 use Rattle.links.specs.Links.{failures_of}
-use Rattle.updater_cli.specs.Report.{Origin, origin_after, events_of, replies_of, marked_by, moment_behind, AreRunFrom, answered, IsSettled, RunsTo, IsCounted, Counts, IsServed, AreServed, MarksRise, FailuresRise, AreMarkedBy}
+use Rattle.updater_cli.specs.Report.{Origin, origin_after, events_of, replies_of, marked_by, moment_behind, AreRunFrom, answered, IsSettled, RunsTo, IsCounted, Counts, IsLineServed, AreServed, MarksRise, FailuresRise, AreMarkedBy}
 
 -- ---- a step
 
@@ -79,13 +79,13 @@ counts_push from mark (x ∷ lines) s new last l bytes own so_far step counted =
 
 -- and what the links did for it
 pub served_push : {L : Type 0} (net : LinksGhosts L) (from : Origin) (first : L) (lines : List ReportLine) (s new : Session) (last after : L) (l : ReportLine)
-    → AreServed net from first lines s last → Step (moment_behind from.now lines) s l.event l.reply new → IsServed net l.event l.reply last after s new
+    → AreServed net from first lines s last → Step (moment_behind from.now lines) s l.event l.reply new → IsLineServed net l.event l.reply last after s new
     → l.failures ≡ failures_of (net.links after) → AreServed net from first (lines ++ l ∷ []) new after
 served_push {L} net from first [] s new last after l so_far step served shown = (
   new,
   after,
   subst (λ (x : Session). Step from.now x l.event l.reply new) so_far.0 step,
-  subst (λ (x : Session). IsServed net l.event l.reply first after x new) so_far.0 (subst (λ (x : L). IsServed net l.event l.reply x after s new) so_far.1 served),
+  subst (λ (x : Session). IsLineServed net l.event l.reply first after x new) so_far.0 (subst (λ (x : L). IsLineServed net l.event l.reply x after s new) so_far.1 served),
   shown,
   (refl, refl),
 )

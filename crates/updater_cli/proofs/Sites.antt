@@ -24,7 +24,7 @@ use Rattle.machine.specs.Store.{Session, Store}
 use Rattle.machine.specs.Views.{DataFile, ListedFile, View}
 use Rattle.machine.specs.Wanted.{wanted}
 use Rattle.updater.specs.Commanded.{Serves}
-use Rattle.updater_cli.specs.Report.{AreServed, IsServed, Origin, origin_after}
+use Rattle.updater_cli.specs.Report.{AreServed, IsLineServed, Origin, origin_after}
 use Rattle.updater_cli.specs.Sites.{AreOfSites, HeardOfSites, GroupOfSites, IsCarriedOrOfSite, IsHeldOrOfSite, IsLineOfSites, OfferOfSites}
 
 some_as : {A : Type 0} (o : Option A) (P Q : A → Type 0) → ((x : A) → P x → Q x) → IfSome o P → IfSome o Q
@@ -88,7 +88,7 @@ module _ (first before after : LinksState) (kept : Kept first before) (tell : Al
   served_of _ texts old new reply now serves = tt
 
 line_of : {L : Type 0} (net : LinksGhosts L) (first : LinksState) (before after : L) → Kept first (net.links before) → AllTell first
-    → (now : ℕ) (old new : Session) (event : Event) (reply : Option Reply) → Step now old event reply new → IsServed net event reply before after old new
+    → (now : ℕ) (old new : Session) (event : Event) (reply : Option Reply) → Step now old event reply new → IsLineServed net event reply before after old new
     → IsLineOfSites first event old new
 line_of net first before after kept tell now old new (Boot boot) reply step served = tt
 line_of net first before after kept tell now old new (Unread fault) reply step served = tt

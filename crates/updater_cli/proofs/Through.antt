@@ -14,7 +14,7 @@ use Rattle.machine.specs.Sound.{Sound}
 use Rattle.machine.specs.Store.{Session}
 use Rattle.machine.specs.Words.{IsEvent}
 use Rattle.machine.proofs.Stepping.{run_sound, step_sound}
-use Rattle.updater_cli.specs.Report.{AreRunFrom, Begins, IsRunAt, KeepsMoments, Origin, Reaches, events_of, moment_behind, replies_of}
+use Rattle.updater_cli.specs.Report.{AreRunFrom, Begins, IsRunAt, KeepsMoments, Origin, ReachesAfter, events_of, moment_behind, replies_of}
 use Rattle.updater_cli.proofs.Runs.{run_push}
 
 -- ---- the words of lines
@@ -72,7 +72,7 @@ module _ (from : Origin) (sound : Sound from.session.store) where
       step_sound (moment_behind from.now lines) begins.0 event begins.1 s (is_event (moment_behind from.now lines) event begun_at) begins.3 (sound_behind lines begins.0 at begins.2)
 
   -- behind the first events of a report
-  pub reached_sound : (report : Report) (n : ℕ) (s : Session) → KeepsMoments from.now report → Reaches from report n s → Sound s.store
+  pub reached_sound : (report : Report) (n : ℕ) (s : Session) → KeepsMoments from.now report → ReachesAfter from report n s → Sound s.store
   reached_sound report n s moments (inl reached) =
       sound_behind (take n report.lines) s (run_before from.now (take n report.lines) (drop n report.lines) (subst (λ (ls : List ReportLine). AreRunFrom from.now ls) (sym (take-append-drop n report.lines)) moments.lines)) reached.1
   reached_sound report n s moments (inr reached) = begins_sound report.lines report.begun s moments.lines moments.begun reached.1
@@ -92,6 +92,6 @@ begins_run from lines (Some event) s begins = record {
   run = run_push from.now from.session begins.0 s lines event begins.1 begins.2 begins.3;
 }
 
-pub reached_run : (from : Origin) (report : Report) (n : ℕ) (s : Session) → Reaches from report n s → IsRunTo from s
+pub reached_run : (from : Origin) (report : Report) (n : ℕ) (s : Session) → ReachesAfter from report n s → IsRunTo from s
 reached_run from report n s (inl reached) = record { events = events_of (take n report.lines); replies = replies_of (take n report.lines); run = reached.1 }
 reached_run from report n s (inr reached) = begins_run from report.lines report.begun s reached.1

@@ -15,9 +15,9 @@ use Rattle.command_text.proofs.InputLemmas.{events_append, texts_of-append, cut_
 use Rattle.command_text.proofs.LongLines.{event_as, read_part, same_ended, same_last, some_kept}
 use Rattle.command_text.proofs.ReadingOn.{AreKeptAlike, events_alike, reads_on, stops_on}
 use Rattle.updater_cli.specs.declared.status.Status.TheVariants.{Done, Words, SourceFault, SinkFault, DiskFault, NotAStore, Memory, TooMuchInput}
-use Rattle.updater_cli.specs.Lines.{Stage, Trace, IsPending, Progress, Stopped, status_of, taken_of}
-use Rattle.updater_cli.specs.Report.{events_of, replies_of, moment_behind, IsRunAt, AreRunFrom, Writes, CutsLast}
-use Rattle.updater_cli.specs.Status.{Outcome}
+use Rattle.updater_cli.specs.Lines.{Stage, Trace, IsPending, Progress, Stopped, outcome_code, taken_of}
+use Rattle.updater_cli.specs.Report.{events_of, replies_of, moment_behind, IsRunAt, AreRunFrom, WritesReplies, CutsLast}
+use Rattle.updater_cli.specs.Status.{PartOutcome}
 use Rattle.updater_cli.proofs.Runs.{rise_on, failures_on, moment-append, run_from_append}
 
 -- ---- what was written
@@ -26,7 +26,7 @@ use Rattle.updater_cli.proofs.Runs.{rise_on, failures_on, moment-append, run_fro
 pub texts-append : (xs ys : List ReportLine) → texts_of (replies_of (xs ++ ys)) ≡ texts_of (replies_of xs) ++ texts_of (replies_of ys)
 texts-append xs ys = ap texts_of (map-append (λ (l : ReportLine). l.reply) xs ys) ∙ texts_of-append (replies_of xs) (replies_of ys)
 
-pub writes_on : (status : ℕ) (a b c : List ℕ) (xs ys : List ReportLine) → b ≡ a ++ texts_of (replies_of xs) → Writes status b c ys → Writes status a c (xs ++ ys)
+pub writes_on : (status : ℕ) (a b c : List ℕ) (xs ys : List ReportLine) → b ≡ a ++ texts_of (replies_of xs) → WritesReplies status b c ys → WritesReplies status a c (xs ++ ys)
 writes_on status a b c xs ys first second = record {
   whole = λ not_three. second.whole not_three ∙ ap (λ (l : List ℕ). l ++ texts_of (replies_of ys)) first ∙ append_assoc a (texts_of (replies_of xs)) (texts_of (replies_of ys)) ∙ ap (λ (l : List ℕ). a ++ l) (sym (texts-append xs ys));
   part = λ three. cut (second.part three);
@@ -276,7 +276,7 @@ module _ (told : Type 0) (pending part : List ℕ) (begun_line : HasNoFeed pendi
 -- ---- a last line
 
 -- a line that was taken is read as another one is
-taken_as : (outcome : Outcome) (a b : List ℕ) → command_of a ≡ command_of b → (events : List Event) → AreEvents (taken_of outcome a) events → AreEvents (taken_of outcome b) events
+taken_as : (outcome : PartOutcome) (a b : List ℕ) → command_of a ≡ command_of b → (events : List Event) → AreEvents (taken_of outcome a) events → AreEvents (taken_of outcome b) events
 taken_as (Ok done) a b same events are = events_as a b same events are
 taken_as (Err Memory) a b same events are = are
 taken_as (Err Done) a b same events are = events_as a b same events are
@@ -287,17 +287,17 @@ taken_as (Err DiskFault) a b same events are = events_as a b same events are
 taken_as (Err NotAStore) a b same events are = events_as a b same events are
 taken_as (Err TooMuchInput) a b same events are = events_as a b same events are
 
-last_as : (none : Bool) (outcome : Outcome) (a b : List ℕ) → command_of a ≡ command_of b → (events : List Event) → AreEvents (if none then [] else taken_of outcome a) events
+last_as : (none : Bool) (outcome : PartOutcome) (a b : List ℕ) → command_of a ≡ command_of b → (events : List Event) → AreEvents (if none then [] else taken_of outcome a) events
     → AreEvents (if none then [] else taken_of outcome b) events
 last_as true outcome a b same events are = are
 last_as false outcome a b same events are = taken_as outcome a b same events are
 
 -- what was kept of it tells what it is
-pub trace_last : (told : Type 0) (outcome : Outcome) (rest kept : List ℕ) (old new : Stage) (begun : Option Event) → kept ≡ kept_of rest
-    → Trace told (status_of outcome) (if length kept == 0 then [] else taken_of outcome kept) old new begun → Trace told (status_of outcome) (if length rest == 0 then [] else taken_of outcome rest) old new begun
+pub trace_last : (told : Type 0) (outcome : PartOutcome) (rest kept : List ℕ) (old new : Stage) (begun : Option Event) → kept ≡ kept_of rest
+    → Trace told (outcome_code outcome) (if length kept == 0 then [] else taken_of outcome kept) old new begun → Trace told (outcome_code outcome) (if length rest == 0 then [] else taken_of outcome rest) old new begun
 trace_last told outcome rest kept old new begun is trace =
-    let kept_trace : Trace told (status_of outcome) (if length (kept_of rest) == 0 then [] else taken_of outcome (kept_of rest)) old new begun =
-    subst (λ (l : List ℕ). Trace told (status_of outcome) (if length l == 0 then [] else taken_of outcome l) old new begun) is trace in
-    trace_read told (status_of outcome) (if length rest == 0 then [] else taken_of outcome (kept_of rest)) (if length rest == 0 then [] else taken_of outcome rest) old new begun
+    let kept_trace : Trace told (outcome_code outcome) (if length (kept_of rest) == 0 then [] else taken_of outcome (kept_of rest)) old new begun =
+    subst (λ (l : List ℕ). Trace told (outcome_code outcome) (if length l == 0 then [] else taken_of outcome l) old new begun) is trace in
+    trace_read told (outcome_code outcome) (if length rest == 0 then [] else taken_of outcome (kept_of rest)) (if length rest == 0 then [] else taken_of outcome rest) old new begun
     (λ events are. last_as (length rest == 0) outcome (kept_of rest) rest (same_last rest) events are)
-    (subst (λ (b : Bool). Trace told (status_of outcome) (if b then [] else taken_of outcome (kept_of rest)) old new begun) (some_kept rest) kept_trace)
+    (subst (λ (b : Bool). Trace told (outcome_code outcome) (if b then [] else taken_of outcome (kept_of rest)) old new begun) (some_kept rest) kept_trace)

@@ -18,7 +18,7 @@ use Rattle.updater_cli.specs.declared.limits.TheConstants.{INPUT_LIMIT}
 use Rattle.updater_cli.specs.Devices.{Devices}
 use Rattle.updater_cli.specs.Downs.{DownsAreCounted}
 use Rattle.updater_cli.specs.Opening.{BootsFirst, IsLineOrNone, IsUnopened, Survives}
-use Rattle.updater_cli.specs.Report.{answered, marked_by, origin_over, events_of, moment_behind, AreServed, Counts, CostsBegun, FailuresRise, IsBegunServed, KeepsMoments, MarksRise, RunsTo, StandsSound, Writes}
+use Rattle.updater_cli.specs.Report.{answered, marked_by, origin_over, events_of, moment_behind, AreServed, Counts, CostsBegun, FailuresRise, IsBegunServed, KeepsMoments, MarksRise, RunsTo, StandsSound, WritesReplies}
 use Rattle.updater_cli.specs.Sites.{AreOfSites}
 use Rattle.updater_cli.specs.Status.{IsBegun}
 use Rattle.updater_cli.specs.Views.{KeepsViews, LaunchesHold, ViewsHold}
@@ -145,7 +145,7 @@ pub record HeadlineRun {S K D L : Type 0} (sink : SinkGhosts K) (on : Ghosts D)
     (report : Report) : Type 0 where
   pub leads : on.tells new.disk → (store : Store) → StandsSound (on.seen old.disk) store
       → LeadsTo on net now status old new report store
-  pub output : sink.tells → Writes status (sink.taken old.sink) (sink.taken new.sink) report.lines
+  pub output : sink.tells → WritesReplies status (sink.taken old.sink) (sink.taken new.sink) report.lines
 
 -- ---- stops
 

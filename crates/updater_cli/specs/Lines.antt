@@ -24,9 +24,9 @@ use Rattle.updater_cli.specs.declared.course.Course.{Course}
 use Rattle.updater_cli.specs.declared.limits.TheConstants.{INPUT_LIMIT}
 use Rattle.updater_cli.specs.declared.status.Status.TheVariants.{SourceFault, SinkFault, DiskFault, Memory}
 use Rattle.updater_cli.specs.Devices.{RisesWith, Asks}
-use Rattle.updater_cli.specs.Report.{events_of, report_of, moment_behind, IsRunAt, AreRunFrom, IsCounted, IsServed, IsSettled, MarksRise, FailuresRise, Writes}
+use Rattle.updater_cli.specs.Report.{events_of, report_of, moment_behind, IsRunAt, AreRunFrom, IsCounted, IsLineServed, IsSettled, MarksRise, FailuresRise, WritesReplies}
 use Rattle.updater_cli.specs.Session.{Start, Between, Ended}
-use Rattle.updater_cli.specs.Status.{Outcome, code_of, end_of, IsBegun, IsLineEnd, IsSessionEnd}
+use Rattle.updater_cli.specs.Status.{PartOutcome, code_of, end_status, IsBegun, IsLineEnd, IsSessionEnd}
 
 -- ---- running a line
 
@@ -42,7 +42,7 @@ pub record Ran {D L : Type 0} (on : Ghosts D) (net : LinksGhosts L) (now : ℕ) 
   pub counted : IsCounted old new (on.moment disk_old) (on.moment disk) bytes
   pub written : on.total disk ≤ on.total disk_old + bytes
   pub settled : IsSettled new
-  pub served : IsServed net event (Some reply) links_old links old new
+  pub served : IsLineServed net event (Some reply) links_old links old new
 
 -- the disk failed: a stop leaves the store before some step of the event or that after it
 pub record Broke {D L : Type 0} (on : Ghosts D) (net : LinksGhosts L) (now : ℕ) (disk_old : D)
@@ -54,7 +54,7 @@ pub record Broke {D L : Type 0} (on : Ghosts D) (net : LinksGhosts L) (now : ℕ
   pub bytes : ℕ
   pub costs : Costs old.store new.store bytes
   pub written : on.total disk ≤ on.total disk_old + bytes
-  pub served : IsServed net event (Some reply) links_old links old new
+  pub served : IsLineServed net event (Some reply) links_old links old new
 
 -- The event is that of the line, at that moment. What it does, it does for each sound session that
 -- is held, where the disk tells.
@@ -94,7 +94,7 @@ pub record Trace (told : Type 0) (status : ℕ) (inputs : List (List ℕ)) (old 
   pub moment : new.now ≡ moment_behind old.now more
   pub marks : MarksRise old.calls more new.calls
   pub failures : FailuresRise old.failures more new.failures
-  pub output : told → Writes status old.taken new.taken more
+  pub output : told → WritesReplies status old.taken new.taken more
 
 -- What is pending of a line that no line feed has ended: as much of it as is kept.
 pub record IsPending (kept : List ℕ) : Type 0 where
@@ -159,14 +159,14 @@ pub record IsReady (course : Course) : Type 0 where
   pub moment : course.now ≤ NUMBER_LIMIT
 
 -- its status, which is 0 where it goes on
-abbrev pub status_of : Outcome → ℕ
-status_of outcome = code_of (end_of outcome)
+abbrev pub outcome_code : PartOutcome → ℕ
+outcome_code outcome = code_of (end_status outcome)
 
 -- Each part of a session keeps this, whatever it reads. Where the session stood between two lines,
 -- and the disk tells, it does so again, or has ended. The counts of the sink and of the disk rise
 -- with their own faults alone. The links and their sites stay.
-pub record Keeps {K D L : Type 0} (to : SinkGhosts K) (on : Ghosts D) (net : LinksGhosts L)
-    (old : Place K D L) (result : Outcome) (new : Place K D L) : Type 0 where
+pub record KeepsSession {K D L : Type 0} (to : SinkGhosts K) (on : Ghosts D) (net : LinksGhosts L)
+    (old : Place K D L) (result : PartOutcome) (new : Place K D L) : Type 0 where
   pub machine : on.tells new.disk → (start : Start D L)
       → Between on net start old.course old.disk old.links
       → MatchResult result (λ _. Between on net start new.course new.disk new.links)
@@ -178,34 +178,34 @@ pub record Keeps {K D L : Type 0} (to : SinkGhosts K) (on : Ghosts D) (net : Lin
   pub kept : Kept (net.links old.links) (net.links new.links)
 
 -- the line, which is not run where there is no memory for it
-abbrev pub taken_of : Outcome → List ℕ → List (List ℕ)
+abbrev pub taken_of : PartOutcome → List ℕ → List (List ℕ)
 taken_of (Ok _) line = line ∷ []
 taken_of (Err Memory) line = []
 taken_of (Err _) line = line ∷ []
 
 -- a line was answered, or ended the session
 pub record LineAnswered {K D L : Type 0} (to : SinkGhosts K) (on : Ghosts D) (net : LinksGhosts L)
-    (line : List ℕ) (old : Place K D L) (result : Outcome) (new : Place K D L) : Type 0 where
-  pub keeps : Keeps to on net old result new
+    (line : List ℕ) (old : Place K D L) (result : PartOutcome) (new : Place K D L) : Type 0 where
+  pub keeps : KeepsSession to on net old result new
   pub ends : IfErr result (λ status. IsLineEnd status new.course.begun)
-  pub trace : Trace to.tells (status_of result) (taken_of result line)
+  pub trace : Trace to.tells (outcome_code result) (taken_of result line)
       (stage_of to on net old) (stage_of to on net new) new.course.begun
 
 -- a last line without a line feed was, where there is one
 pub record RestAnswered {K D L : Type 0} (to : SinkGhosts K) (on : Ghosts D) (net : LinksGhosts L)
-    (line : List ℕ) (old : Place K D L) (result : Outcome) (new : Place K D L) : Type 0 where
-  pub keeps : Keeps to on net old result new
+    (line : List ℕ) (old : Place K D L) (result : PartOutcome) (new : Place K D L) : Type 0 where
+  pub keeps : KeepsSession to on net old result new
   pub ends : IfErr result (λ status. IsLineEnd status new.course.begun)
-  pub trace : Trace to.tells (status_of result)
+  pub trace : Trace to.tells (outcome_code result)
       (if length line == 0 then [] else taken_of result line)
       (stage_of to on net old) (stage_of to on net new) new.course.begun
 
 -- Each line that ends in these bytes was, or one of them ended the session. The bytes begin with
 -- what was kept of a line.
 pub record PieceAnswered {K D L : Type 0} (to : SinkGhosts K) (on : Ghosts D) (net : LinksGhosts L)
-    (bytes : List ℕ) (old : Place K D L) (result : Outcome) (kept : List ℕ)
+    (bytes : List ℕ) (old : Place K D L) (result : PartOutcome) (kept : List ℕ)
     (new : Place K D L) : Type 0 where
-  pub keeps : Keeps to on net old result new
+  pub keeps : KeepsSession to on net old result new
   pub ends : IfErr result (λ status. IsLineEnd status new.course.begun)
   pub pending : OnOk result (IsPending kept)
   pub done : OnOk result
@@ -215,13 +215,13 @@ pub record PieceAnswered {K D L : Type 0} (to : SinkGhosts K) (on : Ghosts D) (n
 
 -- the whole input was, or the session ended before
 pub record InputAnswered {S K D L : Type 0} (from : SourceGhosts S) (to : SinkGhosts K)
-    (on : Ghosts D) (net : LinksGhosts L) (source_old : S) (old : Place K D L) (result : Outcome)
+    (on : Ghosts D) (net : LinksGhosts L) (source_old : S) (old : Place K D L) (result : PartOutcome)
     (source : S) (new : Place K D L) : Type 0 where
-  pub keeps : Keeps to on net old result new
+  pub keeps : KeepsSession to on net old result new
   pub ends : IfErr result (λ status. IsSessionEnd status new.course.begun)
   pub inputs : List (List ℕ)
-  pub trace : Trace to.tells (status_of result) inputs
+  pub trace : Trace to.tells (outcome_code result) inputs
       (stage_of to on net old) (stage_of to on net new) new.course.begun
   pub given : from.tells
-      → AreInputs (status_of result) (from.left source_old) (from.left source) inputs
+      → AreInputs (outcome_code result) (from.left source_old) (from.left source) inputs
   pub reads : RisesWith (result ≡ Err SourceFault) (from.count source_old) (from.count source)

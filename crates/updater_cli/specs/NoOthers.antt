@@ -10,22 +10,22 @@ use Rattle.machine.specs.declared.event.Event.TheVariants.{Boot, Line, Unread}
 use Rattle.machine.specs.declared.report.ReportLine.{ReportLine}
 use Rattle.machine.specs.Sound.{Sound}
 use Rattle.machine.specs.Store.{Session}
-use Rattle.updater_cli.specs.Offered.{Publication}
+use Rattle.updater_cli.specs.Offered.{PublishInput}
 use Rattle.updater_cli.specs.Published.{AreNoOthers, KeepsNoOthers}
 use Rattle.updater_cli.specs.Report.{AreRunFrom, Origin}
 use Rattle.updater_cli.specs.Sites.{AreOfSites}
 
 -- no link's site has others
-abbrev pub SitesHaveNoOthers : Publication → List Held → LinksState → Type 0
+abbrev pub SitesHaveNoOthers : PublishInput → List Held → LinksState → Type 0
 SitesHaveNoOthers p folder links = (k : ℕ) (target : Target) (bytes : List ℕ) → k < links.sources
     → (links.link k).site target ≡ Some bytes → AreNoOthers p folder bytes
 
 -- a line puts none among data files
-abbrev pub PutsNoOthers : Publication → List Held → Command → Type 0
+abbrev pub PutsNoOthers : PublishInput → List Held → Command → Type 0
 PutsNoOthers p folder (Put lease name bytes) = AreNoOthers p folder bytes
 PutsNoOthers p folder _ = Unit {0}
 
-abbrev pub EventPutsNoOthers : Publication → List Held → Event → Type 0
+abbrev pub EventPutsNoOthers : PublishInput → List Held → Event → Type 0
 EventPutsNoOthers p folder (Boot boot) = Unit {0}
 EventPutsNoOthers p folder (Line command now heard) = PutsNoOthers p folder command
 EventPutsNoOthers p folder (Unread fault) = Unit {0}
@@ -33,7 +33,7 @@ EventPutsNoOthers p folder (Unread fault) = Unit {0}
 -- Lines hear and bring bytes of the links' sites. Where no site has others, no line puts others, and
 -- none are kept before the lines, none are kept behind them.
 abbrev pub NoOthersCome : LinksState → Type 0
-NoOthersCome links = (p : Publication) (folder : List Held) (from : Origin)
+NoOthersCome links = (p : PublishInput) (folder : List Held) (from : Origin)
     (lines : List ReportLine) (last : Session) → SitesHaveNoOthers p folder links
     → All (λ (l : ReportLine). EventPutsNoOthers p folder l.event) lines
     → KeepsNoOthers p folder from.session → Sound from.session.store → AreRunFrom from.now lines

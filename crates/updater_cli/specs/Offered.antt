@@ -22,14 +22,14 @@ use Rattle.publisher.specs.Publication.{entry_in, publish_of}
 -- ---- what is published
 
 -- what a publish is given: its options, the files that stand in the folder, and their names
-pub record Publication : Type 0 where
+pub record PublishInput : Type 0 where
   pub options : Options
   pub input : List Held
   pub names : List (List ℕ)
 
 -- Values as their types hold them, options whose manifests can be written, and the names of the
 -- files in byte order, each once. These files are what the publish writes.
-pub record Writes (p : Publication) (files : List Held) : Type 0 where
+pub record WritesRelease (p : PublishInput) (files : List Held) : Type 0 where
   pub from : IsName p.options.from
   pub to : IsName p.options.to
   pub version : IsVersion p.options.version
@@ -41,18 +41,18 @@ pub record Writes (p : Publication) (files : List Held) : Type 0 where
   pub written : publish_of p.options p.names p.input ≡ Ok files
 
 -- what the application manifest says of the input files
-abbrev pub listed : Publication → List FileEntry
+abbrev pub listed : PublishInput → List FileEntry
 listed p = map (entry_in p.input) (planned_files p.options (input_names p.options.from p.names))
 
 -- the input file of that name below the folder that is published
-abbrev pub input_file : Publication → List ℕ → Option (List ℕ)
+abbrev pub input_file : PublishInput → List ℕ → Option (List ℕ)
 input_file p name = file_in (within p.options.from name) p.input
 
 -- ---- where it is offered
 
 -- each of these files stands in the folder
-abbrev pub Holds : List Held → List Held → Type 0
-Holds folder files = (name bytes : List ℕ) → file_in name files ≡ Some bytes
+abbrev pub HasFiles : List Held → List Held → Type 0
+HasFiles folder files = (name bytes : List ℕ) → file_in name files ≡ Some bytes
     → file_in name folder ≡ Some bytes
 
 -- links by their sites, of which alone what they give depends
@@ -71,7 +71,7 @@ links_of sites = record {
 
 -- what an install of what was published asks for, by the address of its deployment manifest: this
 -- one, that of the application manifest, and beside it that of each listed file
-abbrev pub IsAskedFor : Publication → Target → Target → Type 0
+abbrev pub IsAskedFor : PublishInput → Target → Target → Type 0
 IsAskedFor p given target =
     (target ≡ given)
     ⊎ (app_target_of given (codebase p.options) ≡ Ok target)
@@ -81,7 +81,7 @@ IsAskedFor p given target =
 
 -- There is a first link. At what an install from the url asks for its site is that of a link to the
 -- folder; what it has elsewhere is free.
-pub record IsFirstSite (p : Publication) (url : List ℕ) (folder : List Held) (sites : Sites)
+pub record IsFirstSite (p : PublishInput) (url : List ℕ) (folder : List Held) (sites : Sites)
     : Type 0 where
   pub some : 0 < sites.sources
   pub shows : (given target : Target) → target_of_text url ≡ Ok given → IsAskedFor p given target

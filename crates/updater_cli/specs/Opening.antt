@@ -105,7 +105,7 @@ begun_by boot DiskFault = Some (Boot boot)
 begun_by boot _ = None
 
 -- a session begins at that moment, with the boot event or without a line
-pub record Begun {D : Type 0} (on : Ghosts D) (boot now failures : ℕ) (disk_old : D)
+pub record BeginsAt {D : Type 0} (on : Ghosts D) (boot now failures : ℕ) (disk_old : D)
     (course : Course) (disk : D) : Type 0 where
   pub moment : course.now ≡ now
   pub lines : HasBootLine boot failures (on.moment disk_old) (on.moment disk) course.lines.items
@@ -115,10 +115,10 @@ pub record Begun {D : Type 0} (on : Ghosts D) (boot now failures : ℕ) (disk_ol
 -- Where a sound store stands for the reads, the session goes on from it; where a store does, a stop
 -- leaves it, and what was written is that of a boot which was begun. Where none does, it is no
 -- store.
-pub record Opens {D L : Type 0} (on : Ghosts D) (net : LinksGhosts L) (boot now : ℕ) (links : L)
+pub record OpensSession {D L : Type 0} (on : Ghosts D) (net : LinksGhosts L) (boot now : ℕ) (links : L)
     (disk_old : D) (result : Result Course Status) (disk : D) : Type 0 where
   pub course : IfOk result (λ course.
-      Begun on boot now (failures_of (net.links links)) disk_old course disk)
+      BeginsAt on boot now (failures_of (net.links links)) disk_old course disk)
   pub machine : on.tells disk → (store : Store) → StandsSound (on.seen disk_old) store
       → IfOk result (λ course.
       Between on net (start_over now disk_old links store) course disk links)

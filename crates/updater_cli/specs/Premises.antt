@@ -20,7 +20,7 @@ use Rattle.published_paths.specs.Reached.{Reaches}
 use Rattle.machine.specs.declared.reply.Reply.{Reply}
 use Rattle.machine.specs.Shape.{Shape}
 use Rattle.install_plan.specs.Hearing.{Served}
-use Rattle.updater_cli.specs.Offered.{Holds, IsFirstSite, Publication, Sites, Writes}
+use Rattle.updater_cli.specs.Offered.{HasFiles, IsFirstSite, PublishInput, Sites, WritesRelease}
 use Rattle.updater_cli.specs.Published.{HeardGiven}
 use Rattle.updater_cli.specs.Sites.{HeardOfSites}
 
@@ -28,12 +28,12 @@ use Rattle.updater_cli.specs.Sites.{HeardOfSites}
 
 -- Where a publish answers, the folder holds what the definitions write of its options and files.
 abbrev pub PublishesWrite : Type 0
-PublishesWrite = (p : Publication) (new : List Held) (published : Published)
+PublishesWrite = (p : PublishInput) (new : List Held) (published : Published)
     → IsName p.options.from → IsName p.options.to → IsVersion p.options.version
     → IfSome p.options.minimum IsVersion → IsPublishable p.options → IsNames p.input p.names
     → IsStrictlySortedBy (slice_cmp nat_cmp) p.names → All IsName p.names
     → PublishesFiles p.options p.names p.input new (Ok published)
-    → (files : List Held) × Writes p files × Holds new files
+    → (files : List Held) × WritesRelease p files × HasFiles new files
 
 -- ---- an install
 
@@ -46,8 +46,9 @@ sites_of links = record { sources = links.sources; site = λ k. (links.link k).s
 -- rise, they are what the links give from an address of the deployment manifest. Of the links behind
 -- it nothing is asked.
 abbrev pub ServedIsGiven : LinksState → LinksState → Type 0
-ServedIsGiven before after = (p : Publication) (files folder : List Held) (shape : Shape)
-    (url : List ℕ) (texts : List (List ℕ)) (reply : Reply) → Writes p files → Holds folder files
+ServedIsGiven before after = (p : PublishInput) (files folder : List Held) (shape : Shape)
+    (url : List ℕ) (texts : List (List ℕ)) (reply : Reply) → WritesRelease p files
+    → HasFiles folder files
     → IsFirstSite p url folder (sites_of before)
     → ((given : Target) → target_of_text url ≡ Ok given → Reaches given (deployment_name p.options))
     → Served shape url texts before after reply → AreQuietTo 0 before after
@@ -58,8 +59,8 @@ ServedIsGiven before after = (p : Publication) (files folder : List Held) (shape
 -- is a folder that holds what was published, at what the install asks for, they are what it gives
 -- from an address of the deployment manifest.
 abbrev pub OneSiteIsGiven : LinksState → Type 0
-OneSiteIsGiven links = (p : Publication) (files folder : List Held) (url : List ℕ)
-    (texts : List (List ℕ)) → Writes p files → Holds folder files
+OneSiteIsGiven links = (p : PublishInput) (files folder : List Held) (url : List ℕ)
+    (texts : List (List ℕ)) → WritesRelease p files → HasFiles folder files
     → IsFirstSite p url folder (sites_of links) → links.sources ≡ 1
     → ((given : Target) → target_of_text url ≡ Ok given → Reaches given (deployment_name p.options))
     → HeardOfSites links url texts → IsSome (slice_get texts 0) → IsSome (slice_get texts 1)

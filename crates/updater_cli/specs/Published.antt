@@ -30,7 +30,7 @@ use Rattle.machine.specs.Sound.{Sound}
 use Rattle.machine.specs.Store.{Session, Store}
 use Rattle.machine.specs.Views.{DataFile, ListedFile, View, key_of}
 use Rattle.machine.specs.Words.{IsEvent}
-use Rattle.updater_cli.specs.Offered.{Holds, IsFirstSite, Publication, Sites, Writes, input_file, links_of, listed}
+use Rattle.updater_cli.specs.Offered.{HasFiles, IsFirstSite, PublishInput, Sites, WritesRelease, input_file, links_of, listed}
 
 -- ---- an install
 
@@ -47,7 +47,7 @@ pub record HeardGiven (sites : Sites) (url : List ℕ) (texts : List (List ℕ))
 -- ---- a run
 
 -- lines of a run lead from one session to another
-pub record Leads (old new : Session) : Type 0 where
+pub record RunsOn (old new : Session) : Type 0 where
   pub now : ℕ
   pub events : List Event
   pub replies : List (Option Reply)
@@ -56,7 +56,7 @@ pub record Leads (old new : Session) : Type 0 where
 
 -- a line installs what was published, from an address of its deployment manifest; the view has this
 -- number
-pub record Installs (p : Publication) (sites : Sites) (key : Key) (number : ℕ)
+pub record InstallsRelease (p : PublishInput) (sites : Sites) (key : Key) (number : ℕ)
     (old new : Session) : Type 0 where
   pub url : List ℕ
   pub at : ℕ
@@ -69,7 +69,7 @@ pub record Installs (p : Publication) (sites : Sites) (key : Key) (number : ℕ)
   pub reaches : Reaches texts.given (deployment_name p.options)
 
 -- a line launches the application; the lease is on the view of that number
-pub record Launches (key : Key) (number lease : ℕ) (old new : Session) : Type 0 where
+pub record LaunchesView (key : Key) (number lease : ℕ) (old new : Session) : Type 0 where
   pub at : ℕ
   pub heard : Heard
   pub version : Version
@@ -81,7 +81,7 @@ pub record Launches (key : Key) (number lease : ℕ) (old new : Session) : Type 
 
 -- The parts of a run: from a sound session to an install of what was published, from there to a
 -- launch on its view, and from there to one more line.
-pub record Course (p : Publication) (sites : Sites) : Type 0 where
+pub record PublishedRun (p : PublishInput) (sites : Sites) : Type 0 where
   pub first : Session
   pub before : Session
   pub installed : Session
@@ -92,43 +92,44 @@ pub record Course (p : Publication) (sites : Sites) : Type 0 where
   pub number : ℕ
   pub lease : ℕ
   pub sound : Sound first.store
-  pub start : Leads first before
-  pub install : Installs p sites key number before installed
-  pub then_lines : Leads installed launching
-  pub launch : Launches key number lease launching launched
-  pub more_lines : Leads launched last
+  pub start : RunsOn first before
+  pub install : InstallsRelease p sites key number before installed
+  pub then_lines : RunsOn installed launching
+  pub launch : LaunchesView key number lease launching launched
+  pub more_lines : RunsOn launched last
 
 -- ---- bytes by their digests
 
 -- the bytes of a program file or of a data file of a kept view
-abbrev pub Keeps : Session → List ℕ → Type 0
-Keeps session bytes =
+abbrev pub KeepsBytes : Session → List ℕ → Type 0
+KeepsBytes session bytes =
     Any (λ (view : View). Any (λ (file : ListedFile). file.bytes ≡ bytes) view.program_files)
     session.store.views
     ⊎ Any (λ (view : View). Any (λ (file : DataFile). file.bytes ≡ bytes) view.data_files)
     session.store.views
 
 -- the bytes match no entry of the release, or they stand in the folder where its file was written
-abbrev pub AreNoOthers : Publication → List Held → List ℕ → Type 0
+abbrev pub AreNoOthers : PublishInput → List Held → List ℕ → Type 0
 AreNoOthers p folder bytes = (entry : FileEntry) → Contains (listed p) entry
     → Matches entry.list entry.size bytes
     → file_in (target_name p.options entry.name) folder ≡ Some bytes
 
 -- so it is of all bytes that the session keeps, from whatever link
-abbrev pub KeepsNoOthers : Publication → List Held → Session → Type 0
-KeepsNoOthers p folder session = (bytes : List ℕ) → Keeps session bytes → AreNoOthers p folder bytes
+abbrev pub KeepsNoOthers : PublishInput → List Held → Session → Type 0
+KeepsNoOthers p folder session =
+    (bytes : List ℕ) → KeepsBytes session bytes → AreNoOthers p folder bytes
 
 -- ---- what is given and read
 
 -- at its address beside the view's application manifest the links give the input file
-abbrev pub IsGiven : Publication → Sites → View → FileEntry → Type 0
+abbrev pub IsGiven : PublishInput → Sites → View → FileEntry → Type 0
 IsGiven p sites view entry = (target : Target)
     → file_target_of view.base view.deployment.mapped entry.name ≡ Ok target
     → (whole : List ℕ) × (input_file p entry.name ≡ Some whole)
     × GivenFile entry.list entry.size (links_of sites) target (Some whole)
 
 -- a reply shows the length of the input file of the name, and a part of its bytes
-pub record ShowsInput (p : Publication) (name : List ℕ) (from count shown : ℕ) (bytes : List ℕ)
+pub record ShowsInput (p : PublishInput) (name : List ℕ) (from count shown : ℕ) (bytes : List ℕ)
     : Type 0 where
   pub whole : List ℕ
   pub input : input_file p name ≡ Some whole
@@ -148,7 +149,7 @@ pub record IsFreshData (number : ℕ) (name : List ℕ) (old new : Store) : Type
       → ◌≢◌ {A = List ℕ} file.name name
 
 -- behind the install no line puts or removes it on that view
-pub record IsUntouched {p : Publication} {sites : Sites} (name : List ℕ) (c : Course p sites)
+pub record IsUntouched {p : PublishInput} {sites : Sites} (name : List ℕ) (c : PublishedRun p sites)
     : Type 0 where
   pub before : NoneChangesData c.number name c.then_lines.now c.installed c.then_lines.events
       c.then_lines.replies c.launching c.then_lines.run
@@ -156,7 +157,7 @@ pub record IsUntouched {p : Publication} {sites : Sites} (name : List ℕ) (c : 
       c.more_lines.replies c.last c.more_lines.run
 
 -- the view that was installed lists the input files, and each is given as it was published
-abbrev pub GivesInput : (p : Publication) (sites : Sites) → Course p sites → Type 0
+abbrev pub GivesInput : (p : PublishInput) (sites : Sites) → PublishedRun p sites → Type 0
 GivesInput p sites c =
     (view : View) → view_at c.number c.installed.store.views ≡ Some view
     → (view.application.files ≡ listed p)
@@ -164,7 +165,7 @@ GivesInput p sites c =
 
 -- at the last line each read on the lease that is answered shows a part of the input file of its
 -- name, whether the program file is required or of a group
-abbrev pub ReadsInput : (p : Publication) (sites : Sites) → Course p sites → Type 0
+abbrev pub ReadsInput : (p : PublishInput) (sites : Sites) → PublishedRun p sites → Type 0
 ReadsInput p sites c =
     (at : ℕ) (heard : List (List ℕ)) (name : List ℕ) (from count shown : ℕ) (bytes : List ℕ)
     (new : Session) → Answers at heard c.last (Read c.lease name from count) (says.Read shown bytes)
@@ -172,7 +173,7 @@ ReadsInput p sites c =
     → ShowsInput p name from count shown bytes
 
 -- so does each read of a data file that came fresh and was not touched since
-abbrev pub ReadsInputData : (p : Publication) (sites : Sites) → Course p sites → Type 0
+abbrev pub ReadsInputData : (p : PublishInput) (sites : Sites) → PublishedRun p sites → Type 0
 ReadsInputData p sites c =
     (at : ℕ) (heard : List (List ℕ)) (name : List ℕ) (from count shown : ℕ) (bytes : List ℕ)
     (new : Session) → IsFreshData c.number name c.before.store c.installed.store
@@ -183,25 +184,26 @@ ReadsInputData p sites c =
 -- ---- the laws
 
 -- The first link's site is a folder that holds what a publish writes, at what the install asks for.
-pub record IsOffered (p : Publication) (files folder : List Held) (sites : Sites)
-    (c : Course p sites) : Type 0 where
-  pub writes : Writes p files
-  pub holds : Holds folder files
+pub record IsOffered (p : PublishInput) (files folder : List Held) (sites : Sites)
+    (c : PublishedRun p sites) : Type 0 where
+  pub writes : WritesRelease p files
+  pub holds : HasFiles folder files
   pub first : IsFirstSite p c.install.url folder sites
 
 -- then it is given
 abbrev pub PublishedIsGiven : Type 0
-PublishedIsGiven = (p : Publication) (files folder : List Held) (sites : Sites)
-    (c : Course p sites) → IsOffered p files folder sites c → GivesInput p sites c
+PublishedIsGiven = (p : PublishInput) (files folder : List Held) (sites : Sites)
+    (c : PublishedRun p sites) → IsOffered p files folder sites c → GivesInput p sites c
 
 -- and it is read, where at the last line no other bytes are kept that match an entry of the release
 abbrev pub PublishedIsRead : Type 0
-PublishedIsRead = (p : Publication) (files folder : List Held) (sites : Sites)
-    (c : Course p sites) → IsOffered p files folder sites c → KeepsNoOthers p folder c.last
+PublishedIsRead = (p : PublishInput) (files folder : List Held) (sites : Sites)
+    (c : PublishedRun p sites) → IsOffered p files folder sites c → KeepsNoOthers p folder c.last
     → ReadsInput p sites c
 
 -- so are its data files, where none are kept behind the install
 abbrev pub PublishedDataIsRead : Type 0
-PublishedDataIsRead = (p : Publication) (files folder : List Held) (sites : Sites)
-    (c : Course p sites) → IsOffered p files folder sites c → KeepsNoOthers p folder c.installed
+PublishedDataIsRead = (p : PublishInput) (files folder : List Held) (sites : Sites)
+    (c : PublishedRun p sites) → IsOffered p files folder sites c
+    → KeepsNoOthers p folder c.installed
     → ReadsInputData p sites c

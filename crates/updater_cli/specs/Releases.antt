@@ -10,11 +10,11 @@ use Rattle.links.specs.Pages.{distinct, page_in}
 use Rattle.manifests.specs.declared.facts.FileEntry.{FileEntry}
 use Rattle.publish_plan.specs.Places.{codebase, deployment_name, manifest_name, target_name}
 use Rattle.published_paths.specs.Reached.{Reaches}
-use Rattle.updater_cli.specs.Offered.{Holds, IsFirstSite, Publication, Sites, Writes, listed}
+use Rattle.updater_cli.specs.Offered.{HasFiles, IsFirstSite, PublishInput, Sites, WritesRelease, listed}
 
 -- The first link's site has the deployment manifest at the given address, the application manifest
 -- at the one that its codebase leads to, and beside it each listed file.
-pub record HasRelease (p : Publication) (files : List Held) (given : Target) (sites : Sites)
+pub record HasRelease (p : PublishInput) (files : List Held) (given : Target) (sites : Sites)
     : Type 0 where
   pub some : 0 < sites.sources
   pub deployment : sites.site 0 given ≡ file_in (deployment_name p.options) files
@@ -28,10 +28,10 @@ pub record HasRelease (p : Publication) (files : List Held) (given : Target) (si
 -- Where it has what a publish writes, it is that of a folder which holds this, at all that an install
 -- from the url asks for.
 abbrev pub ReleasesAreOffered : Type 0
-ReleasesAreOffered = (p : Publication) (files : List Held) (url : List ℕ) (given : Target)
-    (sites : Sites) → Writes p files → target_of_text url ≡ Ok given
+ReleasesAreOffered = (p : PublishInput) (files : List Held) (url : List ℕ) (given : Target)
+    (sites : Sites) → WritesRelease p files → target_of_text url ≡ Ok given
     → Reaches given (deployment_name p.options) → HasRelease p files given sites
-    → IsFirstSite p url files sites × Holds files files
+    → IsFirstSite p url files sites × HasFiles files files
 
 -- ---- pages in memory
 
@@ -41,7 +41,7 @@ HasPage pages target bytes = Contains pages (record { target = target; bytes = b
 
 -- Pages of a link in memory, whose targets differ. One of them has the deployment manifest, one the
 -- application manifest, and for each listed file there is one, each where the install asks for it.
-pub record AreReleasePages (p : Publication) (files : List Held) (given : Target)
+pub record AreReleasePages (p : PublishInput) (files : List Held) (given : Target)
     (pages : List Page) : Type 0 where
   pub differ : distinct pages ≡ true
   pub deployment : (bytes : List ℕ) → file_in (deployment_name p.options) files ≡ Some bytes
@@ -56,7 +56,7 @@ pub record AreReleasePages (p : Publication) (files : List Held) (given : Target
 
 -- a first link in memory with such pages has the release
 abbrev pub PagesHaveReleases : Type 0
-PagesHaveReleases = (p : Publication) (files : List Held) (given : Target) (sites : Sites)
-    (pages : List Page) → Writes p files → 0 < sites.sources
+PagesHaveReleases = (p : PublishInput) (files : List Held) (given : Target) (sites : Sites)
+    (pages : List Page) → WritesRelease p files → 0 < sites.sources
     → ((target : Target) → sites.site 0 target ≡ page_in target pages)
     → AreReleasePages p files given pages → HasRelease p files given sites

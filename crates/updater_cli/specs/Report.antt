@@ -133,8 +133,8 @@ Begins from lines (Some event) s =
     × Step (moment_behind from.now lines) mid event reply s
 
 -- the first n events of the report, the one that was begun included, may lead to s
-abbrev pub Reaches : Origin → Report → ℕ → Session → Type 0
-Reaches from report n s =
+abbrev pub ReachesAfter : Origin → Report → ℕ → Session → Type 0
+ReachesAfter from report n s =
     ((n ≤ length report.lines)
     × Run from.now from.session (events_of (take n report.lines))
     (replies_of (take n report.lines)) s)
@@ -147,7 +147,7 @@ pub record StandsForPrefix (from : Origin) (report : Report) (acknowledged : ℕ
   pub n : ℕ
   pub holds : (n ≡ acknowledged) ⊎ (n ≡ acknowledged + 1)
   pub session : Session
-  pub reached : Reaches from report n session
+  pub reached : ReachesAfter from report n session
   pub stands : Stands image session.store
 
 -- ---- what the links gave
@@ -167,7 +167,7 @@ ServesLine (Line command at heard) reply before after old new =
 ServesLine (Unread fault) reply before after old new = Unit {0}
 
 -- what the links did for a line; they and their sites stay
-pub record IsServed {L : Type 0} (net : LinksGhosts L) (event : Event) (reply : Option Reply)
+pub record IsLineServed {L : Type 0} (net : LinksGhosts L) (event : Event) (reply : Option Reply)
     (before after : L) (old new : Session) : Type 0 where
   pub kept : Kept (net.links before) (net.links after)
   pub left : LeavesAsked event before after
@@ -180,7 +180,7 @@ abbrev pub AreServed :
 AreServed net from first [] new last = (new ≡ from.session) × (last ≡ first)
 AreServed {L = L} net from first (l ∷ lines) new last =
     (mid : Session) × (after : L) × Step from.now from.session l.event l.reply mid
-    × IsServed net l.event l.reply first after from.session mid
+    × IsLineServed net l.event l.reply first after from.session mid
     × (l.failures ≡ failures_of (net.links after))
     × AreServed net (origin_after from l.reply mid) after lines new last
 
@@ -190,7 +190,7 @@ abbrev pub IsBegunServed :
 IsBegunServed net now s first None last = last ≡ first
 IsBegunServed net now s first (Some event) last =
     (new : Session) × (reply : Option Reply) × Step now s event reply new
-    × IsServed net event reply first last s new
+    × IsLineServed net event reply first last s new
 
 -- ---- marks, failures, and what was written
 
@@ -218,6 +218,6 @@ pub record CutsLast (old new : List ℕ) (lines : List ReportLine) : Type 0 wher
 
 -- the sink took the texts of the replies in order; where it failed, which is status 3, a first part
 -- of the last
-pub record Writes (status : ℕ) (old new : List ℕ) (lines : List ReportLine) : Type 0 where
+pub record WritesReplies (status : ℕ) (old new : List ℕ) (lines : List ReportLine) : Type 0 where
   pub whole : status ≢ 3 → new ≡ old ++ texts_of (replies_of lines)
   pub part : status ≡ 3 → CutsLast old new lines

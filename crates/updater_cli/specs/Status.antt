@@ -47,10 +47,10 @@ IsSessionEnd Words begun = ⊥
 IsSessionEnd NotAStore begun = ⊥
 
 -- what a part of a session ends with: it goes on, or it stops
-abbrev pub Outcome : Type 0
-Outcome = Result (Unit {0}) Status
+abbrev pub PartOutcome : Type 0
+PartOutcome = Result (Unit {0}) Status
 
 -- the status with which a session ends
-abbrev pub end_of : Outcome → Status
-end_of (Ok _) = Done
-end_of (Err status) = status
+abbrev pub end_status : PartOutcome → Status
+end_status (Ok _) = Done
+end_status (Err status) = status

@@ -21,7 +21,7 @@ use Rattle.machine.specs.Shape.{shape_of}
 use Rattle.machine.specs.Sound.{IsSoundView}
 use Rattle.machine.specs.Store.{Session, Store}
 use Rattle.machine.specs.Views.{ListedFile, View, standing_entries}
-use Rattle.updater_cli.specs.Report.{Origin, Reaches, StandsForPrefix, events_of, moment_behind, replies_of, report_of}
+use Rattle.updater_cli.specs.Report.{Origin, ReachesAfter, StandsForPrefix, events_of, moment_behind, replies_of, report_of}
 
 -- ---- the sessions that a run comes through
 
@@ -53,7 +53,7 @@ pub record ReachesThrough (from : Origin) (report : Report) (n : ℕ) (mid last 
   pub runs : Run from.now from.session (events_of earlier) (replies_of earlier) mid
   pub more : ℕ
   pub number : n ≡ length earlier + more
-  pub rest : Reaches (record { now = moment_behind from.now earlier; session = mid })
+  pub rest : ReachesAfter (record { now = moment_behind from.now earlier; session = mid })
       (report_of later report.begun) more last
 
 -- ---- launches

@@ -5,9 +5,9 @@ ghost use Rattle.updater.specs.Stands.{StandsForNone};
 ghost use Rattle.updater_cli.specs.declared.status.Status.TheVariants as exit;
 ghost use Rattle.updater_cli.specs.Devices.{Asks, RisesWith, devices_of};
 ghost use Rattle.updater_cli.specs.Headline.{Headline, IsNothing};
-ghost use Rattle.updater_cli.specs.Opening.{Opens, begun_by};
+ghost use Rattle.updater_cli.specs.Opening.{OpensSession, begun_by};
 ghost use Rattle.updater_cli.specs.Report.{report_of};
-ghost use Rattle.updater_cli.specs.Status.{code_of, end_of};
+ghost use Rattle.updater_cli.specs.Status.{code_of, end_status};
 
 use crate::course::Course;
 use crate::session::answer_all;
@@ -31,7 +31,7 @@ fn open<D: Disk, L: Links>(
 ) -> Result<Course, Status>
     requires boot { boot ≤ NUMBER_LIMIT }
     requires now { now ≤ NUMBER_LIMIT }
-    ensures { Opens D.Disk L.Links boot now links.now disk.old result disk.new }
+    ensures { OpensSession D.Disk L.Links boot now links.now disk.old result disk.new }
 {
     let mut lines = Vec::new(alloc);
     match lines.reserve(1) {
@@ -103,8 +103,8 @@ fn put_report(report: &mut Report, made: Report)
 }
 
 // The status with which the session ends.
-fn end_of(outcome: Result<(), Status>) -> Status
-    ensures { result ≡ end_of outcome }
+fn end_status(outcome: Result<(), Status>) -> Status
+    ensures { result ≡ end_status outcome }
 {
     match outcome {
         Ok(()) => Status::Done,
@@ -150,5 +150,5 @@ pub(crate) fn session<S: Source, K: Sink, D: Disk, L: Links>(
     };
     let outcome = answer_all(alloc, source, sink, disk, links, &mut course);
     put_report(report, report_of(course));
-    end_of(outcome)
+    end_status(outcome)
 }

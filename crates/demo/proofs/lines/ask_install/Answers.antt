@@ -2,7 +2,7 @@ use Rattle.std.proofs.Common.{◌∙◌, List, ℕ, Err, sym, subst}
 use Rattle.machine.specs.declared.command.Command.TheVariants.{Install}
 use Rattle.machine.specs.Words.{IsUrl}
 use Rattle.demo.specs.declared.fault.DemoFault.TheVariants.{Memory}
-use Rattle.demo.specs.Parts.{Replies}
+use Rattle.demo.specs.Parts.{CommandReplies}
 use Rattle.demo.proofs.Touching.{untouched}
 use Rattle.demo.proofs.Urls.{is_url}
 use Rattle.demo.proofs.lines.ask_install.Goals as goal
@@ -12,7 +12,7 @@ answer-requires g c = subst IsUrl (sym (c.in-Ok.ensures ∙ c.url.ensures)) (is_
 
 pub returns-in-Ok : goal.returns-in-Ok
 returns-in-Ok g c =
-    subst (λ (url : List ℕ). Replies g.D.Disk g.L.Links (Install url) c.args.updater.now c.args.disk.now c.args.links.now c.answer.result c.answer.new.updater c.answer.new.disk c.answer.new.links)
+    subst (λ (url : List ℕ). CommandReplies g.D.Disk g.L.Links (Install url) c.args.updater.now c.args.disk.now c.args.links.now c.answer.result c.answer.new.updater c.answer.new.disk c.answer.new.links)
     (c.in-Ok.ensures ∙ c.url.ensures) c.answer.ensures
 
 pub returns-in-Err : goal.returns-in-Err

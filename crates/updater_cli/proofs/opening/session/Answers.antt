@@ -43,7 +43,7 @@ returns-in-Err-clause-asks g c =
 
 pub returns-clause-headline : goal.returns-clause-headline
 returns-clause-headline g c =
-    rw c.end_of.ensures
+    rw c.end_status.ensures
     (opened_headline g.S.Source g.K.Sink g.D.Disk g.L.Links c.args.boot c.args.now c.args.disk.now c.args.source.now c.answer_all-outcome.new.source (place_of c.args.sink.now c.open.new.disk c.args.links.now c.in-Ok.course)
     (place_of c.answer_all-outcome.new.sink c.answer_all-outcome.new.disk c.answer_all-outcome.new.links c.answer_all-outcome.new.course) c.answer_all-outcome.result c.in-Ok.ensures c.answer_all-outcome.ensures
     (g.met.D.Disk.seen_left c.answer_all-outcome.new.disk) c.requires.boot c.put_report-2.new.report (c.put_report-2.ensures ∙ c.report_of.ensures))
@@ -51,7 +51,7 @@ returns-clause-headline g c =
 pub returns-clause-not_a_store : goal.returns-clause-not_a_store
 returns-clause-not_a_store g c = λ told five.
     absurd (never_unopened g.S.Source g.K.Sink g.D.Disk g.L.Links c.args.boot c.args.now c.args.disk.now c.args.source.now c.answer_all-outcome.new.source (place_of c.args.sink.now c.open.new.disk c.args.links.now c.in-Ok.course)
-    (place_of c.answer_all-outcome.new.sink c.answer_all-outcome.new.disk c.answer_all-outcome.new.links c.answer_all-outcome.new.course) c.answer_all-outcome.result c.in-Ok.ensures c.answer_all-outcome.ensures (sym c.end_of.ensures ∙ five))
+    (place_of c.answer_all-outcome.new.sink c.answer_all-outcome.new.disk c.answer_all-outcome.new.links c.answer_all-outcome.new.course) c.answer_all-outcome.result c.in-Ok.ensures c.answer_all-outcome.ensures (sym c.end_status.ensures ∙ five))
 
 pub returns-clause-no_store : goal.returns-clause-no_store
 returns-clause-no_store g c = λ told none. absurd (c.in-Ok.ensures.a_store (c.answer_all-outcome.ensures.keeps.asks.told told) none)
@@ -59,32 +59,32 @@ returns-clause-no_store g c = λ told none. absurd (c.in-Ok.ensures.a_store (c.a
 pub returns-clause-unopened : goal.returns-clause-unopened
 returns-clause-unopened g c = λ five.
     absurd (never_unopened g.S.Source g.K.Sink g.D.Disk g.L.Links c.args.boot c.args.now c.args.disk.now c.args.source.now c.answer_all-outcome.new.source (place_of c.args.sink.now c.open.new.disk c.args.links.now c.in-Ok.course)
-    (place_of c.answer_all-outcome.new.sink c.answer_all-outcome.new.disk c.answer_all-outcome.new.links c.answer_all-outcome.new.course) c.answer_all-outcome.result c.in-Ok.ensures c.answer_all-outcome.ensures (sym c.end_of.ensures ∙ five))
+    (place_of c.answer_all-outcome.new.sink c.answer_all-outcome.new.disk c.answer_all-outcome.new.links c.answer_all-outcome.new.course) c.answer_all-outcome.result c.in-Ok.ensures c.answer_all-outcome.ensures (sym c.end_status.ensures ∙ five))
 
 pub returns-clause-unopened_reads : goal.returns-clause-unopened_reads
 returns-clause-unopened_reads g c = λ five.
     absurd (never_unopened g.S.Source g.K.Sink g.D.Disk g.L.Links c.args.boot c.args.now c.args.disk.now c.args.source.now c.answer_all-outcome.new.source (place_of c.args.sink.now c.open.new.disk c.args.links.now c.in-Ok.course)
-    (place_of c.answer_all-outcome.new.sink c.answer_all-outcome.new.disk c.answer_all-outcome.new.links c.answer_all-outcome.new.course) c.answer_all-outcome.result c.in-Ok.ensures c.answer_all-outcome.ensures (sym c.end_of.ensures ∙ five))
+    (place_of c.answer_all-outcome.new.sink c.answer_all-outcome.new.disk c.answer_all-outcome.new.links c.answer_all-outcome.new.course) c.answer_all-outcome.result c.in-Ok.ensures c.answer_all-outcome.ensures (sym c.end_status.ensures ∙ five))
 
 pub returns-clause-words : goal.returns-clause-words
 returns-clause-words g c = λ one.
     never_words g.S.Source g.K.Sink g.D.Disk g.L.Links c.args.boot c.args.now c.args.disk.now c.args.source.now c.answer_all-outcome.new.source (place_of c.args.sink.now c.open.new.disk c.args.links.now c.in-Ok.course)
-    (place_of c.answer_all-outcome.new.sink c.answer_all-outcome.new.disk c.answer_all-outcome.new.links c.answer_all-outcome.new.course) c.answer_all-outcome.result c.in-Ok.ensures c.answer_all-outcome.ensures (sym c.end_of.ensures ∙ one)
+    (place_of c.answer_all-outcome.new.sink c.answer_all-outcome.new.disk c.answer_all-outcome.new.links c.answer_all-outcome.new.course) c.answer_all-outcome.result c.in-Ok.ensures c.answer_all-outcome.ensures (sym c.end_status.ensures ∙ one)
 
 pub returns-clause-reads : goal.returns-clause-reads
 returns-clause-reads g c =
-    rw c.end_of.ensures
+    rw c.end_status.ensures
     (opened_reads g.S.Source g.K.Sink g.D.Disk g.L.Links c.args.boot c.args.now c.args.disk.now c.args.source.now c.answer_all-outcome.new.source (place_of c.args.sink.now c.open.new.disk c.args.links.now c.in-Ok.course)
     (place_of c.answer_all-outcome.new.sink c.answer_all-outcome.new.disk c.answer_all-outcome.new.links c.answer_all-outcome.new.course) c.answer_all-outcome.result c.in-Ok.ensures c.answer_all-outcome.ensures)
 
 pub returns-clause-writes : goal.returns-clause-writes
 returns-clause-writes g c =
-    rw c.end_of.ensures
+    rw c.end_status.ensures
     (opened_writes g.S.Source g.K.Sink g.D.Disk g.L.Links c.args.boot c.args.now c.args.disk.now c.args.source.now c.answer_all-outcome.new.source (place_of c.args.sink.now c.open.new.disk c.args.links.now c.in-Ok.course)
     (place_of c.answer_all-outcome.new.sink c.answer_all-outcome.new.disk c.answer_all-outcome.new.links c.answer_all-outcome.new.course) c.answer_all-outcome.result c.in-Ok.ensures c.answer_all-outcome.ensures)
 
 pub returns-clause-asks : goal.returns-clause-asks
 returns-clause-asks g c =
-    rw c.end_of.ensures
+    rw c.end_status.ensures
     (opened_asks g.S.Source g.K.Sink g.D.Disk g.L.Links c.args.boot c.args.now c.args.disk.now c.args.source.now c.answer_all-outcome.new.source (place_of c.args.sink.now c.open.new.disk c.args.links.now c.in-Ok.course)
     (place_of c.answer_all-outcome.new.sink c.answer_all-outcome.new.disk c.answer_all-outcome.new.links c.answer_all-outcome.new.course) c.answer_all-outcome.result c.in-Ok.ensures c.answer_all-outcome.ensures)
