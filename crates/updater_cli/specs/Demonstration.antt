@@ -8,8 +8,8 @@ use Rattle.demo.specs.declared.fault.DemoFault.TheVariants as faults
 use Rattle.demo.specs.declared.summary.Summary.{Summary}
 use Rattle.demo.specs.Run.{Demonstrates}
 use Rattle.demo.specs.Summary.{summary_line}
-use Rattle.updater_cli.specs.declared.demonstrating.DemoEnd.{DemoEnd}
-use Rattle.updater_cli.specs.declared.demonstrating.DemoEnd.TheVariants.{Done, SinkFault, DiskFault, Early}
+use Rattle.updater_cli.specs.declared.demo_end.DemoEnd.{DemoEnd}
+use Rattle.updater_cli.specs.declared.demo_end.DemoEnd.TheVariants.{Done, SinkFault, DiskFault, Early}
 
 -- The exit status. A run that did not come out as it must ends as one for which there was no memory.
 abbrev pub demo_code : DemoEnd → ℕ

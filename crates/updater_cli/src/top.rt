@@ -15,7 +15,7 @@ ghost use Rattle.updater_cli.specs.Requests.{InspectsInput, PublishesBy};
 ghost use Rattle.updater_cli.specs.Status.{code_of};
 ghost use Rattle.updater_cli.specs.Words.{AsksForDemo, AsksForSession, AsksToPublish, IsUntaken, is_publish, request_of};
 
-use crate::demonstrating::demonstrate;
+use crate::demo_end::demonstrate;
 use crate::opening::session;
 use crate::status::Status;
 use crate::words::{Request, read_words};
