@@ -7,6 +7,8 @@ use Rattle.store_log.specs.declared.form.TheConstants.{HEAD_SIZE}
 use Rattle.store_log.specs.Log.{IsStore, IsCutOrOld, IsClosedNew}
 use Rattle.machine.specs.Store as stores
 use Rattle.updater.specs.Stands.{Stands, StandsForNone}
+use Rattle.updater_cli.specs.declared.status.Status.TheVariants.{Done, DiskFault, Memory}
+use Rattle.updater_cli.specs.Status.{code_of}
 
 -- the bytes are the journal of this number of blocks without a change, and so stand for the empty
 -- store of so many
@@ -45,8 +47,9 @@ pub record IsNew {D : Type 0} (on : Ghosts D) (blocks : ℕ) (disk : D) : Type 0
 -- head block, the gate behind it and its own gate anew. The count of faults rises with status 4
 -- alone. Without memory, which is status 6, no call is made.
 pub record MakesStore {D : Type 0} (on : Ghosts D) (blocks status : ℕ) (old new : D) : Type 0 where
-  pub done : status ≡ 0 → IsNew on blocks new
-  pub spends : Spends on 6 (HEAD_SIZE + 2) old new (status ≡ 4)
+  pub done : status ≡ code_of Done → IsNew on blocks new
+  pub spends : Spends on 6 (HEAD_SIZE + 2) old new (status ≡ code_of DiskFault)
   pub stop : Renews on old new blocks
-  pub memory : status ≡ 6 → new ≡ old
-  pub statuses : (status ≡ 0) ⊎ ((status ≡ 4) ⊎ (status ≡ 6))
+  pub memory : status ≡ code_of Memory → new ≡ old
+  pub statuses : (status ≡ code_of Done)
+      ⊎ ((status ≡ code_of DiskFault) ⊎ (status ≡ code_of Memory))
