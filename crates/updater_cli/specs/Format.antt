@@ -1,10 +1,9 @@
 -- What a new store is.
 use Rattle.std.specs.Prelude.{◌≡◌, ◌⊎◌, ℕ, ◌+◌, ◌<◌, ◌≤◌, List, []}
-use Rattle.disks.specs.Disk.{Torn}
 use Rattle.disks.specs.declared.disk.Disk.{Ghosts}
 use Rattle.disks.specs.Spends.{Spends}
 use Rattle.store_log.specs.declared.form.TheConstants.{HEAD_SIZE}
-use Rattle.store_log.specs.Log.{IsStore, IsCutOrOld, IsClosedNew}
+use Rattle.store_log.specs.Log.{Formats, IsStore, NoStore}
 use Rattle.machine.specs.Store as stores
 use Rattle.updater.specs.Stands.{Stands, StandsForNone}
 use Rattle.updater_cli.specs.declared.status.Status.TheVariants.{Done, DiskFault, Memory}
@@ -16,26 +15,12 @@ pub record StandsForNew (blocks : ℕ) (image : List ℕ) : Type 0 where
   pub journal : IsStore blocks [] image
   pub stands : Stands image (stores.empty (stores.plain_room blocks))
 
--- What stops leave over a format. Its calls are a cut and a sync, the write of a head block and a
--- closed gate and a sync, the write of the head gate and a sync. A stop leaves an old image or a cut one, until
--- the first sync is done; then nothing stands there, and at the write what it makes of nothing;
--- once the second sync is done the new journal with its head gate closed, which stands for no
--- store; and from then on the new store or none.
+-- What stops leave over a format is what they leave over that of the journal. The new journal is the
+-- new store, and what is no journal stands for no store.
 pub record Renews {D : Type 0} (on : Ghosts D) (old new : D) (blocks : ℕ) : Type 0 where
-  pub later : on.moment old ≤ on.moment new
-  pub past : (t : ℕ) (image : List ℕ) → t ≤ on.moment old → on.left_at new t image
-      → on.left_at old t image
-  pub first : (t : ℕ) (image : List ℕ) → on.moment old ≤ t → t ≤ on.moment new
-      → t ≤ on.moment old + 2 → on.left_at new t image
-      → IsCutOrOld (on.left_at old (on.moment old)) image
-  pub empty : (image : List ℕ) → on.moment old + 2 < on.moment new
-      → on.left_at new (on.moment old + 2) image → image ≡ []
-  pub second : (t : ℕ) (image : List ℕ) → on.moment old + 2 < t → t ≤ on.moment new
-      → t ≤ on.moment old + 4 → on.left_at new t image → Torn 0 (HEAD_SIZE + 1) [] image
-  pub closed : (image : List ℕ) → on.moment old + 4 < on.moment new
-      → on.left_at new (on.moment old + 4) image → IsClosedNew blocks image × StandsForNone image
-  pub third : (t : ℕ) (image : List ℕ) → on.moment old + 4 < t → t ≤ on.moment new
-      → on.left_at new t image → StandsForNew blocks image ⊎ StandsForNone image
+  pub formats : Formats on old new blocks
+  pub stands : (image : List ℕ) → (IsStore blocks [] image → StandsForNew blocks image)
+      × (NoStore image → StandsForNone image)
 
 -- a format that is done: each image that a stop may leave now, and what reads give, is the new
 -- store
