@@ -23,7 +23,7 @@ use Rattle.store_state.specs.Shows.{Shows}
 use Rattle.updater.specs.declared.updater.Updater.{Updater}
 use Rattle.updater.specs.Commanded.{Answered, Commanded, CommandedBehind, SoundFor}
 use Rattle.updater.specs.Updater.{tables_of}
-use Rattle.generated_release.specs.declared.release.Release.{Release}
+use Rattle.generated_release.specs.declared.release.GeneratedRelease.{GeneratedRelease}
 use Rattle.generated_release.specs.Options.{number_of, url_of, version_of}
 use Rattle.generated_release.specs.Published.{ArePublished}
 use Rattle.demo.specs.declared.fault.DemoFault.{DemoFault}
@@ -156,7 +156,7 @@ module _ {D L : Type 0} (on : Ghosts D) (net : LinksGhosts L) (command : Command
   judged (Err fault) wanted heard reply said none is same replies says_so other =
       fails on (with_other on fault other replies.touches)
 
-module _ {D L : Type 0} (on : Ghosts D) (net : LinksGhosts L) (seed : ℕ) (release : Release)
+module _ {D L : Type 0} (on : Ghosts D) (net : LinksGhosts L) (seed : ℕ) (release : GeneratedRelease)
     (updater : Updater) (disk : D) (links : L) (updater_new : Updater) (disk_new : D)
     (links_new : L) where
   installs_by : (deployment application : List ℕ) (installed : Installed)

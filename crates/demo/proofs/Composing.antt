@@ -12,7 +12,7 @@ use Rattle.store_state.specs.Shows.{Shows}
 use Rattle.updater.specs.declared.updater.Updater.{Updater}
 use Rattle.updater.specs.Updater.{tables_of}
 use Rattle.updater.proofs.Standing.{stored_stands}
-use Rattle.generated_release.specs.declared.release.Release.TheVariants.{One, Two, Three}
+use Rattle.generated_release.specs.declared.release.GeneratedRelease.TheVariants.{One, Two, Three}
 use Rattle.demo.specs.declared.summary.Installed.{Installed}
 use Rattle.demo.specs.declared.summary.Summary.{Summary}
 use Rattle.demo.specs.Kept.{TablesKeep}

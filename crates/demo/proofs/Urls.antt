@@ -5,8 +5,8 @@ use Rattle.std.proofs.lemmas.Bool.{and_parts, leb-true}
 use Rattle.std.proofs.lemmas.List.Elements.{All-cons, All-nil}
 use Rattle.small_types.specs.declared.limits.TheConstants.{URL_LIMIT}
 use Rattle.machine.specs.Words.{IsUrl}
-use Rattle.generated_release.specs.declared.release.Release.{Release}
-use Rattle.generated_release.specs.declared.release.Release.TheVariants.{One, Two, Three}
+use Rattle.generated_release.specs.declared.release.GeneratedRelease.{GeneratedRelease}
+use Rattle.generated_release.specs.declared.release.GeneratedRelease.TheVariants.{One, Two, Three}
 use Rattle.generated_release.specs.Options.{url_of}
 
 abbrev is_visible : ℕ → Bool
@@ -29,7 +29,7 @@ url_by url some few each = record {
   visible = all_visible url each;
 }
 
-pub is_url : (release : Release) → IsUrl (url_of release)
+pub is_url : (release : GeneratedRelease) → IsUrl (url_of release)
 is_url One = url_by (url_of One) refl refl refl
 is_url Two = url_by (url_of Two) refl refl refl
 is_url Three = url_by (url_of Three) refl refl refl

@@ -16,8 +16,8 @@ use Rattle.updater.specs.Commanded.{Answered}
 use Rattle.updater.specs.Updater.{Holds}
 use Rattle.demo.specs.declared.fault.DemoFault.{DemoFault}
 use Rattle.demo.specs.declared.fault.DemoFault.TheVariants.{DiskFault, NotAStore}
-use Rattle.generated_release.specs.declared.release.Release.{Release}
-use Rattle.generated_release.specs.declared.release.Release.TheVariants.{One, Three}
+use Rattle.generated_release.specs.declared.release.GeneratedRelease.{GeneratedRelease}
+use Rattle.generated_release.specs.declared.release.GeneratedRelease.TheVariants.{One, Three}
 use Rattle.generated_release.specs.Options.{number_of, version_of}
 use Rattle.demo.specs.declared.site.Site.{Site}
 use Rattle.demo.specs.declared.summary.Installed.{Installed}
@@ -99,6 +99,7 @@ pub record CommandReplies {D L : Type 0} (on : Ghosts D) (net : LinksGhosts L) (
   pub touches : Touches on disk_old result disk_new
 
 -- the reply says that the release is installed, and the texts of the site were heard
-pub record IsAsPublished (said : Heard × Reply) (release : Release) (site : Site) : Type 0 where
+pub record IsAsPublished (said : Heard × Reply) (release : GeneratedRelease) (site : Site)
+    : Type 0 where
   pub reply : said.1 ≡ says.Installed site.key (version_of release) (number_of release)
   pub texts : said.0.texts ≡ site.deployment ∷ site.application ∷ []

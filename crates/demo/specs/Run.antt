@@ -9,7 +9,7 @@ use Rattle.machine.specs.declared.reply.Reply.TheVariants as says
 use Rattle.machine.specs.Machine.{Run, Step}
 use Rattle.machine.specs.Store.{Session, empty, plain_room, session_over}
 use Rattle.updater.specs.StandsFor.{StandsFor}
-use Rattle.generated_release.specs.declared.release.Release.TheVariants.{One, Two, Three}
+use Rattle.generated_release.specs.declared.release.GeneratedRelease.TheVariants.{One, Two, Three}
 use Rattle.demo.specs.declared.run.TheConstants.{STORE_BLOCKS}
 use Rattle.demo.specs.declared.summary.Summary.{Summary}
 use Rattle.generated_release.specs.Options.{demo_key, url_of, version_of}

@@ -12,8 +12,8 @@ use Rattle.machine.specs.Blocks.{used_blocks}
 use Rattle.machine.specs.Machine.{Step}
 use Rattle.machine.specs.Shape.{bare_view, shape_of}
 use Rattle.machine.specs.Store.{Session, Store}
-use Rattle.generated_release.specs.declared.release.Release.{Release}
-use Rattle.generated_release.specs.declared.release.Release.TheVariants.{One}
+use Rattle.generated_release.specs.declared.release.GeneratedRelease.{GeneratedRelease}
+use Rattle.generated_release.specs.declared.release.GeneratedRelease.TheVariants.{One}
 use Rattle.demo.specs.declared.site.Site.{Site}
 use Rattle.demo.specs.declared.summary.Installed.{Installed}
 use Rattle.generated_release.specs.Options.{demo_key, number_of, url_of, version_of}
@@ -22,7 +22,7 @@ use Rattle.generated_release.specs.Published.{ArePublished}
 -- ---- what is published
 
 -- a site that has published the release, and of which nothing was asked
-pub record IsSite (seed : ℕ) (release : Release) (site : Site) : Type 0 where
+pub record IsSite (seed : ℕ) (release : GeneratedRelease) (site : Site) : Type 0 where
   pub texts : ArePublished seed release site.deployment site.application
   pub key : site.key ≡ demo_key
   pub unasked : site.links.asked ≡ []
@@ -41,14 +41,14 @@ AnswersAtZero command heard reply old new = Step 0 old (event_of command heard) 
 abbrev pub blocks_in : Store → ℕ
 blocks_in store = used_blocks (map bare_view store.views)
 
-abbrev pub installed_reply : Release → Reply
+abbrev pub installed_reply : GeneratedRelease → Reply
 installed_reply release = says.Installed demo_key (version_of release) (number_of release)
 
 -- The release is installed as the view of its number. The texts that are heard are its two
 -- published manifests. So many targets are what such an install asks for, and so many blocks are
 -- used behind it.
-pub record Installs (seed : ℕ) (release : Release) (installed : Installed) (old new : Session)
-    : Type 0 where
+pub record Installs (seed : ℕ) (release : GeneratedRelease) (installed : Installed)
+    (old new : Session) : Type 0 where
   pub deployment : List ℕ
   pub application : List ℕ
   pub published : ArePublished seed release deployment application

@@ -2,7 +2,7 @@
 ghost use Rattle.std.specs.Prelude.{◌≡◌};
 ghost use Rattle.demo.specs.declared.fault.DemoFault.TheVariants.{Memory};
 
-use generated_release::Release;
+use generated_release::GeneratedRelease;
 use small_types::CopyFault;
 use std::alloc::{AllocError, AllocFailed};
 use std::error::Error;
@@ -12,7 +12,7 @@ use std::fmt;
 #[derive(Clone, Copy, Debug, PartialEq, Eq)]
 pub enum Asked {
     /// The install of the release.
-    Install { release: Release },
+    Install { release: GeneratedRelease },
     /// The launch of the application.
     Launch,
     /// The views that are not in use are to be taken away.
@@ -42,11 +42,11 @@ pub enum DemoFault {
     /// The store that was just made does not read as one.
     NotAStore,
     /// The publisher refuses the generated files of the release.
-    NotPublished { release: Release },
+    NotPublished { release: GeneratedRelease },
     /// A line was answered otherwise than it must be. These are the first words of its answer.
     Answered { asked: Asked, came: &'static str },
     /// The install of the release heard other texts than were published.
-    OtherTexts { release: Release },
+    OtherTexts { release: GeneratedRelease },
     /// A file that is kept is not the generated one.
     OtherFiles,
 }

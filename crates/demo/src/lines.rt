@@ -4,9 +4,9 @@ ghost use Rattle.machine.specs.declared.command.Command.TheVariants as command;
 ghost use Rattle.machine.specs.declared.reply.Reply.TheVariants as says;
 ghost use Rattle.machine.specs.Words.{IsCommand};
 ghost use Rattle.identity.specs.Key.{IsKey};
-ghost use Rattle.generated_release.specs.declared.release.Release.TheVariants as releases;
+ghost use Rattle.generated_release.specs.declared.release.GeneratedRelease.TheVariants as releases;
 ghost use Rattle.generated_release.specs.Options.{demo_key, number_of, url_of, version_of};
-ghost use Rattle.demo.specs.Parts.{Goes, IsAsPublished, IsNeitherFault, CommandReplies};
+ghost use Rattle.demo.specs.Parts.{CommandReplies, Goes, IsAsPublished, IsNeitherFault};
 ghost use Rattle.demo.specs.Steps.{Cleans, Finishes, Installs, IsSite, Launches};
 
 use crate::site::Site;
@@ -15,7 +15,7 @@ use crate::{Asked, DemoFault, Installed};
 use disks::Disk;
 use fetcher::FolderLink;
 use folders::MemFolder;
-use generated_release::Release;
+use generated_release::GeneratedRelease;
 use identity::Key;
 use links::{Links, Single};
 use machine::{Command, Heard, Reply};
@@ -42,8 +42,8 @@ fn answer<D: Disk, L: Links>(
     command: &Command,
 ) -> Result<(Heard, Reply), DemoFault>
     requires { IsCommand command.now }
-    ensures { CommandReplies D.Disk L.Links command.now updater.old disk.old links.old result updater.new
-        disk.new links.new }
+    ensures { CommandReplies D.Disk L.Links command.now updater.old disk.old links.old result
+        updater.new disk.new links.new }
 {
     let mut heard = nothing_heard(alloc);
     match updater.apply(alloc, disk, links, 0, command, &mut heard) {
@@ -61,8 +61,8 @@ fn answer_once<D: Disk, L: Links>(
     updater: &mut Updater,
 ) -> Result<(Heard, Reply), DemoFault>
     requires { IsCommand command }
-    ensures { CommandReplies D.Disk L.Links command updater.old disk.old links.old result updater.new
-        disk.new links.new }
+    ensures { CommandReplies D.Disk L.Links command updater.old disk.old links.old result
+        updater.new disk.new links.new }
 {
     answer(alloc, disk, links, updater, &command)
 }
@@ -79,7 +79,7 @@ fn other_answer(asked: Asked, reply: &Reply) -> DemoFault
 }
 
 // Whether the release is installed, as the view of its number.
-fn is_installed(reply: &Reply, key: &Key, release: Release) -> bool
+fn is_installed(reply: &Reply, key: &Key, release: GeneratedRelease) -> bool
     ensures { IsTrue result
         → reply.now ≡ says.Installed key.now (version_of release) (number_of release) }
 {
@@ -113,7 +113,7 @@ fn asked_count(links: &Single<FolderLink<MemFolder>>) -> u64
 // Asks for the install of the release.
 fn ask_install<D: Disk, L: Links>(
     alloc: Global,
-    release: Release,
+    release: GeneratedRelease,
     disk: &mut D,
     links: &mut L,
     updater: &mut Updater,
@@ -128,7 +128,11 @@ fn ask_install<D: Disk, L: Links>(
 }
 
 // The release is installed as the view of its number, and the published texts were heard.
-fn judge_install(said: &(Heard, Reply), release: Release, site: &Site) -> Result<(), DemoFault>
+fn judge_install(
+    said: &(Heard, Reply),
+    release: GeneratedRelease,
+    site: &Site,
+) -> Result<(), DemoFault>
     ensures published { OnOk result (IsAsPublished said.now release site.now) }
     ensures fault { IfErr result IsNeitherFault }
 {
@@ -142,7 +146,11 @@ fn judge_install(said: &(Heard, Reply), release: Release, site: &Site) -> Result
 }
 
 // It was answered so. What was answered is let go.
-fn as_published(said: (Heard, Reply), release: Release, site: &Site) -> Result<(), DemoFault>
+fn as_published(
+    said: (Heard, Reply),
+    release: GeneratedRelease,
+    site: &Site,
+) -> Result<(), DemoFault>
     ensures published { OnOk result (IsAsPublished said release site.now) }
     ensures fault { IfErr result IsNeitherFault }
 {
@@ -152,7 +160,7 @@ fn as_published(said: (Heard, Reply), release: Release, site: &Site) -> Result<(
 /// Installs the release from its site. It has the next number, and hears what was published.
 pub(crate) fn install<D: Disk>(
     alloc: Global,
-    release: Release,
+    release: GeneratedRelease,
     site: &mut Site,
     disk: &mut D,
     updater: &mut Updater,
@@ -182,7 +190,7 @@ fn is_leased(reply: &Reply) -> bool
             lease,
             version,
             check_due,
-        } => *lease == 1 && *version == Release::One.version() && !*check_due,
+        } => *lease == 1 && *version == GeneratedRelease::One.version() && !*check_due,
         _ => false,
     }
 }
@@ -215,8 +223,8 @@ fn ask_launch<D: Disk, L: Links>(
     updater: &mut Updater,
 ) -> Result<(Heard, Reply), DemoFault>
     requires { IsKey key.now }
-    ensures { CommandReplies D.Disk L.Links (command.Launch key.now) updater.old disk.old links.old result
-        updater.new disk.new links.new }
+    ensures { CommandReplies D.Disk L.Links (command.Launch key.now) updater.old disk.old links.old
+        result updater.new disk.new links.new }
 {
     match key.copy(alloc) {
         Ok(key) => answer_once(alloc, Command::Launch { key }, disk, links, updater),

@@ -3,18 +3,18 @@ ghost use Rattle.std.specs.Prelude.{◌≡◌, ℕ, [], IfOk, None};
 ghost use Rattle.machine.specs.declared.event.Event.TheVariants.{Boot};
 ghost use Rattle.machine.specs.Machine.{Step};
 ghost use Rattle.store_log.specs.Log.{IsStore};
-ghost use Rattle.demo.specs.Parts.{FirstLaunched, ThirdInstalled, Goes, FirstLeft, OpensNew, ReachesHeld, Touches};
+ghost use Rattle.demo.specs.Parts.{FirstLaunched, FirstLeft, Goes, OpensNew, ReachesHeld, ThirdInstalled, Touches};
 ghost use Rattle.demo.specs.Run.{Demonstrates, start};
 ghost use Rattle.demo.specs.Steps.{Installs, IsSite};
 ghost use Rattle.generated_release.specs.Options.{demo_key};
-ghost use Rattle.generated_release.specs.declared.release.Release.TheVariants as releases;
+ghost use Rattle.generated_release.specs.declared.release.GeneratedRelease.TheVariants as releases;
 
 use crate::kept::keeps_generated;
 use crate::lines::{clean, finish, install, launch};
 use crate::site::{Site, open_site};
 use crate::{DemoFault, Installed, Summary};
 use disks::Disk;
-use generated_release::Release;
+use generated_release::GeneratedRelease;
 use std::alloc::{AllocError, Global};
 use store_log::{Log, LogFault};
 use updater::{RecoverFault, Updater};
@@ -61,10 +61,10 @@ fn begin_at<D: Disk>(
     updater: &mut Updater,
 ) -> Result<Installed, DemoFault>
     requires { site.old.key ≡ demo_key }
-    ensures { (seed : ℕ) → IsSite seed releases.One site.old → Goes D.Disk (FirstLaunched seed) updater.old
-        disk.old result updater.new disk.new }
+    ensures { (seed : ℕ) → IsSite seed releases.One site.old → Goes D.Disk (FirstLaunched seed)
+        updater.old disk.old result updater.new disk.new }
 {
-    let installed = match install(alloc, Release::One, site, disk, updater) {
+    let installed = match install(alloc, GeneratedRelease::One, site, disk, updater) {
         Ok(installed) => installed,
         Err(fault) => return Err(fault),
     };
@@ -83,7 +83,7 @@ fn begin<D: Disk>(
 ) -> Result<Installed, DemoFault>
     ensures { Goes D.Disk (FirstLaunched seed) updater.old disk.old result updater.new disk.new }
 {
-    match open_site(alloc, seed, Release::One) {
+    match open_site(alloc, seed, GeneratedRelease::One) {
         Ok(mut site) => begin_at(alloc, &mut site, disk, updater),
         Err(fault) => Err(fault),
     }
@@ -99,8 +99,8 @@ fn update<D: Disk>(
     ensures { Goes D.Disk (Installs seed releases.Two) updater.old disk.old result updater.new
         disk.new }
 {
-    match open_site(alloc, seed, Release::Two) {
-        Ok(mut site) => install(alloc, Release::Two, &mut site, disk, updater),
+    match open_site(alloc, seed, GeneratedRelease::Two) {
+        Ok(mut site) => install(alloc, GeneratedRelease::Two, &mut site, disk, updater),
         Err(fault) => Err(fault),
     }
 }
@@ -139,7 +139,7 @@ fn end_at<D: Disk>(
     ensures { (seed : ℕ) → IsSite seed releases.Three site.old → Goes D.Disk (ThirdInstalled seed)
         updater.old disk.old result updater.new disk.new }
 {
-    let installed = match install(alloc, Release::Three, site, disk, updater) {
+    let installed = match install(alloc, GeneratedRelease::Three, site, disk, updater) {
         Ok(installed) => installed,
         Err(fault) => return Err(fault),
     };
@@ -158,7 +158,7 @@ fn end<D: Disk>(
 ) -> Result<Installed, DemoFault>
     ensures { Goes D.Disk (ThirdInstalled seed) updater.old disk.old result updater.new disk.new }
 {
-    match open_site(alloc, seed, Release::Three) {
+    match open_site(alloc, seed, GeneratedRelease::Three) {
         Ok(mut site) => end_at(alloc, &mut site, disk, updater),
         Err(fault) => Err(fault),
     }
@@ -171,8 +171,8 @@ fn live<D: Disk>(
     disk: &mut D,
     updater: &mut Updater,
 ) -> Result<Summary, DemoFault>
-    ensures run { D.tells disk.new → ReachesHeld D.Disk (Step 0 start (Boot 1) None) updater.old disk.old
-        → IfOk result (λ summary. Demonstrates D.Disk seed summary disk.new) }
+    ensures run { D.tells disk.new → ReachesHeld D.Disk (Step 0 start (Boot 1) None) updater.old
+        disk.old → IfOk result (λ summary. Demonstrates D.Disk seed summary disk.new) }
     ensures touches { Touches D.Disk disk.old result disk.new }
 {
     let one = match begin(alloc, seed, disk, updater) {

@@ -6,7 +6,7 @@ ghost use Rattle.demo.specs.Steps.{IsSite};
 use crate::DemoFault;
 use fetcher::FolderLink;
 use folders::MemFolder;
-use generated_release::{PublishedRelease, Release, ReleaseFault, publish_release};
+use generated_release::{GeneratedRelease, PublishedRelease, ReleaseFault, publish_release};
 use identity::Key;
 use links::Single;
 use small_types::{Bytes, List};
@@ -23,7 +23,11 @@ pub(crate) struct Site {
 }
 
 /// Publishes the generated files of the release in a folder in memory, and links to it.
-pub(crate) fn open_site(alloc: Global, seed: u64, release: Release) -> Result<Site, DemoFault>
+pub(crate) fn open_site(
+    alloc: Global,
+    seed: u64,
+    release: GeneratedRelease,
+) -> Result<Site, DemoFault>
     ensures site { IfOk result (IsSite seed release) }
     ensures fault { IfErr result IsNeitherFault }
 {

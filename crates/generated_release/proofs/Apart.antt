@@ -11,8 +11,8 @@ use Rattle.std.proofs.lemmas.Slice.Eq.{bytes_eq-Decides}
 use Rattle.folders.specs.declared.folder.Held.{Held}
 use Rattle.folders.specs.Files.{distinct, file_in, is_named}
 use Rattle.folders.proofs.Filing.{distinct_first, distinct_rest}
-use Rattle.generated_release.specs.declared.release.Release.{Release}
-use Rattle.generated_release.specs.declared.release.Release.TheVariants.{One, Two, Three}
+use Rattle.generated_release.specs.declared.release.GeneratedRelease.{GeneratedRelease}
+use Rattle.generated_release.specs.declared.release.GeneratedRelease.TheVariants.{One, Two, Three}
 use Rattle.generated_release.specs.Files.{file_below, file_name, files_to}
 use Rattle.generated_release.specs.Options.{application_at, deployment_at}
 
@@ -92,12 +92,12 @@ free : (seed version n : ℕ) (name : List ℕ) → ((k : ℕ) → bytes_eq (fro
 free seed version n name differ =
     ap (option_map (λ (f : Held). f.bytes)) (none_found (is_named name) (files_to front seed version n) (none_named seed version n name (λ k less. differ k)))
 
-pub deployment_free : (release : Release) (seed version n : ℕ) → file_in (deployment_at release) (files_to front seed version n) ≡ None
+pub deployment_free : (release : GeneratedRelease) (seed version n : ℕ) → file_in (deployment_at release) (files_to front seed version n) ≡ None
 deployment_free One seed version n = free seed version n (deployment_at One) (λ k. refl)
 deployment_free Two seed version n = free seed version n (deployment_at Two) (λ k. refl)
 deployment_free Three seed version n = free seed version n (deployment_at Three) (λ k. refl)
 
-pub application_free : (release : Release) (seed version n : ℕ) → file_in (application_at release) (files_to front seed version n) ≡ None
+pub application_free : (release : GeneratedRelease) (seed version n : ℕ) → file_in (application_at release) (files_to front seed version n) ≡ None
 application_free One seed version n = free seed version n (application_at One) (λ k. refl)
 application_free Two seed version n = free seed version n (application_at Two) (λ k. refl)
 application_free Three seed version n = free seed version n (application_at Three) (λ k. refl)

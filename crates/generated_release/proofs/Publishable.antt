@@ -6,14 +6,14 @@ use Rattle.manifests.specs.Facts.{IsValue}
 use Rattle.publish_plan.specs.declared.options.Mark.{Mark}
 use Rattle.publish_plan.specs.declared.options.Options.{Options}
 use Rattle.publisher.specs.Options.{IsKind, IsPublishable}
-use Rattle.generated_release.specs.declared.release.Release.{Release}
+use Rattle.generated_release.specs.declared.release.GeneratedRelease.{GeneratedRelease}
 use Rattle.generated_release.specs.Options.{name_text, options_of}
 
 named : IsValue 0 240 name_text
 unfolding allowed
 named = record { some = lit≤ tt; few = lit≤ tt; allowed = refl }
 
-pub publishable : (release : Release) → IsPublishable (options_of release)
+pub publishable : (release : GeneratedRelease) → IsPublishable (options_of release)
 publishable release = record {
   publisher = named;
   rule = tt;
@@ -21,5 +21,5 @@ publishable release = record {
   marks = All-nil (λ (mark : Mark). IsKind mark.kind);
 }
 
-pub are_publishable : (release : Release) (o : Options) → o ≡ options_of release → IsPublishable o
+pub are_publishable : (release : GeneratedRelease) (o : Options) → o ≡ options_of release → IsPublishable o
 are_publishable release o is = subst IsPublishable (sym is) (publishable release)

@@ -8,8 +8,8 @@ use Rattle.small_types.specs.Name.{IsName}
 use Rattle.publish_plan.specs.Paths.{IsPath}
 use Rattle.publish_plan.specs.Places.{within}
 use Rattle.publish_plan.proofs.PathLemmas.{IsPlain, is_plain, path_from, path_is_name, path_within, plain_path}
-use Rattle.generated_release.specs.declared.release.Release.{Release}
-use Rattle.generated_release.specs.declared.release.Release.TheVariants.{One, Two, Three}
+use Rattle.generated_release.specs.declared.release.GeneratedRelease.{GeneratedRelease}
+use Rattle.generated_release.specs.declared.release.GeneratedRelease.TheVariants.{One, Two, Three}
 use Rattle.generated_release.specs.Files.{file_name}
 use Rattle.generated_release.specs.Options.{application_at, deployment_at, folder_of}
 
@@ -47,28 +47,28 @@ input_named n few =
 pub entry_named : IsName (codes "f000.txt")
 entry_named = path_is_name (codes "f000.txt") (plain_path (codes "f000.txt") (record { each = refl }) (lit< tt)) (lit< tt) (lit≤ tt)
 
-folder_path : (release : Release) → IsPath (folder_of release)
+folder_path : (release : GeneratedRelease) → IsPath (folder_of release)
 folder_path One = plain_path (codes "one") (record { each = refl }) (lit< tt)
 folder_path Two = plain_path (codes "two") (record { each = refl }) (lit< tt)
 folder_path Three = plain_path (codes "three") (record { each = refl }) (lit< tt)
 
-pub folder_named : (release : Release) → IsName (folder_of release)
+pub folder_named : (release : GeneratedRelease) → IsName (folder_of release)
 folder_named One = path_is_name (codes "one") (folder_path One) (lit< tt) (lit≤ tt)
 folder_named Two = path_is_name (codes "two") (folder_path Two) (lit< tt) (lit≤ tt)
 folder_named Three = path_is_name (codes "three") (folder_path Three) (lit< tt) (lit≤ tt)
 
-deployment_path : (release : Release) → IsPath (within (folder_of release) (codes "demo.application"))
+deployment_path : (release : GeneratedRelease) → IsPath (within (folder_of release) (codes "demo.application"))
 deployment_path release =
     path_within (folder_of release) (codes "demo.application") (folder_path release)
     (plain_path (codes "demo.application") (record { each = refl }) (lit< tt))
 
 -- the deployment manifest
-pub deployment_spelled : (release : Release) → IsName (deployment_at release)
+pub deployment_spelled : (release : GeneratedRelease) → IsName (deployment_at release)
 deployment_spelled One = path_is_name (deployment_at One) (deployment_path One) (lit< tt) (lit≤ tt)
 deployment_spelled Two = path_is_name (deployment_at Two) (deployment_path Two) (lit< tt) (lit≤ tt)
 deployment_spelled Three = path_is_name (deployment_at Three) (deployment_path Three) (lit< tt) (lit≤ tt)
 
-application_path : (release : Release) (word : List ℕ) → IsPath word
+application_path : (release : GeneratedRelease) (word : List ℕ) → IsPath word
     → IsPath (within (folder_of release) (within (codes "Application Files") (within word (codes "f000.txt.manifest"))))
 application_path release word is =
     path_within (folder_of release) (within (codes "Application Files") (within word (codes "f000.txt.manifest"))) (folder_path release)
@@ -77,7 +77,7 @@ application_path release word is =
     (path_within word (codes "f000.txt.manifest") is (plain_path (codes "f000.txt.manifest") (record { each = refl }) (lit< tt))))
 
 -- the application manifest
-pub application_spelled : (release : Release) → IsName (application_at release)
+pub application_spelled : (release : GeneratedRelease) → IsName (application_at release)
 application_spelled One =
     path_is_name (application_at One) (application_path One (codes "demo_1_0_0_0") (plain_path (codes "demo_1_0_0_0") (record { each = refl }) (lit< tt))) (lit< tt) (lit≤ tt)
 application_spelled Two =

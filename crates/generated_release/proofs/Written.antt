@@ -12,7 +12,7 @@ use Rattle.publisher.specs.Outcome.{Publishes, Refuses}
 use Rattle.publisher.specs.Publication.{Outcome, publish_of}
 use Rattle.publisher.specs.Published.{PublishesFiles}
 use Rattle.publisher.specs.Puts.{PutsAll}
-use Rattle.generated_release.specs.declared.release.Release.{Release}
+use Rattle.generated_release.specs.declared.release.GeneratedRelease.{GeneratedRelease}
 use Rattle.generated_release.specs.declared.fault.ReleaseFault.TheVariants.{Refused}
 use Rattle.generated_release.specs.declared.files.TheConstants.{FILE_COUNT}
 use Rattle.generated_release.specs.declared.publishing.PublishedRelease.{PublishedRelease}
@@ -27,7 +27,7 @@ use Rattle.generated_release.proofs.Refusals.{by_refusal}
 
 -- ---- the files
 
-module _ (release : Release) (old new : List Held) (names : List (List ℕ)) (are : IsNames old names)
+module _ (release : GeneratedRelease) (old new : List Held) (names : List (List ℕ)) (are : IsNames old names)
   where
     by_outcome : (outcome : Outcome (List Held)) → publish_of (options_of release) names old ≡ outcome
         → Publishes outcome old new → IsWritten release old new
@@ -53,7 +53,7 @@ some_put : (put was is : Option (List ℕ)) → is ≡ option_or put was → is_
 some_put (Some bytes) was is or some = ap is_some or
 some_put None was is or some = absurd cc
 
-module _ (release : Release) (old new : List Held) (w : IsWritten release old new) where
+module _ (release : GeneratedRelease) (old new : List Held) (w : IsWritten release old new) where
   both : HasManifests (options_of release) w.files
   both = has_manifests (options_of release) w.names old w.files w.written
 
@@ -70,7 +70,7 @@ module _ (release : Release) (old new : List Held) (w : IsWritten release old ne
       (subst (λ (name : List ℕ). is_some (file_in name w.files) ≡ true) (application_named release) both.application)
 
 -- over the generated files the texts are those of the manifests that were written
-module _ (seed : ℕ) (release : Release) (new : List Held)
+module _ (seed : ℕ) (release : GeneratedRelease) (new : List Held)
     (w : IsWritten release (input_files seed (number_of release)) new) where
   abbrev old : List Held
   old = input_files seed (number_of release)
@@ -113,7 +113,7 @@ module _ (seed : ℕ) (release : Release) (new : List Held)
 
 -- ---- a refusal
 
-pub is_refused : (release : Release) (o : Options) (names : List (List ℕ)) (held new : List Held) (e : PublishFault)
+pub is_refused : (release : GeneratedRelease) (o : Options) (names : List (List ℕ)) (held new : List Held) (e : PublishFault)
     → o ≡ options_of release → IsNames held names → PublishesFiles o names held new (Err e) → IsSure e
     → fault_of e ≡ Refused → IsRefused release held
 is_refused release o names held new e is are publishes sure refused = record {

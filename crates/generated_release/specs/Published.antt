@@ -8,13 +8,13 @@ use Rattle.publisher.specs.declared.fault.PublishFault.{PublishFault}
 use Rattle.publisher.specs.Publication.{publish_of}
 use Rattle.publisher.specs.Puts.{PutsAll}
 use Rattle.generated_release.specs.declared.publishing.PublishedRelease.{PublishedRelease}
-use Rattle.generated_release.specs.declared.release.Release.{Release}
+use Rattle.generated_release.specs.declared.release.GeneratedRelease.{GeneratedRelease}
 use Rattle.generated_release.specs.Files.{input_files}
 use Rattle.generated_release.specs.Options.{demo_key, number_of, options_of}
 
 -- The texts are the two manifests that a publish by the options of the release writes, where the
 -- generated files of the release stand below `in`, and nothing else stands.
-pub record ArePublished (seed : ℕ) (release : Release) (deployment application : List ℕ)
+pub record ArePublished (seed : ℕ) (release : GeneratedRelease) (deployment application : List ℕ)
     : Type 0 where
   pub names : List (List ℕ)
   pub are : IsNames (input_files seed (number_of release)) names
@@ -27,7 +27,7 @@ pub record ArePublished (seed : ℕ) (release : Release) (deployment application
 -- A release that is published: the texts are those of its manifests, and the key is its
 -- application's. In the folder all files of the release stand beside the generated ones, and
 -- nothing else, and none of its calls are to fail.
-pub record IsPublished (seed : ℕ) (release : Release) (published : PublishedRelease)
+pub record IsPublished (seed : ℕ) (release : GeneratedRelease) (published : PublishedRelease)
     : Type 0 where
   pub texts : ArePublished seed release published.deployment published.application
   pub key : published.key ≡ demo_key
@@ -36,7 +36,7 @@ pub record IsPublished (seed : ℕ) (release : Release) (published : PublishedRe
   pub works : folder_failing published.folder ≡ []
 
 -- the files of the release were written by its options, and stand in the folder with those before
-pub record IsWritten (release : Release) (old new : List Held) : Type 0 where
+pub record IsWritten (release : GeneratedRelease) (old new : List Held) : Type 0 where
   pub names : List (List ℕ)
   pub are : IsNames old names
   pub files : List Held
@@ -44,7 +44,7 @@ pub record IsWritten (release : Release) (old new : List Held) : Type 0 where
   pub puts : PutsAll files old new
 
 -- the publisher refuses to write the release by its options
-pub record IsRefused (release : Release) (held : List Held) : Type 0 where
+pub record IsRefused (release : GeneratedRelease) (held : List Held) : Type 0 where
   pub names : List (List ℕ)
   pub are : IsNames held names
   pub fault : PublishFault

@@ -12,4 +12,4 @@ mod sure_folder;
 pub use fault::ReleaseFault;
 pub use files::{FILE_COUNT, file_bytes, file_count_is, file_name};
 pub use publishing::{PublishedRelease, publish_release};
-pub use release::Release;
+pub use release::GeneratedRelease;

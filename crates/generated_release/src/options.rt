@@ -3,7 +3,7 @@ ghost use Rattle.std.specs.Prelude.{◌≡◌, IfOk};
 ghost use Rattle.publisher.specs.Options.{IsPublishable};
 ghost use Rattle.generated_release.specs.Options as spec;
 
-use crate::Release;
+use crate::GeneratedRelease;
 use crate::files::name_of;
 use manifests::Rule;
 use publisher::Options;
@@ -18,7 +18,7 @@ fn name_text(alloc: Global) -> Result<Text, AllocError>
 }
 
 /// The options of the release: no minimum, no checks, no provider and no marks, with `.deploy`.
-pub(crate) fn options_of(alloc: Global, release: Release) -> Result<Options, AllocError>
+pub(crate) fn options_of(alloc: Global, release: GeneratedRelease) -> Result<Options, AllocError>
     ensures options { IfOk result (λ options. options ≡ spec.options_of release) }
     ensures publishable { IfOk result IsPublishable }
 {

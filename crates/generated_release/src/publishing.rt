@@ -12,7 +12,7 @@ ghost use Rattle.generated_release.specs.SureFolder.{sure_held};
 use crate::files::{input_files, name_of};
 use crate::options::options_of;
 use crate::sure_folder::SureFolder;
-use crate::{Release, ReleaseFault};
+use crate::{GeneratedRelease, ReleaseFault};
 use folders::{Folder, FolderFault, MemFolder};
 use identity::Key;
 use publisher::{PublishFault, publish};
@@ -30,7 +30,11 @@ pub struct PublishedRelease {
 }
 
 // A folder with the input files of the release.
-fn input_folder(alloc: Global, seed: u64, release: Release) -> Result<SureFolder, AllocError>
+fn input_folder(
+    alloc: Global,
+    seed: u64,
+    release: GeneratedRelease,
+) -> Result<SureFolder, AllocError>
     ensures { IfOk result (λ folder. sure_held folder ≡ inputs seed (number_of release)) }
 {
     let files = input_files(alloc, seed, release.number())?;
@@ -76,7 +80,11 @@ fn fault_of(fault: &PublishFault) -> ReleaseFault
 }
 
 // Publishes the release in the folder, and answers its key.
-fn publish_in(alloc: Global, folder: &mut SureFolder, release: Release) -> Result<Key, ReleaseFault>
+fn publish_in(
+    alloc: Global,
+    folder: &mut SureFolder,
+    release: GeneratedRelease,
+) -> Result<Key, ReleaseFault>
     ensures key { IfOk result (λ key. key ≡ demo_key) }
     ensures files { OnOk result (IsWritten release (sure_held folder.old)
         (sure_held folder.new)) }
@@ -95,7 +103,7 @@ fn publish_in(alloc: Global, folder: &mut SureFolder, release: Release) -> Resul
 pub fn publish_release(
     alloc: Global,
     seed: u64,
-    release: Release,
+    release: GeneratedRelease,
 ) -> Result<PublishedRelease, ReleaseFault>
     ensures published { IfOk result (IsPublished seed release) }
     ensures refused { result ≡ Err Refused

@@ -6,21 +6,21 @@ use identity::Version;
 
 /// One of the three releases of a generated run.
 #[derive(Clone, Copy, Debug, PartialEq, Eq)]
-pub enum Release {
+pub enum GeneratedRelease {
     One,
     Two,
     Three,
 }
 
-impl Release {
+impl GeneratedRelease {
     /// Its number, which is the first of its version and that of its view.
     pub fn number(self) -> u16
         ensures { result ≡ spec.number_of self }
     {
         match self {
-            Release::One => 1,
-            Release::Two => 2,
-            Release::Three => 3,
+            GeneratedRelease::One => 1,
+            GeneratedRelease::Two => 2,
+            GeneratedRelease::Three => 3,
         }
     }
 
@@ -41,9 +41,9 @@ impl Release {
         ensures { result.now ≡ spec.folder_of self }
     {
         match self {
-            Release::One => b"one",
-            Release::Two => b"two",
-            Release::Three => b"three",
+            GeneratedRelease::One => b"one",
+            GeneratedRelease::Two => b"two",
+            GeneratedRelease::Three => b"three",
         }
     }
 
@@ -52,9 +52,9 @@ impl Release {
         ensures { result.now ≡ spec.deployment_at self }
     {
         match self {
-            Release::One => b"one/demo.application",
-            Release::Two => b"two/demo.application",
-            Release::Three => b"three/demo.application",
+            GeneratedRelease::One => b"one/demo.application",
+            GeneratedRelease::Two => b"two/demo.application",
+            GeneratedRelease::Three => b"three/demo.application",
         }
     }
 
@@ -63,9 +63,9 @@ impl Release {
         ensures { result.now ≡ spec.application_at self }
     {
         match self {
-            Release::One => b"one/Application Files/demo_1_0_0_0/f000.txt.manifest",
-            Release::Two => b"two/Application Files/demo_2_0_0_0/f000.txt.manifest",
-            Release::Three => b"three/Application Files/demo_3_0_0_0/f000.txt.manifest",
+            GeneratedRelease::One => b"one/Application Files/demo_1_0_0_0/f000.txt.manifest",
+            GeneratedRelease::Two => b"two/Application Files/demo_2_0_0_0/f000.txt.manifest",
+            GeneratedRelease::Three => b"three/Application Files/demo_3_0_0_0/f000.txt.manifest",
         }
     }
 
@@ -74,9 +74,9 @@ impl Release {
         ensures { result.now ≡ spec.url_of self }
     {
         match self {
-            Release::One => b"http://demo.test/one/demo.application",
-            Release::Two => b"http://demo.test/two/demo.application",
-            Release::Three => b"http://demo.test/three/demo.application",
+            GeneratedRelease::One => b"http://demo.test/one/demo.application",
+            GeneratedRelease::Two => b"http://demo.test/two/demo.application",
+            GeneratedRelease::Three => b"http://demo.test/three/demo.application",
         }
     }
 }

@@ -10,8 +10,8 @@ use Rattle.demo.specs.declared.summary.Summary.{Summary}
 use Rattle.demo.specs.Parts.{Touches}
 use Rattle.demo.specs.Run.{Demonstrates}
 use Rattle.demo.specs.Summary.{summary_line}
-use Rattle.updater_cli.specs.declared.demonstrating.DemoEnd.{DemoEnd}
-use Rattle.updater_cli.specs.declared.demonstrating.DemoEnd.TheVariants as end
+use Rattle.updater_cli.specs.declared.demo_end.DemoEnd.{DemoEnd}
+use Rattle.updater_cli.specs.declared.demo_end.DemoEnd.TheVariants as end
 use Rattle.updater_cli.specs.Demonstration.{NotesFault, RunsDemo}
 use Rattle.updater_cli.specs.Devices.{Asks}
 

@@ -1,12 +1,13 @@
 -- What a new store is.
 use Rattle.std.specs.Prelude.{◌≡◌, ◌⊎◌, ℕ, ◌+◌, ◌<◌, ◌≤◌, List, []}
-use Rattle.disks.specs.Disk.{Torn}
 use Rattle.disks.specs.declared.disk.Disk.{Ghosts}
 use Rattle.disks.specs.Spends.{Spends}
 use Rattle.store_log.specs.declared.form.TheConstants.{HEAD_SIZE}
-use Rattle.store_log.specs.Log.{IsStore, IsCutOrOld, IsClosedNew}
+use Rattle.store_log.specs.Log.{Formats, IsStore, NoStore}
 use Rattle.machine.specs.Store as stores
 use Rattle.updater.specs.StandsFor.{StandsFor, StandsForNone}
+use Rattle.updater_cli.specs.declared.status.Status.TheVariants.{Done, DiskFault, Memory}
+use Rattle.updater_cli.specs.Status.{code_of}
 
 -- the bytes are the journal of this number of blocks without a change, and so stand for the empty
 -- store of so many
@@ -14,26 +15,12 @@ pub record StandsForNew (blocks : ℕ) (image : List ℕ) : Type 0 where
   pub journal : IsStore blocks [] image
   pub stands : StandsFor image (stores.empty (stores.plain_room blocks))
 
--- What stops leave over a format. Its calls are a cut and a sync, the write of a head block and a
--- closed gate and a sync, the write of the head gate and a sync. A stop leaves an old image or a cut one, until
--- the first sync is done; then nothing stands there, and at the write what it makes of nothing;
--- once the second sync is done the new journal with its head gate closed, which stands for no
--- store; and from then on the new store or none.
+-- What stops leave over a format is what they leave over that of the journal. The new journal is the
+-- new store, and what is no journal stands for no store.
 pub record Renews {D : Type 0} (on : Ghosts D) (old new : D) (blocks : ℕ) : Type 0 where
-  pub later : on.moment old ≤ on.moment new
-  pub past : (t : ℕ) (image : List ℕ) → t ≤ on.moment old → on.left_at new t image
-      → on.left_at old t image
-  pub first : (t : ℕ) (image : List ℕ) → on.moment old ≤ t → t ≤ on.moment new
-      → t ≤ on.moment old + 2 → on.left_at new t image
-      → IsCutOrOld (on.left_at old (on.moment old)) image
-  pub empty : (image : List ℕ) → on.moment old + 2 < on.moment new
-      → on.left_at new (on.moment old + 2) image → image ≡ []
-  pub second : (t : ℕ) (image : List ℕ) → on.moment old + 2 < t → t ≤ on.moment new
-      → t ≤ on.moment old + 4 → on.left_at new t image → Torn 0 (HEAD_SIZE + 1) [] image
-  pub closed : (image : List ℕ) → on.moment old + 4 < on.moment new
-      → on.left_at new (on.moment old + 4) image → IsClosedNew blocks image × StandsForNone image
-  pub third : (t : ℕ) (image : List ℕ) → on.moment old + 4 < t → t ≤ on.moment new
-      → on.left_at new t image → StandsForNew blocks image ⊎ StandsForNone image
+  pub formats : Formats on old new blocks
+  pub stands : (image : List ℕ) → (IsStore blocks [] image → StandsForNew blocks image)
+      × (NoStore image → StandsForNone image)
 
 -- a format that is done: each image that a stop may leave now, and what reads give, is the new
 -- store
@@ -45,8 +32,9 @@ pub record IsNew {D : Type 0} (on : Ghosts D) (blocks : ℕ) (disk : D) : Type 0
 -- head block, the gate behind it and its own gate anew. The count of faults rises with status 4
 -- alone. Without memory, which is status 6, no call is made.
 pub record MakesStore {D : Type 0} (on : Ghosts D) (blocks status : ℕ) (old new : D) : Type 0 where
-  pub done : status ≡ 0 → IsNew on blocks new
-  pub spends : Spends on 6 (HEAD_SIZE + 2) old new (status ≡ 4)
+  pub done : status ≡ code_of Done → IsNew on blocks new
+  pub spends : Spends on 6 (HEAD_SIZE + 2) old new (status ≡ code_of DiskFault)
   pub stop : Renews on old new blocks
-  pub memory : status ≡ 6 → new ≡ old
-  pub statuses : (status ≡ 0) ⊎ ((status ≡ 4) ⊎ (status ≡ 6))
+  pub memory : status ≡ code_of Memory → new ≡ old
+  pub statuses : (status ≡ code_of Done)
+      ⊎ ((status ≡ code_of DiskFault) ⊎ (status ≡ code_of Memory))

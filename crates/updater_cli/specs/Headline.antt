@@ -20,8 +20,9 @@ use Rattle.updater_cli.specs.Downs.{DownsAreCounted}
 use Rattle.updater_cli.specs.Opening.{BootsFirst, IsLineOrNone, IsUnopened, Survives}
 use Rattle.updater_cli.specs.Report.{answered, marked_by, origin_over, events_of, moment_behind, AreServed, Counts, CostsBegun, FailuresRise, IsBegunServed, KeepsMoments, MarksRise, RunsTo, StandsSound, WritesReplies}
 use Rattle.updater_cli.specs.Sites.{AreOfSites}
-use Rattle.updater_cli.specs.Status.{IsBegun}
+use Rattle.updater_cli.specs.Status.{code_of, IsBegun}
 use Rattle.updater_cli.specs.Views.{KeepsViews, LaunchesHold, ViewsHold}
+use Rattle.updater_cli.specs.declared.status.Status.TheVariants.{Done, SourceFault, DiskFault, NotAStore, Memory, TooMuchInput}
 
 -- ---- the lines
 
@@ -48,26 +49,26 @@ pub record ReadsLines (boot status : ℕ) (input left : List ℕ) (report : Repo
   pub each : AreEvents (take (length events) (lines input)) events
   pub next : (event : Event) → report.begun ≡ Some event
       → IsNext boot input left report.lines events event
-  pub done : status ≡ 0
+  pub done : status ≡ code_of Done
       → AreEvents (lines input) events × (left ≡ []) × (length input ≤ INPUT_LIMIT)
-  pub ended : (status ≡ 2) ⊎ (status ≡ 8)
+  pub ended : (status ≡ code_of SourceFault) ⊎ (status ≡ code_of TooMuchInput)
       → length events ≡ count_by (λ b. b == 10)
       (take INPUT_LIMIT (take (length input - length left) input))
-  pub limit : status ≡ 8 → INPUT_LIMIT + length left < length input
-  pub beyond : INPUT_LIMIT + length left < length input → status ≡ 8
+  pub limit : status ≡ code_of TooMuchInput → INPUT_LIMIT + length left < length input
+  pub beyond : INPUT_LIMIT + length left < length input → status ≡ code_of TooMuchInput
 
 -- an event that touches the disk was begun exactly where the disk failed, which is status 4
 pub record BeginsOnFault (status : ℕ) (begun : Option Event) : Type 0 where
-  pub none : status ≢ 4 → begun ≡ None
-  pub some : status ≡ 4 → IsBegun begun
+  pub none : status ≢ code_of DiskFault → begun ≡ None
+  pub some : status ≡ code_of DiskFault → IsBegun begun
 
 -- The store was not opened, and so nothing was read, written or asked: the disk failed, and the
 -- boot event was begun; or it holds no store; or there was no memory.
 pub record IsNotOpened {S K D L : Type 0} (boot status : ℕ) (old new : Devices S K D L)
     (report : Report) : Type 0 where
   pub lines : report.lines ≡ []
-  pub begun : ((status ≡ 4) × (report.begun ≡ Some (Boot boot)))
-      ⊎ (((status ≡ 5) ⊎ (status ≡ 6)) × (report.begun ≡ None))
+  pub begun : ((status ≡ code_of DiskFault) × (report.begun ≡ Some (Boot boot)))
+      ⊎ (((status ≡ code_of NotAStore) ⊎ (status ≡ code_of Memory)) × (report.begun ≡ None))
   pub unread : new.source ≡ old.source
   pub unwritten : new.sink ≡ old.sink
   pub unasked : new.links ≡ old.links
@@ -76,7 +77,7 @@ pub record IsNotOpened {S K D L : Type 0} (boot status : ℕ) (old new : Devices
 -- kept number differs from the given one. An event that was begun is a line's.
 pub record IsOpened {S K D L : Type 0} (on : Ghosts D) (boot status : ℕ)
     (old new : Devices S K D L) (report : Report) : Type 0 where
-  pub store : status ≢ 5
+  pub store : status ≢ code_of NotAStore
   pub synced : on.moment old.disk + 1 ≤ on.moment new.disk
   pub boots : on.tells new.disk → (store : Store) → StandsFor (on.seen old.disk) store
       → BootsFirst boot store.boot report.lines
@@ -105,7 +106,8 @@ pub record HeadlineLines {S K D L : Type 0} (source : SourceGhosts S) (on : Ghos
 -- other
 abbrev pub MadeCalls : ℕ → ℕ → ℕ → List ReportLine → ℕ → Type 0
 MadeCalls status old new lines last =
-    status ≢ 4 → (new ≡ last) ⊎ ((status ≡ 6) × (lines ≡ []) × (new ≤ last))
+    status ≢ code_of DiskFault
+    → (new ≡ last) ⊎ ((status ≡ code_of Memory) × (lines ≡ []) × (new ≤ last))
 
 -- The report's events and replies are a run from a new session over the store, and lead to this
 -- session, which is sound. Unless the disk failed, which is status 4, the reads then stand for its
@@ -121,7 +123,7 @@ pub record LeadsTo {S K D L : Type 0} (on : Ghosts D) (net : LinksGhosts L) (now
     (old new : Devices S K D L) (report : Report) (store : Store) : Type 0 where
   pub session : Session
   pub runs : RunsTo (origin_over now store) report.lines session
-  pub reads : status ≢ 4 → StandsFor (on.seen new.disk) session.store
+  pub reads : status ≢ code_of DiskFault → StandsFor (on.seen new.disk) session.store
   pub last : ℕ
   pub bytes : ℕ
   pub counts : Counts (origin_over now store) (on.moment old.disk + 1) report.lines session last
@@ -130,7 +132,7 @@ pub record LeadsTo {S K D L : Type 0} (on : Ghosts D) (net : LinksGhosts L) (now
   pub more : ℕ
   pub begins : CostsBegun (moment_behind now report.lines) session report.begun more
   pub written : (on.total new.disk ≤ on.total old.disk + bytes + more)
-      ⊎ ((status ≡ 6) × (report.lines ≡ []))
+      ⊎ ((status ≡ code_of Memory) × (report.lines ≡ []))
   pub behind : L
   pub served : AreServed net (origin_over now store) old.links report.lines session behind
   pub downs : DownsAreCounted (failures_of (net.links old.links)) report.lines
@@ -145,7 +147,8 @@ pub record HeadlineRun {S K D L : Type 0} (sink : SinkGhosts K) (on : Ghosts D)
     (report : Report) : Type 0 where
   pub leads : on.tells new.disk → (store : Store) → StandsSound (on.seen old.disk) store
       → LeadsTo on net now status old new report store
-  pub output : sink.tells → WritesReplies status (sink.taken old.sink) (sink.taken new.sink) report.lines
+  pub output : sink.tells
+      → WritesReplies status (sink.taken old.sink) (sink.taken new.sink) report.lines
 
 -- ---- stops
 

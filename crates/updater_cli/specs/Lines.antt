@@ -22,7 +22,7 @@ use Rattle.updater.specs.Costs.{Costs}
 use Rattle.updater.specs.Updater.{Holds}
 use Rattle.updater_cli.specs.declared.course.Course.{Course}
 use Rattle.updater_cli.specs.declared.limits.TheConstants.{INPUT_LIMIT}
-use Rattle.updater_cli.specs.declared.status.Status.TheVariants.{SourceFault, SinkFault, DiskFault, Memory}
+use Rattle.updater_cli.specs.declared.status.Status.TheVariants.{Done, SourceFault, SinkFault, DiskFault, Memory, TooMuchInput}
 use Rattle.updater_cli.specs.Devices.{RisesWith, Asks}
 use Rattle.updater_cli.specs.Report.{events_of, report_of, moment_behind, IsRunAt, AreRunFrom, IsCounted, IsLineServed, IsSettled, MarksRise, FailuresRise, WritesReplies}
 use Rattle.updater_cli.specs.Session.{Start, Between, Ended}
@@ -123,12 +123,13 @@ pub record Stopped (told : Type 0) (status : ℕ) (bytes : List ℕ) (old new : 
 pub record AreInputs (status : ℕ) (input left : List ℕ) (inputs : List (List ℕ)) : Type 0 where
   pub more : List (List ℕ)
   pub first : lines input ≡ inputs ++ more
-  pub all : status ≡ 0 → (inputs ≡ lines input) × (left ≡ []) × (length input ≤ INPUT_LIMIT)
-  pub ended : (status ≡ 2) ⊎ (status ≡ 8)
+  pub all : status ≡ code_of Done
+      → (inputs ≡ lines input) × (left ≡ []) × (length input ≤ INPUT_LIMIT)
+  pub ended : (status ≡ code_of SourceFault) ⊎ (status ≡ code_of TooMuchInput)
       → length inputs ≡ count_by (λ b. b == 10)
       (take INPUT_LIMIT (take (length input - length left) input))
-  pub limit : status ≡ 8 → INPUT_LIMIT + length left < length input
-  pub beyond : INPUT_LIMIT + length left < length input → status ≡ 8
+  pub limit : status ≡ code_of TooMuchInput → INPUT_LIMIT + length left < length input
+  pub beyond : INPUT_LIMIT + length left < length input → status ≡ code_of TooMuchInput
 
 -- ---- the parts of a session
 
@@ -215,8 +216,8 @@ pub record PieceAnswered {K D L : Type 0} (to : SinkGhosts K) (on : Ghosts D) (n
 
 -- the whole input was, or the session ended before
 pub record InputAnswered {S K D L : Type 0} (from : SourceGhosts S) (to : SinkGhosts K)
-    (on : Ghosts D) (net : LinksGhosts L) (source_old : S) (old : Place K D L) (result : PartOutcome)
-    (source : S) (new : Place K D L) : Type 0 where
+    (on : Ghosts D) (net : LinksGhosts L) (source_old : S) (old : Place K D L)
+    (result : PartOutcome) (source : S) (new : Place K D L) : Type 0 where
   pub keeps : KeepsSession to on net old result new
   pub ends : IfErr result (λ status. IsSessionEnd status new.course.begun)
   pub inputs : List (List ℕ)

@@ -57,7 +57,7 @@ pub record BootsFirst (boot kept : ℕ) (lines : List ReportLine) : Type 0 where
 -- first call failed
 pub record IsUnopened {D : Type 0} (on : Ghosts D) (old new : D) (status : ℕ) (report : Report)
     (image : List ℕ) : Type 0 where
-  pub fault : status ≡ 4
+  pub fault : status ≡ code_of DiskFault
   pub none : report.lines ≡ []
   pub boot : IsBootEvent report.begun
   pub once : on.moment new ≡ on.moment old + 1
@@ -76,7 +76,7 @@ pub record Survives {D : Type 0} (on : Ghosts D) (old new : D) (from : Origin) (
       → StandsForPrefix from report (marked_by (answered status report.lines) t) image
       ⊎ IsUnopened on old new status report image
   pub synced : (on.moment old + 1 ≤ on.moment new)
-      ⊎ ((report.lines ≡ []) × ((status ≡ 4) ⊎ (status ≡ 6)))
+      ⊎ ((report.lines ≡ []) × ((status ≡ code_of DiskFault) ⊎ (status ≡ code_of Memory)))
 
 -- ---- what an opening promises
 
@@ -115,8 +115,8 @@ pub record BeginsAt {D : Type 0} (on : Ghosts D) (boot now failures : ℕ) (disk
 -- Where a sound store stands for the reads, the session goes on from it; where a store does, a stop
 -- leaves it, and what was written is that of a boot which was begun. Where none does, it is no
 -- store.
-pub record OpensSession {D L : Type 0} (on : Ghosts D) (net : LinksGhosts L) (boot now : ℕ) (links : L)
-    (disk_old : D) (result : Result Course Status) (disk : D) : Type 0 where
+pub record OpensSession {D L : Type 0} (on : Ghosts D) (net : LinksGhosts L) (boot now : ℕ)
+    (links : L) (disk_old : D) (result : Result Course Status) (disk : D) : Type 0 where
   pub course : IfOk result (λ course.
       BeginsAt on boot now (failures_of (net.links links)) disk_old course disk)
   pub machine : on.tells disk → (store : Store) → StandsSound (on.seen disk_old) store

@@ -47,7 +47,8 @@ sites_of links = record { sources = links.sources; site = λ k. (links.link k).s
 -- it nothing is asked.
 abbrev pub ServedIsGiven : LinksState → LinksState → Type 0
 ServedIsGiven before after = (p : PublishInput) (files folder : List Held) (shape : Shape)
-    (url : List ℕ) (texts : List (List ℕ)) (reply : Reply) → WritesRelease p files → HasFiles folder files
+    (url : List ℕ) (texts : List (List ℕ)) (reply : Reply) → WritesRelease p files
+    → HasFiles folder files
     → IsFirstSite p url folder (sites_of before)
     → ((given : Target) → target_of_text url ≡ Ok given → Reaches given (deployment_name p.options))
     → Served shape url texts before after reply → AreQuietTo 0 before after

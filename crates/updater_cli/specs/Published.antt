@@ -116,7 +116,8 @@ AreNoOthers p folder bytes = (entry : FileEntry) → Contains (listed p) entry
 
 -- so it is of all bytes that the session keeps, from whatever link
 abbrev pub KeepsNoOthers : PublishInput → List Held → Session → Type 0
-KeepsNoOthers p folder session = (bytes : List ℕ) → KeepsBytes session bytes → AreNoOthers p folder bytes
+KeepsNoOthers p folder session =
+    (bytes : List ℕ) → KeepsBytes session bytes → AreNoOthers p folder bytes
 
 -- ---- what is given and read
 
@@ -203,5 +204,6 @@ PublishedIsRead = (p : PublishInput) (files folder : List Held) (sites : Sites)
 -- so are its data files, where none are kept behind the install
 abbrev pub PublishedDataIsRead : Type 0
 PublishedDataIsRead = (p : PublishInput) (files folder : List Held) (sites : Sites)
-    (c : PublishedRun p sites) → IsOffered p files folder sites c → KeepsNoOthers p folder c.installed
+    (c : PublishedRun p sites) → IsOffered p files folder sites c
+    → KeepsNoOthers p folder c.installed
     → ReadsInputData p sites c

@@ -21,6 +21,8 @@ use Rattle.command_text.specs.Lines.{texts_of}
 use Rattle.updater.specs.Commanded.{LeavesLinks, LinksServe}
 use Rattle.updater.specs.Costs.{Costs}
 use Rattle.updater.specs.StandsFor.{StandsFor}
+use Rattle.updater_cli.specs.declared.status.Status.TheVariants.{SinkFault}
+use Rattle.updater_cli.specs.Status.{code_of}
 
 abbrev pub events_of : List ReportLine → List Event
 events_of lines = map (λ l. l.event) lines
@@ -38,7 +40,7 @@ marked_by (l ∷ lines) t = (if nat_le l.mark t then 1 else 0) + marked_by lines
 
 -- the lines whose reply the sink took whole: where it failed, which is status 3, all but the last
 abbrev pub answered : ℕ → List ReportLine → List ReportLine
-answered status lines = if status == 3 then take (length lines - 1) lines else lines
+answered status lines = if status == code_of SinkFault then take (length lines - 1) lines else lines
 
 -- ---- moments of lines
 
@@ -219,5 +221,5 @@ pub record CutsLast (old new : List ℕ) (lines : List ReportLine) : Type 0 wher
 -- the sink took the texts of the replies in order; where it failed, which is status 3, a first part
 -- of the last
 pub record WritesReplies (status : ℕ) (old new : List ℕ) (lines : List ReportLine) : Type 0 where
-  pub whole : status ≢ 3 → new ≡ old ++ texts_of (replies_of lines)
-  pub part : status ≡ 3 → CutsLast old new lines
+  pub whole : status ≢ code_of SinkFault → new ≡ old ++ texts_of (replies_of lines)
+  pub part : status ≡ code_of SinkFault → CutsLast old new lines

@@ -28,7 +28,11 @@ pub record InspectsInput {S K : Type 0} (from : SourceGhosts S) (to : SinkGhosts
       → from.left source ≡ drop INSPECTED_LIMIT (from.left source_old)
   pub taken : from.tells → TakesAtMost INSPECTED_LIMIT (from.left source_old) (from.left source)
   pub nothing : (end ≡ inspected.SourceFault) ⊎ (end ≡ inspected.Memory) → sink ≡ sink_old
-  pub statuses : (status ≡ 0) ⊎ ((status ≡ 7) ⊎ ((status ≡ 2) ⊎ ((status ≡ 3) ⊎ (status ≡ 6))))
+  pub statuses : (status ≡ exit_status inspected.Done)
+      ⊎ ((status ≡ exit_status inspected.Refused)
+      ⊎ ((status ≡ exit_status inspected.SourceFault)
+      ⊎ ((status ≡ exit_status inspected.SinkFault)
+      ⊎ (status ≡ exit_status inspected.Memory))))
 
 -- A release was published, or the publish was refused, and a line says which; or there was no
 -- memory to read the options, and nothing was done. The status is that of the end. With 2 the
@@ -41,8 +45,11 @@ pub record PublishesBy {F K : Type 0} (folder : FolderGhosts F) (to : SinkGhosts
       folder_old folder_new sink_old sink end
       ⊎ ((end ≡ ends.Memory) × (folder_new ≡ folder_old) × (sink ≡ sink_old))
   pub sink_fault : end ≡ ends.SinkFault → Rose (to.count sink_old) (to.count sink)
-  pub read_fault : status ≡ 2 → Rose (folder.count folder_old) (folder.count folder_new)
-  pub fault : status ≡ 3
+  pub read_fault : status ≡ status_of ends.ReadFault
+      → Rose (folder.count folder_old) (folder.count folder_new)
+  pub fault : status ≡ status_of ends.SinkFault
       → Rose (folder.count folder_old) (folder.count folder_new) ⊎ Rose (to.count sink_old)
       (to.count sink)
-  pub statuses : (status ≡ 0) ⊎ ((status ≡ 7) ⊎ ((status ≡ 2) ⊎ ((status ≡ 3) ⊎ (status ≡ 6))))
+  pub statuses : (status ≡ status_of ends.Done)
+      ⊎ ((status ≡ status_of ends.Refused) ⊎ ((status ≡ status_of ends.ReadFault)
+      ⊎ ((status ≡ status_of ends.SinkFault) ⊎ (status ≡ status_of ends.Memory))))

@@ -8,6 +8,8 @@ use Rattle.updater.specs.StandsFor.{StandsFor}
 use Rattle.updater.specs.Updater.{Holds}
 use Rattle.updater_cli.specs.declared.course.Course.{Course}
 use Rattle.updater_cli.specs.Report.{Origin, origin_over, RunsTo, AreServed, Counts, CostsBegun, IsBegunServed, StandsForPrefix, AreMarkedBy, report_of, moment_behind, marked_by, answered}
+use Rattle.updater_cli.specs.declared.status.Status.TheVariants.{DiskFault}
+use Rattle.updater_cli.specs.Status.{code_of}
 
 -- what a session began with: its disk before the first call and its links, and the session over
 -- the store that stood there
@@ -54,7 +56,7 @@ pub record Ended {D L : Type 0} (on : Ghosts D) (net : LinksGhosts L) (start : S
   pub last : ℕ
   pub bytes : ℕ
   pub counts : Counts start.from (on.moment start.disk + 1) report.lines session last bytes
-  pub calls : status ≢ 4 → on.moment disk ≡ last
+  pub calls : status ≢ code_of DiskFault → on.moment disk ≡ last
   pub more : ℕ
   pub begins : CostsBegun (moment_behind start.from.now report.lines) session report.begun more
   pub written : on.total disk ≤ on.total start.disk + bytes + more
@@ -67,4 +69,4 @@ pub record Ended {D L : Type 0} (on : Ghosts D) (net : LinksGhosts L) (start : S
   pub since : (t : ℕ) (image : List ℕ) → on.moment start.disk + 1 ≤ t → t ≤ on.moment disk
       → on.left_at disk t image
       → StandsForPrefix start.from report (marked_by (answered status report.lines) t) image
-  pub reads : status ≢ 4 → StandsFor (on.seen disk) session.store
+  pub reads : status ≢ code_of DiskFault → StandsFor (on.seen disk) session.store

@@ -8,10 +8,9 @@ use Rattle.digest_list.specs.Matches.{Matches}
 use Rattle.manifests.specs.declared.facts.FileEntry.{FileEntry}
 use Rattle.links.specs.Links.{LinksState}
 use Rattle.fetcher.specs.Given.{IsOfSite}
-use Rattle.machine.specs.declared.command.Command.TheVariants.{At, Require, Install, Check, Skip, Rollback, Launch, Read, Local, Put, Remove, Group, Finish, Clean, Show}
-use Rattle.machine.specs.declared.command.Command.TheVariants as asks
+use Rattle.machine.specs.declared.command.Command.TheVariants.{Install, Check, Group}
 use Rattle.machine.specs.declared.event.Event.{Event}
-use Rattle.machine.specs.declared.event.Event.TheVariants.{Boot, Line, Unread}
+use Rattle.machine.specs.declared.event.Event.TheVariants.{Line}
 use Rattle.machine.specs.declared.report.ReportLine.{ReportLine}
 use Rattle.machine.specs.CheckRow.{provider_of}
 use Rattle.machine.specs.Current.{current_view, data_of, listed_by}
@@ -59,7 +58,8 @@ IsCarriedOrOfSite links old view file =
     view.application.files file
     ⊎ IsAside (data_of (current_view (key_of view) old))
     (listed_by (current_view (key_of view) old)) view.application.files file
-    ⊎ Any (λ (entry : FileEntry). (target : Target) × (entry.local ≡ true) × (entry.name ≡ file.name)
+    ⊎ Any (λ (entry : FileEntry). (target : Target) × (entry.local ≡ true)
+    × (entry.name ≡ file.name)
     × (file_target_of view.base view.deployment.mapped entry.name ≡ Ok target)
     × Matches entry.list entry.size file.bytes × IsOfSite links target file.bytes)
     view.application.files
@@ -86,26 +86,12 @@ GroupOfSites links lease group old new =
 
 -- An install hears and brings, a check hears, and a group brings. Any other line does neither.
 abbrev pub IsLineOfSites : LinksState → Event → Session → Session → Type 0
-IsLineOfSites links (Boot boot) old new = Unit {0}
-IsLineOfSites links (Line (At next) now heard) old new = Unit {0}
-IsLineOfSites links (Line (Require key version) now heard) old new = Unit {0}
 IsLineOfSites links (Line (Install url) now heard) old new = IsOfSites links url heard.texts old new
 IsLineOfSites links (Line (Check key) now heard) old new =
     OfferOfSites links key heard.texts old.store
-IsLineOfSites links (Line (Skip key) now heard) old new = Unit {0}
-IsLineOfSites links (Line (Rollback key) now heard) old new = Unit {0}
-IsLineOfSites links (Line (Launch key) now heard) old new = Unit {0}
-IsLineOfSites links (Line (Read lease name from count) now heard) old new = Unit {0}
-IsLineOfSites links (Line (Local lease name from count) now heard) old new = Unit {0}
-IsLineOfSites links (Line (Put lease name bytes) now heard) old new = Unit {0}
-IsLineOfSites links (Line (Remove lease name) now heard) old new = Unit {0}
 IsLineOfSites links (Line (Group lease group) now heard) old new =
     GroupOfSites links lease group old new
-IsLineOfSites links (Line (Finish lease) now heard) old new = Unit {0}
-IsLineOfSites links (Line Clean now heard) old new = Unit {0}
-IsLineOfSites links (Line asks.List now heard) old new = Unit {0}
-IsLineOfSites links (Line (Show key) now heard) old new = Unit {0}
-IsLineOfSites links (Unread fault) old new = Unit {0}
+IsLineOfSites links _ old new = Unit {0}
 
 -- The lines lead to this session, and what each heard and brought is of the sites of these links.
 abbrev pub AreOfSites : LinksState → Origin → List ReportLine → Session → Type 0

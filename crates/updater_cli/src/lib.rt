@@ -2,7 +2,7 @@
 #![tactic(auto)]
 
 mod course;
-mod demonstrating;
+mod demo_end;
 mod laws;
 mod limits;
 mod line;

@@ -3,6 +3,8 @@ ghost use Rattle.std.specs.Prelude.{◌≡◌, ◌≢◌, ◌⊎◌, ◌↔◌, 
 ghost use Rattle.small_types.specs.declared.limits.TheConstants.{BLOCK_LIMIT};
 ghost use Rattle.outside.specs.Streams.{Rose};
 ghost use Rattle.inspection.specs.declared.manifest.Kind.{Kind};
+ghost use Rattle.publication.specs.declared.publication.End.TheVariants as ends;
+ghost use Rattle.publication.specs.Publication.{status_of};
 ghost use Rattle.publish_plan.specs.declared.options.Options.{Options};
 ghost use Rattle.updater.specs.StandsFor.{StandsForNone};
 ghost use Rattle.updater_cli.specs.declared.status.Status.TheVariants as exit;
@@ -15,7 +17,7 @@ ghost use Rattle.updater_cli.specs.Requests.{InspectsInput, PublishesBy};
 ghost use Rattle.updater_cli.specs.Status.{code_of};
 ghost use Rattle.updater_cli.specs.Words.{AsksForDemo, AsksForSession, AsksToPublish, IsUntaken, is_publish, request_of};
 
-use crate::demonstrating::demonstrate;
+use crate::demo_end::demonstrate;
 use crate::opening::session;
 use crate::status::Status;
 use crate::words::{Request, read_words};
@@ -116,7 +118,7 @@ pub fn run<S: Source, K: Sink, D: Disk, F: Folder, L: Links>(
 
     // A release was published, or the publish was refused, and a line says which.
     ensures publish { (options : Options) → request_of words.now ≡ Some (asked.Publish options)
-        → result ≢ 1
+        → result ≢ code_of exit.Words
         → PublishesBy F.Folder K.Sink options result folder.old folder.new sink.old sink.new }
     ensures publish_others { (options : Options)
         → request_of words.now ≡ Some (asked.Publish options) → (source.new ≡ source.old)
@@ -140,41 +142,51 @@ pub fn run<S: Source, K: Sink, D: Disk, F: Folder, L: Links>(
     // When each status comes.
     ensures statuses { result ≤ 8 }
     ensures session_statuses { (boot now : ℕ)
-        → request_of words.now ≡ Some (asked.Session boot now) → result ≢ 7 }
-    ensures words { result ≡ 1 → (request_of words.now ≡ None) ⊎ IsUntaken words.now }
+        → request_of words.now ≡ Some (asked.Session boot now) → result ≢ status_of ends.Refused }
+    ensures words { result ≡ code_of exit.Words
+        → (request_of words.now ≡ None) ⊎ IsUntaken words.now }
     ensures no_request { request_of words.now ≡ None
-        → (result ≡ 1) ⊎ ((is_publish words.now ≡ true) × (result ≡ 6)) }
+        → (result ≡ code_of exit.Words)
+        ⊎ ((is_publish words.now ≡ true) × (result ≡ code_of exit.Memory)) }
     ensures other_words { is_publish words.now ≡ false
-        → (result ≡ 1) ↔ (request_of words.now ≡ None) }
-    ensures nothing { result ≡ 1 → (source.new ≡ source.old) × (sink.new ≡ sink.old)
+        → (result ≡ code_of exit.Words) ↔ (request_of words.now ≡ None) }
+    ensures nothing { result ≡ code_of exit.Words
+        → (source.new ≡ source.old) × (sink.new ≡ sink.old)
         × (disk.new ≡ disk.old) × (folder.new ≡ folder.old) × (links.new ≡ links.old)
         × (report.new ≡ report.old) }
     ensures nothing_asked { request_of words.now ≡ None → (source.new ≡ source.old)
         × (sink.new ≡ sink.old) × (disk.new ≡ disk.old) × (folder.new ≡ folder.old)
         × (links.new ≡ links.old) × (report.new ≡ report.old) }
-    ensures source_fault { ¬ AsksToPublish (request_of words.now) → result ≡ 2
+    ensures source_fault { ¬ AsksToPublish (request_of words.now)
+        → result ≡ code_of exit.SourceFault
         → Rose (S.count source.old) (S.count source.new) }
-    ensures sink_fault { ¬ AsksToPublish (request_of words.now) → result ≡ 3
+    ensures sink_fault { ¬ AsksToPublish (request_of words.now)
+        → result ≡ code_of exit.SinkFault
         → Rose (K.count sink.old) (K.count sink.new) }
-    ensures disk_fault { result ≡ 4 → Rose (D.count disk.old) (D.count disk.new) }
+    ensures disk_fault { result ≡ code_of exit.DiskFault
+        → Rose (D.count disk.old) (D.count disk.new) }
 
     // A status passes over no fault: each count rises with its own status alone.
-    ensures source_quiet { result ≢ 2 → S.count source.new ≡ S.count source.old }
-    ensures sink_quiet { result ≢ 3 → K.count sink.new ≡ K.count sink.old }
-    ensures disk_quiet { result ≢ 4 → D.count disk.new ≡ D.count disk.old }
-    ensures folder_quiet { result ≢ 2 → result ≢ 3 → F.count folder.new ≡ F.count folder.old }
+    ensures source_quiet { result ≢ code_of exit.SourceFault
+        → S.count source.new ≡ S.count source.old }
+    ensures sink_quiet { result ≢ code_of exit.SinkFault → K.count sink.new ≡ K.count sink.old }
+    ensures disk_quiet { result ≢ code_of exit.DiskFault → D.count disk.new ≡ D.count disk.old }
+    ensures folder_quiet { result ≢ code_of exit.SourceFault → result ≢ code_of exit.SinkFault
+        → F.count folder.new ≡ F.count folder.old }
 
     // What the disk tells afterwards it told before.
     ensures told { D.tells disk.new → D.tells disk.old }
 
     // Where there is no store.
-    ensures not_a_store { D.tells disk.new → result ≡ 5 → StandsForNone (D.seen disk.old) }
+    ensures not_a_store { D.tells disk.new → result ≡ code_of exit.NotAStore
+        → StandsForNone (D.seen disk.old) }
     ensures no_store { (boot now : ℕ) → request_of words.now ≡ Some (asked.Session boot now)
-        → D.tells disk.new → StandsForNone (D.seen disk.old) → (result ≡ 5)
-        ⊎ ((result ≡ 4) ⊎ (result ≡ 6)) }
-    ensures unopened { result ≡ 5 → (source.new ≡ source.old) × (sink.new ≡ sink.old)
+        → D.tells disk.new → StandsForNone (D.seen disk.old) → (result ≡ code_of exit.NotAStore)
+        ⊎ ((result ≡ code_of exit.DiskFault) ⊎ (result ≡ code_of exit.Memory)) }
+    ensures unopened { result ≡ code_of exit.NotAStore
+        → (source.new ≡ source.old) × (sink.new ≡ sink.old)
         × (links.new ≡ links.old) × (D.total disk.new ≡ D.total disk.old) × IsNothing report.new }
-    ensures unopened_reads { result ≡ 5 → D.seen disk.new ≡ D.seen disk.old }
+    ensures unopened_reads { result ≡ code_of exit.NotAStore → D.seen disk.new ≡ D.seen disk.old }
 {
     match read_words(alloc, words) {
         Err(WordFault::Unreadable) => Status::Words.code(),

@@ -3,7 +3,7 @@ use Rattle.machine.specs.declared.command.Command.TheVariants.{Launch}
 use Rattle.machine.specs.declared.reply.Reply.TheVariants as says
 use Rattle.identity.specs.declared.key.Key.{Key}
 use Rattle.identity.specs.Key.{IsKey}
-use Rattle.generated_release.specs.declared.release.Release.TheVariants.{One}
+use Rattle.generated_release.specs.declared.release.GeneratedRelease.TheVariants.{One}
 use Rattle.generated_release.specs.Options.{demo_key, version_of}
 use Rattle.demo.proofs.Answering.{judged}
 use Rattle.demo.proofs.Keys.{demo_is_key}

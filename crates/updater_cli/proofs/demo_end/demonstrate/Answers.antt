@@ -2,9 +2,9 @@ use Rattle.std.proofs.Common.{rules, arith, ◌∙◌, Some, Err, refl, ap, subs
 use Rattle.std.specs.Prelude.{List, ℕ}
 use Rattle.outside.specs.Streams.{Appends, AppendsPart}
 use Rattle.demo.specs.declared.fault.DemoFault.TheVariants as faults
-use Rattle.updater_cli.specs.declared.demonstrating.DemoEnd.TheVariants as end
+use Rattle.updater_cli.specs.declared.demo_end.DemoEnd.TheVariants as end
 use Rattle.updater_cli.proofs.DemoEnds.{asks_by, by_disk, by_memory, cut_off, ended_early, not_noted, noted, written}
-use Rattle.updater_cli.proofs.demonstrating.demonstrate.Goals as goal
+use Rattle.updater_cli.proofs.demo_end.demonstrate.Goals as goal
 
 pub returns-in-Err-DiskFault-clause-runs : goal.returns-in-Err-DiskFault-clause-runs
 returns-in-Err-DiskFault-clause-runs g c = by_disk g.K.Sink g.D.Disk c.args.seed c.args.sink.now c.args.sink.now c.args.disk.now c.demo.new.disk refl

@@ -1,6 +1,6 @@
 // The generated run, and the line that says what it came to.
 ghost use Rattle.std.specs.Prelude.{◌≡◌};
-ghost use Rattle.updater_cli.specs.declared.demonstrating.DemoEnd.TheVariants as end;
+ghost use Rattle.updater_cli.specs.declared.demo_end.DemoEnd.TheVariants as end;
 ghost use Rattle.updater_cli.specs.Demonstration.{NotesFault, RunsDemo, demo_code};
 ghost use Rattle.updater_cli.specs.Devices.{Asks, RisesWith};
 
