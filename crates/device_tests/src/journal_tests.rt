@@ -38,12 +38,7 @@ fn piece_of(alloc: Global, before: usize, content: &[u8]) -> Result<Vec<u8>, All
     Ok(piece)
 }
 
-fn append(
-    alloc: Global,
-    disk: &mut MemDisk,
-    log: &mut Log,
-    change: &[u8],
-) -> Result<(), LogFault> {
+fn append(alloc: Global, disk: &mut MemDisk, log: &mut Log, change: &[u8]) -> Result<(), LogFault> {
     if change.is_empty() {
         return Err(LogFault::NotALog);
     }
@@ -420,11 +415,7 @@ fn stopped(alloc: Global, stops: &Stops) -> Result<Option<usize>, LogFault> {
     wrong
 }
 
-fn stopped_on(
-    alloc: Global,
-    disk: &mut MemDisk,
-    stops: &Stops,
-) -> Result<Option<usize>, LogFault> {
+fn stopped_on(alloc: Global, disk: &mut MemDisk, stops: &Stops) -> Result<Option<usize>, LogFault> {
     let (mut log, _) = Log::recover(alloc, disk)?;
     let from = disk.calls();
     let right = answers(alloc, disk, &mut log, &stops.call)?;
@@ -515,7 +506,12 @@ const SERIALS: &[Spoilt] = &[
 ];
 
 const GATES: &[Spoilt] = &[
-    ("the older half closed", &[(4096, 0), (4097, 77)], WHOLE, NEWER),
+    (
+        "the older half closed",
+        &[(4096, 0), (4097, 77)],
+        WHOLE,
+        NEWER,
+    ),
     ("its gate 255", &[(4096, 255)], WHOLE, NEWER),
     ("the rest of it", &[(4098, 255)], WHOLE, NEWER),
     ("the newer half closed", &[(1_052_672, 2)], WHOLE, OLDER),
@@ -546,12 +542,32 @@ const HEADS: &[Spoilt] = &[
     ("another sign", &[(7, 48)], WHOLE, NONE),
     ("0 blocks", &[(14, 0), (15, 0)], WHOLE, NONE),
     ("1 block", &[(14, 0), (15, 1)], WHOLE, NEWER),
-    ("1,048,576 blocks", &[(13, 16), (14, 0), (15, 0)], WHOLE, NEWER),
-    ("1,048,577 blocks", &[(13, 16), (14, 0), (15, 1)], WHOLE, NONE),
+    (
+        "1,048,576 blocks",
+        &[(13, 16), (14, 0), (15, 0)],
+        WHOLE,
+        NEWER,
+    ),
+    (
+        "1,048,577 blocks",
+        &[(13, 16), (14, 0), (15, 1)],
+        WHOLE,
+        NONE,
+    ),
     ("no half", &[(21, 0)], WHOLE, NONE),
     ("a half of a byte more", &[(23, 1)], WHOLE, NONE),
-    ("a half of a block less", &[(21, 15), (22, 240)], WHOLE, NONE),
-    ("a half above the limit", &[(20, 4), (21, 0), (22, 16)], WHOLE, NONE),
+    (
+        "a half of a block less",
+        &[(21, 15), (22, 240)],
+        WHOLE,
+        NONE,
+    ),
+    (
+        "a half above the limit",
+        &[(20, 4), (21, 0), (22, 16)],
+        WHOLE,
+        NONE,
+    ),
     ("a byte behind the half", &[(24, 1)], WHOLE, NONE),
     ("a byte before the gate", &[(63, 1)], WHOLE, NONE),
     ("a closed gate", &[(64, 0)], WHOLE, NONE),
