@@ -1,4 +1,4 @@
-//! Tests of the devices in memory, of what a device notes, and of the log: that calls succeed and fail by their numbers.
+//! Tests of the devices in memory, of what a device notes, and of both logs: that calls succeed and fail by their numbers.
 #![tactic(auto)]
 
 #[cfg(test)]
@@ -9,6 +9,8 @@ mod connections_tests;
 mod disks_tests;
 #[cfg(test)]
 mod folders_tests;
+#[cfg(test)]
+mod journal_tests;
 #[cfg(test)]
 mod links_tests;
 #[cfg(test)]

@@ -1,0 +1,16 @@
+pub mod Blocks
+pub mod Course
+pub mod Entries
+pub mod EntryReading
+pub mod Gates
+pub mod Halves
+pub mod HeadBlock
+pub mod Making
+pub mod NewJournal
+pub mod Parse
+pub mod Parts
+pub mod Ranges
+pub mod Reading
+pub mod Store
+pub mod Tables
+pub mod Turns
