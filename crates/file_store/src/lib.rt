@@ -1,4 +1,4 @@
-//! The contents of files, in blocks on a disk. Before the blocks another part of the disk may stand.
+//! The contents of files, in blocks on a disk. Another part of the disk may stand before them.
 #![tactic(auto)]
 
 mod draft;

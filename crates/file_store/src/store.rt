@@ -14,6 +14,7 @@ use crate::piece::write_bytes;
 use crate::reading::read_bytes;
 use crate::{Draft, FileFault};
 use disks::Disk;
+use outside::Failed;
 use small_types::List;
 use small_types::limits::{BLOCK_SIZE, STORED_BLOCK_LIMIT};
 use std::alloc::{AllocError, Global};
@@ -56,9 +57,9 @@ fn give_back(free: &mut Vec<u32>, blocks: &[u32])
 impl FileStore {
     ghost use Rattle.file_store.specs.Stores.{AreUsed, Holds, SameRange, base_of, blocks_of, blocks_of_all, filled_of, free_of, number_of, size_of};
 
-    /// A store of this many blocks, 1 to `STORED_BLOCK_LIMIT`, from `base` on, of which these are in
-    /// use. It makes the room for the numbers of all blocks, so no later call needs memory to give
-    /// blocks back. `Memory`: there was none.
+    /// A store of this many blocks, 1 to `STORED_BLOCK_LIMIT`, from `base` on, of which these are
+    /// in use. It makes the room for the numbers of all blocks, so no later call needs memory to
+    /// give blocks back. `Memory`: there was none.
     pub fn new(
         alloc: Global,
         blocks: u64,
@@ -92,8 +93,8 @@ impl FileStore {
     }
 
     /// Takes the blocks for a content of this size: the first of the free ones. Nothing is written.
-    /// `Full`: that needs more than are free. `Memory`: there was none. After a fault the store is as
-    /// it was.
+    /// `Full`: that needs more than are free. `Memory`: there was none. After a fault the store is
+    /// as it was.
     pub fn begin(&mut self, alloc: Global, size: u64) -> Result<Draft, FileFault>
         ensures takes { IfOk result
             (λ draft. free_of self.old ≡ blocks_of draft ++ free_of self.new) }
@@ -125,8 +126,8 @@ impl FileStore {
     }
 
     /// Writes a piece of a draft behind those that it was given. It takes no memory. Neighbouring
-    /// blocks are written by one call of the disk. `DiskFault`: the disk failed; the draft is then as
-    /// it was.
+    /// blocks are written by one call of the disk. `DiskFault`: the disk failed; the draft is then
+    /// as it was.
     pub fn store_piece<D: Disk>(
         &mut self,
         disk: &mut D,
@@ -176,8 +177,8 @@ impl FileStore {
         Ok(())
     }
 
-    /// Makes a whole draft durable, and answers its blocks. It takes no memory. `DiskFault`: the disk
-    /// failed; the draft's blocks are then free.
+    /// Makes a whole draft durable, and answers its blocks. It takes no memory. `DiskFault`: the
+    /// disk failed; the draft's blocks are then free.
     pub fn seal<D: Disk>(&mut self, disk: &mut D, draft: Draft) -> Result<List<u32>, FileFault>
         requires whole { filled_of draft ≡ size_of draft }
         requires used { AreUsed self.old (blocks_of draft) }
@@ -211,8 +212,8 @@ impl FileStore {
         Ok(draft.into_blocks())
     }
 
-    /// Makes whole drafts durable by one sync, and answers them. It takes no memory. `DiskFault`: the
-    /// disk failed; the blocks of all these drafts are then free.
+    /// Makes whole drafts durable by one sync, and answers them. It takes no memory. `DiskFault`:
+    /// the disk failed; the blocks of all these drafts are then free.
     pub fn seal_all<D: Disk>(
         &mut self,
         disk: &mut D,
@@ -245,7 +246,7 @@ impl FileStore {
             ⊎ HasNoNumber (D.moment disk.new) (D.total disk.new) 0 }
         ensures faults { IfErr result (λ e. e ≡ DiskFault) }
     {
-        if disk.sync().is_err() {
+        if let Err(Failed) = disk.sync() {
             self.abandon_all(drafts);
             return Err(FileFault::DiskFault);
         }
