@@ -1,0 +1,27 @@
+use Rattle.std.proofs.Common.{refl}
+use Rattle.std.proofs.Math.Nat.{le_refl}
+use Rattle.file_store.specs.Stores.{base_of, blocks_of}
+use Rattle.file_store.proofs.Writing.{only_start}
+use Rattle.draft_basket.proofs.Holding.{past_none, whole_empty}
+use Rattle.draft_basket.proofs.DraftBasketBasket.restart.Goals as goal
+
+pub invariant_of-self : goal.invariant_of-self
+invariant_of-self g c = record {
+  whole = whole_empty (base_of c.args.self.now.store.now) c.restart.new.draft (g.D.Disk.seen c.args.self.now.disk.now) c.restart.ensures.filled;
+  past_size = past_none c.restart.new.draft c.new-self.result.noted c.new-self.ensures;
+}
+
+pub returns-clause-turned : goal.returns-clause-turned
+returns-clause-turned g c = (
+  refl,
+  refl,
+  refl,
+  refl,
+  record {
+    blocks = c.restart.ensures.blocks;
+    size = c.restart.ensures.size;
+    only = only_start g.D.Disk (base_of c.args.self.now.store.now) (blocks_of c.args.self.now.draft.now) c.args.self.now.disk.now;
+    told = λ tells. tells;
+    total = le_refl (g.D.Disk.total c.args.self.now.disk.now);
+  },
+)

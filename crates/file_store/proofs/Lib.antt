@@ -1,0 +1,12 @@
+pub mod Apart
+pub mod Fronts
+pub mod Giving
+pub mod Marking
+pub mod Overwriting
+pub mod Places
+pub mod ReadBack
+pub mod Runs
+pub mod Spending
+pub mod Staying
+pub mod Using
+pub mod Writing

@@ -1,0 +1,5 @@
+pub mod Laws
+pub mod Marks
+pub mod Stores
+pub mod Stretches
+pub mod Writes

@@ -1,0 +1,46 @@
+// A content that is being written.
+ghost use Rattle.std.specs.Prelude.{◌≡◌, ◌≤◌, length};
+ghost use Rattle.small_types.specs.Blocks.{AreApart, count_for};
+ghost use Rattle.small_types.specs.declared.limits.TheConstants.{STORED_BLOCK_LIMIT};
+
+use small_types::List;
+
+/// A content that is being written: the blocks that `begin` took for it, how many bytes it is to
+/// have, and how many of them it was given so far.
+#[derive(Drop, Debug)]
+pub struct Draft {
+    pub(crate) blocks: List<u32>,
+    pub(crate) size: u64,
+    pub(crate) filled: u64,
+    ghost counted: { length blocks ≡ count_for size },
+    ghost within: { filled ≤ size },
+    ghost few: { length blocks ≤ STORED_BLOCK_LIMIT },
+    ghost apart: { AreApart blocks },
+}
+
+impl Draft {
+    ghost use Rattle.file_store.specs.Stores.{blocks_of, filled_of, size_of};
+
+    /// How many bytes it is to have.
+    pub fn size(&self) -> u64
+        ensures { result ≡ size_of self.now }
+    {
+        self.size
+    }
+
+    /// How many bytes it was given.
+    pub fn filled(&self) -> u64
+        ensures within { result ≤ size_of self.now }
+        ensures value { result ≡ filled_of self.now }
+    {
+        self.filled
+    }
+
+    /// The blocks of a draft, in the order of its bytes, in place of the draft.
+    pub fn into_blocks(self) -> List<u32>
+        ensures { result ≡ blocks_of self }
+    {
+        let Draft { blocks, .. } = self;
+        blocks
+    }
+}

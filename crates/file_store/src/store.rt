@@ -1,0 +1,328 @@
+// The blocks of a disk, free and used.
+ghost use Rattle.std.specs.Prelude.{◌≡◌, ◌≢◌, ◌⊎◌, ◌<◌, ◌≤◌, ◌+◌, ◌-◌, ◌/◌, ◌^◌, ℕ, List, ◌++◌, length, min, reverse, All, Contains, IfOk, IfErr, IsErr, OnOk, OnErr, vec_len, vec_capacity};
+ghost use Rattle.disks.specs.Disk.{Gives, Only};
+ghost use Rattle.disks.specs.Moments.{Each, LeavesOnly, Untouched};
+ghost use Rattle.disks.specs.Spends.{HasNoNumber, Spends};
+ghost use Rattle.small_types.specs.Blocks.{AreApart, IsContent, count_for};
+ghost use Rattle.small_types.specs.declared.limits.TheConstants.{STORED_BLOCK_LIMIT};
+ghost use Rattle.file_store.specs.declared.fault.FileFault.TheVariants.{DiskFault, Full, Memory};
+ghost use Rattle.file_store.specs.Stretches.{AreNeighbours};
+ghost use Rattle.file_store.specs.Writes.{WritesOnly, touched};
+
+use crate::marks::{mark, unmarked};
+use crate::piece::write_bytes;
+use crate::reading::read_bytes;
+use crate::{Draft, FileFault};
+use disks::Disk;
+use outside::Failed;
+use small_types::List;
+use small_types::limits::{BLOCK_SIZE, STORED_BLOCK_LIMIT};
+use std::alloc::{AllocError, Global};
+
+/// Which blocks of a disk are free. The block with the number n is the 4,096 bytes from
+/// `base + 4096 n` on.
+#[derive(Drop, Debug)]
+pub struct FileStore {
+    blocks: u64,
+    base: u64,
+    // The last of them is handed out first.
+    free: Vec<u32>,
+    ghost limit: { blocks ≤ STORED_BLOCK_LIMIT },
+    ghost base_limit: { base ≤ 2 ^ 62 },
+    ghost room: { blocks ≤ vec_capacity free },
+    ghost below: { All (λ block. block < blocks) free.items },
+    ghost apart: { AreApart free.items },
+}
+
+// A copy in the other order.
+fn turned(alloc: Global, items: &[u32]) -> Result<Vec<u32>, AllocError>
+    ensures { IfOk result (λ made. made.items ≡ reverse items.now) }
+{
+    let mut made = items.to_vec(alloc)?;
+    made.reverse();
+    Ok(made)
+}
+
+// Adds blocks behind the others, the last of them first. It takes no memory.
+fn give_back(free: &mut Vec<u32>, blocks: &[u32])
+    requires { vec_len free.old + length blocks.now ≤ vec_capacity free.old }
+    ensures items { free.new.items ≡ free.old.items ++ reverse blocks.now }
+    ensures capacity { vec_capacity free.old ≤ vec_capacity free.new }
+{
+    let start = free.len();
+    let _ = free.extend_from_slice(blocks);
+    free[start..].reverse();
+}
+
+impl FileStore {
+    ghost use Rattle.file_store.specs.Stores.{AreUsed, Holds, SameRange, base_of, blocks_of, blocks_of_all, filled_of, free_of, number_of, size_of};
+
+    /// A store of this many blocks, 1 to `STORED_BLOCK_LIMIT`, from `base` on, of which these are
+    /// in use. It makes the room for the numbers of all blocks, so no later call needs memory to
+    /// give blocks back. `Memory`: there was none.
+    pub fn new(
+        alloc: Global,
+        blocks: u64,
+        base: u64,
+        taken: &List<u32>,
+    ) -> Result<FileStore, FileFault>
+        requires some { 1 ≤ blocks }
+        requires limit { blocks ≤ STORED_BLOCK_LIMIT }
+        requires base { base ≤ 2 ^ 62 }
+        requires within { All (λ block. block < blocks) taken.now }
+        requires apart { AreApart taken.now }
+
+        // The taken blocks are in use, and each other block is free.
+        ensures used { IfOk result (λ store. AreUsed store taken.now) }
+        ensures count { IfOk result (λ store.
+            length taken.now + length (free_of store) ≡ blocks) }
+        ensures number { IfOk result (λ store. number_of store ≡ blocks) }
+        ensures base { IfOk result (λ store. base_of store ≡ base) }
+        ensures faults { IfErr result (λ e. e ≡ Memory) }
+    {
+        let marks = mark(alloc, blocks as usize, taken.as_slice())?;
+        let free = unmarked(alloc, &marks)?;
+        Ok(FileStore { blocks, base, free })
+    }
+
+    /// How many blocks are free.
+    pub fn free(&self) -> u64
+        ensures { result ≡ length (free_of self.now) }
+    {
+        self.free.len() as u64
+    }
+
+    /// Takes the blocks for a content of this size: the first of the free ones. Nothing is written.
+    /// `Full`: that needs more than are free. `Memory`: there was none. After a fault the store is
+    /// as it was.
+    pub fn begin(&mut self, alloc: Global, size: u64) -> Result<Draft, FileFault>
+        ensures takes { IfOk result
+            (λ draft. free_of self.old ≡ blocks_of draft ++ free_of self.new) }
+        ensures used { IfOk result (λ draft. AreUsed self.new (blocks_of draft)) }
+        ensures count { IfOk result (λ draft. length (blocks_of draft) ≡ count_for size) }
+        ensures size { IfOk result (λ draft. size_of draft ≡ size) }
+        ensures empty { IfOk result (λ draft. filled_of draft ≡ 0) }
+        ensures full { IfErr result (λ e. e ≢ Memory
+            → (e ≡ Full (count_for size) (length (free_of self.old)))
+            × (length (free_of self.old) < count_for size)) }
+        ensures too_many { length (free_of self.old) < count_for size
+            → result ≡ Err (Full (count_for size) (length (free_of self.old))) }
+        ensures kept { OnErr result (self.new ≡ self.old) }
+        ensures range { SameRange self.old self.new }
+    {
+        let need = size.div_ceil(BLOCK_SIZE as u64);
+        let free = self.free();
+        if need > free {
+            return Err(FileFault::Full { need, free });
+        }
+        let keep = self.free.len() - need as usize;
+        let blocks = turned(alloc, &self.free[keep..])?;
+        self.free.truncate(keep);
+        Ok(Draft {
+            blocks: List::from_vec(blocks),
+            size,
+            filled: 0,
+        })
+    }
+
+    /// Writes a piece of a draft behind those that it was given. It takes no memory. Neighbouring
+    /// blocks are written by one call of the disk. `DiskFault`: the disk failed; the draft is then
+    /// as it was.
+    pub fn store_piece<D: Disk>(
+        &mut self,
+        disk: &mut D,
+        draft: &mut Draft,
+        bytes: &[u8],
+    ) -> Result<(), FileFault>
+        requires { filled_of draft.old + length bytes.now ≤ size_of draft.old }
+
+        // Only the draft's own blocks are written, at each moment of the call, also where it fails.
+        ensures only { WritesOnly D.Disk (base_of self.old) (blocks_of draft.old) disk.old
+            disk.new }
+
+        // What the draft held, it holds with the piece behind it; after a fault without it.
+        ensures held { (before : List ℕ)
+            → Holds (base_of self.old) draft.old before (D.seen disk.old)
+            → OnOk result (Holds (base_of self.old) draft.new (before ++ bytes.now)
+            (D.seen disk.new)) }
+        ensures kept { (before : List ℕ)
+            → Holds (base_of self.old) draft.old before (D.seen disk.old)
+            → IsContent (base_of self.old) (blocks_of draft.old) before (D.seen disk.new) }
+        ensures filled { OnOk result
+            (filled_of draft.new ≡ filled_of draft.old + length bytes.now) }
+        ensures blocks { blocks_of draft.new ≡ blocks_of draft.old }
+        ensures size { size_of draft.new ≡ size_of draft.old }
+        ensures draft { OnErr result (draft.new ≡ draft.old) }
+        ensures store { self.new ≡ self.old }
+
+        // Each byte is written once, and those of neighbouring blocks by one call.
+        ensures written { OnOk result (D.total disk.new ≡ D.total disk.old + length bytes.now) }
+        ensures calls { AreNeighbours (blocks_of draft.old) (filled_of draft.old / BLOCK_SIZE)
+            ((filled_of draft.old + length bytes.now - 1) / BLOCK_SIZE)
+            → D.moment disk.new ≤ D.moment disk.old + 1 }
+        ensures spends { Spends D.Disk (touched (filled_of draft.old) (length bytes.now))
+            (length bytes.now) disk.old disk.new (IsErr result) }
+        ensures counted { 0 < length bytes.now → (D.moment disk.old + 1 ≤ D.moment disk.new)
+            ⊎ HasNoNumber (D.moment disk.new) (D.total disk.new) (length bytes.now) }
+        ensures faults { IfErr result (λ e. e ≡ DiskFault) }
+    {
+        write_bytes(
+            self.base,
+            disk,
+            draft.blocks.as_slice(),
+            draft.filled as usize,
+            bytes,
+        )?;
+        draft.filled += bytes.len() as u64;
+        Ok(())
+    }
+
+    /// Makes a whole draft durable, and answers its blocks. It takes no memory. `DiskFault`: the
+    /// disk failed; the draft's blocks are then free.
+    pub fn seal<D: Disk>(&mut self, disk: &mut D, draft: Draft) -> Result<List<u32>, FileFault>
+        requires whole { filled_of draft ≡ size_of draft }
+        requires used { AreUsed self.old (blocks_of draft) }
+
+        // Each stop then leaves what reads give, and in it the draft's blocks have what it held.
+        ensures durable { OnOk result (Only (D.seen disk.old) (D.left_at disk.new
+            (D.moment disk.new))) }
+        ensures content { (bytes : List ℕ)
+            → Holds (base_of self.old) draft bytes (D.seen disk.old)
+            → IfOk result (λ blocks. Each D.Disk disk.new
+            (IsContent (base_of self.old) blocks bytes)) }
+        ensures blocks { IfOk result (λ blocks. blocks ≡ blocks_of draft) }
+        ensures seen { D.seen disk.new ≡ D.seen disk.old }
+
+        // A stop inside leaves what it could leave before the call.
+        ensures any_moment { LeavesOnly D.Disk disk.old disk.new (D.left_at disk.old
+            (D.moment disk.old)) }
+        ensures free { OnOk result (self.new ≡ self.old) }
+        ensures freed { OnErr result (free_of self.new ≡ blocks_of draft ++ free_of self.old) }
+        ensures range { SameRange self.old self.new }
+        ensures spends { Spends D.Disk 1 0 disk.old disk.new (IsErr result) }
+        ensures tick { OnOk result (D.moment disk.new ≡ D.moment disk.old + 1) }
+        ensures counted { (D.moment disk.old + 1 ≤ D.moment disk.new)
+            ⊎ HasNoNumber (D.moment disk.new) (D.total disk.new) 0 }
+        ensures faults { IfErr result (λ e. e ≡ DiskFault) }
+    {
+        if disk.sync().is_err() {
+            self.abandon(draft);
+            return Err(FileFault::DiskFault);
+        }
+        Ok(draft.into_blocks())
+    }
+
+    /// Makes whole drafts durable by one sync, and answers them. It takes no memory. `DiskFault`:
+    /// the disk failed; the blocks of all these drafts are then free.
+    pub fn seal_all<D: Disk>(
+        &mut self,
+        disk: &mut D,
+        drafts: List<Draft>,
+    ) -> Result<List<Draft>, FileFault>
+        requires whole { All (λ draft. filled_of draft ≡ size_of draft) drafts }
+        requires used { AreUsed self.old (blocks_of_all drafts) }
+
+        // Each stop then leaves what reads give, and in it the blocks of each draft have what it
+        // held.
+        ensures durable { OnOk result (Only (D.seen disk.old) (D.left_at disk.new
+            (D.moment disk.new))) }
+        ensures contents { (draft : Draft) (bytes : List ℕ) → Contains drafts draft
+            → Holds (base_of self.old) draft bytes (D.seen disk.old)
+            → OnOk result (Each D.Disk disk.new
+            (IsContent (base_of self.old) (blocks_of draft) bytes)) }
+        ensures drafts { IfOk result (λ sealed. sealed ≡ drafts) }
+        ensures seen { D.seen disk.new ≡ D.seen disk.old }
+
+        // A stop inside leaves what it could leave before the call.
+        ensures any_moment { LeavesOnly D.Disk disk.old disk.new (D.left_at disk.old
+            (D.moment disk.old)) }
+        ensures free { OnOk result (self.new ≡ self.old) }
+        ensures freed { OnErr result
+            (free_of self.new ≡ blocks_of_all drafts ++ free_of self.old) }
+        ensures range { SameRange self.old self.new }
+        ensures spends { Spends D.Disk 1 0 disk.old disk.new (IsErr result) }
+        ensures tick { OnOk result (D.moment disk.new ≡ D.moment disk.old + 1) }
+        ensures counted { (D.moment disk.old + 1 ≤ D.moment disk.new)
+            ⊎ HasNoNumber (D.moment disk.new) (D.total disk.new) 0 }
+        ensures faults { IfErr result (λ e. e ≡ DiskFault) }
+    {
+        if let Err(Failed) = disk.sync() {
+            self.abandon_all(drafts);
+            return Err(FileFault::DiskFault);
+        }
+        Ok(drafts)
+    }
+
+    /// Reads a content of this size from its blocks, from a byte of it on: as many bytes as stand
+    /// there, at most the buffer's length. It takes no memory. Neighbouring blocks are read by one
+    /// call of the disk. `DiskFault`: the disk failed; the buffer may then have any bytes.
+    pub fn read_content<D: Disk>(
+        &self,
+        disk: &mut D,
+        blocks: &List<u32>,
+        size: u64,
+        from: u64,
+        buf: &mut [u8],
+    ) -> Result<usize, FileFault>
+        requires { length blocks.now ≡ count_for size }
+        ensures within { IfOk result (λ n. n ≤ min (size - from) (length buf.old)) }
+        ensures bytes { D.tells disk.new → (content : List ℕ) → length content ≡ size
+            → IsContent (base_of self.now) blocks.now content (D.seen disk.old)
+            → IfOk result (λ n. Gives content from buf.old buf.new n) }
+        ensures still { Untouched D.Disk disk.old disk.new }
+        ensures spends { Spends D.Disk 0 0 disk.old disk.new (IsErr result) }
+        ensures faults { IfErr result (λ e. e ≡ DiskFault) }
+    {
+        if from >= size {
+            return Ok(0);
+        }
+        let want = ((size - from) as usize).min(buf.len());
+        let n = read_bytes(
+            self.base,
+            disk,
+            blocks.as_slice(),
+            from as usize,
+            &mut buf[..want],
+        )?;
+        Ok(n)
+    }
+
+    /// Empties a draft, which keeps its blocks. It takes no memory.
+    pub fn restart(&self, draft: &mut Draft)
+        ensures filled { filled_of draft.new ≡ 0 }
+        ensures blocks { blocks_of draft.new ≡ blocks_of draft.old }
+        ensures size { size_of draft.new ≡ size_of draft.old }
+    {
+        draft.filled = 0;
+    }
+
+    /// Gives a draft up: its blocks are free. It takes no memory.
+    pub fn abandon(&mut self, draft: Draft)
+        requires { AreUsed self.old (blocks_of draft) }
+        ensures freed { free_of self.new ≡ blocks_of draft ++ free_of self.old }
+        ensures range { SameRange self.old self.new }
+    {
+        self.release_blocks(&draft.blocks);
+    }
+
+    /// Gives drafts up: the blocks of all of them are free. It takes no memory.
+    pub fn abandon_all(&mut self, drafts: List<Draft>)
+        requires { AreUsed self.old (blocks_of_all drafts) }
+        ensures freed { free_of self.new ≡ blocks_of_all drafts ++ free_of self.old }
+        ensures range { SameRange self.old self.new }
+    {
+        let mut left = drafts.into_vec();
+        while let Some(draft) = left.pop() {
+            self.abandon(draft);
+        }
+    }
+
+    /// Frees blocks. They keep their bytes until `begin` hands them out again. It takes no memory.
+    pub fn release_blocks(&mut self, blocks: &List<u32>)
+        requires { AreUsed self.old blocks.now }
+        ensures freed { free_of self.new ≡ blocks.now ++ free_of self.old }
+        ensures range { SameRange self.old self.new }
+    {
+        give_back(&mut self.free, blocks.as_slice());
+    }
+}
