@@ -1,7 +1,7 @@
 // A client in memory: a disk, and a link to a folder of published files.
 use crate::next::{Next, number_of, numbered};
-use crate::releasing::{inspect, publish};
-use crate::running::{
+use crate::releases::{inspect, publish};
+use crate::runs::{
     Site, disk_of, empty_disk, empty_folder, empty_report, print_calls, print_target, run_lines,
     run_silently, run_unheard, site_of,
 };

@@ -6,8 +6,8 @@
 mod changing;
 mod client;
 mod next;
-mod releasing;
-mod running;
+mod releases;
+mod runs;
 mod script;
 mod site;
 

@@ -1,7 +1,7 @@
 // The lines of a script.
 use crate::client::Client;
 use crate::next::{first_of, numbered};
-use crate::{releasing, site};
+use crate::{releases, site};
 use std::io::{self, ErrorKind};
 
 // Does what the line says of the site. Its first word says what: `site` empties it, `file` puts a
@@ -131,7 +131,7 @@ fn release(rt: &HostRuntime, client: &mut Client, word: &str, rest: &str) -> io:
         return client.inspect(rt, rest);
     }
     if word == "changing" {
-        return releasing::publish_changing(rt, &mut client.next, rest);
+        return releases::publish_changing(rt, &mut client.next, rest);
     }
     if word == "files" {
         return site::print_files(rt, client.folder());

@@ -95,8 +95,8 @@ abbrev is_all_links : Reply → Bool
 is_all_links (AllLinks target causes) = true
 is_all_links _ = false
 
-abbrev IsOther : Reply → Type 0
-IsOther reply = is_all_links reply ≡ false
+abbrev NamesNoLinks : Reply → Type 0
+NamesNoLinks reply = is_all_links reply ≡ false
 
 down_is : (reply : Reply) → SaysDown reply → is_all_links reply ≡ true
 down_is (AllLinks target causes) there = refl
@@ -113,7 +113,7 @@ AsksNothing (Group lease group) = ⊥
 AsksNothing _ = Unit {0}
 
 refuse_other : (now : ℕ) (heard : List (List ℕ)) (shape : Shape) (command : Command)
-    → AsksNothing command → AllGive IsOther (refusals now heard shape command)
+    → AsksNothing command → AllGive NamesNoLinks (refusals now heard shape command)
 refuse_other now heard shape (At next) none = tt
 refuse_other now heard shape (Require key version) none = ((λ r g. ap is_all_links g.1), tt)
 refuse_other now heard shape (Install url) none = absurd none
@@ -159,7 +159,7 @@ refuse_other now heard shape asks.List none = tt
 refuse_other now heard shape (Show key) none = ((λ r g. ap is_all_links g.1), tt)
 
 effect_other : (now : ℕ) (heard : List (List ℕ)) (command : Command) (old : Session) (reply : Reply)
-    (new : Session) → AsksNothing command → effect now heard command old reply new → IsOther reply
+    (new : Session) → AsksNothing command → effect now heard command old reply new → NamesNoLinks reply
 effect_other now heard (At next) old reply new none done = ap is_all_links done.0
 effect_other now heard (Require key version) old reply new none done = ap is_all_links done.0
 effect_other now heard (Install url) old reply new none done = absurd none
@@ -178,10 +178,10 @@ effect_other now heard asks.List old reply new none done = ap is_all_links done.
 effect_other now heard (Show key) old reply new none done = ap is_all_links done.replied
 
 answer_other : (now : ℕ) (heard : List (List ℕ)) (old : Session) (command : Command) (reply : Reply)
-    (new : Session) → AsksNothing command → Answers now heard old command reply new → IsOther reply
+    (new : Session) → AsksNothing command → Answers now heard old command reply new → NamesNoLinks reply
 answer_other now heard old command reply new none (inl (inl memory)) = ap is_all_links memory.0
 answer_other now heard old command reply new none (inl (inr refused)) =
-    given_reply IsOther (refusals now heard (shape_of old) command) old reply new
+    given_reply NamesNoLinks (refusals now heard (shape_of old) command) old reply new
     (refuse_other now heard (shape_of old) command none) refused.1
 answer_other now heard old command reply new none (inr done) =
     effect_other now heard command old reply new none done.1

@@ -3,11 +3,11 @@
 #![tactic(auto)]
 
 mod noted;
-mod running;
+mod runs;
 mod sites;
 mod texts;
 
-use running::play;
+use runs::play;
 use std::alloc::Global;
 use std::io::{self, ErrorKind};
 use texts::Texts;

@@ -1,7 +1,7 @@
 // Releases that are published, and manifests that are inspected.
 use crate::changing::Changing;
 use crate::next::{Next, first_of};
-use crate::running::{run_apart, unused_folder, words_of};
+use crate::runs::{run_apart, unused_folder, words_of};
 use crate::site::held;
 use folders::MemFolder;
 use small_types::{Bytes, Word};
