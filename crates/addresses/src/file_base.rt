@@ -12,8 +12,8 @@ use small_types::{Name, Target};
 use std::alloc::Global;
 use url::Url;
 
-/// The URL of an application's manifest, to which the names of its files are joined. It is read once, so that each name
-/// costs no more than its own address.
+/// The URL of an application's manifest, to which the names of its files are joined. It is read
+/// once, so that each name costs no more than its own address.
 #[derive(Drop)]
 pub struct FileBase {
     document: Url,
@@ -22,7 +22,8 @@ pub struct FileBase {
 impl FileBase {
     ghost use Rattle.addresses.specs.FileBase.{document_of};
 
-    /// That of the base. `BadUrl` comes exactly where the base, as it is written, is no URL; `NotHttp` never comes.
+    /// That of the base. `BadUrl` comes exactly where the base, as it is written, is no URL;
+    /// `NotHttp` never comes.
     pub fn read(alloc: Global, base: &Target) -> Result<FileBase, UrlFault>
         ensures exact { GivesBut is_memory document_of result (base_of base.now) }
         ensures http { (scheme : List ℕ) → result ≢ Err (NotHttp scheme) }

@@ -1,5 +1,5 @@
 -- Addresses of files beside a base that was read.
-use Rattle.std.proofs.Common.{◌≡◌, ◌≢◌, ◌∙◌, ◌⊎◌, ◌<◌, ◌==◌, ℕ, Bool, true, false, inl, inr, refl, sym, ap, List, [], ◌∷◌, length, get_or, map, Option, Some, None, Result, Ok, Err, arith}
+use Rattle.std.proofs.Common.{◌≡◌, ◌≢◌, ◌∙◌, ◌⊎◌, ◌<◌, ◌==◌, ℕ, Bool, false, inl, inr, refl, ap, List, [], ◌∷◌, length, get_or, map, Option, Some, None, Result, Ok, Err, arith}
 use Rattle.std.specs.Prelude.{Any, slice_get}
 use Rattle.small_types.specs.declared.target.Target.{Target}
 use Rattle.small_types.specs.Reading.{FailsBut}

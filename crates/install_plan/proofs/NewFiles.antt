@@ -7,7 +7,7 @@ use Rattle.store_state.specs.declared.change.Change.TheVariants.{Group, Install,
 use Rattle.store_state.specs.Change.{effect}
 use Rattle.store_state.specs.Shows.{HoldsNew, SameFiles, Shows}
 use Rattle.store_state.specs.Tables.{Tables}
-use Rattle.install_plan.specs.LeadsIn.{HasNew, LeadsIn, NewBytes, new_bytes}
+use Rattle.install_plan.specs.LeadsIn.{HasNew, LeadsIn, new_bytes}
 
 -- with the bytes that an image has for them
 pub leads_over : {room : Room} {change : Change} {tables : Tables} {old new : Store} (image : List ℕ)

@@ -39,7 +39,8 @@ pub record HasNew (room : Room) (change : Change) (bytes : NewBytes) (image : Li
 -- The new files have bytes, which an image has. Where the tables show the old store with an image,
 -- the changed tables show the new one with each later image that has the same bytes for the files
 -- that the tables name, and those bytes for the new ones.
-pub record LeadsIn (room : Room) (change : Change) (tables : Tables) (old new : Store) : Type 0 where
+pub record LeadsIn (room : Room) (change : Change) (tables : Tables) (old new : Store)
+    : Type 0 where
   pub bytes : NewBytes
   pub there : (image : List ℕ) × (new_bytes room change image ≡ bytes)
   pub shows : (image later : List ℕ) → Shows room tables image old

@@ -4,8 +4,8 @@ ghost use Rattle.std.specs.Prelude.{◌≡◌, []};
 use links::{Basket, BasketFault};
 use std::alloc::Global;
 
-/// A basket for a file of so many bytes. It keeps what it takes, makes the room for all of it with the first bytes, and
-/// fails only for want of memory.
+/// A basket for a file of so many bytes. It keeps what it takes, makes the room for all of it with
+/// the first bytes, and fails only for want of memory.
 #[derive(Drop, Debug)]
 pub(crate) struct ByteBasket {
     pub(crate) bytes: Vec<u8>,

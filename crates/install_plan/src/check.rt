@@ -147,8 +147,8 @@ fn unheard_change(alloc: Global, key: &Key, app: &AppState, reply: Reply) -> Pre
     }
 }
 
-/// Hears what the application's provider offers. Where that is to be noted, it comes to the change of
-/// the tables, which fits them, and the reply that is then due: also where no link gives the
+/// Hears what the application's provider offers. Where that is to be noted, it comes to the change
+/// of the tables, which fits them, and the reply that is then due: also where no link gives the
 /// manifest, since the check then counts as made.
 pub fn prepare_check<L: Links>(
     alloc: Global,

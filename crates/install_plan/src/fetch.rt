@@ -15,9 +15,9 @@ use small_types::{Bytes, CopyFault, Duplicate, List, Target};
 use std::alloc::{AllocFailed, Global};
 use store_state::Content;
 
-/// Fetches a wanted file into the basket: the bytes at the target that match what is listed. They are
-/// hashed once, and go to the basket piece by piece. An `Err` says that no link gave them, that the
-/// basket failed, or that there was no memory.
+/// Fetches a wanted file into the basket: the bytes at the target that match what is listed. They
+/// are hashed once, and go to the basket piece by piece. An `Err` says that no link gave them, that
+/// the basket failed, or that there was no memory.
 pub fn fetch_file_into<L: Links, B: Basket>(
     alloc: Global,
     links: &mut L,
@@ -68,8 +68,8 @@ fn fetch_content<L: Links>(
     }
 }
 
-// Fetches the wanted ones of these files, in their order. The first that no link gives is the reply;
-// each file before it was fetched, and nothing behind it is asked for.
+// Fetches the wanted ones of these files, in their order. The first that no link gives is the
+// reply; each file before it was fetched, and nothing behind it is asked for.
 pub(crate) fn fetch_wanted<L: Links>(
     alloc: Global,
     links: &mut L,

@@ -66,8 +66,8 @@ struct NewFiles {
     locals: List<LocalFile>,
 }
 
-// What the contents of the plan's wanted files come to: those of data files become data files. Where
-// the others come from is planned here.
+// What the contents of the plan's wanted files come to: those of data files become data files.
+// Where the others come from is planned here.
 fn new_files(
     alloc: Global,
     state: &StoreState,

@@ -1,5 +1,5 @@
-//! What installs, checks and groups hear of their links and come to: manifests are heard and judged,
-//! and files are fetched.
+//! What installs, checks and groups hear of their links and come to: manifests are heard and
+//! judged, and files are fetched.
 #![tactic(auto)]
 
 mod basket;

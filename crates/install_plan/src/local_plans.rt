@@ -92,7 +92,8 @@ pub(crate) fn judge_locals(
     d: &Deployment,
     a: &Application,
 ) -> Result<(), Reply>
-    ensures { (room : Room) → Judges (local_checks (table_shape room state.now) d.now a.now) result }
+    ensures { (room : Room)
+        → Judges (local_checks (table_shape room state.now) d.now a.now) result }
 {
     let plans = match plans_of(alloc, state, &d.identity.key, &a.files) {
         Ok(plans) => plans,

@@ -32,10 +32,12 @@ pub record MakesDurable {D T : Type 0} (on : Ghosts D) (change : Change)
   pub fits : Fits (tables_of updater_old) change
   pub has : IsChange change
   pub stored : on.tells disk_new → (old : Session) (new : Store)
-      → LeadsBetween change (tables_of updater_old) old.store new → Holds on updater_old disk_old old
+      → LeadsBetween change (tables_of updater_old) old.store new
+      → Holds on updater_old disk_old old
       → OnOk result (Holds on updater_new disk_new (record old { store = new }))
   pub stop : on.tells disk_new → (old : Session) (new : Store)
-      → LeadsBetween change (tables_of updater_old) old.store new → Holds on updater_old disk_old old
+      → LeadsBetween change (tables_of updater_old) old.store new
+      → Holds on updater_old disk_old old
       → LeavesOnly on disk_old disk_new (StandsForEither old.store new)
   pub past : (t : ℕ) (image : List ℕ) → t ≤ on.moment disk_old
       → on.left_at disk_new t image → on.left_at disk_old t image

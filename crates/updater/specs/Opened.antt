@@ -11,8 +11,8 @@ use Rattle.updater.specs.Moments.{LeavesSince, LeavesSinceOrNot}
 use Rattle.updater.specs.StandsFor.{StandsFor, StandsForNone, StandsForEither}
 use Rattle.updater.specs.Updater.{Holds}
 
--- Where the disk tells, the store is the one that reads stand for, after a boot of that number where
--- its number was another, and has no job. The answer is true exactly there.
+-- Where the disk tells, the store is the one that reads stand for, after a boot of that number
+-- where its number was another, and has no job. The answer is true exactly there.
 pub record OpeningHolds {D : Type 0} (on : Ghosts D) (boot : ℕ) (disk_old : D)
     (result : Result (Updater × Bool) RecoverFault) (disk_new : D) : Type 0 where
   pub found : on.tells disk_new → OnOk result ((old : Store) × StandsFor (on.seen disk_old) old)
@@ -24,8 +24,8 @@ pub record OpeningHolds {D : Type 0} (on : Ghosts D) (boot : ℕ) (disk_old : D)
       → IfOk result (λ r. r.1 ≡ true → old.boot ≢ boot)
   pub not_a_store : on.tells disk_new → result ≡ Err NotAStore → StandsForNone (on.seen disk_old)
 
--- From its first sync on a stop leaves the store as it was or with the given boot number. Where that
--- sync fails a stop leaves what it could leave before.
+-- From its first sync on a stop leaves the store as it was or with the given boot number. Where
+-- that sync fails a stop leaves what it could leave before.
 pub record OpeningLeaves {D : Type 0} (on : Ghosts D) (boot : ℕ) (disk_old : D)
     (result : Result (Updater × Bool) RecoverFault) (disk_new : D) : Type 0 where
   pub past : (t : ℕ) (image : List ℕ) → t ≤ on.moment disk_old

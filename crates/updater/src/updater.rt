@@ -26,12 +26,12 @@ use crate::data_files::{local_of, removal_of};
 use crate::fault::StepFault;
 use crate::going_back::going_back_of;
 use crate::leased::{leased_file, part_of};
-use crate::rows::{list_rows, show_row};
 use crate::piece::piece_of;
 use crate::putting::{local_file, putting_of};
 use crate::refusal::{finish_refusal, require_refusal};
 use crate::replay::settle;
 use crate::requirement::minimum_that_stays;
+use crate::rows::{list_rows, show_row};
 use crate::skipping::skipping_of;
 use crate::start::start_of;
 use cleaner::{CleanFault, removable};
@@ -111,8 +111,8 @@ impl Updater {
 
     /// Runs a command at a moment in seconds, at most 2^62. What it changes is durable once it is
     /// answered. The manifest texts that it heard of the links are added, behind those that stand
-    /// there. Want of memory is a reply. `Failed`: the disk failed; the store is then that before or
-    /// after the command, and is to be recovered anew.
+    /// there. Want of memory is a reply. `Failed`: the disk failed; the store is then that before
+    /// or after the command, and is to be recovered anew.
     pub fn apply<D: Disk, L: Links>(
         &mut self,
         alloc: Global,
@@ -611,8 +611,8 @@ impl Updater {
         )
     }
 
-    // Gives up the views that are not in use. Where there are none, nothing is written. The links are
-    // not asked.
+    // Gives up the views that are not in use. Where there are none, nothing is written. The links
+    // are not asked.
     fn clean<D: Disk, L: Links>(
         &mut self,
         alloc: Global,
