@@ -3,7 +3,7 @@
 
 ghost use Rattle.std.specs.Prelude.{◌≡◌, ◌≤◌, ◌++◌, refl, length, IfErr, OnOk};
 ghost use Rattle.std.proofs.Common.{◌∙◌};
-ghost use Rattle.file_store.specs.Stores.{Holds, base_of, blocks_of, size_of};
+ghost use Rattle.file_store.specs.Stores.{base_of, blocks_of, filled_of, size_of};
 ghost use Rattle.file_store.specs.Writes.{WritesOnly};
 ghost use Rattle.outside.specs.Streams.{Appends};
 ghost use Rattle.links.specs.Basket.{BasketCounts};
@@ -101,20 +101,22 @@ impl<D: Disk> Basket for DraftBasket<'_, D> {
 }
 
 impl<'a, D: Disk> DraftBasket<'a, D> {
-    /// A basket of this draft, which has what it was given in what reads give.
+    /// A basket of this draft, which it empties.
     pub fn new(
         disk: &'a mut D,
         store: &'a mut FileStore,
         draft: &'a mut Draft,
     ) -> DraftBasket<'a, D>
-        requires { IsWhole (base_of store.old) draft.old (D.seen disk.old) }
         ensures same_disk { result.disk.ghost_name ≡ disk.entry.ghost_name }
         ensures same_store { result.store.ghost_name ≡ store.entry.ghost_name }
         ensures same_draft { result.draft.ghost_name ≡ draft.entry.ghost_name }
         ensures disk { result.disk.now ≡ disk.old }
         ensures store { result.store.now ≡ store.old }
-        ensures draft { result.draft.now ≡ draft.old }
+        ensures empty { filled_of result.draft.now ≡ 0 }
+        ensures blocks { blocks_of result.draft.now ≡ blocks_of draft.old }
+        ensures size { size_of result.draft.now ≡ size_of draft.old }
     {
+        store.restart(draft);
         DraftBasket {
             disk,
             store,
@@ -152,7 +154,6 @@ pub fn fill_draft<D: Disk>(
     ensures store { store.new ≡ store.old }
     ensures counts { BasketCounts (D.count disk.old) (D.count disk.new) result }
 {
-    store.restart(draft);
     let mut basket = DraftBasket::new(disk, store, draft);
     fill(&mut basket, bytes)?;
     Ok(())

@@ -1,15 +1,12 @@
 use Rattle.std.proofs.Common.{◌≡◌, ap, arith, rules}
 use Rattle.file_store.specs.Stores.{base_of, size_of}
 use Rattle.draft_basket.specs.Basket.{held_in}
-use Rattle.draft_basket.proofs.Holding.{held_from_taken, whole_empty}
+use Rattle.draft_basket.proofs.Holding.{held_from_taken}
 use Rattle.draft_basket.proofs.fill_draft.Goals as goal
-
-pub new-basket-requires : goal.new-basket-requires
-new-basket-requires g c = whole_empty (base_of c.args.store.now) c.restart.new.draft (g.D.Disk.seen c.args.disk.now) c.restart.ensures.filled
 
 pub returns-clause-held : goal.returns-clause-held
 returns-clause-held g c = λ fits.
     let kept : held_in (base_of c.fill.new.basket.store.now) c.fill.new.basket.draft.now (g.D.Disk.seen c.fill.new.basket.disk.now) ≡ c.args.bytes.now =
     held_from_taken (base_of c.fill.new.basket.store.now) c.fill.new.basket.draft.now c.fill.new.basket.is_over c.fill.new.basket.past.noted c.args.bytes.now (g.D.Disk.seen c.fill.new.basket.disk.now)
-    c.fill.new.basket.whole c.fill.new.basket.past_size (c.in_ok-fill.ensures.bytes tt) (omega (arith, fits, c.fill.ensures.turned.4.size, ap size_of c.new-basket.ensures.draft, c.restart.ensures.size)) in
+    c.fill.new.basket.whole c.fill.new.basket.past_size (c.in_ok-fill.ensures.bytes tt) (omega (arith, fits, c.fill.ensures.turned.4.size, c.new-basket.ensures.size)) in
     search (rules, kept)
