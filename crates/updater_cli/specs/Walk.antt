@@ -9,10 +9,10 @@ use Rattle.machine.specs.Store.{Session}
 use Rattle.updater_cli.specs.Report.{AreServed, IsCounted, IsLineServed, Origin, events_of, origin_after, replies_of}
 use Rattle.updater_cli.specs.Sites.{AreOfSites, IsLineOfSites}
 
--- What holds of a line, from the session before it to the one after it. It is a step of the machine.
--- It makes calls of the disk where it changes the store, and may write so many bytes. The links did
--- what is said of it, and it shows how often they had failed by then. Where those with which the
--- session began tell, what it heard and brought is of their sites.
+-- What holds of a line, from the session before it to the one after it. It is a step of the
+-- machine. It makes calls of the disk where it changes the store, and may write so many bytes. The
+-- links did what is said of it, and it shows how often they had failed by then. Where those with
+-- which the session began tell, what it heard and brought is of their sites.
 pub record LineHolds {L : Type 0} (net : LinksGhosts L) (first : LinksState) (from : Origin)
     (mark : ℕ) (before after : L) (l : ReportLine) (new : Session) (bytes : ℕ) : Type 0 where
   pub step : Step from.now from.session l.event l.reply new
@@ -34,8 +34,8 @@ Walks {L = L} net first from mark before (l ∷ lines) new last bytes behind =
     × LineHolds net first from mark before after l mid own
     × Walks net first (origin_after from l.reply mid) l.mark after lines new last rest behind
 
--- Each fact of a walk by itself: it is a run of the machine; for each line the links did what is said
--- of it; and over links that tell, what the lines heard and brought is of their sites.
+-- Each fact of a walk by itself: it is a run of the machine; for each line the links did what is
+-- said of it; and over links that tell, what the lines heard and brought is of their sites.
 pub record WalkTells {L : Type 0} (net : LinksGhosts L) (first : LinksState) (from : Origin)
     (before : L) (lines : List ReportLine) (new : Session) (behind : L) : Type 0 where
   pub run : Run from.now from.session (events_of lines) (replies_of lines) new
