@@ -5,7 +5,7 @@ use Rattle.links.specs.Links.{LinksState, failures_of}
 use Rattle.fetcher.specs.Fetched.{AllTell, Kept}
 use Rattle.fetcher.proofs.Sequence.{kept_then}
 use Rattle.machine.specs.declared.report.ReportLine.{ReportLine}
-use Rattle.machine.specs.Machine.{Run, Step, moment_after}
+use Rattle.machine.specs.Machine.{Run, Step}
 use Rattle.machine.specs.Store.{Session}
 use Rattle.updater_cli.specs.Report.{AreServed, IsCounted, IsLineServed, Origin, events_of, moment_behind, origin_after, replies_of}
 use Rattle.updater_cli.specs.Sites.{AreOfSites}
