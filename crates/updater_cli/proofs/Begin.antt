@@ -23,12 +23,14 @@ use Rattle.links.specs.Links.{failures_of}
 use Rattle.fetcher.proofs.Sequence.{kept_same}
 use Rattle.updater_cli.specs.declared.course.Course.{Course}
 use Rattle.updater_cli.specs.Opening.{Survives, IsUnopened}
-use Rattle.updater_cli.specs.Report.{IsSettled, RunsTo, Counts, IsLineServed, StandsForPrefix, origin_over, report_of, marked_by}
+use Rattle.updater_cli.specs.Report.{IsSettled, RunsTo, IsLineServed, StandsForPrefix, origin_over, report_of, marked_by}
 use Rattle.updater_cli.specs.Session.{Between, start_over}
-use Rattle.updater_cli.proofs.Runs.{step_settled, runs_push, counts_push, served_push, counts_early, counts_late}
+use Rattle.updater_cli.specs.Walk.{Walks}
+use Rattle.updater_cli.proofs.Runs.{step_settled, runs_push, counts_early, counts_late}
 use Rattle.updater_cli.proofs.Prefix.{longer, all_lines, and_begun}
+use Rattle.updater_cli.proofs.Walks.{line_holds, walk_push}
 
-settled_first : (store : Store) → Sound store → IsSettled (session_over store)
+pub settled_first : (store : Store) → Sound store → IsSettled (session_over store)
 settled_first store sound = record { sound = begins_sound store sound; jobs = refl }
 
 -- nothing was run
@@ -64,9 +66,8 @@ module _ {D L : Type 0} (on : Ghosts D) (net : LinksGhosts L) (links : L) (old n
     runs = rw no_lines none;
     moment = rw no_lines is_now;
     bytes = 0;
-    counts = rw no_lines (refl, once, refl);
+    walk = rw no_lines (refl, once, refl, refl);
     written = omega (arith, unwritten);
-    served = rw no_lines (refl, refl);
     marks = rw no_lines tt;
     started = started;
     past = past;
@@ -111,14 +112,13 @@ module _ {D L : Type 0} (on : Ghosts D) (net : LinksGhosts L) (links : L) (old n
       runs = rw lines run;
       moment = rw (lines, is_reply) is_now;
       bytes = 0 + own;
-      counts =
-          rw lines (subst (λ (m : ℕ). Counts (origin_over now store) (on.moment old + 1) (l ∷ []) (session_over (booted boot store)) m (0 + own)) is_mark
-          (counts_push (origin_over now store) (on.moment old + 1) [] (session_over store) (session_over (booted boot store)) (on.moment old + 1) l 0 own (refl, refl, refl) boots
-          (record { same = λ equal. absurd (differs (ap (λ (s : Store). s.boot) (sym equal))); marked = λ not. omega (arith, is_mark, marked); costs = costs })));
+      walk =
+          rw lines (subst (λ (m : ℕ). Walks net (net.links links) (origin_over now store) (on.moment old + 1) links (l ∷ []) (session_over (booted boot store)) m (0 + own) links) is_mark
+          (walk_push net (net.links links) (origin_over now store) (on.moment old + 1) links [] (session_over store) (session_over (booted boot store)) (on.moment old + 1) 0 own links links l (refl, refl, refl, refl)
+          (line_holds net (net.links links) (origin_over now store) (on.moment old + 1) links links l (session_over (booted boot store)) own (kept_same (net.links links)) boots
+          (record { same = λ equal. absurd (differs (ap (λ (s : Store). s.boot) (sym equal))); marked = λ not. omega (arith, is_mark, marked); costs = costs })
+          (boot_served net links boot l.event l.reply (session_over store) (session_over (booted boot store)) is_event) is_failures)));
       written = omega (arith, within);
-      served =
-          rw lines (served_push net (origin_over now store) links [] (session_over store) (session_over (booted boot store)) links links l (refl, refl) boots
-          (boot_served net links boot l.event l.reply (session_over store) (session_over (booted boot store)) is_event) is_failures);
       marks = rw lines (omega (arith, is_mark), tt);
       started = started;
       past = past;

@@ -27,7 +27,7 @@ use Rattle.updater_cli.specs.Lines.{IsReady, Place, AreInputs, InputAnswered}
 use Rattle.updater_cli.specs.Opening.{BeginsAt, IsNoBoot, IsNoBootFirst, IsLineOrNone, BootsFirst, HasBootLine, IsOpeningEnd, begun_by}
 use Rattle.updater_cli.specs.Report.{report_of, events_of, replies_of, moment_behind, CostsBegun, IsRunAt, AreRunFrom, KeepsMoments, MarksRise, FailuresRise, IsBegunServed, WritesReplies}
 use Rattle.updater_cli.specs.Status.{PartOutcome, code_of, end_status, IsSessionEnd}
-use Rattle.updater_cli.proofs.Begin.{boot_served, runs_none}
+use Rattle.updater_cli.proofs.Begin.{boot_served, settled_first}
 use Rattle.updater_cli.proofs.Runs.{rise_on, failures_on, run_from_append, moment-append}
 use Rattle.updater_cli.proofs.Traces.{writes_on}
 
@@ -309,20 +309,18 @@ pub unopened_run : {S K D L : Type 0} (to : SinkGhosts K) (on : Ghosts D) (net :
 unopened_run to on net boot now s k l old new status end no_store within reads costs = record {
   leads = λ told store stands. record {
     session = session_over store;
-    runs = runs_none now store stands.sound;
+    settled = settled_first store stands.sound;
     reads = λ other. subst (λ (image : List ℕ). StandsFor image store) (sym (reads (λ same. other (ap code_of same)))) stands.stands;
     last = on.moment old + 1;
     bytes = 0;
-    counts = (refl, refl, refl);
+    walk = (refl, refl, refl, refl);
     more = (spent store status end (costs told store stands.stands)).0;
     begins = (spent store status end (costs told store stands.stands)).1;
     written = (spent store status end (costs told store stands.stands)).2;
     calls = made status end (λ is. no_store told is store stands.stands) within;
     behind = l;
-    served = (refl, refl);
     downs = tt;
     begun = begun status end store;
-    sites = λ tell. refl;
   };
   output = λ told. record { whole = λ other. sym (append-nil (to.taken k)); part = λ three. absurd (not_three status end three) };
 }

@@ -31,4 +31,5 @@ pub mod Runs
 pub mod Sites
 pub mod Through
 pub mod Traces
+pub mod Walks
 pub mod Whole

@@ -7,6 +7,7 @@ use Rattle.disks.specs.Moments.{LeavesOnly}
 use Rattle.disks.specs.declared.disk.Disk.{Ghosts}
 use Rattle.links.specs.declared.links.Links.{Ghosts as LinksGhosts}
 use Rattle.links.specs.Links.{failures_of}
+use Rattle.fetcher.proofs.Sequence.{kept_same}
 use Rattle.machine.specs.declared.event.Event.{Event}
 use Rattle.machine.specs.declared.reply.Reply.{Reply}
 use Rattle.machine.specs.declared.report.ReportLine.{ReportLine}
@@ -17,9 +18,11 @@ use Rattle.updater.specs.StandsFor.{StandsFor, StandsForEither}
 use Rattle.updater.proofs.Standing.{stored_stands}
 use Rattle.updater_cli.specs.declared.course.Course.{Course}
 use Rattle.updater_cli.specs.Lines.{Ran, Broke}
-use Rattle.updater_cli.specs.Report.{Origin, report_of, events_of, replies_of, marked_by, moment_behind, answered, ReachesAfter, RunsTo, IsLineServed, AreServed, Counts, StandsForPrefix}
+use Rattle.updater_cli.specs.Report.{Origin, report_of, events_of, replies_of, marked_by, moment_behind, answered, ReachesAfter, RunsTo, IsLineServed, StandsForPrefix}
 use Rattle.updater_cli.specs.Session.{Start, Between, Ended}
-use Rattle.updater_cli.proofs.Runs.{runs_push, counts_push, served_push, counts_early, counts_late, marked-push, marked_all, marked_later, marked_push, moment-append, answered_cut}
+use Rattle.updater_cli.specs.Walk.{Walks}
+use Rattle.updater_cli.proofs.Runs.{runs_push, counts_early, counts_late, marked-push, marked_all, marked_later, marked_push, moment-append, answered_cut}
+use Rattle.updater_cli.proofs.Walks.{line_holds, walk_kept, walk_push}
 
 module _ (from : Origin) where
   -- an image that stands for a prefix stands for it whatever comes after
@@ -78,13 +81,12 @@ ended_at on net start status course disk links between none other seen_left =
       runs = between.runs;
       last = on.moment disk;
       bytes = between.bytes;
-      counts = between.counts;
+      walk = between.walk;
       calls = λ not_four. refl;
       more = 0;
       begins = refl;
       written = omega (arith, between.written);
       behind = links;
-      served = between.served;
       begun = refl;
       past = between.past;
       since = λ t image first to left.
@@ -133,13 +135,12 @@ module _ {D L : Type 0} (on : Ghosts D) (net : LinksGhosts L) (start : Start D L
     runs = between.runs;
     last = on.moment old;
     bytes = between.bytes;
-    counts = between.counts;
+    walk = between.walk;
     calls = λ other. absurd (other refl);
     more = broke.bytes;
     begins = (broke.new, Some broke.reply, behind e (Some broke.reply) broke.new broke.step, broke.costs);
     written = omega (arith, between.written, broke.written);
     behind = links_old;
-    served = between.served;
     begun = (broke.new, Some broke.reply, behind e (Some broke.reply) broke.new broke.step, broke.served);
     past = past_on broke.new broke.stop;
     since = begun_since broke.new broke.stop e (Some broke.reply) broke.step;
@@ -155,18 +156,17 @@ module _ {D L : Type 0} (on : Ghosts D) (net : LinksGhosts L) (start : Start D L
     runs : RunsTo start.from (course.lines.items ++ l ∷ []) ran.new
     runs = runs_push start.from between.session ran.new course.lines.items l between.runs step ran.settled
 
-    counts_on : Counts start.from (on.moment start.disk + 1) (course.lines.items ++ l ∷ []) ran.new (on.moment new) (between.bytes + ran.bytes)
-    counts_on =
-        subst (λ (m : ℕ). Counts start.from (on.moment start.disk + 1) (course.lines.items ++ l ∷ []) ran.new m (between.bytes + ran.bytes)) is_mark
-        (counts_push start.from (on.moment start.disk + 1) course.lines.items between.session ran.new (on.moment old) l between.bytes ran.bytes between.counts step (rw is_mark ran.counted))
+    walk_on : Walks net (net.links start.links) start.from (on.moment start.disk + 1) start.links (course.lines.items ++ l ∷ []) ran.new (on.moment new) (between.bytes + ran.bytes) links_new
+    walk_on =
+        subst (λ (m : ℕ). Walks net (net.links start.links) start.from (on.moment start.disk + 1) start.links (course.lines.items ++ l ∷ []) ran.new m (between.bytes + ran.bytes) links_new) is_mark
+        (walk_push net (net.links start.links) start.from (on.moment start.disk + 1) start.links course.lines.items between.session ran.new (on.moment old) between.bytes ran.bytes links_old links_new l between.walk
+        (line_holds net (net.links start.links) (record { now = moment_behind start.from.now course.lines.items; session = between.session }) (on.moment old) links_old links_new l ran.new ran.bytes
+        (walk_kept net (net.links start.links) start.from (on.moment start.disk + 1) start.links course.lines.items between.session (on.moment old) between.bytes links_old between.walk (kept_same (net.links start.links)))
+        step (rw is_mark ran.counted)
+        (subst (λ (r : Option Reply). IsLineServed net l.event r links_old links_new between.session ran.new) (sym is_reply) ran.served) is_failures))
 
     written_on : on.total new ≤ on.total start.disk + (between.bytes + ran.bytes)
     written_on = omega (arith, between.written, ran.written)
-
-    served : AreServed net start.from start.links (course.lines.items ++ l ∷ []) ran.new links_new
-    served =
-        served_push net start.from start.links course.lines.items between.session ran.new links_old links_new l between.served step
-        (subst (λ (r : Option Reply). IsLineServed net l.event r links_old links_new between.session ran.new) (sym is_reply) ran.served) is_failures
 
     size : length (course.lines.items ++ l ∷ []) ≡ length course.lines.items + 1
     size = length-append course.lines.items (l ∷ [])
@@ -227,9 +227,8 @@ module _ {D L : Type 0} (on : Ghosts D) (net : LinksGhosts L) (start : Start D L
           ∙ ap (λ (now : ℕ). moment_after now (Some reply)) (sym between.moment) in
           is_now ∙ sym behind_all ∙ ap (λ (ls : List ReportLine). moment_behind start.from.now ls) (sym grown);
       bytes = between.bytes + ran.bytes;
-      counts = rw grown counts_on;
+      walk = rw grown walk_on;
       written = written_on;
-      served = rw grown served;
       marks = rw grown (marked_push course.lines.items l (on.moment new) (marked_later course.lines.items (on.moment old) (on.moment new) ran.stop.later between.marks) (omega (arith, is_mark)));
       started = omega (arith, between.started, ran.stop.later);
       past = past_on ran.new ran.stop;
@@ -243,13 +242,12 @@ module _ {D L : Type 0} (on : Ghosts D) (net : LinksGhosts L) (start : Start D L
       runs = runs;
       last = on.moment new;
       bytes = between.bytes + ran.bytes;
-      counts = counts_on;
+      walk = walk_on;
       calls = λ other. refl;
       more = 0;
       begins = refl;
       written = omega (arith, written_on);
       behind = links_new;
-      served = served;
       begun = refl;
       past = past_on ran.new ran.stop;
       since = λ t image first to left.

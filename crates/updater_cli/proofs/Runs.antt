@@ -13,9 +13,7 @@ use Rattle.machine.specs.Laws.{FetchesWithoutJobs}
 use Rattle.machine.specs.Words.{IsEvent}
 use Rattle.machine.proofs.Sessions.{step_jobs, step_session}
 use Rattle.machine.specs.Store.{Session}
-use Rattle.links.specs.declared.links.Links.{Ghosts as LinksGhosts}
-use Rattle.links.specs.Links.{failures_of}
-use Rattle.updater_cli.specs.Report.{Origin, origin_after, events_of, replies_of, marked_by, moment_behind, AreRunFrom, answered, IsSettled, RunsTo, IsCounted, Counts, IsLineServed, AreServed, MarksRise, FailuresRise, AreMarkedBy}
+use Rattle.updater_cli.specs.Report.{Origin, origin_after, events_of, replies_of, marked_by, moment_behind, AreRunFrom, answered, IsSettled, RunsTo, MarksRise, FailuresRise, AreMarkedBy}
 
 -- ---- a step
 
@@ -54,43 +52,6 @@ runs_push from s new lines l runs step settled = record {
       (subst (λ (rs : List (Option Reply)). Run from.now from.session (events_of lines ++ l.event ∷ []) rs new) (sym (replies-push lines l)) pushed);
   settled = settled;
 }
-
-pub counts_push : (from : Origin) (mark : ℕ) (lines : List ReportLine) (s new : Session) (last : ℕ) (l : ReportLine) (bytes own : ℕ)
-    → Counts from mark lines s last bytes → Step (moment_behind from.now lines) s l.event l.reply new → IsCounted s new last l.mark own
-    → Counts from mark (lines ++ l ∷ []) new l.mark (bytes + own)
-counts_push from mark [] s new last l bytes own so_far step counted = (
-  new,
-  own,
-  0,
-  omega (arith, so_far.2),
-  subst (λ (x : Session). Step from.now x l.event l.reply new) so_far.0 step,
-  subst (λ (x : Session). IsCounted x new mark l.mark own) so_far.0 (subst (λ (n : ℕ). IsCounted s new n l.mark own) so_far.1 counted),
-  (refl, refl, refl),
-)
-counts_push from mark (x ∷ lines) s new last l bytes own so_far step counted = (
-  so_far.0,
-  so_far.1,
-  so_far.2 + own,
-  omega (arith, so_far.3),
-  so_far.4,
-  so_far.5,
-  counts_push (origin_after from x.reply so_far.0) x.mark lines s new last l so_far.2 own so_far.6 step counted,
-)
-
--- and what the links did for it
-pub served_push : {L : Type 0} (net : LinksGhosts L) (from : Origin) (first : L) (lines : List ReportLine) (s new : Session) (last after : L) (l : ReportLine)
-    → AreServed net from first lines s last → Step (moment_behind from.now lines) s l.event l.reply new → IsLineServed net l.event l.reply last after s new
-    → l.failures ≡ failures_of (net.links after) → AreServed net from first (lines ++ l ∷ []) new after
-served_push {L} net from first [] s new last after l so_far step served shown = (
-  new,
-  after,
-  subst (λ (x : Session). Step from.now x l.event l.reply new) so_far.0 step,
-  subst (λ (x : Session). IsLineServed net l.event l.reply first after x new) so_far.0 (subst (λ (x : L). IsLineServed net l.event l.reply x after s new) so_far.1 served),
-  shown,
-  (refl, refl),
-)
-served_push net from first (x ∷ lines) s new last after l so_far step served shown =
-    (so_far.0, so_far.1, so_far.2, so_far.3, so_far.4, served_push net (origin_after from x.reply so_far.0) so_far.1 lines s new last after l so_far.5 step served shown)
 
 -- ---- moments of lines
 

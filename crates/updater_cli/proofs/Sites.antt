@@ -1,11 +1,11 @@
 -- What links that tell gave is of their sites as they were at first.
-use Rattle.std.proofs.Common.{inl, inr, ℕ, List, [], ◌∷◌, Option, Some, None, subst}
+use Rattle.std.proofs.Common.{inl, inr, ℕ, List, Option, Some, None, subst}
 use Rattle.std.proofs.lemmas.List.Elements.{All-weaker}
 use Rattle.std.specs.Prelude.{IfSome, slice_get}
 use Rattle.links.specs.declared.links.Links.{Ghosts as LinksGhosts}
 use Rattle.links.specs.Links.{LinksState}
 use Rattle.fetcher.specs.Fetched.{AllTell, Kept}
-use Rattle.fetcher.proofs.Sequence.{kept_then, site_before, tell_after}
+use Rattle.fetcher.proofs.Sequence.{site_before, tell_after}
 use Rattle.identity.specs.declared.key.Key.{Key}
 use Rattle.install_plan.specs.Brought.{IsBrought, IsCarriedOrFetched, IsFileFrom, IsHeldOrCame}
 use Rattle.install_plan.specs.GroupAsked.{AreBrought}
@@ -17,7 +17,6 @@ use Rattle.machine.specs.declared.command.Command.TheVariants.{Check, Group, Ins
 use Rattle.machine.specs.declared.event.Event.{Event}
 use Rattle.machine.specs.declared.event.Event.TheVariants.{Boot, Line, Unread}
 use Rattle.machine.specs.declared.reply.Reply.{Reply}
-use Rattle.machine.specs.declared.report.ReportLine.{ReportLine}
 use Rattle.machine.specs.Groups.{group_wanted}
 use Rattle.machine.specs.Machine.{Step}
 use Rattle.machine.specs.Shape.{Shape, shape_of}
@@ -25,8 +24,8 @@ use Rattle.machine.specs.Store.{Session, Store}
 use Rattle.machine.specs.Views.{DataFile, ListedFile, View}
 use Rattle.machine.specs.Wanted.{wanted}
 use Rattle.updater.specs.Commanded.{LinksServe}
-use Rattle.updater_cli.specs.Report.{AreServed, IsLineServed, Origin, origin_after}
-use Rattle.updater_cli.specs.Sites.{AreOfSites, HeardOfSites, GroupOfSites, IsCarriedOrOfSite, IsFileOfSite, IsLineOfSites, OfferOfSites}
+use Rattle.updater_cli.specs.Report.{IsLineServed}
+use Rattle.updater_cli.specs.Sites.{HeardOfSites, GroupOfSites, IsCarriedOrOfSite, IsFileOfSite, IsLineOfSites, OfferOfSites}
 
 some_as : {A : Type 0} (o : Option A) (P Q : A → Type 0) → ((x : A) → P x → Q x) → IfSome o P → IfSome o Q
 some_as None P Q on is = tt
@@ -85,7 +84,7 @@ module _ (first before after : LinksState) (kept : Kept first before) (tell : Al
   served_of (Group lease group) texts old new reply now serves = group_of lease group old new serves.1
   served_of _ texts old new reply now serves = tt
 
-line_of : {L : Type 0} (net : LinksGhosts L) (first : LinksState) (before after : L) → Kept first (net.links before) → AllTell first
+pub line_of : {L : Type 0} (net : LinksGhosts L) (first : LinksState) (before after : L) → Kept first (net.links before) → AllTell first
     → (now : ℕ) (old new : Session) (event : Event) (reply : Option Reply) → Step now old event reply new → IsLineServed net event reply before after old new
     → IsLineOfSites first event old new
 line_of net first before after kept tell now old new (Boot boot) reply step served = tt
@@ -94,14 +93,3 @@ line_of net first before after kept tell now old new (Line command at heard) rep
     let told : IfSome (Some step.answer) (λ answer. LinksServe command heard.texts (net.links before) (net.links after) old answer new) =
     subst (λ (r : Option Reply). IfSome r (λ answer. LinksServe command heard.texts (net.links before) (net.links after) old answer new)) step.replied served.serves in
     served_of first (net.links before) (net.links after) kept tell command heard.texts old new step.answer at told
-
--- the same of all lines
-pub sites_of : {L : Type 0} (net : LinksGhosts L) (first : LinksState) (from : Origin) (links : L) (lines : List ReportLine) (new : Session) (last : L)
-    → Kept first (net.links links) → AllTell first → AreServed net from links lines new last → AreOfSites first from lines new
-sites_of net first from links [] new last kept tell served = served.0
-sites_of net first from links (l ∷ lines) new last kept tell served = (
-  served.0,
-  served.2,
-  line_of net first links served.1 kept tell from.now from.session served.0 l.event l.reply served.2 served.3,
-  sites_of net first (origin_after from l.reply served.0) served.1 lines new last (kept_then first (net.links links) (net.links served.1) kept served.3.kept) tell served.5,
-)

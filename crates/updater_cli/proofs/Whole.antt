@@ -5,7 +5,6 @@ use Rattle.outside.specs.declared.source.Source.{Ghosts as SourceGhosts}
 use Rattle.outside.specs.declared.sink.Sink.{Ghosts as SinkGhosts}
 use Rattle.disks.specs.declared.disk.Disk.{Ghosts}
 use Rattle.links.specs.declared.links.Links.{Ghosts as LinksGhosts}
-use Rattle.fetcher.proofs.Sequence.{kept_same}
 use Rattle.small_types.specs.declared.limits.TheConstants.{NUMBER_LIMIT}
 use Rattle.machine.specs.declared.event.Event.{Event}
 use Rattle.machine.specs.declared.report.Report.{Report}
@@ -25,7 +24,7 @@ use Rattle.updater_cli.proofs.Downs.{downs_are_counted}
 use Rattle.updater_cli.proofs.Ends.{opened_lines, opened_output, unopened_lines, unopened_run}
 use Rattle.updater_cli.proofs.Leased.{launches_hold, leased_holds, views_hold}
 use Rattle.updater_cli.proofs.Prefix.{ended_at}
-use Rattle.updater_cli.proofs.Sites.{sites_of}
+use Rattle.updater_cli.proofs.Walks.{walk_served}
 
 zero_three : ◌≢◌ {A = ℕ} 0 3
 zero_three same = omega arith
@@ -122,23 +121,20 @@ module _ {S K D L : Type 0} (from : SourceGhosts S) (to : SinkGhosts K) (on : Gh
         let end = ended told store stands in
         record {
           session = end.session;
-          runs = end.runs;
-          reads = end.reads;
           last = end.last;
           bytes = end.bytes;
-          counts = end.counts;
+          behind = end.behind;
+          walk = end.walk;
+          settled = end.runs.settled;
+          reads = end.reads;
+          calls = λ other. inl (end.calls other);
           more = end.more;
           begins = end.begins;
           written = inl end.written;
-          calls = λ other. inl (end.calls other);
-          behind = end.behind;
-          served = end.served;
           downs =
-              downs_are_counted net old.links (origin_over now store) new.course.lines.items
-              end.session end.behind end.served;
+              downs_are_counted net old.links (origin_over now store) new.course.lines.items end.session end.behind
+              (walk_served net (net.links old.links) (origin_over now store) (on.moment disk + 1) old.links new.course.lines.items end.session end.last end.bytes end.behind end.walk);
           begun = end.begun;
-          sites = λ tell.
-              sites_of net (net.links old.links) (origin_over now store) old.links new.course.lines.items end.session end.behind (kept_same (net.links old.links)) tell end.served;
         }
 
     stop : on.tells new.disk → HeadlineStop on now (code_of (end_status outcome)) disk new.disk (report_of new.course.lines.items new.course.begun)

@@ -1,5 +1,5 @@
 -- What a new store is.
-use Rattle.std.specs.Prelude.{◌≡◌, ◌⊎◌, ℕ, ◌+◌, ◌<◌, ◌≤◌, List, []}
+use Rattle.std.specs.Prelude.{◌≡◌, ◌⊎◌, ℕ, ◌+◌, List, []}
 use Rattle.disks.specs.declared.disk.Disk.{Ghosts}
 use Rattle.disks.specs.Spends.{Spends}
 use Rattle.store_log.specs.declared.form.TheConstants.{HEAD_SIZE}
@@ -15,8 +15,8 @@ pub record StandsForNew (blocks : ℕ) (image : List ℕ) : Type 0 where
   pub journal : IsStore blocks [] image
   pub stands : StandsFor image (stores.empty (stores.plain_room blocks))
 
--- What stops leave over a format is what they leave over that of the journal. The new journal is the
--- new store, and what is no journal stands for no store.
+-- What stops leave over a format is what they leave over that of the journal. The new journal is
+-- the new store, and what is no journal stands for no store.
 pub record Renews {D : Type 0} (on : Ghosts D) (old new : D) (blocks : ℕ) : Type 0 where
   pub formats : Formats on old new blocks
   pub stands : (image : List ℕ) → (IsStore blocks [] image → StandsForNew blocks image)

@@ -6,7 +6,7 @@ use Rattle.outside.specs.declared.sink.Sink.{Ghosts as SinkGhosts}
 use Rattle.disks.specs.declared.disk.Disk.{Ghosts}
 use Rattle.links.specs.declared.links.Links.{Ghosts as LinksGhosts}
 use Rattle.links.specs.Links.{failures_of}
-use Rattle.fetcher.specs.Fetched.{AllTell, Kept}
+use Rattle.fetcher.specs.Fetched.{Kept}
 use Rattle.machine.specs.declared.event.Event.{Event}
 use Rattle.machine.specs.declared.event.Event.TheVariants.{Boot, Line, Unread}
 use Rattle.machine.specs.declared.report.Report.{Report}
@@ -18,10 +18,10 @@ use Rattle.updater_cli.specs.declared.limits.TheConstants.{INPUT_LIMIT}
 use Rattle.updater_cli.specs.Devices.{Devices}
 use Rattle.updater_cli.specs.Downs.{DownsAreCounted}
 use Rattle.updater_cli.specs.Opening.{BootsFirst, IsLineOrNone, IsUnopened, Survives}
-use Rattle.updater_cli.specs.Report.{answered, marked_by, origin_over, events_of, moment_behind, AreServed, Counts, CostsBegun, FailuresRise, IsBegunServed, KeepsMoments, MarksRise, RunsTo, StandsSound, WritesReplies}
-use Rattle.updater_cli.specs.Sites.{AreOfSites}
+use Rattle.updater_cli.specs.Report.{answered, marked_by, origin_over, events_of, moment_behind, CostsBegun, FailuresRise, IsBegunServed, IsSettled, KeepsMoments, MarksRise, StandsSound, WritesReplies}
 use Rattle.updater_cli.specs.Status.{code_of, IsBegun}
 use Rattle.updater_cli.specs.Views.{KeepsViews, LaunchesHold, ViewsHold}
+use Rattle.updater_cli.specs.Walk.{Walks}
 use Rattle.updater_cli.specs.declared.status.Status.TheVariants.{Done, SourceFault, DiskFault, NotAStore, Memory, TooMuchInput}
 
 -- ---- the lines
@@ -109,37 +109,30 @@ MadeCalls status old new lines last =
     status ≢ code_of DiskFault
     → (new ≡ last) ⊎ ((status ≡ code_of Memory) × (lines ≡ []) × (new ≤ last))
 
--- The report's events and replies are a run from a new session over the store, and lead to this
--- session, which is sound. Unless the disk failed, which is status 4, the reads then stand for its
--- store. Each line that changes the store makes calls of the disk, any other line none that changes
--- it, and its mark is the disk's moment after them. No more bytes are written than the changes of
--- the lines take in the journal, and that of the event that was begun; where there was no memory
--- before a line was run, nothing is said of it. For each line the links did
--- what is said of it, one line after another: what it asked for, what they gave, and why they gave
--- nothing. Where a reply says of a link that it failed, the number of failures rose with the line.
--- Where the links tell, each text that was heard and each file that was brought is of one link's
--- site at its address.
+-- The report's lines are one walk from a new session over the store to this session, which is
+-- sound; each line holds what is said of it. Unless the disk failed, which is status 4, the reads
+-- then stand for its store. No more bytes are written than the changes of the lines take in the
+-- journal, and that of the event that was begun; where there was no memory before a line was run,
+-- nothing is said of it. Where a reply says of a link that it failed, the number of failures rose
+-- with the line.
 pub record LeadsTo {S K D L : Type 0} (on : Ghosts D) (net : LinksGhosts L) (now status : ℕ)
     (old new : Devices S K D L) (report : Report) (store : Store) : Type 0 where
   pub session : Session
-  pub runs : RunsTo (origin_over now store) report.lines session
-  pub reads : status ≢ code_of DiskFault → StandsFor (on.seen new.disk) session.store
   pub last : ℕ
   pub bytes : ℕ
-  pub counts : Counts (origin_over now store) (on.moment old.disk + 1) report.lines session last
-      bytes
+  pub behind : L
+  pub walk : Walks net (net.links old.links) (origin_over now store) (on.moment old.disk + 1)
+      old.links report.lines session last bytes behind
+  pub settled : IsSettled session
+  pub reads : status ≢ code_of DiskFault → StandsFor (on.seen new.disk) session.store
   pub calls : MadeCalls status (on.moment old.disk) (on.moment new.disk) report.lines last
   pub more : ℕ
   pub begins : CostsBegun (moment_behind now report.lines) session report.begun more
   pub written : (on.total new.disk ≤ on.total old.disk + bytes + more)
       ⊎ ((status ≡ code_of Memory) × (report.lines ≡ []))
-  pub behind : L
-  pub served : AreServed net (origin_over now store) old.links report.lines session behind
   pub downs : DownsAreCounted (failures_of (net.links old.links)) report.lines
   pub begun : IsBegunServed net (moment_behind now report.lines) session behind
       report.begun new.links
-  pub sites : AllTell (net.links old.links)
-      → AreOfSites (net.links old.links) (origin_over now store) report.lines session
 
 -- the lines are a run from the sound store for which the reads stood, and the sink took the replies
 pub record HeadlineRun {S K D L : Type 0} (sink : SinkGhosts K) (on : Ghosts D)

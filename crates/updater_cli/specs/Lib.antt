@@ -16,4 +16,5 @@ pub mod Session
 pub mod Sites
 pub mod Status
 pub mod Views
+pub mod Walk
 pub mod Words

@@ -109,16 +109,6 @@ pub record IsCounted (old new : Session) (from mark bytes : ℕ) : Type 0 where
   pub marked : new.store ≢ old.store → from + 1 ≤ mark
   pub costs : Costs old.store new.store bytes
 
--- The lines lead to this session, and from one moment of the disk to the last. Each is marked after
--- its own calls. All together they may write so many bytes.
-abbrev pub Counts : Origin → ℕ → List ReportLine → Session → ℕ → ℕ → Type 0
-Counts from mark [] new last bytes = (new ≡ from.session) × (last ≡ mark) × (bytes ≡ 0)
-Counts from mark (l ∷ lines) new last bytes =
-    (mid : Session) × (own : ℕ) × (rest : ℕ) × (bytes ≡ own + rest)
-    × Step from.now from.session l.event l.reply mid
-    × IsCounted from.session mid mark l.mark own
-    × Counts (origin_after from l.reply mid) l.mark lines new last rest
-
 -- what a step of the event that was begun may write: nothing where none was
 abbrev pub CostsBegun : ℕ → Session → Option Event → ℕ → Type 0
 CostsBegun now s None bytes = bytes ≡ 0

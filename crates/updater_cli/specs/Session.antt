@@ -7,9 +7,10 @@ use Rattle.machine.specs.Store.{Session, Store}
 use Rattle.updater.specs.StandsFor.{StandsFor}
 use Rattle.updater.specs.Updater.{Holds}
 use Rattle.updater_cli.specs.declared.course.Course.{Course}
-use Rattle.updater_cli.specs.Report.{Origin, origin_over, RunsTo, AreServed, Counts, CostsBegun, IsBegunServed, StandsForPrefix, AreMarkedBy, report_of, moment_behind, marked_by, answered}
+use Rattle.updater_cli.specs.Report.{Origin, origin_over, RunsTo, CostsBegun, IsBegunServed, StandsForPrefix, AreMarkedBy, report_of, moment_behind, marked_by, answered}
 use Rattle.updater_cli.specs.declared.status.Status.TheVariants.{DiskFault}
 use Rattle.updater_cli.specs.Status.{code_of}
+use Rattle.updater_cli.specs.Walk.{Walks}
 
 -- what a session began with: its disk before the first call and its links, and the session over
 -- the store that stood there
@@ -33,10 +34,9 @@ pub record Between {D L : Type 0} (on : Ghosts D) (net : LinksGhosts L) (start :
   pub runs : RunsTo start.from course.lines.items session
   pub moment : course.now ≡ moment_behind start.from.now course.lines.items
   pub bytes : ℕ
-  pub counts : Counts start.from (on.moment start.disk + 1) course.lines.items session
-      (on.moment disk) bytes
+  pub walk : Walks net (net.links start.links) start.from (on.moment start.disk + 1) start.links
+      course.lines.items session (on.moment disk) bytes links
   pub written : on.total disk ≤ on.total start.disk + bytes
-  pub served : AreServed net start.from start.links course.lines.items session links
   pub marks : AreMarkedBy course.lines.items (on.moment disk)
   pub started : on.moment start.disk + 1 ≤ on.moment disk
   pub past : (t : ℕ) (image : List ℕ) → t ≤ on.moment start.disk
@@ -55,13 +55,13 @@ pub record Ended {D L : Type 0} (on : Ghosts D) (net : LinksGhosts L) (start : S
   pub runs : RunsTo start.from report.lines session
   pub last : ℕ
   pub bytes : ℕ
-  pub counts : Counts start.from (on.moment start.disk + 1) report.lines session last bytes
+  pub behind : L
+  pub walk : Walks net (net.links start.links) start.from (on.moment start.disk + 1) start.links
+      report.lines session last bytes behind
   pub calls : status ≢ code_of DiskFault → on.moment disk ≡ last
   pub more : ℕ
   pub begins : CostsBegun (moment_behind start.from.now report.lines) session report.begun more
   pub written : on.total disk ≤ on.total start.disk + bytes + more
-  pub behind : L
-  pub served : AreServed net start.from start.links report.lines session behind
   pub begun : IsBegunServed net (moment_behind start.from.now report.lines) session behind
       report.begun links
   pub past : (t : ℕ) (image : List ℕ) → t ≤ on.moment start.disk

@@ -4,6 +4,7 @@ ghost use Rattle.updater_cli.specs.NoOthers.{NoOthersCome};
 ghost use Rattle.updater_cli.specs.Premises.{OneSiteIsGiven, PublishesWrite, ServedIsGiven};
 ghost use Rattle.updater_cli.specs.Published.{PublishedDataIsRead, PublishedIsGiven, PublishedIsRead};
 ghost use Rattle.updater_cli.specs.Releases.{PagesHaveReleases, ReleasesAreOffered};
+ghost use Rattle.updater_cli.specs.Walk.{WalksTell};
 
 use links::Links;
 
@@ -66,4 +67,10 @@ pub fn one_site_is_given<L: Links>(links: &L)
 /// its type's end the number stands still and counts as risen.
 pub fn downs_are_counted<L: Links>(links: &L)
     ensures { ServedDownsAreCounted L.Links links.now }
+{}
+
+/// A walk over lines is a run of the machine, and the links did what is said of each line. Over links
+/// that tell, what the lines heard and brought is of their sites.
+pub fn walks_tell<L: Links>(links: &L)
+    ensures { WalksTell L.Links links.now }
 {}
