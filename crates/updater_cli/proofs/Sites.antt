@@ -1,5 +1,5 @@
 -- What links that tell gave is of their sites as they were at first.
-use Rattle.std.proofs.Common.{inl, inr, ℕ, List, Option, Some, None, subst}
+use Rattle.std.proofs.Common.{inl, inr, ℕ, List, All, Option, Some, None, subst}
 use Rattle.std.proofs.lemmas.List.Elements.{All-weaker}
 use Rattle.std.specs.Prelude.{IfSome, slice_get}
 use Rattle.links.specs.declared.links.Links.{Ghosts as LinksGhosts}
