@@ -48,7 +48,7 @@ fn truth(is: bool) -> &'static [u8]
     if is { b"yes" } else { b"no" }
 }
 
-// WritesText an application and its current version, on a line of their own.
+// Writes an application and its current version, on a line of their own.
 fn print_row<K: Sink>(row: &ListRow, sink: &mut K) -> Result<(), Failed>
     ensures { WritesText K.Sink sink.old sink.new (row_text row.now) result }
 {
@@ -71,7 +71,7 @@ fn print_row<K: Sink>(row: &ListRow, sink: &mut K) -> Result<(), Failed>
     )
 }
 
-// WritesText a line for each application.
+// Writes a line for each application.
 fn print_rows<K: Sink>(rows: &[ListRow], sink: &mut K) -> Result<(), Failed>
     ensures { WritesText K.Sink sink.old sink.new (rows_text rows.now) result }
 {
@@ -81,7 +81,7 @@ fn print_rows<K: Sink>(rows: &[ListRow], sink: &mut K) -> Result<(), Failed>
     Ok(())
 }
 
-/// WritesText how many applications there are, and then a line for each.
+/// Writes how many applications there are, and then a line for each.
 pub(crate) fn print_list<K: Sink>(rows: &[ListRow], sink: &mut K) -> Result<(), Failed>
     ensures { WritesText K.Sink sink.old sink.new (list_text rows.now) result }
 {
@@ -96,7 +96,7 @@ pub(crate) fn print_list<K: Sink>(rows: &[ListRow], sink: &mut K) -> Result<(), 
     print_rows(rows, sink)
 }
 
-// WritesText which application is shown.
+// Writes which application is shown.
 fn print_key<K: Sink>(key: &Key, sink: &mut K) -> Result<(), Failed>
     ensures { WritesText K.Sink sink.old sink.new
         (codes "ok show " ++ (key_text key.now ++ codes " ")) result }
@@ -118,7 +118,7 @@ fn print_key<K: Sink>(key: &Key, sink: &mut K) -> Result<(), Failed>
     )
 }
 
-// WritesText its versions.
+// Writes its versions.
 fn print_versions<K: Sink>(row: &ShowRow, sink: &mut K) -> Result<(), Failed>
     ensures { WritesText K.Sink sink.old sink.new (versions_text row.now) result }
 {
@@ -141,7 +141,7 @@ fn print_versions<K: Sink>(row: &ShowRow, sink: &mut K) -> Result<(), Failed>
     )
 }
 
-// WritesText its last check, and the file that it starts.
+// Writes its last check, and the file that it starts.
 fn print_state<K: Sink>(row: &ShowRow, sink: &mut K) -> Result<(), Failed>
     ensures { WritesText K.Sink sink.old sink.new (state_text row.now) result }
 {
@@ -158,7 +158,7 @@ fn print_state<K: Sink>(row: &ShowRow, sink: &mut K) -> Result<(), Failed>
     )
 }
 
-// WritesText an address, and the end of the line.
+// Writes an address, and the end of the line.
 fn print_address<K: Sink>(target: &Target, sink: &mut K) -> Result<(), Failed>
     ensures { WritesText K.Sink sink.old sink.new (target_text target.now ++ 10 ∷ []) result }
 {
@@ -175,7 +175,7 @@ fn print_address<K: Sink>(target: &Target, sink: &mut K) -> Result<(), Failed>
     )
 }
 
-// WritesText where its updates come from, and the end of the line.
+// Writes where its updates come from, and the end of the line.
 fn print_provider<K: Sink>(row: &ShowRow, sink: &mut K) -> Result<(), Failed>
     ensures { WritesText K.Sink sink.old sink.new
         (optional_target row.now.provider ++ 10 ∷ []) result }
@@ -186,7 +186,7 @@ fn print_provider<K: Sink>(row: &ShowRow, sink: &mut K) -> Result<(), Failed>
     }
 }
 
-/// WritesText what is known of an application, in one line.
+/// Writes what is known of an application, in one line.
 pub(crate) fn print_show<K: Sink>(row: &ShowRow, sink: &mut K) -> Result<(), Failed>
     ensures { WritesText K.Sink sink.old sink.new (show_text row.now) result }
 {

@@ -7,7 +7,7 @@ use crate::pieces::{Piece, print_pieces};
 use identity::Version;
 use outside::{Failed, Sink};
 
-/// WritesText what is offered, and the minimum.
+/// Writes what is offered, and the minimum.
 pub(crate) fn print_checked<K: Sink>(
     offer: Option<Version>,
     minimum: Option<Version>,

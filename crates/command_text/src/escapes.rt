@@ -19,7 +19,7 @@ const PART_ESCAPES: AsciiSet = ascii_set!(
 // What another word escapes: it keeps `/` too.
 const WORD_ESCAPES: AsciiSet = ascii_set!(PART_ESCAPES.remove(b'/'));
 
-// WritesText the text with the bytes of the set escaped, as many bytes at a time as need no escape.
+// Writes the text with the bytes of the set escaped, as many bytes at a time as need no escape.
 fn print_escaped<K: Sink>(text: &[u8], set: AsciiSet, sink: &mut K) -> Result<(), Failed>
     ensures { WritesText K.Sink sink.old sink.new (percent.percent_encode set text.now) result }
 {
@@ -29,14 +29,14 @@ fn print_escaped<K: Sink>(text: &[u8], set: AsciiSet, sink: &mut K) -> Result<()
     Ok(())
 }
 
-/// WritesText a part of a key.
+/// Writes a part of a key.
 pub(crate) fn print_part<K: Sink>(part: &[u8], sink: &mut K) -> Result<(), Failed>
     ensures { WritesText K.Sink sink.old sink.new (part_text part.now) result }
 {
     print_escaped(part, PART_ESCAPES, sink)
 }
 
-/// WritesText a word-escaped text.
+/// Writes a word-escaped text.
 pub(crate) fn print_word<K: Sink>(word: &[u8], sink: &mut K) -> Result<(), Failed>
     ensures { WritesText K.Sink sink.old sink.new (word_text word.now) result }
 {

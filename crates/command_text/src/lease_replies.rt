@@ -14,7 +14,7 @@ fn note(check_due: bool) -> &'static [u8]
     if check_due { b"check-due" } else { b"-" }
 }
 
-/// WritesText a lease, the version that it is on, and the note.
+/// Writes a lease, the version that it is on, and the note.
 pub(crate) fn print_lease<K: Sink>(
     lease: u64,
     version: Version,
@@ -48,7 +48,7 @@ fn shown(bytes: &[u8]) -> Piece<'_>
     }
 }
 
-/// WritesText the length of a file, and the bytes of it that were asked for.
+/// Writes the length of a file, and the bytes of it that were asked for.
 pub(crate) fn print_read<K: Sink>(length: u64, bytes: &[u8], sink: &mut K) -> Result<(), Failed>
     ensures { WritesText K.Sink sink.old sink.new (read_text length bytes.now) result }
 {

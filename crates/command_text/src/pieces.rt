@@ -26,7 +26,7 @@ pub(crate) enum Piece<'a> {
     Hex(&'a [u8]),
 }
 
-// WritesText a number, in decimal digits.
+// Writes a number, in decimal digits.
 fn print_number<K: Sink>(number: u64, sink: &mut K) -> Result<(), Failed>
     ensures { WritesText K.Sink sink.old sink.new (decimal number) result }
 {
@@ -34,7 +34,7 @@ fn print_number<K: Sink>(number: u64, sink: &mut K) -> Result<(), Failed>
     write_all(sink, buffer.format(number).as_bytes())
 }
 
-// WritesText a version.
+// Writes a version.
 fn print_version<K: Sink>(version: Version, sink: &mut K) -> Result<(), Failed>
     ensures { WritesText K.Sink sink.old sink.new (version_text version) result }
 {
@@ -43,7 +43,7 @@ fn print_version<K: Sink>(version: Version, sink: &mut K) -> Result<(), Failed>
     write_all(sink, &buffer[..end])
 }
 
-// WritesText a piece.
+// Writes a piece.
 fn print_piece<K: Sink>(piece: Piece, sink: &mut K) -> Result<(), Failed>
     ensures { WritesText K.Sink sink.old sink.new (piece_text piece.entry) result }
 {
@@ -58,7 +58,7 @@ fn print_piece<K: Sink>(piece: Piece, sink: &mut K) -> Result<(), Failed>
     }
 }
 
-/// WritesText the pieces, one behind the other. It takes no memory.
+/// Writes the pieces, one behind the other. It takes no memory.
 pub(crate) fn print_pieces<K: Sink>(pieces: &[Piece], sink: &mut K) -> Result<(), Failed>
     ensures { WritesText K.Sink sink.old sink.new (pieces_text pieces.now) result }
 {

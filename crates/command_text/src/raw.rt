@@ -6,7 +6,7 @@ ghost use Rattle.command_text.specs.Pieces.{WritesText};
 use hex::encode_to_slice;
 use outside::{Failed, Sink, write_all};
 
-/// WritesText the bytes.
+/// Writes the bytes.
 pub(crate) fn print_bytes<K: Sink>(bytes: &[u8], sink: &mut K) -> Result<(), Failed>
     ensures { WritesText K.Sink sink.old sink.new bytes.now result }
 {
@@ -23,7 +23,7 @@ fn room() -> [u8; 4_096]
     [0; 4_096]
 }
 
-// WritesText so few bytes that there is room for their digits.
+// Writes so few bytes that there is room for their digits.
 fn print_few<K: Sink>(bytes: &[u8], sink: &mut K) -> Result<(), Failed>
     requires { length bytes.now ≤ BYTES_AT_ONCE }
     ensures { WritesText K.Sink sink.old sink.new (encode_lower bytes.now) result }
@@ -36,7 +36,7 @@ fn print_few<K: Sink>(bytes: &[u8], sink: &mut K) -> Result<(), Failed>
     print_bytes(digits, sink)
 }
 
-/// WritesText the bytes in hexadecimal digits, two for each.
+/// Writes the bytes in hexadecimal digits, two for each.
 pub(crate) fn print_hex<K: Sink>(bytes: &[u8], sink: &mut K) -> Result<(), Failed>
     ensures { WritesText K.Sink sink.old sink.new (encode_lower bytes.now) result }
 {

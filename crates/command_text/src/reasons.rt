@@ -8,7 +8,7 @@ use causes::Cause;
 use digest_list::Difference;
 use outside::{Failed, Sink};
 
-// WritesText the bytes, and then why one link did not serve.
+// Writes the bytes, and then why one link did not serve.
 fn print_reason<'a, K: Sink>(before: &'a [u8], cause: &'a Cause, sink: &mut K) -> Result<(), Failed>
     ensures { WritesText K.Sink sink.old sink.new (before.now ++ reason_text cause.now) result }
 {
@@ -42,7 +42,7 @@ fn print_reason<'a, K: Sink>(before: &'a [u8], cause: &'a Cause, sink: &mut K) -
     }
 }
 
-/// WritesText why each link did not serve, with commas between them.
+/// Writes why each link did not serve, with commas between them.
 pub(crate) fn print_reasons<K: Sink>(causes: &[Cause], sink: &mut K) -> Result<(), Failed>
     ensures { WritesText K.Sink sink.old sink.new (reasons_text causes.now) result }
 {

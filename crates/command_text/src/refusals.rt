@@ -30,7 +30,7 @@ fn kind_word(kind: TreeKind) -> &'static [u8]
     }
 }
 
-// WritesText a line about a word.
+// Writes a line about a word.
 fn print_about<'a, K: Sink>(front: &'a [u8], what: &'a Text, sink: &mut K) -> Result<(), Failed>
     ensures { WritesText K.Sink sink.old sink.new
         (front.now ++ (word_text what.now ++ 10 ∷ [])) result }
@@ -45,7 +45,7 @@ fn print_about<'a, K: Sink>(front: &'a [u8], what: &'a Text, sink: &mut K) -> Re
     )
 }
 
-// WritesText a line about two versions.
+// Writes a line about two versions.
 fn print_versions<K: Sink>(
     front: &[u8],
     first: Version,
@@ -67,7 +67,7 @@ fn print_versions<K: Sink>(
     )
 }
 
-// WritesText what is wrong with a text, and where.
+// Writes what is wrong with a text, and where.
 fn print_tree<K: Sink>(fault: TreeFault, sink: &mut K) -> Result<(), Failed>
     ensures { WritesText K.Sink sink.old sink.new (refusal_text (Tree fault)) result }
 {
@@ -83,7 +83,7 @@ fn print_tree<K: Sink>(fault: TreeFault, sink: &mut K) -> Result<(), Failed>
     )
 }
 
-/// WritesText why a manifest is refused.
+/// Writes why a manifest is refused.
 pub(crate) fn print_manifest<K: Sink>(fault: &ManifestFault, sink: &mut K) -> Result<(), Failed>
     ensures { WritesText K.Sink sink.old sink.new (refusal_text fault.now) result }
 {
@@ -114,7 +114,7 @@ pub(crate) fn print_manifest<K: Sink>(fault: &ManifestFault, sink: &mut K) -> Re
     }
 }
 
-// WritesText the line of two keys.
+// Writes the line of two keys.
 fn print_identities<'a, K: Sink>(
     listed: &'a Key,
     found: &'a Key,
@@ -147,7 +147,7 @@ fn print_identities<'a, K: Sink>(
     )
 }
 
-/// WritesText the key that was found in place of the one that was asked for.
+/// Writes the key that was found in place of the one that was asked for.
 pub(crate) fn print_identity<K: Sink>(found: &Key, sink: &mut K) -> Result<(), Failed>
     ensures { WritesText K.Sink sink.old sink.new (identity_text found.now) result }
 {
@@ -168,7 +168,7 @@ pub(crate) fn print_identity<K: Sink>(found: &Key, sink: &mut K) -> Result<(), F
     )
 }
 
-/// WritesText why two manifests are not those of one release.
+/// Writes why two manifests are not those of one release.
 pub(crate) fn print_release<K: Sink>(fault: &ReleaseFault, sink: &mut K) -> Result<(), Failed>
     ensures { WritesText K.Sink sink.old sink.new (release_text fault.now) result }
 {

@@ -19,7 +19,7 @@ use outside::{Failed, Sink};
 use small_types::Target;
 use small_types::limits::LEASE_LIMIT;
 
-// WritesText the reply of a line that is no command.
+// Writes the reply of a line that is no command.
 fn print_fault<K: Sink>(fault: LineFault, sink: &mut K) -> Result<(), Failed>
     ensures { WritesText K.Sink sink.old sink.new (fault_text fault) result }
 {
@@ -39,7 +39,7 @@ fn print_fault<K: Sink>(fault: LineFault, sink: &mut K) -> Result<(), Failed>
     }
 }
 
-// WritesText what is installed.
+// Writes what is installed.
 fn print_installed<K: Sink>(
     key: &Key,
     version: Version,
@@ -69,7 +69,7 @@ fn print_installed<K: Sink>(
     )
 }
 
-// WritesText what no link gave, up to the causes.
+// Writes what no link gave, up to the causes.
 fn print_target<K: Sink>(target: &Target, sink: &mut K) -> Result<(), Failed>
     ensures { WritesText K.Sink sink.old sink.new (lacking_text target.now) result }
 {
@@ -86,7 +86,7 @@ fn print_target<K: Sink>(target: &Target, sink: &mut K) -> Result<(), Failed>
     )
 }
 
-// WritesText what no link gave, and why.
+// Writes what no link gave, and why.
 fn print_links<K: Sink>(target: &Target, causes: &[Cause], sink: &mut K) -> Result<(), Failed>
     ensures { WritesText K.Sink sink.old sink.new (links_text target.now causes.now) result }
 {
@@ -95,7 +95,7 @@ fn print_links<K: Sink>(target: &Target, causes: &[Cause], sink: &mut K) -> Resu
     print_pieces(&[Piece::Bytes(b"\n")], sink)
 }
 
-// WritesText the line that shows a number.
+// Writes the line that shows a number.
 fn print_number_line<K: Sink>(front: &[u8], number: u64, sink: &mut K) -> Result<(), Failed>
     ensures { WritesText K.Sink sink.old sink.new (front.now ++ (decimal number ++ 10 ∷ []))
         result }
@@ -110,7 +110,7 @@ fn print_number_line<K: Sink>(front: &[u8], number: u64, sink: &mut K) -> Result
     )
 }
 
-// WritesText the line that shows a version.
+// Writes the line that shows a version.
 fn print_version_line<K: Sink>(front: &[u8], shown: Version, sink: &mut K) -> Result<(), Failed>
     ensures { WritesText K.Sink sink.old sink.new
         (front.now ++ (version_text shown ++ 10 ∷ [])) result }
@@ -125,7 +125,7 @@ fn print_version_line<K: Sink>(front: &[u8], shown: Version, sink: &mut K) -> Re
     )
 }
 
-// WritesText the reply, by its kind.
+// Writes the reply, by its kind.
 #[tactic(auto, unfolding(crate::specs::Lines::reply_text))]
 fn print_line<K: Sink>(reply: &Reply, sink: &mut K) -> Result<(), Failed>
     ensures { WritesText K.Sink sink.old sink.new (reply_text reply.now) result }
@@ -195,7 +195,7 @@ fn print_line<K: Sink>(reply: &Reply, sink: &mut K) -> Result<(), Failed>
     }
 }
 
-/// WritesText the reply to the sink, each of its lines with its line feed, piece by piece: no memory is taken, and nothing
+/// Writes the reply to the sink, each of its lines with its line feed, piece by piece: no memory is taken, and nothing
 /// bounds how long a reply may be. Where it fails the sink has taken a first part of the reply, and not all.
 pub fn print_reply<K: Sink>(reply: &Reply, sink: &mut K) -> Result<(), Failed>
     ensures bytes { K.tells

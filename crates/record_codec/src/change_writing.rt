@@ -16,7 +16,7 @@ use record_fields::{
 use small_types::{Name, Target, Text};
 use store_state::{Content, LocalFile, View};
 
-// WritesField the installation at the front, the number of its kind and its fields, and answers the
+// Writes the installation at the front, the number of its kind and its fields, and answers the
 // place behind it.
 #[tactic(auto, using(record_fields::proofs::Long::lengths), unfolding(crate::specs::Codec::install_text))]
 pub(crate) fn write_install(
@@ -38,7 +38,7 @@ pub(crate) fn write_install(
     write_u64(out, next, now)
 }
 
-// WritesField what a check heard at the front, the number of its kind and its fields, and answers the
+// Writes what a check heard at the front, the number of its kind and its fields, and answers the
 // place behind it.
 #[tactic(auto, using(record_fields::proofs::Long::lengths), unfolding(crate::specs::Codec::heard_text))]
 pub(crate) fn write_heard(
@@ -59,7 +59,7 @@ pub(crate) fn write_heard(
     write_u64(out, next, now)
 }
 
-// WritesField the group at the front, the number of its kind and its fields, and answers the place
+// Writes the group at the front, the number of its kind and its fields, and answers the place
 // behind it.
 #[tactic(auto, using(record_fields::proofs::Long::lengths), unfolding(crate::specs::Codec::group_text))]
 pub(crate) fn write_group(out: &mut [u8], view: u64, group: &Text, contents: &[Content]) -> usize
@@ -73,7 +73,7 @@ pub(crate) fn write_group(out: &mut [u8], view: u64, group: &Text, contents: &[C
     write_list::<ContentField>(out, next, contents)
 }
 
-// WritesField the data file that comes to the view at the front, the number of its kind and its fields,
+// Writes the data file that comes to the view at the front, the number of its kind and its fields,
 // and answers the place behind it.
 #[tactic(auto, using(record_fields::proofs::Long::lengths), unfolding(crate::specs::Codec::put_text))]
 pub(crate) fn write_put(out: &mut [u8], view: u64, file: &LocalFile) -> usize
@@ -86,7 +86,7 @@ pub(crate) fn write_put(out: &mut [u8], view: u64, file: &LocalFile) -> usize
     write_local(out, next, file)
 }
 
-// WritesField the removal of the data file of the view at the front, the number of its kind and its
+// Writes the removal of the data file of the view at the front, the number of its kind and its
 // fields, and answers the place behind it.
 #[tactic(auto, using(record_fields::proofs::Long::lengths), unfolding(crate::specs::Codec::remove_text))]
 pub(crate) fn write_remove(out: &mut [u8], view: u64, name: &Name) -> usize

@@ -11,7 +11,7 @@ use record_fields::{
 };
 use store_state::{Content, LocalFile, View};
 
-/// WritesField the content at the place, its length, its digests and its bytes, and answers the place
+/// Writes the content at the place, its length, its digests and its bytes, and answers the place
 /// behind it.
 #[tactic(auto, using(record_fields::proofs::Long::lengths), unfolding(crate::specs::Spelling::content_field))]
 pub fn write_content(out: &mut [u8], place: usize, content: &Content) -> usize
@@ -24,7 +24,7 @@ pub fn write_content(out: &mut [u8], place: usize, content: &Content) -> usize
     write_bytes(out, next, content.held.as_slice())
 }
 
-/// WritesField the data file at the place, its name, its length and its bytes, and answers the place
+/// Writes the data file at the place, its name, its length and its bytes, and answers the place
 /// behind it.
 #[tactic(auto, using(record_fields::proofs::Long::lengths), unfolding(crate::specs::Spelling::local_field))]
 pub fn write_local(out: &mut [u8], place: usize, local: &LocalFile) -> usize
@@ -37,7 +37,7 @@ pub fn write_local(out: &mut [u8], place: usize, local: &LocalFile) -> usize
     write_bytes(out, next, local.held.as_slice())
 }
 
-/// WritesField the view at the place, its fields in their order, and answers the place behind it.
+/// Writes the view at the place, its fields in their order, and answers the place behind it.
 #[tactic(auto, using(record_fields::proofs::Long::lengths), unfolding(crate::specs::Spelling::view_field))]
 pub fn write_view(out: &mut [u8], place: usize, view: &View) -> usize
     requires view { IsEncodableView view.now }

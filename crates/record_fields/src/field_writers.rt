@@ -9,7 +9,7 @@ ghost use Rattle.record_fields.specs.Places.{WritesField};
 use identity::{Key, Version};
 use small_types::{Name, Text};
 
-// WritesField the bytes at the place, leaves all others, and answers the place behind them.
+// Writes the bytes at the place, leaves all others, and answers the place behind them.
 pub(crate) fn put(out: &mut [u8], place: usize, bytes: &[u8]) -> usize
     requires { place + length bytes.now ≤ length out.old }
     ensures { WritesField out.old place bytes.now out.new result }
@@ -19,7 +19,7 @@ pub(crate) fn put(out: &mut [u8], place: usize, bytes: &[u8]) -> usize
     end
 }
 
-/// WritesField the byte at the place, and answers the place behind it.
+/// Writes the byte at the place, and answers the place behind it.
 pub fn write_u8(out: &mut [u8], place: usize, byte: u8) -> usize
     requires { place < length out.old }
     ensures { WritesField out.old place (byte ∷ []) out.new result }
@@ -27,7 +27,7 @@ pub fn write_u8(out: &mut [u8], place: usize, byte: u8) -> usize
     put(out, place, &[byte])
 }
 
-/// WritesField the number at the place in two bytes, the first the greater, and answers the place behind
+/// Writes the number at the place in two bytes, the first the greater, and answers the place behind
 /// them.
 pub fn write_u16(out: &mut [u8], place: usize, number: u16) -> usize
     requires { place + 2 ≤ length out.old }
@@ -36,7 +36,7 @@ pub fn write_u16(out: &mut [u8], place: usize, number: u16) -> usize
     put(out, place, &number.to_be_bytes())
 }
 
-/// WritesField the number at the place in four bytes, the first the greatest, and answers the place
+/// Writes the number at the place in four bytes, the first the greatest, and answers the place
 /// behind them.
 pub fn write_u32(out: &mut [u8], place: usize, number: u32) -> usize
     requires { place + 4 ≤ length out.old }
@@ -45,7 +45,7 @@ pub fn write_u32(out: &mut [u8], place: usize, number: u32) -> usize
     put(out, place, &number.to_be_bytes())
 }
 
-/// WritesField the number at the place in eight bytes, the first the greatest, and answers the place
+/// Writes the number at the place in eight bytes, the first the greatest, and answers the place
 /// behind them.
 pub fn write_u64(out: &mut [u8], place: usize, number: u64) -> usize
     requires { place + 8 ≤ length out.old }
@@ -54,7 +54,7 @@ pub fn write_u64(out: &mut [u8], place: usize, number: u64) -> usize
     put(out, place, &number.to_be_bytes())
 }
 
-/// WritesField bytes at the place, behind their number in four bytes, and answers the place behind them.
+/// Writes bytes at the place, behind their number in four bytes, and answers the place behind them.
 pub fn write_bytes(out: &mut [u8], place: usize, bytes: &[u8]) -> usize
     requires size { length bytes.now < 2 ^ 32 }
     requires room { place + 4 + length bytes.now ≤ length out.old }
@@ -64,7 +64,7 @@ pub fn write_bytes(out: &mut [u8], place: usize, bytes: &[u8]) -> usize
     put(out, start, bytes)
 }
 
-/// WritesField the text at the place, behind its length in four bytes, and answers the place behind it.
+/// Writes the text at the place, behind its length in four bytes, and answers the place behind it.
 pub fn write_text(out: &mut [u8], place: usize, text: &Text) -> usize
     requires size { length text.now < 2 ^ 32 }
     requires room { place + 4 + length text.now ≤ length out.old }
@@ -73,7 +73,7 @@ pub fn write_text(out: &mut [u8], place: usize, text: &Text) -> usize
     write_bytes(out, place, text.as_bytes())
 }
 
-/// WritesField the name at the place, as its text, and answers the place behind it.
+/// Writes the name at the place, as its text, and answers the place behind it.
 pub fn write_name(out: &mut [u8], place: usize, name: &Name) -> usize
     requires name { IsName name.now }
     requires room { place + 4 + length name.now ≤ length out.old }
@@ -82,7 +82,7 @@ pub fn write_name(out: &mut [u8], place: usize, name: &Name) -> usize
     write_bytes(out, place, name.as_bytes())
 }
 
-/// WritesField the key at the place, its four parts as texts, and answers the place behind it.
+/// Writes the key at the place, its four parts as texts, and answers the place behind it.
 #[tactic(auto, unfolding(crate::specs::Fields::key_field, crate::specs::Fields::text_field))]
 pub fn write_key(out: &mut [u8], place: usize, key: &Key) -> usize
     requires key { IsShortKey key.now }
@@ -95,7 +95,7 @@ pub fn write_key(out: &mut [u8], place: usize, key: &Key) -> usize
     write_text(out, next, &key.architecture)
 }
 
-/// WritesField the version at the place, its four numbers in two bytes each, and answers the place
+/// Writes the version at the place, its four numbers in two bytes each, and answers the place
 /// behind it.
 pub fn write_version(out: &mut [u8], place: usize, version: Version) -> usize
     requires { place + 8 ≤ length out.old }

@@ -23,7 +23,7 @@ pub trait Item {
         requires { length (field value.now) < 2 ^ 63 }
         ensures { result ≡ length (field value.now) };
 
-    /// WritesField it at the place, and answers the place behind it.
+    /// Writes it at the place, and answers the place behind it.
     fn write_item(out: &mut [u8], place: usize, value: &Self::Value) -> usize
         requires fits { fits value.now }
         requires room { place + length (field value.now) ≤ length out.old }
@@ -41,7 +41,7 @@ pub fn option_length<T: Item>(value: &Option<T::Value>) -> u64
     }
 }
 
-/// WritesField an option at the place, a byte that says whether there is a value, and the value, and answers the place
+/// Writes an option at the place, a byte that says whether there is a value, and the value, and answers the place
 /// behind it.
 pub fn write_option<T: Item>(out: &mut [u8], place: usize, value: &Option<T::Value>) -> usize
     requires fits { IfSome value.now T.fits }
@@ -78,7 +78,7 @@ pub fn list_length<T: Item>(items: &[T::Value]) -> u64
     4 + items_length::<T>(items)
 }
 
-// WritesField items one behind another from the place on, and answers the place behind them.
+// Writes items one behind another from the place on, and answers the place behind them.
 fn write_items<T: Item>(out: &mut [u8], place: usize, items: &[T::Value]) -> usize
     requires fits { All T.fits items.now }
     requires room { place + length (flat_map T.field items.now) ≤ length out.old }
@@ -91,7 +91,7 @@ fn write_items<T: Item>(out: &mut [u8], place: usize, items: &[T::Value]) -> usi
     next
 }
 
-/// WritesField a list at the place, behind the number of its items in four bytes, and answers the place
+/// Writes a list at the place, behind the number of its items in four bytes, and answers the place
 /// behind it.
 pub fn write_list<T: Item>(out: &mut [u8], place: usize, items: &[T::Value]) -> usize
     requires few { length items.now < 2 ^ 32 }

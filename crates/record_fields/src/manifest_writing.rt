@@ -26,7 +26,7 @@ fn number_of(algorithm: Algorithm) -> u8
     }
 }
 
-/// WritesField the digest at the place, the number of its algorithm and its bytes, and answers the place
+/// Writes the digest at the place, the number of its algorithm and its bytes, and answers the place
 /// behind it.
 #[tactic(auto, using(crate::proofs::Long::lengths), unfolding(crate::specs::Spelling::digest_field))]
 pub fn write_digest(out: &mut [u8], place: usize, digest: &Digest) -> usize
@@ -38,7 +38,7 @@ pub fn write_digest(out: &mut [u8], place: usize, digest: &Digest) -> usize
     write_bytes(out, next, digest.value.as_slice())
 }
 
-/// WritesField the digests at the place, behind their number, and answers the place behind them.
+/// Writes the digests at the place, behind their number, and answers the place behind them.
 pub fn write_digests(out: &mut [u8], place: usize, digests: &DigestList) -> usize
     requires digests { AreDigests digests.now }
     requires room { place + length (list_field digest_field digests.now) ≤ length out.old }
@@ -47,7 +47,7 @@ pub fn write_digests(out: &mut [u8], place: usize, digests: &DigestList) -> usiz
     write_list::<DigestField>(out, place, digests.as_slice())
 }
 
-/// WritesField the file at the place, its name, its length, its digests, its group and whether it is a
+/// Writes the file at the place, its name, its length, its digests, its group and whether it is a
 /// data file, and answers the place behind it.
 #[tactic(auto, using(crate::proofs::Long::lengths), unfolding(crate::specs::Spelling::entry_field))]
 pub fn write_entry(out: &mut [u8], place: usize, entry: &FileEntry) -> usize
@@ -62,7 +62,7 @@ pub fn write_entry(out: &mut [u8], place: usize, entry: &FileEntry) -> usize
     write_truth(out, next, entry.local)
 }
 
-// WritesField what a deployment says of itself, and answers the place behind it.
+// Writes what a deployment says of itself, and answers the place behind it.
 #[tactic(auto, using(crate::proofs::Long::lengths), unfolding(crate::specs::Spelling::terms_field))]
 fn write_terms(out: &mut [u8], place: usize, deployment: &Deployment) -> usize
     requires deployment { IsEncodableDeployment deployment.now }
@@ -77,7 +77,7 @@ fn write_terms(out: &mut [u8], place: usize, deployment: &Deployment) -> usize
     write_option::<TextField>(out, next, &deployment.provider)
 }
 
-// WritesField what a deployment says of its application manifest, and answers the place behind it.
+// Writes what a deployment says of its application manifest, and answers the place behind it.
 #[tactic(auto, using(crate::proofs::Long::lengths), unfolding(crate::specs::Spelling::listed_field))]
 fn write_listed(out: &mut [u8], place: usize, deployment: &Deployment) -> usize
     requires deployment { IsEncodableDeployment deployment.now }
@@ -90,7 +90,7 @@ fn write_listed(out: &mut [u8], place: usize, deployment: &Deployment) -> usize
     write_digests(out, next, &deployment.app_list)
 }
 
-/// WritesField the deployment at the place, its fields in their order, and answers the place behind it.
+/// Writes the deployment at the place, its fields in their order, and answers the place behind it.
 #[tactic(auto, using(crate::proofs::Long::lengths), unfolding(crate::specs::Spelling::deployment_field))]
 pub fn write_deployment(out: &mut [u8], place: usize, deployment: &Deployment) -> usize
     requires deployment { IsEncodableDeployment deployment.now }
@@ -101,7 +101,7 @@ pub fn write_deployment(out: &mut [u8], place: usize, deployment: &Deployment) -
     write_listed(out, next, deployment)
 }
 
-/// WritesField the application at the place, its fields in their order, and answers the place behind it.
+/// Writes the application at the place, its fields in their order, and answers the place behind it.
 #[tactic(auto, using(crate::proofs::Long::lengths), unfolding(crate::specs::Spelling::application_field))]
 pub fn write_application(out: &mut [u8], place: usize, application: &Application) -> usize
     requires application { IsEncodableApplication application.now }

@@ -12,7 +12,7 @@ use identity::Identity;
 use manifests::Rule;
 use small_types::Target;
 
-/// WritesField the truth value at the place, a byte, and answers the place behind it.
+/// Writes the truth value at the place, a byte, and answers the place behind it.
 pub fn write_truth(out: &mut [u8], place: usize, truth: bool) -> usize
     requires { place < length out.old }
     ensures { WritesField out.old place (truth_field truth) out.new result }
@@ -24,7 +24,7 @@ pub fn write_truth(out: &mut [u8], place: usize, truth: bool) -> usize
     }
 }
 
-/// WritesField the address at the place, its host, its port in two bytes and its path, and answers the
+/// Writes the address at the place, its host, its port in two bytes and its path, and answers the
 /// place behind it.
 #[tactic(auto, using(crate::proofs::Long::lengths), unfolding(crate::specs::Spelling::target_field))]
 pub fn write_target(out: &mut [u8], place: usize, target: &Target) -> usize
@@ -37,7 +37,7 @@ pub fn write_target(out: &mut [u8], place: usize, target: &Target) -> usize
     write_text(out, next, &target.path)
 }
 
-/// WritesField the identity at the place, its key, its version and its kind, and answers the place
+/// Writes the identity at the place, its key, its version and its kind, and answers the place
 /// behind it.
 #[tactic(auto, using(crate::proofs::Long::lengths), unfolding(crate::specs::Spelling::identity_field))]
 pub fn write_identity(out: &mut [u8], place: usize, identity: &Identity) -> usize
@@ -50,7 +50,7 @@ pub fn write_identity(out: &mut [u8], place: usize, identity: &Identity) -> usiz
     write_text(out, next, &identity.kind)
 }
 
-/// WritesField the rule at the place, the number of its variant and its field, and answers the place
+/// Writes the rule at the place, the number of its variant and its field, and answers the place
 /// behind it.
 #[tactic(auto, using(crate::proofs::Long::lengths), unfolding(crate::specs::Spelling::rule_field))]
 pub fn write_rule(out: &mut [u8], place: usize, rule: Rule) -> usize
