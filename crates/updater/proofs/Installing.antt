@@ -92,7 +92,7 @@ module _ (now : ℕ) (url : List ℕ) (heard : List (List ℕ)) (before after : 
     leads_by : (old : Session) (s : Shown image (Install url) updater old) → LeadsBetween change (tables_of updater) old.store (step_of old s).new.store
     leads_by old s = let step = step_of old s in record {
       shows = subst (λ (n : Room). LeadsIn n change (tables_of updater) old.store step.new.store) s.room step.leads;
-      valid = left_valid (record { few = omega arith; moment = moment; passes = passes_by old s; effect = step.installs }) s.valid;
+      valid = left_valid (record { moment = moment; passes = passes_by old s; effect = step.installs }) s.valid;
     }
 
     pub ready_does : (old : Session) → Shown image (Install url) updater old → Does now heard (Install url) before after change (tables_of updater) old reply
