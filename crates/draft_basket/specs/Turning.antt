@@ -3,7 +3,7 @@ use Rattle.std.specs.Prelude.{◌≡◌, ℕ, List, refl}
 use Rattle.std.proofs.Common.{◌∙◌, ap, subst}
 use Rattle.std.proofs.Math.Nat.{le_refl, le_trans}
 use Rattle.disks.specs.declared.disk.Disk.{Ghosts}
-use Rattle.file_store.specs.Stores.{base_of, blocks_of}
+use Rattle.file_store.specs.Stores.{draft_blocks, store_base}
 use Rattle.file_store.specs.Writes.{WritesOnly}
 use Rattle.file_store.specs.declared.draft.Draft.{Draft}
 use Rattle.file_store.specs.declared.store.FileStore.{FileStore}
@@ -16,22 +16,22 @@ pub turned_same : {D : Type 0} (on : Ghosts D) (base : ℕ) (draft : Draft) (dis
 turned_same on base draft disk = record {
   blocks = refl;
   size = refl;
-  only = only_start on base (blocks_of draft) disk;
+  only = only_start on base (draft_blocks draft) disk;
   told = λ tells. tells;
   total = le_refl (on.total disk);
 }
 
 pub turned_on : {D : Type 0} (on : Ghosts D) (store_a store_b : FileStore)
     (draft_a draft_b draft_c : Draft) (disk_a disk_b disk_c : D) → store_b ≡ store_a
-    → Turned on (base_of store_a) draft_a draft_b disk_a disk_b
-    → Turned on (base_of store_b) draft_b draft_c disk_b disk_c
-    → Turned on (base_of store_a) draft_a draft_c disk_a disk_c
+    → Turned on (store_base store_a) draft_a draft_b disk_a disk_b
+    → Turned on (store_base store_b) draft_b draft_c disk_b disk_c
+    → Turned on (store_base store_a) draft_a draft_c disk_a disk_c
 turned_on on store_a store_b draft_a draft_b draft_c disk_a disk_b disk_c same one two = record {
   blocks = two.blocks ∙ one.blocks;
   size = two.size ∙ one.size;
-  only = writes_then on (base_of store_a) (blocks_of draft_a) disk_a disk_b disk_c one.only
-      (subst (λ (b : ℕ). WritesOnly on b (blocks_of draft_a) disk_b disk_c) (ap base_of same)
-      (subst (λ (l : List ℕ). WritesOnly on (base_of store_b) l disk_b disk_c) one.blocks
+  only = writes_then on (store_base store_a) (draft_blocks draft_a) disk_a disk_b disk_c one.only
+      (subst (λ (b : ℕ). WritesOnly on b (draft_blocks draft_a) disk_b disk_c) (ap store_base same)
+      (subst (λ (l : List ℕ). WritesOnly on (store_base store_b) l disk_b disk_c) one.blocks
       two.only));
   told = λ tells. one.told (two.told tells);
   total = le_trans one.total two.total;

@@ -3,12 +3,12 @@
 
 ghost use Rattle.std.specs.Prelude.{◌≡◌, ◌≤◌, ◌++◌, refl, length, IfErr, OnOk};
 ghost use Rattle.std.proofs.Common.{◌∙◌};
-ghost use Rattle.file_store.specs.Stores.{base_of, blocks_of, filled_of, size_of};
+ghost use Rattle.file_store.specs.Stores.{draft_blocks, draft_size, filled_of, store_base};
 ghost use Rattle.file_store.specs.Writes.{WritesOnly};
 ghost use Rattle.outside.specs.Streams.{Appends};
 ghost use Rattle.links.specs.Basket.{BasketCounts};
 ghost use Rattle.links.specs.declared.basket.BasketFault.TheVariants.{Failed};
-ghost use Rattle.draft_basket.specs.Basket.{ArePast, IsWhole, Turned, held_in};
+ghost use Rattle.draft_basket.specs.Basket.{ArePast, ReadsWhole, Turned, held_bytes};
 ghost use Rattle.draft_basket.specs.Turning.{turned_on, turned_same};
 
 use call_record::Record;
@@ -28,14 +28,14 @@ pub struct DraftBasket<'a, D: Disk> {
     // Whether there was more than the draft has room for.
     is_over: bool,
     past: Record<u8>,
-    ghost whole: { IsWhole (base_of store.now) draft.now (D.seen disk.now) },
+    ghost whole: { ReadsWhole (store_base store.now) draft.now (D.seen disk.now) },
     ghost past_size: { ArePast draft.now is_over past.noted },
 }
 
 impl<D: Disk> Basket for DraftBasket<'_, D> {
     ghost tells = { Unit {0} };
 
-    ghost taken = { λ b. held_in (base_of b.store.now) b.draft.now (D.seen b.disk.now)
+    ghost taken = { λ b. held_bytes (store_base b.store.now) b.draft.now (D.seen b.disk.now)
         ++ b.past.noted };
 
     ghost count = { λ b. D.count b.disk.now };
@@ -43,14 +43,14 @@ impl<D: Disk> Basket for DraftBasket<'_, D> {
     ghost turns_to = { λ a b. (b.disk.ghost_name ≡ a.disk.ghost_name)
         × (b.draft.ghost_name ≡ a.draft.ghost_name) × (b.store.ghost_name ≡ a.store.ghost_name)
         × (b.store.now ≡ a.store.now)
-        × Turned D.Disk (base_of a.store.now) a.draft.now b.draft.now a.disk.now b.disk.now };
+        × Turned D.Disk (store_base a.store.now) a.draft.now b.draft.now a.disk.now b.disk.now };
 
     ghost turns_same = { λ a. (
       refl,
       refl,
       refl,
       refl,
-      turned_same _ (base_of a.store.now) a.draft.now a.disk.now,
+      turned_same _ (store_base a.store.now) a.draft.now a.disk.now,
     ) };
 
     ghost turns_on = { λ a b c one two. (
@@ -73,13 +73,13 @@ impl<D: Disk> Basket for DraftBasket<'_, D> {
             × (self.new.draft.ghost_name ≡ self.old.draft.ghost_name)
             × (self.new.store.ghost_name ≡ self.old.store.ghost_name)
             × (self.new.store.now ≡ self.old.store.now)
-            × Turned D.Disk (base_of self.old.store.now) self.old.draft.now self.new.draft.now
+            × Turned D.Disk (store_base self.old.store.now) self.old.draft.now self.new.draft.now
             self.old.disk.now self.new.disk.now }
         ensures bytes { OnOk result (Appends
-            (held_in (base_of self.old.store.now) self.old.draft.now (D.seen self.old.disk.now)
-            ++ self.old.past.noted)
-            (held_in (base_of self.new.store.now) self.new.draft.now (D.seen self.new.disk.now)
-            ++ self.new.past.noted) bytes.now) }
+            (held_bytes (store_base self.old.store.now) self.old.draft.now
+            (D.seen self.old.disk.now) ++ self.old.past.noted)
+            (held_bytes (store_base self.new.store.now) self.new.draft.now
+            (D.seen self.new.disk.now) ++ self.new.past.noted) bytes.now) }
         ensures counts { BasketCounts (D.count self.old.disk.now) (D.count self.new.disk.now)
             result }
         ensures fault { IfErr result (λ e. e ≡ Failed) }
@@ -113,8 +113,8 @@ impl<'a, D: Disk> DraftBasket<'a, D> {
         ensures disk { result.disk.now ≡ disk.old }
         ensures store { result.store.now ≡ store.old }
         ensures empty { filled_of result.draft.now ≡ 0 }
-        ensures blocks { blocks_of result.draft.now ≡ blocks_of draft.old }
-        ensures size { size_of result.draft.now ≡ size_of draft.old }
+        ensures blocks { draft_blocks result.draft.now ≡ draft_blocks draft.old }
+        ensures size { draft_size result.draft.now ≡ draft_size draft.old }
     {
         store.restart(draft);
         DraftBasket {
@@ -145,12 +145,13 @@ pub fn fill_draft<D: Disk>(
     draft: &mut Draft,
     bytes: &[u8],
 ) -> Result<(), BasketFault>
-    ensures only { WritesOnly D.Disk (base_of store.old) (blocks_of draft.old) disk.old disk.new }
-    ensures held { length bytes.now ≤ size_of draft.old
-        → OnOk result (held_in (base_of store.old) draft.new (D.seen disk.new) ≡ bytes.now) }
-    ensures whole { IsWhole (base_of store.old) draft.new (D.seen disk.new) }
-    ensures blocks { blocks_of draft.new ≡ blocks_of draft.old }
-    ensures size { size_of draft.new ≡ size_of draft.old }
+    ensures only { WritesOnly D.Disk (store_base store.old) (draft_blocks draft.old) disk.old
+        disk.new }
+    ensures held { length bytes.now ≤ draft_size draft.old
+        → OnOk result (held_bytes (store_base store.old) draft.new (D.seen disk.new) ≡ bytes.now) }
+    ensures whole { ReadsWhole (store_base store.old) draft.new (D.seen disk.new) }
+    ensures blocks { draft_blocks draft.new ≡ draft_blocks draft.old }
+    ensures size { draft_size draft.new ≡ draft_size draft.old }
     ensures store { store.new ≡ store.old }
     ensures counts { BasketCounts (D.count disk.old) (D.count disk.new) result }
 {

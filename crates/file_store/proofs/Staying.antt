@@ -6,7 +6,7 @@ use Rattle.disks.proofs.MomentLemmas.{then_on, weaker}
 use Rattle.small_types.specs.Blocks.{IsContent, KeepsOutside, ShareNone, bytes_in}
 use Rattle.small_types.proofs.BlockStaying.{bytes_content, content_stays, content_stays_behind, front_stays}
 use Rattle.file_store.specs.Laws.{HasOldFront}
-use Rattle.file_store.specs.Stores.{AreUsed, Holds, blocks_of, free_of}
+use Rattle.file_store.specs.Stores.{AreUsed, DraftHolds, draft_blocks, free_of}
 use Rattle.file_store.specs.Writes.{IsOldOutsideBlocks, WritesOnly}
 use Rattle.file_store.specs.declared.draft.Draft.{Draft}
 use Rattle.file_store.specs.declared.store.FileStore.{FileStore}
@@ -79,7 +79,7 @@ content_kept on base blocks written content old new fits none each writes =
     writes_keep on base written old new (IsContent base blocks content) (λ before after is keeps. content_stays base blocks content before after fits is written none keeps) each writes
 
 -- another draft holds what it held
-pub holds_stays : (base : ℕ) (draft : Draft) (written bytes old new : List ℕ) → ShareNone (blocks_of draft) written → KeepsOutside base written old new → Holds base draft bytes old → Holds base draft bytes new
+pub holds_stays : (base : ℕ) (draft : Draft) (written bytes old new : List ℕ) → ShareNone (draft_blocks draft) written → KeepsOutside base written old new → DraftHolds base draft bytes old → DraftHolds base draft bytes new
 holds_stays base draft written bytes old new none keeps holds =
-    let fits : length bytes ≤ 4096 * length (blocks_of draft) = omega (arith, holds.count, draft.within, draft.counted) in
-    record { count = holds.count; content = content_stays base (blocks_of draft) bytes old new fits holds.content written none keeps }
+    let fits : length bytes ≤ 4096 * length (draft_blocks draft) = omega (arith, holds.count, draft.within, draft.counted) in
+    record { count = holds.count; content = content_stays base (draft_blocks draft) bytes old new fits holds.content written none keeps }

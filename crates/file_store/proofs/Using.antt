@@ -3,7 +3,7 @@ use Rattle.std.proofs.Common.{◌≡◌, ◌⊎◌, ℕ, ◌+◌, ◌<◌, List,
 use Rattle.std.proofs.lemmas.List.{append_assoc, get_or-append-add, get_or_append_left, length-append}
 use Rattle.std.proofs.lemmas.List.Elements.{All-append, Contains-append_cases, Contains-append_left, Contains-append_right}
 use Rattle.small_types.specs.Blocks.{AreApart}
-use Rattle.file_store.specs.Stores.{AreUsed, SameRange, free_of, number_of}
+use Rattle.file_store.specs.Stores.{AreUsed, SameRange, block_count, free_of}
 use Rattle.file_store.specs.declared.store.FileStore.{FileStore}
 use Rattle.file_store.proofs.Apart.{apart_back, apart_front, apart_join, apart_other}
 
@@ -38,7 +38,7 @@ module _ (store : FileStore) (front blocks back : List ℕ) (used : AreUsed stor
   -- a part of the blocks in use
   pub used_part : AreUsed store blocks
   used_part = record {
-    within = all_front (λ b. b < number_of store) blocks back (all_back (λ b. b < number_of store) front (blocks ++ back) used.within);
+    within = all_front (λ b. b < block_count store) blocks back (all_back (λ b. b < block_count store) front (blocks ++ back) used.within);
     apart = apart_join blocks (free_of store) (apart_front blocks back rest) frees (λ x there free. not_free x (in_blocks x there) free);
   }
 
@@ -47,8 +47,8 @@ module _ (store : FileStore) (front blocks back : List ℕ) (used : AreUsed stor
   used_less new freed same = record {
     within =
         subst (λ (n : ℕ). All (λ b. b < n) (front ++ back)) (sym same.number)
-        (All-append (λ b. b < number_of store) front back (all_front (λ b. b < number_of store) front (blocks ++ back) used.within)
-        (all_back (λ b. b < number_of store) blocks back (all_back (λ b. b < number_of store) front (blocks ++ back) used.within)));
+        (All-append (λ b. b < block_count store) front back (all_front (λ b. b < block_count store) front (blocks ++ back) used.within)
+        (all_back (λ b. b < block_count store) blocks back (all_back (λ b. b < block_count store) front (blocks ++ back) used.within)));
     apart =
         subst (λ (l : List ℕ). AreApart ((front ++ back) ++ l)) (sym freed)
         (apart_join (front ++ back) (blocks ++ free_of store)
@@ -66,15 +66,15 @@ module _ (store : FileStore) (front blocks back : List ℕ) (used : AreUsed stor
 -- blocks were handed out
 pub used_more : (old new : FileStore) (used taken : List ℕ) → AreUsed old used → free_of old ≡ taken ++ free_of new → AreUsed new taken → SameRange old new → AreUsed new (used ++ taken)
 used_more old new used taken before handed there same = record {
-  within = All-append (λ b. b < number_of new) used taken (subst (λ (n : ℕ). All (λ b. b < n) used) (sym same.number) before.within) there.within;
+  within = All-append (λ b. b < block_count new) used taken (subst (λ (n : ℕ). All (λ b. b < n) used) (sym same.number) before.within) there.within;
   apart = subst AreApart (sym (append_assoc used taken (free_of new))) (subst (λ (l : List ℕ). AreApart (used ++ l)) handed before.apart);
 }
 
 -- so the count of free blocks is that of all less that of those in use, before and after
-pub count_more : (old new : FileStore) (used taken : List ℕ) → length used + length (free_of old) ≡ number_of old → free_of old ≡ taken ++ free_of new → SameRange old new → length (used ++ taken) + length (free_of new) ≡ number_of new
+pub count_more : (old new : FileStore) (used taken : List ℕ) → length used + length (free_of old) ≡ block_count old → free_of old ≡ taken ++ free_of new → SameRange old new → length (used ++ taken) + length (free_of new) ≡ block_count new
 count_more old new used taken count handed same = omega (arith, count, ap length handed, length-append taken (free_of new), length-append used taken, same.number)
 
-pub count_less : (old new : FileStore) (front blocks back : List ℕ) → length (front ++ (blocks ++ back)) + length (free_of old) ≡ number_of old → free_of new ≡ blocks ++ free_of old → SameRange old new
-    → length (front ++ back) + length (free_of new) ≡ number_of new
+pub count_less : (old new : FileStore) (front blocks back : List ℕ) → length (front ++ (blocks ++ back)) + length (free_of old) ≡ block_count old → free_of new ≡ blocks ++ free_of old → SameRange old new
+    → length (front ++ back) + length (free_of new) ≡ block_count new
 count_less old new front blocks back count freed same =
     omega (arith, count, ap length freed, length-append blocks (free_of old), length-append front (blocks ++ back), length-append blocks back, length-append front back, same.number)

@@ -9,7 +9,7 @@ use Rattle.disks.specs.declared.disk.Disk.{Ghosts}
 use Rattle.disks.proofs.MomentLemmas.{started, goes_on}
 use Rattle.small_types.specs.Blocks.{AreApart, IsContent, KeepsOutside, Stands, place_at}
 use Rattle.disks.specs.Spends.{HasNoNumber}
-use Rattle.file_store.specs.Writes.{Adds, IsOldOutsideBlocks, WritesOnly}
+use Rattle.file_store.specs.Writes.{AddsPiece, IsOldOutsideBlocks, WritesOnly}
 use Rattle.file_store.specs.Stretches.{IsStretch}
 use Rattle.small_types.proofs.BlockContents.{content_from_stands, stands_from_content}
 use Rattle.file_store.proofs.Fronts.{content_front}
@@ -141,24 +141,24 @@ module _ {D : Type 0} (on : Ghosts D) (base : ℕ) (blocks : List ℕ) where
     reads = keeps_then base blocks (on.seen first) (on.seen mid) (on.seen new) run.reads (torn_keeps base blocks from n at (on.seen mid) (on.seen new) is_at stretch within seen);
   }
 
-  pub adds_start : (from : ℕ) (d : D) → Adds on base blocks from [] d d
+  pub adds_start : (from : ℕ) (d : D) → AddsPiece on base blocks from [] d d
   adds_start from d content size is = subst (λ (l : List ℕ). IsContent base blocks l (on.seen d)) (sym (append-nil content)) is
 
   pub adds_more : AreApart blocks → (first mid new : D) (from at : ℕ) (done piece : List ℕ) → at ≡ place_at base blocks (from + length done) → IsStretch blocks (from + length done) (length piece)
-      → from + length done + length piece ≤ 4096 * length blocks → Adds on base blocks from done first mid → on.seen new ≡ put at piece (on.seen mid) → Adds on base blocks from (done ++ piece) first new
+      → from + length done + length piece ≤ 4096 * length blocks → AddsPiece on base blocks from done first mid → on.seen new ≡ put at piece (on.seen mid) → AddsPiece on base blocks from (done ++ piece) first new
   adds_more apart first mid new from at done piece is_at stretch within run written content size is =
       subst (λ (l : List ℕ). IsContent base blocks l (on.seen new)) (append_assoc content done piece)
       (subst (λ (l : List ℕ). IsContent base blocks ((content ++ done) ++ piece) l) (sym written)
       (content_more base blocks apart (from + length done) at (content ++ done) piece (on.seen mid) is_at stretch within (omega (arith, length-append content done)) (run content size is)))
 
   -- what stood stands, without the bytes that were added
-  pub adds_none : (old new : D) (from : ℕ) (done : List ℕ) → from ≤ 4096 * length blocks → Adds on base blocks from done old new → Adds on base blocks from [] old new
+  pub adds_none : (old new : D) (from : ℕ) (done : List ℕ) → from ≤ 4096 * length blocks → AddsPiece on base blocks from done old new → AddsPiece on base blocks from [] old new
   adds_none old new from done fits run content size is =
       subst (λ (l : List ℕ). IsContent base blocks l (on.seen new)) (sym (append-nil content)) (content_front base blocks content done (on.seen new) (omega arith) (run content size is))
 
   -- also where the next write fails
   pub adds_torn : AreApart blocks → (first mid new : D) (from n at : ℕ) (done : List ℕ) → at ≡ place_at base blocks (from + length done) → IsStretch blocks (from + length done) n
-      → from + length done + n ≤ 4096 * length blocks → Adds on base blocks from done first mid → Torn at n (on.seen mid) (on.seen new) → Adds on base blocks from [] first new
+      → from + length done + n ≤ 4096 * length blocks → AddsPiece on base blocks from done first mid → Torn at n (on.seen mid) (on.seen new) → AddsPiece on base blocks from [] first new
   adds_torn apart first mid new from n at done is_at stretch within run torn =
       adds_none first new from done (omega arith) (λ content size is.
       content_torn base blocks apart (from + length done) n at (content ++ done) (on.seen mid) (on.seen new) is_at stretch within (omega (arith, length-append content done)) torn (run content size is))
@@ -192,8 +192,8 @@ module _ {D : Type 0} (on : Ghosts D) (base : ℕ) (blocks bytes : List ℕ) (fr
       (subst (IsStretch blocks (from + done)) (sym size) stretch) (omega (arith, size)) run seen follows call
 
   pub step_kept : AreApart blocks → done + n ≤ length bytes → at ≡ place_at base blocks (from + done) → IsStretch blocks (from + done) n → from + length bytes ≤ 4096 * length blocks
-      → Adds on base blocks from (take done bytes) first mid → Torn at (length (take (done + n - done) (drop done bytes))) (on.seen mid) (on.seen new)
-      → Adds on base blocks from [] first new
+      → AddsPiece on base blocks from (take done bytes) first mid → Torn at (length (take (done + n - done) (drop done bytes))) (on.seen mid) (on.seen new)
+      → AddsPiece on base blocks from [] first new
   step_kept apart within is_at stretch fits run torn =
       let size = slice_long bytes done n within in
       let before : length (take done bytes) ≡ done = omega (arith, length-take done bytes) in
@@ -204,13 +204,13 @@ module _ {D : Type 0} (on : Ghosts D) (base : ℕ) (blocks bytes : List ℕ) (fr
       (omega (arith, size, before)) run torn
 
   pub step_adds : AreApart blocks → done + n ≤ length bytes → at ≡ place_at base blocks (from + done) → IsStretch blocks (from + done) n → from + length bytes ≤ 4096 * length blocks
-      → Adds on base blocks from (take done bytes) first mid → on.seen new ≡ put at (take (done + n - done) (drop done bytes)) (on.seen mid)
-      → Adds on base blocks from (take (done + n) bytes) first new
+      → AddsPiece on base blocks from (take done bytes) first mid → on.seen new ≡ put at (take (done + n - done) (drop done bytes)) (on.seen mid)
+      → AddsPiece on base blocks from (take (done + n) bytes) first new
   step_adds apart within is_at stretch fits run written =
       let size = slice_long bytes done n within in
       let before : length (take done bytes) ≡ done = omega (arith, length-take done bytes) in
       let there : from + done ≡ from + length (take done bytes) = omega (arith, before) in
-      subst (λ (l : List ℕ). Adds on base blocks from l first new) (sym (slice_more bytes done n within))
+      subst (λ (l : List ℕ). AddsPiece on base blocks from l first new) (sym (slice_more bytes done n within))
       (adds_more on base blocks apart first mid new from at (take done bytes) (take (done + n - done) (drop done bytes))
       (is_at ∙ ap (place_at base blocks) there)
       (subst (λ (k : ℕ). IsStretch blocks k (length (take (done + n - done) (drop done bytes)))) there (subst (IsStretch blocks (from + done)) (sym size) stretch))

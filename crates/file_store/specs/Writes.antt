@@ -19,8 +19,8 @@ pub record WritesOnly {D : Type 0} (on : Ghosts D) (base : ℕ) (blocks : List �
   pub reads : KeepsOutside base blocks (on.seen old) (on.seen new)
 
 -- what reads give in these blocks after a piece more
-abbrev pub Adds : {D : Type 0} → Ghosts D → ℕ → List ℕ → ℕ → List ℕ → D → D → Type 0
-Adds on base blocks from piece old new = (content : List ℕ) → length content ≡ from
+abbrev pub AddsPiece : {D : Type 0} → Ghosts D → ℕ → List ℕ → ℕ → List ℕ → D → D → Type 0
+AddsPiece on base blocks from piece old new = (content : List ℕ) → length content ≡ from
     → IsContent base blocks content (on.seen old)
     → IsContent base blocks (content ++ piece) (on.seen new)
 

@@ -19,18 +19,18 @@ pub struct Draft {
 }
 
 impl Draft {
-    ghost use Rattle.file_store.specs.Stores.{blocks_of, filled_of, size_of};
+    ghost use Rattle.file_store.specs.Stores.{draft_blocks, draft_size, filled_of};
 
     /// How many bytes it is to have.
     pub fn size(&self) -> u64
-        ensures { result ≡ size_of self.now }
+        ensures { result ≡ draft_size self.now }
     {
         self.size
     }
 
     /// How many bytes it was given.
     pub fn filled(&self) -> u64
-        ensures within { result ≤ size_of self.now }
+        ensures within { result ≤ draft_size self.now }
         ensures value { result ≡ filled_of self.now }
     {
         self.filled
@@ -38,7 +38,7 @@ impl Draft {
 
     /// The blocks of a draft, in the order of its bytes, in place of the draft.
     pub fn into_blocks(self) -> List<u32>
-        ensures { result ≡ blocks_of self }
+        ensures { result ≡ draft_blocks self }
     {
         let Draft { blocks, .. } = self;
         blocks

@@ -3,7 +3,7 @@ ghost use Rattle.std.specs.Prelude.{◌≡◌, ◌≢◌, ◌⊎◌, ℕ, ◌<�
 ghost use Rattle.disks.specs.Spends.{HasNoNumber, Spends};
 ghost use Rattle.small_types.specs.Blocks.{AreApart, place_at};
 ghost use Rattle.file_store.specs.Stretches.{AreNeighbours, IsStretch};
-ghost use Rattle.file_store.specs.Writes.{Adds, WritesOnly, touched};
+ghost use Rattle.file_store.specs.Writes.{AddsPiece, WritesOnly, touched};
 
 use disks::Disk;
 use outside::Failed;
@@ -57,8 +57,9 @@ pub(crate) fn write_bytes<D: Disk>(
     requires fits { from + length bytes.now < 2 ^ 64 }
     requires apart { AreApart blocks.now }
     ensures only { WritesOnly D.Disk base blocks.now disk.old disk.new }
-    ensures added { OnOk result (Adds D.Disk base blocks.now from bytes.now disk.old disk.new) }
-    ensures kept { Adds D.Disk base blocks.now from [] disk.old disk.new }
+    ensures added { OnOk result
+        (AddsPiece D.Disk base blocks.now from bytes.now disk.old disk.new) }
+    ensures kept { AddsPiece D.Disk base blocks.now from [] disk.old disk.new }
     ensures counted { 0 < length bytes.now → (D.moment disk.old + 1 ≤ D.moment disk.new)
         ⊎ HasNoNumber (D.moment disk.new) (D.total disk.new) (length bytes.now) }
     ensures calls { AreNeighbours blocks.now (from / BLOCK_SIZE)

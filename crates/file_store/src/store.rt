@@ -55,7 +55,7 @@ fn give_back(free: &mut Vec<u32>, blocks: &[u32])
 }
 
 impl FileStore {
-    ghost use Rattle.file_store.specs.Stores.{AreUsed, Holds, SameRange, base_of, blocks_of, blocks_of_all, filled_of, free_of, number_of, size_of};
+    ghost use Rattle.file_store.specs.Stores.{AreUsed, DraftHolds, SameRange, block_count, blocks_of_all, draft_blocks, draft_size, filled_of, free_of, store_base};
 
     /// A store of this many blocks, 1 to `STORED_BLOCK_LIMIT`, from `base` on, of which these are
     /// in use. It makes the room for the numbers of all blocks, so no later call needs memory to
@@ -76,8 +76,8 @@ impl FileStore {
         ensures used { IfOk result (λ store. AreUsed store taken.now) }
         ensures count { IfOk result (λ store.
             length taken.now + length (free_of store) ≡ blocks) }
-        ensures number { IfOk result (λ store. number_of store ≡ blocks) }
-        ensures base { IfOk result (λ store. base_of store ≡ base) }
+        ensures number { IfOk result (λ store. block_count store ≡ blocks) }
+        ensures base { IfOk result (λ store. store_base store ≡ base) }
         ensures faults { IfErr result (λ e. e ≡ Memory) }
     {
         let marks = mark(alloc, blocks as usize, taken.as_slice())?;
@@ -97,10 +97,10 @@ impl FileStore {
     /// as it was.
     pub fn begin(&mut self, alloc: Global, size: u64) -> Result<Draft, FileFault>
         ensures takes { IfOk result
-            (λ draft. free_of self.old ≡ blocks_of draft ++ free_of self.new) }
-        ensures used { IfOk result (λ draft. AreUsed self.new (blocks_of draft)) }
-        ensures count { IfOk result (λ draft. length (blocks_of draft) ≡ count_for size) }
-        ensures size { IfOk result (λ draft. size_of draft ≡ size) }
+            (λ draft. free_of self.old ≡ draft_blocks draft ++ free_of self.new) }
+        ensures used { IfOk result (λ draft. AreUsed self.new (draft_blocks draft)) }
+        ensures count { IfOk result (λ draft. length (draft_blocks draft) ≡ count_for size) }
+        ensures size { IfOk result (λ draft. draft_size draft ≡ size) }
         ensures empty { IfOk result (λ draft. filled_of draft ≡ 0) }
         ensures full { IfErr result (λ e. e ≢ Memory
             → (e ≡ Full (count_for size) (length (free_of self.old)))
@@ -134,30 +134,30 @@ impl FileStore {
         draft: &mut Draft,
         bytes: &[u8],
     ) -> Result<(), FileFault>
-        requires { filled_of draft.old + length bytes.now ≤ size_of draft.old }
+        requires { filled_of draft.old + length bytes.now ≤ draft_size draft.old }
 
         // Only the draft's own blocks are written, at each moment of the call, also where it fails.
-        ensures only { WritesOnly D.Disk (base_of self.old) (blocks_of draft.old) disk.old
+        ensures only { WritesOnly D.Disk (store_base self.old) (draft_blocks draft.old) disk.old
             disk.new }
 
         // What the draft held, it holds with the piece behind it; after a fault without it.
         ensures held { (before : List ℕ)
-            → Holds (base_of self.old) draft.old before (D.seen disk.old)
-            → OnOk result (Holds (base_of self.old) draft.new (before ++ bytes.now)
+            → DraftHolds (store_base self.old) draft.old before (D.seen disk.old)
+            → OnOk result (DraftHolds (store_base self.old) draft.new (before ++ bytes.now)
             (D.seen disk.new)) }
         ensures kept { (before : List ℕ)
-            → Holds (base_of self.old) draft.old before (D.seen disk.old)
-            → IsContent (base_of self.old) (blocks_of draft.old) before (D.seen disk.new) }
+            → DraftHolds (store_base self.old) draft.old before (D.seen disk.old)
+            → IsContent (store_base self.old) (draft_blocks draft.old) before (D.seen disk.new) }
         ensures filled { OnOk result
             (filled_of draft.new ≡ filled_of draft.old + length bytes.now) }
-        ensures blocks { blocks_of draft.new ≡ blocks_of draft.old }
-        ensures size { size_of draft.new ≡ size_of draft.old }
+        ensures blocks { draft_blocks draft.new ≡ draft_blocks draft.old }
+        ensures size { draft_size draft.new ≡ draft_size draft.old }
         ensures draft { OnErr result (draft.new ≡ draft.old) }
         ensures store { self.new ≡ self.old }
 
         // Each byte is written once, and those of neighbouring blocks by one call.
         ensures written { OnOk result (D.total disk.new ≡ D.total disk.old + length bytes.now) }
-        ensures calls { AreNeighbours (blocks_of draft.old) (filled_of draft.old / BLOCK_SIZE)
+        ensures calls { AreNeighbours (draft_blocks draft.old) (filled_of draft.old / BLOCK_SIZE)
             ((filled_of draft.old + length bytes.now - 1) / BLOCK_SIZE)
             → D.moment disk.new ≤ D.moment disk.old + 1 }
         ensures spends { Spends D.Disk (touched (filled_of draft.old) (length bytes.now))
@@ -180,24 +180,24 @@ impl FileStore {
     /// Makes a whole draft durable, and answers its blocks. It takes no memory. `DiskFault`: the
     /// disk failed; the draft's blocks are then free.
     pub fn seal<D: Disk>(&mut self, disk: &mut D, draft: Draft) -> Result<List<u32>, FileFault>
-        requires whole { filled_of draft ≡ size_of draft }
-        requires used { AreUsed self.old (blocks_of draft) }
+        requires whole { filled_of draft ≡ draft_size draft }
+        requires used { AreUsed self.old (draft_blocks draft) }
 
         // Each stop then leaves what reads give, and in it the draft's blocks have what it held.
         ensures durable { OnOk result (Only (D.seen disk.old) (D.left_at disk.new
             (D.moment disk.new))) }
         ensures content { (bytes : List ℕ)
-            → Holds (base_of self.old) draft bytes (D.seen disk.old)
+            → DraftHolds (store_base self.old) draft bytes (D.seen disk.old)
             → IfOk result (λ blocks. Each D.Disk disk.new
-            (IsContent (base_of self.old) blocks bytes)) }
-        ensures blocks { IfOk result (λ blocks. blocks ≡ blocks_of draft) }
+            (IsContent (store_base self.old) blocks bytes)) }
+        ensures blocks { IfOk result (λ blocks. blocks ≡ draft_blocks draft) }
         ensures seen { D.seen disk.new ≡ D.seen disk.old }
 
         // A stop inside leaves what it could leave before the call.
         ensures any_moment { LeavesOnly D.Disk disk.old disk.new (D.left_at disk.old
             (D.moment disk.old)) }
         ensures free { OnOk result (self.new ≡ self.old) }
-        ensures freed { OnErr result (free_of self.new ≡ blocks_of draft ++ free_of self.old) }
+        ensures freed { OnErr result (free_of self.new ≡ draft_blocks draft ++ free_of self.old) }
         ensures range { SameRange self.old self.new }
         ensures spends { Spends D.Disk 1 0 disk.old disk.new (IsErr result) }
         ensures tick { OnOk result (D.moment disk.new ≡ D.moment disk.old + 1) }
@@ -219,7 +219,7 @@ impl FileStore {
         disk: &mut D,
         drafts: List<Draft>,
     ) -> Result<List<Draft>, FileFault>
-        requires whole { All (λ draft. filled_of draft ≡ size_of draft) drafts }
+        requires whole { All (λ draft. filled_of draft ≡ draft_size draft) drafts }
         requires used { AreUsed self.old (blocks_of_all drafts) }
 
         // Each stop then leaves what reads give, and in it the blocks of each draft have what it
@@ -227,9 +227,9 @@ impl FileStore {
         ensures durable { OnOk result (Only (D.seen disk.old) (D.left_at disk.new
             (D.moment disk.new))) }
         ensures contents { (draft : Draft) (bytes : List ℕ) → Contains drafts draft
-            → Holds (base_of self.old) draft bytes (D.seen disk.old)
+            → DraftHolds (store_base self.old) draft bytes (D.seen disk.old)
             → OnOk result (Each D.Disk disk.new
-            (IsContent (base_of self.old) (blocks_of draft) bytes)) }
+            (IsContent (store_base self.old) (draft_blocks draft) bytes)) }
         ensures drafts { IfOk result (λ sealed. sealed ≡ drafts) }
         ensures seen { D.seen disk.new ≡ D.seen disk.old }
 
@@ -267,7 +267,7 @@ impl FileStore {
         requires { length blocks.now ≡ count_for size }
         ensures within { IfOk result (λ n. n ≤ min (size - from) (length buf.old)) }
         ensures bytes { D.tells disk.new → (content : List ℕ) → length content ≡ size
-            → IsContent (base_of self.now) blocks.now content (D.seen disk.old)
+            → IsContent (store_base self.now) blocks.now content (D.seen disk.old)
             → IfOk result (λ n. Gives content from buf.old buf.new n) }
         ensures still { Untouched D.Disk disk.old disk.new }
         ensures spends { Spends D.Disk 0 0 disk.old disk.new (IsErr result) }
@@ -290,16 +290,16 @@ impl FileStore {
     /// Empties a draft, which keeps its blocks. It takes no memory.
     pub fn restart(&self, draft: &mut Draft)
         ensures filled { filled_of draft.new ≡ 0 }
-        ensures blocks { blocks_of draft.new ≡ blocks_of draft.old }
-        ensures size { size_of draft.new ≡ size_of draft.old }
+        ensures blocks { draft_blocks draft.new ≡ draft_blocks draft.old }
+        ensures size { draft_size draft.new ≡ draft_size draft.old }
     {
         draft.filled = 0;
     }
 
     /// Gives a draft up: its blocks are free. It takes no memory.
     pub fn abandon(&mut self, draft: Draft)
-        requires { AreUsed self.old (blocks_of draft) }
-        ensures freed { free_of self.new ≡ blocks_of draft ++ free_of self.old }
+        requires { AreUsed self.old (draft_blocks draft) }
+        ensures freed { free_of self.new ≡ draft_blocks draft ++ free_of self.old }
         ensures range { SameRange self.old self.new }
     {
         self.release_blocks(&draft.blocks);

@@ -11,10 +11,10 @@ use Rattle.disks.specs.declared.disk.Disk.{Ghosts}
 use Rattle.journal.specs.declared.log.Log.{Log}
 use Rattle.journal.specs.declared.side.Side.{Side}
 use Rattle.journal.specs.declared.side.Side.TheVariants.{First, Second}
-use Rattle.journal.specs.Layout.{size_bytes, long_bytes, entry_of, log_of, half_head, IsLog, IsOther, part_at, start_of, other_side, blocks_at, Stands, IsJournal}
+use Rattle.journal.specs.Layout.{size_bytes, long_bytes, entry_of, log_of, half_head, IsLog, IsOtherHalf, part_at, start_of, other_side, blocks_start, HalvesStand, IsHalvedJournal}
 use Rattle.disks.specs.Outside.{AgreesOutside, IsOldOutside}
 use Rattle.journal.specs.Laws.{used_by}
-use Rattle.journal.specs.Log.{IsOpen, half_of, used_of, end_of, other_of, need_of, room_of}
+use Rattle.journal.specs.Log.{IsOpen, half_of, used_of, end_of, other_half_start, need_of, room_left}
 use Rattle.journal.proofs.Parts.{length-part_at, part_before, part_behind}
 use Rattle.journal.proofs.Entries.{length-size_bytes}
 use Rattle.journal.proofs.HeadBlock.{length-head_of}
@@ -47,15 +47,15 @@ log_longer head changes part more log = record {
   small = log.small;
 }
 
-other_longer : (both : Bool) (serial : ℕ) (part more : List ℕ) → IsOther both serial part → IsOther both serial (part ++ more)
+other_longer : (both : Bool) (serial : ℕ) (part more : List ℕ) → IsOtherHalf both serial part → IsOtherHalf both serial (part ++ more)
 other_longer true serial part more other = (other.0, record { rest = other.1.rest ++ more; split = ap (λ (l : List ℕ). l ++ more) other.1.split }, other.2)
 other_longer false serial part more other = record { gate = other.gate; rest = other.rest ++ more; shut = other.shut; split = ap (λ (l : List ℕ). l ++ more) other.split }
 
-some_in : (both : Bool) (serial : ℕ) (part : List ℕ) → IsOther both serial part → 1 ≤ length part
+some_in : (both : Bool) (serial : ℕ) (part : List ℕ) → IsOtherHalf both serial part → 1 ≤ length part
 some_in true serial part other = omega (arith, ap length other.1.split)
 some_in false serial part other = omega (arith, ap length other.split)
 
-start_within : (side : Side) (half place : ℕ) → blocks_at half ≤ place → start_of side half + half ≤ place
+start_within : (side : Side) (half place : ℕ) → blocks_start half ≤ place → start_of side half + half ≤ place
 start_within First half place late = omega (arith, late)
 start_within Second half place late = omega (arith, late)
 
@@ -67,7 +67,7 @@ module _ (side : Side) (serial : ℕ) (both : Bool) (blocks half : ℕ) (tables 
   long_log part log = omega (arith, ap length log.closed.split, length-append (log_of (half_head serial tables) changes) (log.closed.gate ∷ log.closed.rest))
 
   -- a longer image
-  stands_longer : (d x : List ℕ) → Stands side serial both blocks half tables changes d → Stands side serial both blocks half tables changes (d ++ x)
+  stands_longer : (d x : List ℕ) → HalvesStand side serial both blocks half tables changes d → HalvesStand side serial both blocks half tables changes (d ++ x)
   stands_longer d x stands =
       let a = start_of side half in
       let b = start_of (other_side side) half in
@@ -79,11 +79,11 @@ module _ (side : Side) (serial : ℕ) (both : Bool) (blocks half : ℕ) (tables 
         head = take-append-le 4096 d x long_head ∙ stands.head;
         is_serial = stands.is_serial;
         current = subst (λ (l : List ℕ). IsLog (half_head serial tables) changes l) (sym (part_longer a half d x long_a)) (log_longer (half_head serial tables) changes (part_at a half d) (take (half - length (drop a d)) x) stands.current);
-        other = subst (λ (l : List ℕ). IsOther both serial l) (sym (part_longer b half d x long_b)) (other_longer both serial (part_at b half d) (take (half - length (drop b d)) x) stands.other);
+        other = subst (λ (l : List ℕ). IsOtherHalf both serial l) (sym (part_longer b half d x long_b)) (other_longer both serial (part_at b half d) (take (half - length (drop b d)) x) stands.other);
       }
 
   -- an image that begins alike
-  stands_front : (place : ℕ) (d c : List ℕ) → blocks_at half ≤ place → take place c ≡ take place d → Stands side serial both blocks half tables changes d → Stands side serial both blocks half tables changes c
+  stands_front : (place : ℕ) (d c : List ℕ) → blocks_start half ≤ place → take place c ≡ take place d → HalvesStand side serial both blocks half tables changes d → HalvesStand side serial both blocks half tables changes c
   stands_front place d c late same stands =
       let a = start_of side half in
       let b = start_of (other_side side) half in
@@ -95,10 +95,10 @@ module _ (side : Side) (serial : ℕ) (both : Bool) (blocks half : ℕ) (tables 
         head = sym (take-take 4096 place c low) ∙ ap (take 4096) same ∙ take-take 4096 place d low ∙ stands.head;
         is_serial = stands.is_serial;
         current = subst (λ (l : List ℕ). IsLog (half_head serial tables) changes l) (sym parts_a) stands.current;
-        other = subst (λ (l : List ℕ). IsOther both serial l) (sym parts_b) stands.other;
+        other = subst (λ (l : List ℕ). IsOtherHalf both serial l) (sym parts_b) stands.other;
       }
 
-  outside_by : (place n : ℕ) (d c : List ℕ) → blocks_at half ≤ place → AgreesOutside place n d c → Stands side serial both blocks half tables changes d → (t : Bool) → nat_le place (length d) ≡ t → Stands side serial both blocks half tables changes c
+  outside_by : (place n : ℕ) (d c : List ℕ) → blocks_start half ≤ place → AgreesOutside place n d c → HalvesStand side serial both blocks half tables changes d → (t : Bool) → nat_le place (length d) ≡ t → HalvesStand side serial both blocks half tables changes c
   outside_by place n d c late agrees stands true is =
       let few : min place (length d) ≡ place = grind (arith, nat_tests, is) in
       stands_front place d c late (ap (λ (k : ℕ). take k c) (sym few) ∙ agrees.before) stands
@@ -106,13 +106,13 @@ module _ (side : Side) (serial : ℕ) (both : Bool) (blocks half : ℕ) (tables 
       let few : min place (length d) ≡ length d = grind (arith, nat_tests, is) in
       let short : length d ≤ place = grind (arith, nat_tests, is) in
       let front : take (length d) c ≡ d = ap (λ (k : ℕ). take k c) (sym few) ∙ agrees.before ∙ take_all place d short in
-      subst (λ (l : List ℕ). Stands side serial both blocks half tables changes l) (ap (λ (l : List ℕ). l ++ drop (length d) c) (sym front) ∙ take-append-drop (length d) c) (stands_longer d (drop (length d) c) stands)
+      subst (λ (l : List ℕ). HalvesStand side serial both blocks half tables changes l) (ap (λ (l : List ℕ). l ++ drop (length d) c) (sym front) ∙ take-append-drop (length d) c) (stands_longer d (drop (length d) c) stands)
 
   -- an image that agrees outside a range behind the halves, as after the write of a block
-  pub stands_outside : (place n : ℕ) (d c : List ℕ) → blocks_at half ≤ place → AgreesOutside place n d c → Stands side serial both blocks half tables changes d → Stands side serial both blocks half tables changes c
+  pub stands_outside : (place n : ℕ) (d c : List ℕ) → blocks_start half ≤ place → AgreesOutside place n d c → HalvesStand side serial both blocks half tables changes d → HalvesStand side serial both blocks half tables changes c
   stands_outside place n d c late agrees stands = outside_by place n d c late agrees stands (nat_le place (length d)) refl
 
-pub journal_outside : (place n blocks half : ℕ) (tables : List ℕ) (changes : List (List ℕ)) (d c : List ℕ) → blocks_at half ≤ place → AgreesOutside place n d c → IsJournal blocks half tables changes d → IsJournal blocks half tables changes c
+pub journal_outside : (place n blocks half : ℕ) (tables : List ℕ) (changes : List (List ℕ)) (d c : List ℕ) → blocks_start half ≤ place → AgreesOutside place n d c → IsHalvedJournal blocks half tables changes d → IsHalvedJournal blocks half tables changes c
 journal_outside place n blocks half tables changes d c late agrees made =
     journal made.side made.serial made.both blocks half tables changes c (stands_outside made.side made.serial made.both blocks half tables changes place n d c late agrees made.stands)
 
@@ -130,12 +130,12 @@ length-log_of head changes = length-append head (flat_map entry_of changes) ∙ 
 
 module _ {D : Type 0} (on : Ghosts D) (log : Log) (blocks : ℕ) (tables : List ℕ) (changes : List (List ℕ)) where
   -- each image of an open log is that journal
-  pub each_journal : (disk : D) → IsOpen on log blocks tables changes disk → Each on disk (IsJournal blocks (half_of log) tables changes)
+  pub each_journal : (disk : D) → IsOpen on log blocks tables changes disk → Each on disk (IsHalvedJournal blocks (half_of log) tables changes)
   each_journal disk is_open c left = journal log.side log.serial log.both blocks log.half tables changes c (is_open.each c left)
 
   -- an open log stays open while the disk is only read
   pub still_open : (old new : D) → IsOpen on log blocks tables changes old → Untouched on old new → IsOpen on log blocks tables changes new
-  still_open old new is_open still = record { at = is_open.at; each = each_still on old new (Stands log.side log.serial log.both blocks log.half tables changes) is_open.each still }
+  still_open old new is_open still = record { at = is_open.at; each = each_still on old new (HalvesStand log.side log.serial log.both blocks log.half tables changes) is_open.each still }
 
   -- it uses what its half takes
   pub uses : (disk : D) → IsOpen on log blocks tables changes disk → used_of log ≡ used_by tables changes
@@ -144,7 +144,7 @@ module _ {D : Type 0} (on : Ghosts D) (log : Log) (blocks : ℕ) (tables : List 
       omega (arith, is_open.at, size, length-append (long_bytes (length tables)) tables, length-long_bytes (length tables))
 
   -- and while only what stands behind the halves is written
-  pub open_outside : (old new : D) (place n : ℕ) → blocks_at (half_of log) ≤ place → LeavesOnly on old new (IsOldOutside place n (on.left_at old (on.moment old))) → IsOpen on log blocks tables changes old
+  pub open_outside : (old new : D) (place n : ℕ) → blocks_start (half_of log) ≤ place → LeavesOnly on old new (IsOldOutside place n (on.left_at old (on.moment old))) → IsOpen on log blocks tables changes old
       → IsOpen on log blocks tables changes new
   open_outside old new place n late run is_open = record {
     at = is_open.at;
@@ -154,24 +154,24 @@ module _ {D : Type 0} (on : Ghosts D) (log : Log) (blocks : ℕ) (tables : List 
   }
 
   -- each image of such writes is the journal
-  pub journal_stays : (old new : D) (place n : ℕ) → blocks_at (half_of log) ≤ place → LeavesOnly on old new (IsOldOutside place n (on.left_at old (on.moment old))) → IsOpen on log blocks tables changes old
-      → LeavesOnly on old new (IsJournal blocks (half_of log) tables changes)
+  pub journal_stays : (old new : D) (place n : ℕ) → blocks_start (half_of log) ≤ place → LeavesOnly on old new (IsOldOutside place n (on.left_at old (on.moment old))) → IsOpen on log blocks tables changes old
+      → LeavesOnly on old new (IsHalvedJournal blocks (half_of log) tables changes)
   journal_stays old new place n late run is_open = weaker on old new _ _
       (λ c from. journal_outside place n blocks (half_of log) tables changes from.0 c late from.2 (each_journal old is_open from.0 from.1)) run
 
 -- what stands behind the halves is as it was, where only a range before it was written
-pub behind_same : (place n half q k : ℕ) (d c : List ℕ) → place + n ≤ blocks_at half → blocks_at half ≤ q → AgreesOutside place n d c → part_at q k c ≡ part_at q k d
+pub behind_same : (place n half q k : ℕ) (d c : List ℕ) → place + n ≤ blocks_start half → blocks_start half ≤ q → AgreesOutside place n d c → part_at q k c ≡ part_at q k d
 behind_same place n half q k d c before late agrees = part_behind q k (place + n) c d (omega (arith, before, late)) agrees.after
 
 -- the ranges that an append and a checkpoint write lie within the halves
-end_within : (side : Side) (half gate n : ℕ) → gate + n ≤ half → start_of side half + gate + n ≤ blocks_at half
+end_within : (side : Side) (half gate n : ℕ) → gate + n ≤ half → start_of side half + gate + n ≤ blocks_start half
 end_within First half gate n fits = omega (arith, fits)
 end_within Second half gate n fits = omega (arith, fits)
 
-pub append_within : (log : Log) (piece : List ℕ) → 1 ≤ length piece → need_of piece ≤ room_of log → end_of log + length piece ≤ blocks_at (half_of log)
+pub append_within : (log : Log) (piece : List ℕ) → 1 ≤ length piece → need_of piece ≤ room_left log → end_of log + length piece ≤ blocks_start (half_of log)
 append_within log piece some fits = end_within log.side log.half log.gate (length piece) (omega (arith, some, fits, log.within))
 
-pub checkpoint_within : (log : Log) (piece : List ℕ) → length piece ≤ half_of log → other_of log + length piece ≤ blocks_at (half_of log)
+pub checkpoint_within : (log : Log) (piece : List ℕ) → length piece ≤ half_of log → other_half_start log + length piece ≤ blocks_start (half_of log)
 checkpoint_within log piece fits =
     let within = end_within (other_side log.side) log.half 0 (length piece) (omega (arith, fits)) in
     omega (arith, within)
@@ -183,12 +183,12 @@ drop_same place n q d c before same =
 
 -- What a line carries through an append or a checkpoint: what holds of the bytes behind the halves in each image holds on, beside what the call makes of the
 -- journal.
-pub carries : {D : Type 0} (on : Ghosts D) (old new : D) (place n half : ℕ) (Made Behind : List ℕ → Type 0) → place + n ≤ blocks_at half → LeavesOnly on old new Made
-    → LeavesOnly on old new (IsOldOutside place n (on.left_at old (on.moment old))) → Each on old (λ c. Behind (drop (blocks_at half) c)) → LeavesOnly on old new (λ c. Made c × Behind (drop (blocks_at half) c))
+pub carries : {D : Type 0} (on : Ghosts D) (old new : D) (place n half : ℕ) (Made Behind : List ℕ → Type 0) → place + n ≤ blocks_start half → LeavesOnly on old new Made
+    → LeavesOnly on old new (IsOldOutside place n (on.left_at old (on.moment old))) → Each on old (λ c. Behind (drop (blocks_start half) c)) → LeavesOnly on old new (λ c. Made c × Behind (drop (blocks_start half) c))
 carries on old new place n half Made Behind before run outside each = record {
   later = run.later;
   past = run.past;
   each = λ t c from to left.
       let was = outside.each t c from to left in
-      (run.each t c from to left, subst Behind (sym (drop_same place n (blocks_at half) was.0 c before was.2.after)) (each was.0 was.1));
+      (run.each t c from to left, subst Behind (sym (drop_same place n (blocks_start half) was.0 c before was.2.after)) (each was.0 was.1));
 }

@@ -5,7 +5,7 @@ use Rattle.std.specs.List.{flat_map}
 use Rattle.journal.specs.Layout.{long_bytes, entry_of, half_head, ClosedAfter, AreSmall, OpensWith}
 use Rattle.journal.specs.declared.read.Step.{Step}
 use Rattle.journal.specs.declared.read.Step.TheVariants.{Change, End, Broken}
-use Rattle.journal.specs.Steps.{IsFirst, OpensSize, TablesAt, NoTables, AtGate, NoEntries, FoundHalf, IsStep, IsLastStep}
+use Rattle.journal.specs.Steps.{AreFirstOf, OpensSize, TablesAt, NoTables, AtGate, NoEntries, FoundHalf, IsStepAt, IsLastStep}
 use Rattle.journal.proofs.Entries.{small_push, length-log_of-push}
 use Rattle.journal.proofs.Halves.{first_drop, half_size, size_same}
 use Rattle.journal.proofs.Parse.{append_same, opened_read, none_in_opened, none_at_end, none_in_empty, none_behind, read_more}
@@ -21,7 +21,7 @@ opens_more bytes whole rest n opens is =
     let behind : drop 5 whole ≡ after ++ rest = ap (drop 5) made ∙ drop_at front (after ++ rest) 5 five in
     record { size = opens.size; four = opens.four; fits = opens.fits; value = opens.value; split = made ∙ ap (λ (l : List ℕ). front ++ l) (sym behind) }
 
-module _ (bytes part : List ℕ) (gate : ℕ) (first : IsFirst bytes part) (within : gate ≤ length bytes) where
+module _ (bytes part : List ℕ) (gate : ℕ) (first : AreFirstOf bytes part) (within : gate ≤ length bytes) where
   whole : drop gate part ≡ drop gate bytes ++ first.rest
   whole = first_drop bytes part gate first within
 
@@ -29,7 +29,7 @@ module _ (bytes part : List ℕ) (gate : ℕ) (first : IsFirst bytes part) (with
   opens_part r n is opens = opens_more r (drop gate part) first.rest n opens (whole ∙ ap (λ (l : List ℕ). l ++ first.rest) (sym is))
 
   -- a whole entry
-  pub entry_step : (r more change : List ℕ) (n : ℕ) → r ≡ drop gate bytes → OpensSize n (drop 5 r) r → n < 2 ^ 32 → IsFirst more part → gate + 5 + n ≤ length more → change ≡ take n (drop (gate + 5) more)
+  pub entry_step : (r more change : List ℕ) (n : ℕ) → r ≡ drop gate bytes → OpensSize n (drop 5 r) r → n < 2 ^ 32 → AreFirstOf more part → gate + 5 + n ≤ length more → change ≡ take n (drop (gate + 5) more)
       → (drop gate part ≡ entry_of change ++ drop (gate + 5 + length change) part) × (length change < 2 ^ 32)
   entry_step r more change n is_r opens small second fits is =
       let opened = opens_part r n is_r opens in
@@ -81,7 +81,7 @@ module _ (bytes part : List ℕ) (gate : ℕ) (first : IsFirst bytes part) (with
       subst NoEntries (is_r ∙ sym (all_read full)) (none_at_end r (inl few) one)
 
 -- the last step is one
-pub last_step_is : (step : Step) (r part : List ℕ) (gate : ℕ) → IsLastStep step r → (ClosedAfter [] r → ClosedAfter [] (drop gate part)) → ((length r ≡ 0) ⊎ (get_or r 0 0 ≡ 1) → NoEntries (drop gate part)) → IsStep step gate part
+pub last_step_is : (step : Step) (r part : List ℕ) (gate : ℕ) → IsLastStep step r → (ClosedAfter [] r → ClosedAfter [] (drop gate part)) → ((length r ≡ 0) ⊎ (get_or r 0 0 ≡ 1) → NoEntries (drop gate part)) → IsStepAt step gate part
 last_step_is (Change change) r part gate last ends breaks = absurd last
 last_step_is End r part gate last ends breaks = ends last
 last_step_is Broken r part gate last ends breaks = breaks last

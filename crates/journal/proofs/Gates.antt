@@ -9,7 +9,7 @@ use Rattle.disks.specs.Moments.{LeavesOnly, Each}
 use Rattle.disks.proofs.MomentLemmas.{started, goes_on}
 use Rattle.disks.specs.declared.disk.Disk.{Ghosts}
 use Rattle.journal.specs.Layout.{ClosedAfter}
-use Rattle.journal.specs.Steps.{OpenAfter, IsBeforeOrAfter, ClosedAt, Commits, Opens, Comes}
+use Rattle.journal.specs.Steps.{OpenAfter, IsBeforeOrAfter, ClosedAt, Commits, OpensGate, ComesByStep}
 
 -- the base, a gate that is not open yet, and the tail behind it
 pub record StagedAfter (base tail bytes : List ℕ) : Type 0 where
@@ -123,7 +123,7 @@ module _ (end : ℕ) (tail : List ℕ) where
     after = further c e torn.after ∙ s.after;
   }
 
-  opens_gate : (d e c : List ℕ) → Staged end tail d e → c ≡ put end (1 ∷ []) e → Opens end tail d c
+  opens_gate : (d e c : List ℕ) → Staged end tail d e → c ≡ put end (1 ∷ []) e → OpensGate end tail d c
   opens_gate d e c s is = record {
     base = s.base;
     at = s.at;
@@ -138,7 +138,7 @@ module _ (end : ℕ) (tail : List ℕ) where
     Now d c = on.left_at d (on.moment d) c
 
     abbrev Stepped : List ℕ → Type 0
-    Stepped c = Comes (Now d0) (Commits end tail) c
+    Stepped c = ComesByStep (Now d0) (Commits end tail) c
 
     abbrev Run : D → Type 0
     Run d = LeavesOnly on d0 d Stepped
@@ -176,5 +176,5 @@ module _ (end : ℕ) (tail : List ℕ) where
     pub run4 : (d2 d3 d4 : D) → AllStaged d2 → Follows (Torn end 1) (Now d2) (Now d3) → Run d3 → ((c : List ℕ) → Now d4 c → Now d3 c) → Call d3 d4 → Run d4
     run4 d2 d3 d4 each2 follows run fewer call = step d3 d4 run call (λ c left. each3 d2 d3 each2 follows c (fewer c left))
 
-    pub open4 : (d2 d3 d4 : D) → AllStaged d2 → on.seen d3 ≡ put end (1 ∷ []) (on.seen d2) → Only (on.seen d3) (Now d4) → Each on d4 (Comes (Now d0) (Opens end tail))
+    pub open4 : (d2 d3 d4 : D) → AllStaged d2 → on.seen d3 ≡ put end (1 ∷ []) (on.seen d2) → Only (on.seen d3) (Now d4) → Each on d4 (ComesByStep (Now d0) (OpensGate end tail))
     open4 d2 d3 d4 each2 written only c left = (on.seen d0, seen_left d0, opens_gate (on.seen d0) (on.seen d2) c (each2 (on.seen d2) (seen_left d2)) (only c left ∙ written))

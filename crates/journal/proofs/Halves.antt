@@ -9,9 +9,9 @@ use Rattle.journal.specs.declared.read.Start.{Start}
 use Rattle.journal.specs.declared.read.Start.TheVariants.{Closed, Opened}
 use Rattle.journal.specs.declared.side.Side.{Side}
 use Rattle.journal.specs.declared.side.Side.TheVariants.{First, Second}
-use Rattle.journal.specs.Layout.{long_bytes, entry_of, log_of, half_head, ClosedAfter, IsHalf, OpensWith, IsOther, part_at}
+use Rattle.journal.specs.Layout.{long_bytes, entry_of, log_of, half_head, ClosedAfter, IsHalf, OpensWith, IsOtherHalf, part_at}
 use Rattle.journal.proofs.Tables.{length-long_bytes}
-use Rattle.journal.specs.Steps.{StartsSo, IsOtherStart, IsChosen, Begins, IsFirst, TablesAt, NoTables}
+use Rattle.journal.specs.Steps.{StartsSo, IsOtherStart, IsChosen, HalvesBegin, AreFirstOf, TablesAt, NoTables}
 
 -- two bytes of a half say how it begins
 shut_longer : (k : ℕ) (l : List ℕ) → 2 ≤ k → ClosedAfter [] (take 2 l) → ClosedAfter [] (take k l)
@@ -72,12 +72,12 @@ module _ (half : ℕ) (image : List ℕ) (two : 2 ≤ half) where
   is_opened : (q serial : ℕ) (start : Start) → StartsSo start (part_at q 2 image) → start ≡ Opened serial → OpensWith serial (part_at q half image)
   is_opened q serial start starts is = opened_part serial q half image two (subst (λ (s : Start). StartsSo s (part_at q 2 image)) is starts)
 
-  is_other : (both : Bool) (q serial : ℕ) (start : Start) → StartsSo start (part_at q 2 image) → IsOtherStart both serial start → IsOther both serial (part_at q half image)
+  is_other : (both : Bool) (q serial : ℕ) (start : Start) → StartsSo start (part_at q 2 image) → IsOtherStart both serial start → IsOtherHalf both serial (part_at q half image)
   is_other true q serial start starts other = (other.0, is_opened q other.0 start starts other.1, other.2)
   is_other false q serial start starts other = closed_part q half image two (subst (λ (s : Start). StartsSo s (part_at q 2 image)) other starts)
 
   pub begins : (side : Side) (serial : ℕ) (both : Bool) (first second : Start) → StartsSo first (part_at 4096 2 image) → StartsSo second (part_at (4096 + half) 2 image) → IsChosen side serial both first second
-      → Begins side serial both half image
+      → HalvesBegin side serial both half image
   begins First serial both first second is_first is_second chosen = record {
     opens = is_opened 4096 serial first is_first chosen.0;
     is_serial = chosen.1;
@@ -107,11 +107,11 @@ module _ (half : ℕ) (image : List ℕ) (two : 2 ≤ half) where
       let gate : closed.gate ≡ 1 = cc in
       absurd (closed.shut gate)
 
-  other_start : (both : Bool) (q serial : ℕ) (start : Start) → StartsSo start (part_at q 2 image) → IsOther both serial (part_at q half image) → IsOtherStart both serial start
+  other_start : (both : Bool) (q serial : ℕ) (start : Start) → StartsSo start (part_at q 2 image) → IsOtherHalf both serial (part_at q half image) → IsOtherStart both serial start
   other_start true q serial start starts other = (other.0, starts_open start other.0 (part_at q 2 image) starts (opened_two other.0 q half image two other.1), other.2)
   other_start false q serial start starts other = starts_shut start (part_at q 2 image) starts (closed_two q half image two other)
 
-  pub chosen : (side : Side) (serial : ℕ) (both : Bool) (first second : Start) → StartsSo first (part_at 4096 2 image) → StartsSo second (part_at (4096 + half) 2 image) → Begins side serial both half image
+  pub chosen : (side : Side) (serial : ℕ) (both : Bool) (first second : Start) → StartsSo first (part_at 4096 2 image) → StartsSo second (part_at (4096 + half) 2 image) → HalvesBegin side serial both half image
       → IsChosen side serial both first second
   chosen First serial both first second is_first is_second b =
       (starts_open first serial (part_at 4096 2 image) is_first (opened_two serial 4096 half image two b.opens), b.is_serial, other_start both (4096 + half) serial second is_second b.other)
@@ -119,15 +119,15 @@ module _ (half : ℕ) (image : List ℕ) (two : 2 ≤ half) where
       (starts_open second serial (part_at (4096 + half) 2 image) is_second (opened_two serial (4096 + half) half image two b.opens), b.is_serial, other_start both 4096 serial first is_first b.other)
 
   -- a half that begins in no way is none of a journal
-  other_starts : (both : Bool) (q serial : ℕ) → IsOther both serial (part_at q half image) → (start : Start) × StartsSo start (part_at q 2 image)
+  other_starts : (both : Bool) (q serial : ℕ) → IsOtherHalf both serial (part_at q half image) → (start : Start) × StartsSo start (part_at q 2 image)
   other_starts true q serial other = (Opened other.0, opened_two other.0 q half image two other.1)
   other_starts false q serial other = (Closed, closed_two q half image two other)
 
-  pub first_starts : (side : Side) (serial : ℕ) (both : Bool) → Begins side serial both half image → (start : Start) × StartsSo start (part_at 4096 2 image)
+  pub first_starts : (side : Side) (serial : ℕ) (both : Bool) → HalvesBegin side serial both half image → (start : Start) × StartsSo start (part_at 4096 2 image)
   first_starts First serial both b = (Opened serial, opened_two serial 4096 half image two b.opens)
   first_starts Second serial both b = other_starts both 4096 serial b.other
 
-  pub second_starts : (side : Side) (serial : ℕ) (both : Bool) → Begins side serial both half image → (start : Start) × StartsSo start (part_at (4096 + half) 2 image)
+  pub second_starts : (side : Side) (serial : ℕ) (both : Bool) → HalvesBegin side serial both half image → (start : Start) × StartsSo start (part_at (4096 + half) 2 image)
   second_starts First serial both b = other_starts both (4096 + half) serial b.other
   second_starts Second serial both b = (Opened serial, opened_two serial (4096 + half) half image two b.opens)
 
@@ -161,11 +161,11 @@ size_read (x ∷ y ∷ a ∷ b ∷ c ∷ d ∷ e ∷ []) n long fits is = absurd
 size_read (x ∷ y ∷ a ∷ b ∷ c ∷ d ∷ e ∷ f ∷ []) n long fits is = absurd (omega arith)
 size_read (x ∷ y ∷ a ∷ b ∷ c ∷ d ∷ e ∷ f ∷ g ∷ []) n long fits is = absurd (omega arith)
 
-pub first_drop : (bytes part : List ℕ) (n : ℕ) → (first : IsFirst bytes part) → n ≤ length bytes → drop n part ≡ drop n bytes ++ first.rest
+pub first_drop : (bytes part : List ℕ) (n : ℕ) → (first : AreFirstOf bytes part) → n ≤ length bytes → drop n part ≡ drop n bytes ++ first.rest
 first_drop bytes part n first within = ap (drop n) first.split ∙ drop-append-le n bytes first.rest within
 
 -- The tables stand in what was read.
-pub tables_at : (old bytes part tables : List ℕ) (n : ℕ) → IsFirst bytes part → IsFirst old part → 10 ≤ length old → long_bytes n ≡ take 8 (drop 2 old) → 10 + n ≤ length bytes → tables ≡ take n (drop 10 bytes) → TablesAt tables part
+pub tables_at : (old bytes part tables : List ℕ) (n : ℕ) → AreFirstOf bytes part → AreFirstOf old part → 10 ≤ length old → long_bytes n ≡ take 8 (drop 2 old) → 10 + n ≤ length bytes → tables ≡ take n (drop 10 bytes) → TablesAt tables part
 tables_at old bytes part tables n first was ten size within is =
     let count : length tables ≡ n = omega (arith, ap length is, length-take n (drop 10 bytes), length-drop 10 bytes, within) in
     let long : take 8 (drop 2 part) ≡ long_bytes (length tables) =
@@ -211,7 +211,7 @@ size_same serial n tables changes part log small small_tables is =
     sym (from_be_bytes-to_be_bytes_8 n small) ∙ ap (from_be_bytes w64) same ∙ from_be_bytes-to_be_bytes_8 (length tables) small_tables
 
 -- tables that do not fit the part are none
-pub no_tables_long : (old part : List ℕ) (n : ℕ) → IsFirst old part → 10 ≤ length old → long_bytes n ≡ take 8 (drop 2 old) → n < 2 ^ 64 → length part < 10 + n → length part < 2 ^ 64 → NoTables part
+pub no_tables_long : (old part : List ℕ) (n : ℕ) → AreFirstOf old part → 10 ≤ length old → long_bytes n ≡ take 8 (drop 2 old) → n < 2 ^ 64 → length part < 10 + n → length part < 2 ^ 64 → NoTables part
 no_tables_long old part n was ten size small cut short serial tables changes log =
     let long = half_long serial tables changes part log in
     let is : long_bytes n ≡ take 8 (drop 2 part) = size ∙ sym (ap (take 8) (first_drop old part 2 was (omega (arith, ten))) ∙ take-append-le 8 (drop 2 old) was.rest (omega (arith, length-drop 2 old, ten))) in

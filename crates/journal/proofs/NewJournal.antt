@@ -7,7 +7,7 @@ use Rattle.small_types.specs.Bytes.{put}
 use Rattle.disks.specs.Disk.{Torn}
 use Rattle.disks.proofs.PieceLemmas.{torn_around, put_over}
 use Rattle.journal.specs.declared.side.Side.TheVariants.{First}
-use Rattle.journal.specs.Layout.{zeros, head_of, head_front, head_with, half_head, long_bytes, ClosedAfter, IsLog, part_at, AreLimits, IsJournal, NoJournal}
+use Rattle.journal.specs.Layout.{zeros, head_of, head_front, head_with, half_head, long_bytes, ClosedAfter, IsLog, part_at, AreLimits, IsHalvedJournal, NoJournal}
 use Rattle.journal.specs.Format.{front_with, new_with, IsNewOrNone}
 use Rattle.journal.proofs.HeadBlock.{length-zeros, length-head_front}
 use Rattle.journal.proofs.Tables.{length-long_bytes}
@@ -98,7 +98,7 @@ module _ (blocks half : ℕ) (tables : List ℕ) (fits : length tables + 11 ≤ 
         split = ap (take half) (ap (drop (4096 + half)) whole ∙ drop_at front (0 ∷ []) (4096 + half) size) ∙ ap (λ (k : ℕ). take k (0 ∷ [])) more;
       }
 
-  pub new_journal : (c : List ℕ) → AreLimits blocks half → c ≡ new_with blocks half 1 tables → IsJournal blocks half tables [] c
+  pub new_journal : (c : List ℕ) → AreLimits blocks half → c ≡ new_with blocks half 1 tables → IsHalvedJournal blocks half tables [] c
   unfolding head_of
   new_journal c limits is =
       let whole = is ∙ new_is 1 in
@@ -132,7 +132,7 @@ module _ (blocks half : ℕ) (tables : List ℕ) (fits : length tables + 11 ≤ 
   pub closed_new : (c : List ℕ) → c ≡ new_with blocks half 0 tables → NoJournal c
   closed_new c is = no_new 0 c (omega arith) (is ∙ new_split 0)
 
-  pub opened_head : (d c : List ℕ) → AreLimits blocks half → d ≡ new_with blocks half 0 tables → c ≡ put 64 (1 ∷ []) d → IsJournal blocks half tables [] c
+  pub opened_head : (d c : List ℕ) → AreLimits blocks half → d ≡ new_with blocks half 0 tables → c ≡ put 64 (1 ∷ []) d → IsHalvedJournal blocks half tables [] c
   opened_head d c limits is put_is =
       new_journal c limits (
       put_is ∙ ap (put 64 (1 ∷ [])) (is ∙ new_split 0)

@@ -4,7 +4,7 @@ use Rattle.std.proofs.lemmas.List.{take_at, drop_at, take-take, drop-take, drop-
 use Rattle.std.proofs.Math.Seq.{take-append-add}
 use Rattle.journal.specs.Layout.{ClosedAfter, part_at}
 use Rattle.disks.specs.Outside.{AgreesOutside}
-use Rattle.journal.specs.Steps.{OpenAfter, IsBeforeOrAfter, ClosedAt, Commits, Opens}
+use Rattle.journal.specs.Steps.{OpenAfter, IsBeforeOrAfter, ClosedAt, Commits, OpensGate}
 
 pub part_before : (q k p : ℕ) (c d : List ℕ) → q + k ≤ p → take p c ≡ take p d → part_at q k c ≡ part_at q k d
 unfolding part_at
@@ -85,10 +85,10 @@ module _ (place : ℕ) (tail d c : List ℕ) (change : Commits place tail d c) w
         (part_within change.base (1 ∷ (tail ++ opened.rest)) change.rest c d place change.at opened.split change.was q k h r part ends (omega (arith, fits))) fits)
   ]
 
-pub opens_commits : (place : ℕ) (tail d c : List ℕ) → Opens place tail d c → Commits place tail d c
+pub opens_commits : (place : ℕ) (tail d c : List ℕ) → OpensGate place tail d c → Commits place tail d c
 opens_commits place tail d c o = record { base = o.base; at = o.at; rest = o.rest; was = o.was; is = inr o.is; after = o.after }
 
-pub open_part : (place : ℕ) (tail d c : List ℕ) → Opens place tail d c → (q k : ℕ) (h r : List ℕ) → part_at q k d ≡ h ++ r → place ≡ q + length h → length h + 1 + length tail ≤ k → OpenAfter h tail (part_at q k c)
+pub open_part : (place : ℕ) (tail d c : List ℕ) → OpensGate place tail d c → (q k : ℕ) (h r : List ℕ) → part_at q k d ≡ h ++ r → place ≡ q + length h → length h + 1 + length tail ≤ k → OpenAfter h tail (part_at q k c)
 open_part place tail d c o q k h r part ends fits =
     open_within h (part_at q k c) tail o.is.rest k (part_within o.base (1 ∷ (tail ++ o.is.rest)) o.rest c d place o.at o.is.split o.was q k h r part ends (omega (arith, fits))) fits
 

@@ -3,7 +3,7 @@ use Rattle.std.proofs.Common.{◌≡◌, ◌⊎◌, ℕ, ◌+◌, ◌-◌, ◌<�
 use Rattle.std.proofs.lemmas.List.{take_at, drop-drop, take-take, append-nil, nil_from_length}
 use Rattle.std.proofs.Math.Seq.{take-append-add}
 use Rattle.journal.specs.Layout.{part_at}
-use Rattle.journal.specs.Steps.{IsFirst}
+use Rattle.journal.specs.Steps.{AreFirstOf}
 use Rattle.journal.proofs.Parts.{length-part_at}
 
 take_add : (m n : ℕ) (l : List ℕ) → m ≤ length l → take (m + n) l ≡ take m l ++ take n (drop m l)
@@ -11,9 +11,9 @@ take_add m n l within =
     let size : length (take m l) ≡ m = omega (arith, length-take m l, within) in
     ap (take (m + n)) (sym (take-append-drop m l)) ∙ ap (λ (k : ℕ). take (k + n) (take m l ++ drop m l)) (sym size) ∙ take-append-add (take m l) (drop m l) n
 
-on : (seen bytes grown buf new : List ℕ) (place limit room n : ℕ) → IsFirst bytes (part_at place limit seen) → room ≤ limit - length bytes → length bytes ≤ limit
+on : (seen bytes grown buf new : List ℕ) (place limit room n : ℕ) → AreFirstOf bytes (part_at place limit seen) → room ≤ limit - length bytes → length bytes ≤ limit
     → n ≡ min (length seen - (place + length bytes)) (length (take room buf)) → new ≡ take n (drop (place + length bytes) seen) ++ drop n (take room buf) → grown ≡ bytes ++ take n (new ++ drop room buf)
-    → IsFirst grown (part_at place limit seen)
+    → AreFirstOf grown (part_at place limit seen)
 unfolding part_at
 on seen bytes grown buf new place limit room n first some below is_n is_new is_grown =
     let m = length bytes in
@@ -34,12 +34,12 @@ on seen bytes grown buf new place limit room n first some below is_n is_new is_g
       split = sym (take-append-drop (m + n) part) ∙ ap (λ (l : List ℕ). l ++ drop (m + n) part) (take-take (m + n) limit d (omega (arith, short, below)) ∙ sym whole);
     }
 
-pub read_more : (first seen bytes grown buf new : List ℕ) (place limit room place' n : ℕ) → seen ≡ first → place' ≡ place + length bytes → IsFirst bytes (part_at place limit first) → room ≤ limit - length bytes → length bytes ≤ limit
+pub read_more : (first seen bytes grown buf new : List ℕ) (place limit room place' n : ℕ) → seen ≡ first → place' ≡ place + length bytes → AreFirstOf bytes (part_at place limit first) → room ≤ limit - length bytes → length bytes ≤ limit
     → n ≡ min (length seen - place') (length (take room buf)) → new ≡ take n (drop place' seen) ++ drop n (take room buf) → grown ≡ bytes ++ take n (new ++ drop room buf)
-    → IsFirst grown (part_at place limit first)
+    → AreFirstOf grown (part_at place limit first)
 read_more first seen bytes grown buf new place limit room place' n same is_place is_first some below is_n is_new is_grown =
-    subst (λ (l : List ℕ). IsFirst grown (part_at place limit l)) same
-    (on seen bytes grown buf new place limit room n (subst (λ (l : List ℕ). IsFirst bytes (part_at place limit l)) (sym same) is_first) some below
+    subst (λ (l : List ℕ). AreFirstOf grown (part_at place limit l)) same
+    (on seen bytes grown buf new place limit room n (subst (λ (l : List ℕ). AreFirstOf bytes (part_at place limit l)) (sym same) is_first) some below
     (is_n ∙ ap (λ (k : ℕ). min (length seen - k) (length (take room buf))) is_place)
     (is_new ∙ ap (λ (k : ℕ). take n (drop k seen) ++ drop n (take room buf)) is_place) is_grown)
 
@@ -50,7 +50,7 @@ read_none first seen buf place limit room place' n m same is_place none some fit
     omega (arith, ap length same, is_place, none, some, fits, is_n, length-take room buf, length-part_at place limit first)
 
 -- the whole part was read
-pub read_whole : (bytes part : List ℕ) (n : ℕ) → IsFirst bytes part → length part ≤ n → (n ≤ length bytes) ⊎ (length part ≤ length bytes) → bytes ≡ part
+pub read_whole : (bytes part : List ℕ) (n : ℕ) → AreFirstOf bytes part → length part ≤ n → (n ≤ length bytes) ⊎ (length part ≤ length bytes) → bytes ≡ part
 read_whole bytes part n first short enough =
     let size = ap length first.split ∙ length-append bytes first.rest in
     let full : length part ≤ length bytes = grind (arith, enough, short) in
@@ -65,5 +65,5 @@ grown_long bytes grown read n is =
     let size = ap length is ∙ length-append bytes (take n read) in
     (omega (arith, size), omega (arith, size, length-take n read))
 
-pub first_none : (bytes part : List ℕ) → bytes ≡ [] → IsFirst bytes part
+pub first_none : (bytes part : List ℕ) → bytes ≡ [] → AreFirstOf bytes part
 first_none bytes part none = record { rest = part; split = ap (λ (l : List ℕ). l ++ part) (sym none) }

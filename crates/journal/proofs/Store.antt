@@ -4,8 +4,8 @@ use Rattle.std.proofs.lemmas.List.{append-nil}
 use Rattle.std.specs.List.{flat_map}
 use Rattle.journal.specs.declared.side.Side.{Side}
 use Rattle.journal.specs.declared.side.Side.TheVariants.{First, Second}
-use Rattle.journal.specs.Layout.{long_bytes, entry_of, head_of, AreLimits, AreSmall, ClosedAfter, IsHalf, OpensWith, IsNext, IsOther, part_at, start_of, Stands, IsJournal, NoJournal}
-use Rattle.journal.specs.Steps.{Begins, FoundHalf}
+use Rattle.journal.specs.Layout.{long_bytes, entry_of, head_of, AreLimits, AreSmall, ClosedAfter, IsHalf, OpensWith, IsNextSerial, IsOtherHalf, part_at, start_of, HalvesStand, IsHalvedJournal, NoJournal}
+use Rattle.journal.specs.Steps.{FoundHalf, HalvesBegin}
 use Rattle.journal.proofs.HeadBlock.{blocks_of_head, half_of_head}
 use Rattle.journal.proofs.Halves.{half_size}
 use Rattle.journal.proofs.Parse.{append_same, peel}
@@ -50,25 +50,25 @@ opens_half serial tables changes part log = record {
   split = half_size serial tables changes part log;
 }
 
-next_of : (both : Bool) (serial other : ℕ) (part : List ℕ) → OpensWith serial part → IsOther both other part → IsNext serial other
+next_of : (both : Bool) (serial other : ℕ) (part : List ℕ) → OpensWith serial part → IsOtherHalf both other part → IsNextSerial serial other
 next_of true serial other part opens is =
     let same : 1 ∷ is.0 ∷ is.1.rest ≡ 1 ∷ serial ∷ opens.rest = sym is.1.split ∙ opens.split in
     let before : is.0 ≡ serial = cc in
-    subst (λ (n : ℕ). IsNext n other) before is.2
+    subst (λ (n : ℕ). IsNextSerial n other) before is.2
 next_of false serial other part opens is =
     let same : is.gate ∷ is.rest ≡ 1 ∷ serial ∷ opens.rest = sym is.split ∙ opens.split in
     let one : is.gate ≡ 1 = cc in
     absurd (is.shut one)
 
-no_both : (a b : ℕ) → IsNext a b → IsNext b a → ⊥
+no_both : (a b : ℕ) → IsNextSerial a b → IsNextSerial b a → ⊥
 no_both a b next back = omega (arith, next.0, next.1, back.0, back.1)
 
 short_part : (q half : ℕ) (image : List ℕ) → half ≤ 67108864 → length (part_at q half image) < 2 ^ 64
 short_part q half image small = omega (arith, length-part_at q half image, small)
 
 module _ (image : List ℕ) (half : ℕ) where
-  sides : (side side' : Side) (serial serial' : ℕ) (both both' : Bool) (blocks blocks' : ℕ) (tables tables' : List ℕ) (changes changes' : List (List ℕ)) → Stands side serial both blocks half tables changes image
-      → Stands side' serial' both' blocks' half tables' changes' image → (tables ≡ tables') × (changes ≡ changes')
+  sides : (side side' : Side) (serial serial' : ℕ) (both both' : Bool) (blocks blocks' : ℕ) (tables tables' : List ℕ) (changes changes' : List (List ℕ)) → HalvesStand side serial both blocks half tables changes image
+      → HalvesStand side' serial' both' blocks' half tables' changes' image → (tables ≡ tables') × (changes ≡ changes')
   sides First First s s' b b' n n' t t' c c' one two = half_same s s' t t' c c' (part_at 4096 half image) (short_part 4096 half image one.limits.greatest) one.current two.current
   sides Second Second s s' b b' n n' t t' c c' one two = half_same s s' t t' c c' (part_at (4096 + half) half image) (short_part (4096 + half) half image one.limits.greatest) one.current two.current
   sides First Second s s' b b' n n' t t' c c' one two =
@@ -79,7 +79,7 @@ module _ (image : List ℕ) (half : ℕ) where
       (next_of b s' s (part_at 4096 half image) (opens_half s' t' c' (part_at 4096 half image) two.current) one.other))
 
 -- bytes are one journal at most
-pub unique : (image : List ℕ) (blocks blocks' half half' : ℕ) (tables tables' : List ℕ) (changes changes' : List (List ℕ)) → IsJournal blocks half tables changes image → IsJournal blocks' half' tables' changes' image
+pub unique : (image : List ℕ) (blocks blocks' half half' : ℕ) (tables tables' : List ℕ) (changes changes' : List (List ℕ)) → IsHalvedJournal blocks half tables changes image → IsHalvedJournal blocks' half' tables' changes' image
     → (blocks ≡ blocks') × (half ≡ half') × (tables ≡ tables') × (changes ≡ changes')
 unique image blocks blocks' half half' tables tables' changes changes' one two =
     let a = one.stands in
@@ -87,12 +87,12 @@ unique image blocks blocks' half half' tables tables' changes changes' one two =
     let same_blocks : blocks ≡ blocks' = sym (blocks_of_head blocks half (take 4096 image) a.limits a.head) ∙ blocks_of_head blocks' half' (take 4096 image) b.limits b.head in
     let same_half : half ≡ half' = sym (half_of_head blocks half (take 4096 image) a.limits a.head) ∙ half_of_head blocks' half' (take 4096 image) b.limits b.head in
     let same = sides image half one.side two.side one.serial two.serial one.both two.both blocks blocks' tables tables' changes changes' a
-    (subst (λ (h : ℕ). Stands two.side two.serial two.both blocks' h tables' changes' image) (sym same_half) b) in
+    (subst (λ (h : ℕ). HalvesStand two.side two.serial two.both blocks' h tables' changes' image) (sym same_half) b) in
     (same_blocks, same_half, same.0, same.1)
 
 -- what was read is a journal
 pub found_stands : (side : Side) (serial : ℕ) (both : Bool) (blocks half gate : ℕ) (tables : List ℕ) (changes : List (List ℕ)) (head image : List ℕ) → AreLimits blocks half → head ≡ part_at 0 4096 image → head ≡ head_of blocks half
-    → Begins side serial both half image → FoundHalf serial tables changes gate (part_at (start_of side half) half image) → Stands side serial both blocks half tables changes image
+    → HalvesBegin side serial both half image → FoundHalf serial tables changes gate (part_at (start_of side half) half image) → HalvesStand side serial both blocks half tables changes image
 unfolding part_at
 found_stands side serial both blocks half gate tables changes head image limits is is_head begins found = record {
   limits = limits;
@@ -112,30 +112,30 @@ module _ (head image : List ℕ) (blocks half : ℕ) (is : head ≡ part_at 0 40
   unfolding part_at
   same_half blocks' half' limits' is' = sym (half_of_head blocks' half' head limits' (is ∙ is')) ∙ half_of_head blocks half head limits is_head
 
-  stands_begins : (side : Side) (serial : ℕ) (both : Bool) (n : ℕ) (tables : List ℕ) (changes : List (List ℕ)) → Stands side serial both n half tables changes image → Begins side serial both half image
+  stands_begins : (side : Side) (serial : ℕ) (both : Bool) (n : ℕ) (tables : List ℕ) (changes : List (List ℕ)) → HalvesStand side serial both n half tables changes image → HalvesBegin side serial both half image
   stands_begins side serial both n tables changes stands = record {
     opens = opens_half serial tables changes (part_at (start_of side half) half image) stands.current;
     is_serial = stands.is_serial;
     other = stands.other;
   }
 
-  here : (n h : ℕ) (tables : List ℕ) (changes : List (List ℕ)) → (journal : IsJournal n h tables changes image) → Stands journal.side journal.serial journal.both n half tables changes image
-  here n h tables changes journal = subst (λ (k : ℕ). Stands journal.side journal.serial journal.both n k tables changes image) (same_half n h journal.stands.limits journal.stands.head) journal.stands
+  here : (n h : ℕ) (tables : List ℕ) (changes : List (List ℕ)) → (journal : IsHalvedJournal n h tables changes image) → HalvesStand journal.side journal.serial journal.both n half tables changes image
+  here n h tables changes journal = subst (λ (k : ℕ). HalvesStand journal.side journal.serial journal.both n k tables changes image) (same_half n h journal.stands.limits journal.stands.head) journal.stands
 
   -- no half of which is current
-  pub no_journal_side : ((side : Side) (serial : ℕ) (both : Bool) → Begins side serial both half image → ⊥) → NoJournal image
+  pub no_journal_side : ((side : Side) (serial : ℕ) (both : Bool) → HalvesBegin side serial both half image → ⊥) → NoJournal image
   no_journal_side none n h tables changes journal =
       none journal.side journal.serial journal.both (stands_begins journal.side journal.serial journal.both n tables changes (here n h tables changes journal))
 
   -- whose current half is none
-  pub no_journal_half : (side : Side) (serial : ℕ) (both : Bool) → Begins side serial both half image
+  pub no_journal_half : (side : Side) (serial : ℕ) (both : Bool) → HalvesBegin side serial both half image
       → ((serial : ℕ) (tables : List ℕ) (changes : List (List ℕ)) → IsHalf serial tables changes (part_at (start_of side half) half image) → ⊥) → NoJournal image
   no_journal_half side serial both begins none n h tables changes journal =
       let stands = here n h tables changes journal in
       by side journal.side journal.serial journal.both serial both begins none stands
     where
-      by : (side side' : Side) (serial' : ℕ) (both' : Bool) (serial : ℕ) (both : Bool) → Begins side serial both half image
-          → ((serial : ℕ) (tables : List ℕ) (changes : List (List ℕ)) → IsHalf serial tables changes (part_at (start_of side half) half image) → ⊥) → Stands side' serial' both' n half tables changes image → ⊥
+      by : (side side' : Side) (serial' : ℕ) (both' : Bool) (serial : ℕ) (both : Bool) → HalvesBegin side serial both half image
+          → ((serial : ℕ) (tables : List ℕ) (changes : List (List ℕ)) → IsHalf serial tables changes (part_at (start_of side half) half image) → ⊥) → HalvesStand side' serial' both' n half tables changes image → ⊥
       by First First s' b' s b begins none stands = none s' tables changes stands.current
       by Second Second s' b' s b begins none stands = none s' tables changes stands.current
       by First Second s' b' s b begins none stands =

@@ -5,16 +5,16 @@ use Rattle.std.proofs.lemmas.Bool.{cases_eq}
 use Rattle.std.specs.List.{flat_map}
 use Rattle.journal.specs.declared.side.Side.{Side}
 use Rattle.journal.specs.declared.side.Side.TheVariants.{First, Second}
-use Rattle.journal.specs.Layout.{size_bytes, long_bytes, entry_of, log_of, half_head, IsLog, IsNext, IsOther, OpensWith, AreLimits, part_at, start_of, other_side, Stands, IsJournal}
+use Rattle.journal.specs.Layout.{size_bytes, long_bytes, entry_of, log_of, half_head, IsLog, IsNextSerial, IsOtherHalf, OpensWith, AreLimits, part_at, start_of, other_side, HalvesStand, IsHalvedJournal}
 use Rattle.disks.specs.Outside.{AgreesOutside}
-use Rattle.journal.specs.Steps.{OpenAfter, Commits, Opens}
+use Rattle.journal.specs.Steps.{OpenAfter, Commits, OpensGate}
 use Rattle.journal.proofs.Parts.{length-part_at, same_front, same_before, same_behind, commit_within, opens_commits, open_part, OneByte, one_byte, one_front, one_before, one_behind, one_part}
 use Rattle.small_types.specs.Bytes.{put}
 use Rattle.disks.proofs.PieceLemmas.{put_over}
 use Rattle.journal.proofs.Entries.{opens, either_log}
 use Rattle.disks.proofs.OutsideLemmas.{agrees_same}
 
-pub journal : (side : Side) (serial : ℕ) (both : Bool) (blocks half : ℕ) (tables : List ℕ) (changes : List (List ℕ)) (c : List ℕ) → Stands side serial both blocks half tables changes c → IsJournal blocks half tables changes c
+pub journal : (side : Side) (serial : ℕ) (both : Bool) (blocks half : ℕ) (tables : List ℕ) (changes : List (List ℕ)) (c : List ℕ) → HalvesStand side serial both blocks half tables changes c → IsHalvedJournal blocks half tables changes c
 journal side serial both blocks half tables changes c stands = record { side = side; serial = serial; both = both; stands = stands }
 
 pub starts_late : (side : Side) (half : ℕ) → 4096 ≤ start_of side half
@@ -38,21 +38,21 @@ same_side side half place tail d c commits low high =
 
 module _ (side : Side) (serial : ℕ) (both : Bool) (blocks half : ℕ) (tables : List ℕ) (changes : List (List ℕ)) where
   -- the journal's other parts are as they were
-  stands_with : (all : List (List ℕ)) (d c : List ℕ) → Stands side serial both blocks half tables changes d → take 4096 c ≡ take 4096 d → IsLog (half_head serial tables) all (part_at (start_of side half) half c)
-      → part_at (start_of (other_side side) half) half c ≡ part_at (start_of (other_side side) half) half d → Stands side serial both blocks half tables all c
+  stands_with : (all : List (List ℕ)) (d c : List ℕ) → HalvesStand side serial both blocks half tables changes d → take 4096 c ≡ take 4096 d → IsLog (half_head serial tables) all (part_at (start_of side half) half c)
+      → part_at (start_of (other_side side) half) half c ≡ part_at (start_of (other_side side) half) half d → HalvesStand side serial both blocks half tables all c
   stands_with all d c stands front log other = record {
     limits = stands.limits;
     head = front ∙ stands.head;
     is_serial = stands.is_serial;
     current = log;
-    other = subst (λ (l : List ℕ). IsOther both serial l) (sym other) stands.other;
+    other = subst (λ (l : List ℕ). IsOtherHalf both serial l) (sym other) stands.other;
   }
 
   module _ (change tail : List ℕ) (gate : ℕ) (ends : gate ≡ length (log_of (half_head serial tables) changes)) (small : length change < 2 ^ 32)
       (is_tail : tail ≡ size_bytes (length change) ++ (change ++ 0 ∷ [])) (fits : gate + 1 + length tail ≤ half) where
     -- one entry more, or not
-    pub appends : (d c : List ℕ) → Stands side serial both blocks half tables changes d → Commits (start_of side half + gate) tail d c
-        → Stands side serial both blocks half tables changes c ⊎ Stands side serial both blocks half tables (changes ++ change ∷ []) c
+    pub appends : (d c : List ℕ) → HalvesStand side serial both blocks half tables changes d → Commits (start_of side half + gate) tail d c
+        → HalvesStand side serial both blocks half tables changes c ⊎ HalvesStand side serial both blocks half tables (changes ++ change ∷ []) c
     appends d c stands commits =
         let start = start_of side half in
         let late = starts_late side half in
@@ -65,7 +65,7 @@ module _ (side : Side) (serial : ℕ) (both : Bool) (blocks half : ℕ) (tables 
           | inr after ↦ inr (stands_with (changes ++ change ∷ []) d c stands front after other)
         ]
 
-    pub appended : (d c : List ℕ) → Stands side serial both blocks half tables changes d → Opens (start_of side half + gate) tail d c → Stands side serial both blocks half tables (changes ++ change ∷ []) c
+    pub appended : (d c : List ℕ) → HalvesStand side serial both blocks half tables changes d → OpensGate (start_of side half + gate) tail d c → HalvesStand side serial both blocks half tables (changes ++ change ∷ []) c
     appended d c stands open_now =
         let start = start_of side half in
         let late = starts_late side half in
@@ -99,25 +99,25 @@ open_with serial tables changes bytes log = record {
   split = log.closed.split;
 }
 
-module _ (side : Side) (serial serial_new : ℕ) (next : IsNext serial serial_new) (blocks half : ℕ) (tables : List ℕ) (changes : List (List ℕ)) (tables_new tail : List ℕ)
+module _ (side : Side) (serial serial_new : ℕ) (next : IsNextSerial serial serial_new) (blocks half : ℕ) (tables : List ℕ) (changes : List (List ℕ)) (tables_new tail : List ℕ)
     (is_tail : tail ≡ serial_new ∷ (long_bytes (length tables_new) ++ (tables_new ++ 0 ∷ []))) (fits : 1 + length tail ≤ half) where
   abbrev place : ℕ
   place = start_of (other_side side) half
 
-  turned : (d c : List ℕ) → Stands side serial false blocks half tables changes d → take 4096 c ≡ take 4096 d → part_at (start_of side half) half c ≡ part_at (start_of side half) half d
-      → OpenAfter [] tail (part_at place half c) → Stands (other_side side) serial_new true blocks half tables_new [] c
+  turned : (d c : List ℕ) → HalvesStand side serial false blocks half tables changes d → take 4096 c ≡ take 4096 d → part_at (start_of side half) half c ≡ part_at (start_of side half) half d
+      → OpenAfter [] tail (part_at place half c) → HalvesStand (other_side side) serial_new true blocks half tables_new [] c
   turned d c stands front same open_now = record {
     limits = stands.limits;
     head = front ∙ stands.head;
     is_serial = omega (arith, next.1);
     current = new_half serial_new tables_new tail (part_at place half c) is_tail open_now;
-    other = subst (λ (s : Side). IsOther true serial_new (part_at (start_of s half) half c)) (sym (back side))
+    other = subst (λ (s : Side). IsOtherHalf true serial_new (part_at (start_of s half) half c)) (sym (back side))
         (serial, open_with serial tables changes (part_at (start_of side half) half c) (subst (λ (l : List ℕ). IsLog (half_head serial tables) changes l) (sym same) stands.current), next);
   }
 
   -- the other half is still closed, or it is the current one
-  pub turns : (d c : List ℕ) → Stands side serial false blocks half tables changes d → Commits place tail d c
-      → Stands side serial false blocks half tables changes c ⊎ Stands (other_side side) serial_new true blocks half tables_new [] c
+  pub turns : (d c : List ℕ) → HalvesStand side serial false blocks half tables changes d → Commits place tail d c
+      → HalvesStand side serial false blocks half tables changes c ⊎ HalvesStand (other_side side) serial_new true blocks half tables_new [] c
   turns d c stands commits =
       let late = starts_late (other_side side) half in
       let closed = stands.other in
@@ -135,7 +135,7 @@ module _ (side : Side) (serial serial_new : ℕ) (next : IsNext serial serial_ne
         | inr open_now ↦ inr (turned d c stands front same open_now)
       ]
 
-  pub turned_over : (d c : List ℕ) → Stands side serial false blocks half tables changes d → Opens place tail d c → Stands (other_side side) serial_new true blocks half tables_new [] c
+  pub turned_over : (d c : List ℕ) → HalvesStand side serial false blocks half tables changes d → OpensGate place tail d c → HalvesStand (other_side side) serial_new true blocks half tables_new [] c
   turned_over d c stands open_now =
       let late = starts_late (other_side side) half in
       let closed = stands.other in
@@ -150,7 +150,7 @@ module _ (side : Side) (serial blocks half : ℕ) (tables : List ℕ) (changes :
   at_other = start_of (other_side side) half
 
   -- there are two bytes at least
-  long_enough : (d : List ℕ) → Stands side serial true blocks half tables changes d → at_other + 1 < length d
+  long_enough : (d : List ℕ) → HalvesStand side serial true blocks half tables changes d → at_other + 1 < length d
   long_enough d stands =
       let part = stands.other.1.split in
       omega (arith, ap length part, length-part_at at_other half d)
@@ -163,7 +163,7 @@ module _ (side : Side) (serial blocks half : ℕ) (tables : List ℕ) (changes :
       by Second d c limits one = one_behind 4096 d c one (4096 + half) half (omega (arith, limits.least))
 
   -- with a closed gate there
-  pub shut : (d c : List ℕ) → Stands side serial true blocks half tables changes d → (one : OneByte at_other d c) → (one.gate_new ≡ 1 → ⊥) → Stands side serial false blocks half tables changes c
+  pub shut : (d c : List ℕ) → HalvesStand side serial true blocks half tables changes d → (one : OneByte at_other d c) → (one.gate_new ≡ 1 → ⊥) → HalvesStand side serial false blocks half tables changes c
   shut d c stands one closed =
       let late = starts_late (other_side side) half in
       let part = one_part at_other d c one half 1 stands.other.0 stands.other.1.rest (omega (arith, stands.limits.least)) stands.other.1.split in
@@ -176,7 +176,7 @@ module _ (side : Side) (serial blocks half : ℕ) (tables : List ℕ) (changes :
       }
 
   -- with an open one
-  still : (d c : List ℕ) → Stands side serial true blocks half tables changes d → (one : OneByte at_other d c) → one.gate_new ≡ 1 → Stands side serial true blocks half tables changes c
+  still : (d c : List ℕ) → HalvesStand side serial true blocks half tables changes d → (one : OneByte at_other d c) → one.gate_new ≡ 1 → HalvesStand side serial true blocks half tables changes c
   still d c stands one is_open =
       let late = starts_late (other_side side) half in
       let part = one_part at_other d c one half 1 stands.other.0 stands.other.1.rest (omega (arith, stands.limits.least)) stands.other.1.split in
@@ -188,7 +188,7 @@ module _ (side : Side) (serial blocks half : ℕ) (tables : List ℕ) (changes :
         other = (stands.other.0, record { rest = stands.other.1.rest; split = part ∙ ap (λ (k : ℕ). k ∷ stands.other.0 ∷ stands.other.1.rest) is_open }, stands.other.2);
       }
 
-  pub closing : (d c : List ℕ) → Stands side serial true blocks half tables changes d → AgreesOutside at_other 1 d c → IsJournal blocks half tables changes c
+  pub closing : (d c : List ℕ) → HalvesStand side serial true blocks half tables changes d → AgreesOutside at_other 1 d c → IsHalvedJournal blocks half tables changes c
   closing d c stands agrees =
       let one = one_byte at_other d c (long_enough d stands) agrees in
       elim (cases_eq one.gate_new 1) [
@@ -196,7 +196,7 @@ module _ (side : Side) (serial blocks half : ℕ) (tables : List ℕ) (changes :
         | inr closed ↦ journal side serial false blocks half tables changes c (shut d c stands one closed)
       ]
 
-  pub shut_now : (d c : List ℕ) → Stands side serial true blocks half tables changes d → c ≡ put at_other (0 ∷ []) d → Stands side serial false blocks half tables changes c
+  pub shut_now : (d c : List ℕ) → HalvesStand side serial true blocks half tables changes d → c ≡ put at_other (0 ∷ []) d → HalvesStand side serial false blocks half tables changes c
   shut_now d c stands is =
       let same = one_byte at_other d d (long_enough d stands) (agrees_same at_other 1 d) in
       let one : OneByte at_other d c = record {

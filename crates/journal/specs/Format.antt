@@ -5,7 +5,7 @@ use Rattle.disks.specs.declared.disk.Disk.{Ghosts}
 use Rattle.small_types.specs.Bytes.{put}
 use Rattle.small_types.specs.declared.limits.TheConstants.{HEAD_BLOCK_SIZE}
 use Rattle.journal.specs.declared.piece.TheConstants.{AROUND_TABLES}
-use Rattle.journal.specs.Layout.{head_with, half_head, IsJournal, NoJournal}
+use Rattle.journal.specs.Layout.{head_with, half_head, IsHalvedJournal, NoJournal}
 
 -- the head block with this gate, and behind it the first half with these tables and no change
 abbrev pub front_with : ℕ → ℕ → ℕ → List ℕ → List ℕ
@@ -28,7 +28,7 @@ IsFilled n place bytes = Torn 0 n [] bytes
 
 -- the bytes are the new journal, which has no change, or no journal at all
 abbrev pub IsNewOrNone : ℕ → ℕ → List ℕ → List ℕ → Type 0
-IsNewOrNone blocks half tables bytes = IsJournal blocks half tables [] bytes ⊎ NoJournal bytes
+IsNewOrNone blocks half tables bytes = IsHalvedJournal blocks half tables [] bytes ⊎ NoJournal bytes
 
 -- What stops leave over a format. It makes seven calls: a cut and a sync, a write of the head with
 -- the first half, a write of the second half's gate and a sync, the write of the head gate and a

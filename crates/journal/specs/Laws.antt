@@ -5,39 +5,40 @@ use Rattle.disks.specs.Moments.{LeavesOnly, Each, Untouched}
 use Rattle.disks.specs.Outside.{AgreesOutside, IsOldOutside}
 use Rattle.journal.specs.declared.log.Log.{Log}
 use Rattle.journal.specs.declared.piece.TheConstants.{BEFORE, AROUND_TABLES}
-use Rattle.journal.specs.Layout.{part_at, blocks_at, IsJournal}
-use Rattle.journal.specs.Log.{IsOpen, half_of, used_of, end_of, other_of, need_of, room_of}
+use Rattle.journal.specs.Layout.{part_at, blocks_start, IsHalvedJournal}
+use Rattle.journal.specs.Log.{IsOpen, half_of, used_of, end_of, other_half_start, need_of, room_left}
 
 -- an image is one journal at most
 abbrev pub IsOne : Type 0
 IsOne = (image : List ℕ) (blocks half : ℕ) (tables : List ℕ) (changes : List (List ℕ))
     (other_blocks other_half : ℕ) (other_tables : List ℕ) (other_changes : List (List ℕ))
-    → IsJournal blocks half tables changes image
-    → IsJournal other_blocks other_half other_tables other_changes image
+    → IsHalvedJournal blocks half tables changes image
+    → IsHalvedJournal other_blocks other_half other_tables other_changes image
     → (blocks ≡ other_blocks) × (half ≡ other_half) × (tables ≡ other_tables)
     × (changes ≡ other_changes)
 
 -- an image that agrees with a journal but for a range behind the halves is that journal
 abbrev pub StaysOutside : Type 0
 StaysOutside = (place n blocks half : ℕ) (tables : List ℕ) (changes : List (List ℕ))
-    (old new : List ℕ) → blocks_at half ≤ place → AgreesOutside place n old new
-    → IsJournal blocks half tables changes old → IsJournal blocks half tables changes new
+    (old new : List ℕ) → blocks_start half ≤ place → AgreesOutside place n old new
+    → IsHalvedJournal blocks half tables changes old
+    → IsHalvedJournal blocks half tables changes new
 
 -- what stands behind the halves is as it was, where a range before it alone was written
 abbrev pub StaysBehind : Type 0
-StaysBehind = (place n half from size : ℕ) (old new : List ℕ) → place + n ≤ blocks_at half
-    → blocks_at half ≤ from → AgreesOutside place n old new
+StaysBehind = (place n half from size : ℕ) (old new : List ℕ) → place + n ≤ blocks_start half
+    → blocks_start half ≤ from → AgreesOutside place n old new
     → part_at from size new ≡ part_at from size old
 
 -- the range of an append lies before the blocks, where the entry fits
 abbrev pub AppendsBefore : Type 0
-AppendsBefore = (log : Log) (piece : List ℕ) → 1 ≤ length piece → need_of piece ≤ room_of log
-    → end_of log + length piece ≤ blocks_at (half_of log)
+AppendsBefore = (log : Log) (piece : List ℕ) → 1 ≤ length piece → need_of piece ≤ room_left log
+    → end_of log + length piece ≤ blocks_start (half_of log)
 
 -- and that of a checkpoint, where the tables do
 abbrev pub TurnsBefore : Type 0
 TurnsBefore = (log : Log) (piece : List ℕ) → length piece ≤ half_of log
-    → other_of log + length piece ≤ blocks_at (half_of log)
+    → other_half_start log + length piece ≤ blocks_start (half_of log)
 
 -- the bytes that a half with these tables and changes uses, its first closed gate included
 abbrev pub used_by : List ℕ → List (List ℕ) → ℕ
@@ -53,7 +54,7 @@ UsesBytes {D} on = (log : Log) (blocks : ℕ) (tables : List ℕ) (changes : Lis
 abbrev pub IsEachJournal : {D : Type 0} → Ghosts D → Type 0
 IsEachJournal {D} on = (log : Log) (blocks : ℕ) (tables : List ℕ) (changes : List (List ℕ))
     (disk : D) → IsOpen on log blocks tables changes disk
-    → Each on disk (IsJournal blocks (half_of log) tables changes)
+    → Each on disk (IsHalvedJournal blocks (half_of log) tables changes)
 
 -- an open log stays open while the disk is only read
 abbrev pub StaysOpenRead : {D : Type 0} → Ghosts D → Type 0
@@ -62,14 +63,14 @@ StaysOpenRead {D} on = (log : Log) (blocks : ℕ) (tables : List ℕ) (changes :
     → IsOpen on log blocks tables changes new
 
 -- what a run of writes behind the halves leaves: the log is open, and each image was its journal
-pub record Stays {D : Type 0} (on : Ghosts D) (log : Log) (blocks : ℕ) (tables : List ℕ)
+pub record StaysOpen {D : Type 0} (on : Ghosts D) (log : Log) (blocks : ℕ) (tables : List ℕ)
     (changes : List (List ℕ)) (old new : D) : Type 0 where
   pub opened : IsOpen on log blocks tables changes new
-  pub each : LeavesOnly on old new (IsJournal blocks (half_of log) tables changes)
+  pub each : LeavesOnly on old new (IsHalvedJournal blocks (half_of log) tables changes)
 
 -- and while only what stands behind the halves is written
 abbrev pub StaysOpenBehind : {D : Type 0} → Ghosts D → Type 0
 StaysOpenBehind {D} on = (log : Log) (blocks : ℕ) (tables : List ℕ) (changes : List (List ℕ))
-    (old new : D) (place n : ℕ) → blocks_at (half_of log) ≤ place
+    (old new : D) (place n : ℕ) → blocks_start (half_of log) ≤ place
     → LeavesOnly on old new (IsOldOutside place n (on.left_at old (on.moment old)))
-    → IsOpen on log blocks tables changes old → Stays on log blocks tables changes old new
+    → IsOpen on log blocks tables changes old → StaysOpen on log blocks tables changes old new

@@ -59,14 +59,14 @@ pub record OpensWith (serial : ℕ) (bytes : List ℕ) : Type 0 where
   pub split : bytes ≡ 1 ∷ serial ∷ rest
 
 -- a serial and the next one: 0, 1, 2, and 0 again
-abbrev pub IsNext : ℕ → ℕ → Type 0
-IsNext before serial = (before < SERIAL_COUNT) × (serial ≡ (before + 1) % SERIAL_COUNT)
+abbrev pub IsNextSerial : ℕ → ℕ → Type 0
+IsNextSerial before serial = (before < SERIAL_COUNT) × (serial ≡ (before + 1) % SERIAL_COUNT)
 
 -- The bytes are the other half of one with this serial: an open half with the serial before it, or
 -- a half whose gate is closed.
-abbrev pub IsOther : Bool → ℕ → List ℕ → Type 0
-IsOther true serial bytes = (before : ℕ) × OpensWith before bytes × IsNext before serial
-IsOther false serial bytes = ClosedAfter [] bytes
+abbrev pub IsOtherHalf : Bool → ℕ → List ℕ → Type 0
+IsOtherHalf true serial bytes = (before : ℕ) × OpensWith before bytes × IsNextSerial before serial
+IsOtherHalf false serial bytes = ClosedAfter [] bytes
 
 unfoldable pub zeros : ℕ → List ℕ
 zeros n = replicate n 0
@@ -107,28 +107,28 @@ other_side First = Second
 other_side Second = First
 
 -- where the blocks begin, behind both halves
-abbrev pub blocks_at : ℕ → ℕ
-blocks_at half = HEAD_BLOCK_SIZE + 2 * half
+abbrev pub blocks_start : ℕ → ℕ
+blocks_start half = HEAD_BLOCK_SIZE + 2 * half
 
 -- The image is a journal whose current half is this one and has this serial; `both` says whether
 -- the other half is open too. What stands behind the halves is not looked at.
-pub record Stands (side : Side) (serial : ℕ) (both : Bool) (blocks half : ℕ) (tables : List ℕ)
+pub record HalvesStand (side : Side) (serial : ℕ) (both : Bool) (blocks half : ℕ) (tables : List ℕ)
     (changes : List (List ℕ)) (image : List ℕ) : Type 0 where
   pub limits : AreLimits blocks half
   pub head : take HEAD_BLOCK_SIZE image ≡ head_of blocks half
   pub is_serial : serial < SERIAL_COUNT
   pub current : IsHalf serial tables changes (part_at (start_of side half) half image)
-  pub other : IsOther both serial (part_at (start_of (other_side side) half) half image)
+  pub other : IsOtherHalf both serial (part_at (start_of (other_side side) half) half image)
 
 -- The image is a journal: one of its halves is the current one.
-pub record IsJournal (blocks half : ℕ) (tables : List ℕ) (changes : List (List ℕ))
+pub record IsHalvedJournal (blocks half : ℕ) (tables : List ℕ) (changes : List (List ℕ))
     (image : List ℕ) : Type 0 where
   pub side : Side
   pub serial : ℕ
   pub both : Bool
-  pub stands : Stands side serial both blocks half tables changes image
+  pub stands : HalvesStand side serial both blocks half tables changes image
 
 -- the image is no journal
 abbrev pub NoJournal : List ℕ → Type 0
 NoJournal image = (blocks half : ℕ) (tables : List ℕ) (changes : List (List ℕ))
-    → IsJournal blocks half tables changes image → ⊥
+    → IsHalvedJournal blocks half tables changes image → ⊥

@@ -10,7 +10,7 @@ use Rattle.journal.specs.declared.read.Step.{Step}
 use Rattle.journal.specs.declared.read.Step.TheVariants.{Change, End, Broken}
 use Rattle.journal.specs.declared.side.Side.{Side}
 use Rattle.journal.specs.declared.side.Side.TheVariants.{First, Second}
-use Rattle.journal.specs.Layout.{long_bytes, entry_of, log_of, half_head, ClosedAfter, AreSmall, IsHalf, OpensWith, IsNext, IsOther, part_at, start_of, other_side}
+use Rattle.journal.specs.Layout.{long_bytes, entry_of, log_of, half_head, ClosedAfter, AreSmall, IsHalf, OpensWith, IsNextSerial, IsOtherHalf, part_at, start_of, other_side}
 
 -- the bytes begin with the base, and an open gate and the tail behind it
 pub record OpenAfter (base tail bytes : List ℕ) : Type 0 where
@@ -37,7 +37,7 @@ pub record Commits (place : ℕ) (tail old new : List ℕ) : Type 0 where
   pub after : drop (place + 1 + length tail) new ≡ drop (place + 1 + length tail) old
 
 -- the same, and the gate is open
-pub record Opens (place : ℕ) (tail old new : List ℕ) : Type 0 where
+pub record OpensGate (place : ℕ) (tail old new : List ℕ) : Type 0 where
   pub base : List ℕ
   pub at : place ≡ length base
   pub rest : List ℕ
@@ -46,8 +46,8 @@ pub record Opens (place : ℕ) (tail old new : List ℕ) : Type 0 where
   pub after : drop (place + 1 + length tail) new ≡ drop (place + 1 + length tail) old
 
 -- the image comes of an old one by a step
-abbrev pub Comes : (List ℕ → Type 0) → (List ℕ → List ℕ → Type 0) → List ℕ → Type 0
-Comes old step image = (before : List ℕ) × old before × step before image
+abbrev pub ComesByStep : (List ℕ → Type 0) → (List ℕ → List ℕ → Type 0) → List ℕ → Type 0
+ComesByStep old step image = (before : List ℕ) × old before × step before image
 
 -- the bytes begin with the entries of these changes, and behind them, at a place, a closed gate
 -- stands
@@ -70,7 +70,7 @@ NoEntries bytes = (changes : List (List ℕ)) → AreSmall changes
     → ClosedAfter (flat_map entry_of changes) bytes → ⊥
 
 -- the bytes are the first of these
-pub record IsFirst (bytes whole : List ℕ) : Type 0 where
+pub record AreFirstOf (bytes whole : List ℕ) : Type 0 where
   pub rest : List ℕ
   pub split : whole ≡ bytes ++ rest
 
@@ -81,7 +81,7 @@ StartsSo (Opened serial) bytes = OpensWith serial bytes
 
 -- the start of the other half of one with this serial
 abbrev pub IsOtherStart : Bool → ℕ → Start → Type 0
-IsOtherStart true serial start = (before : ℕ) × (start ≡ Opened before) × IsNext before serial
+IsOtherStart true serial start = (before : ℕ) × (start ≡ Opened before) × IsNextSerial before serial
 IsOtherStart false serial start = start ≡ Closed
 
 -- of halves that begin so, this one is current and has this serial
@@ -92,11 +92,11 @@ IsChosen Second serial both first second = (second ≡ Opened serial) × (serial
     × IsOtherStart both serial first
 
 -- the halves of an image begin so that this one is current and has this serial
-pub record Begins (side : Side) (serial : ℕ) (both : Bool) (half : ℕ) (image : List ℕ)
+pub record HalvesBegin (side : Side) (serial : ℕ) (both : Bool) (half : ℕ) (image : List ℕ)
     : Type 0 where
   pub opens : OpensWith serial (part_at (start_of side half) half image)
   pub is_serial : serial < SERIAL_COUNT
-  pub other : IsOther both serial (part_at (start_of (other_side side) half) half image)
+  pub other : IsOtherHalf both serial (part_at (start_of (other_side side) half) half image)
 
 -- behind two bytes the length of these tables stands, and then the tables
 pub record TablesAt (tables part : List ℕ) : Type 0 where
@@ -111,12 +111,12 @@ NoTables part = (serial : ℕ) (tables : List ℕ) (changes : List (List ℕ))
     → IsHalf serial tables changes part → ⊥
 
 -- what stands at a place in a half, where an entry may begin
-abbrev pub IsStep : Step → ℕ → List ℕ → Type 0
-IsStep (Change change) gate part =
+abbrev pub IsStepAt : Step → ℕ → List ℕ → Type 0
+IsStepAt (Change change) gate part =
     (drop gate part ≡ entry_of change ++ drop (gate + BEFORE + length change) part)
     × (length change < 2 ^ 32)
-IsStep End gate part = ClosedAfter [] (drop gate part)
-IsStep Broken gate part = NoEntries (drop gate part)
+IsStepAt End gate part = ClosedAfter [] (drop gate part)
+IsStepAt Broken gate part = NoEntries (drop gate part)
 
 -- what stands at the front of bytes that begin with no head of an entry
 abbrev pub IsLastStep : Step → List ℕ → Type 0
@@ -125,10 +125,10 @@ IsLastStep End bytes = ClosedAfter [] bytes
 IsLastStep Broken bytes = (length bytes ≡ 0) ⊎ (slice_index bytes 0 ≡ 1)
 
 -- it is among as many bytes
-abbrev pub IsWithin : Step → ℕ → ℕ → Type 0
-IsWithin (Change change) gate n = gate + BEFORE + length change ≤ n
-IsWithin End gate n = gate < n
-IsWithin Broken gate n = Unit {0}
+abbrev pub IsStepWithin : Step → ℕ → ℕ → Type 0
+IsStepWithin (Change change) gate n = gate + BEFORE + length change ≤ n
+IsStepWithin End gate n = gate < n
+IsStepWithin Broken gate n = Unit {0}
 
 -- a half was found, and its first closed gate
 pub record FoundHalf (serial : ℕ) (tables : List ℕ) (changes : List (List ℕ)) (gate : ℕ)

@@ -5,7 +5,7 @@ ghost use Rattle.disks.specs.Disk.{Only, Torn};
 ghost use Rattle.disks.specs.Moments.{Each, LeavesOnly};
 ghost use Rattle.disks.specs.Spends.{Spends};
 ghost use Rattle.journal.specs.declared.piece.TheConstants.{AROUND_TABLES};
-ghost use Rattle.journal.specs.Layout.{AreLimits, IsJournal, NoJournal};
+ghost use Rattle.journal.specs.Layout.{AreLimits, IsHalvedJournal, NoJournal};
 ghost use Rattle.journal.specs.Format.{IsCutOrOld, IsFilled, IsNewOrNone, front_with, new_with};
 
 use crate::form::HEAD_GATE;
@@ -68,7 +68,7 @@ pub(crate) fn open_head<D: Disk>(disk: &mut D) -> Result<(), Failed>
     ensures ok { (blocks half : ℕ) (tables : List ℕ) → AreLimits blocks half
         → length tables + AROUND_TABLES ≤ half
         → Only (new_with blocks half 0 tables) (D.left_at disk.old (D.moment disk.old))
-        → OnOk result (Each D.Disk disk.new (IsJournal blocks half tables [])) }
+        → OnOk result (Each D.Disk disk.new (IsHalvedJournal blocks half tables [])) }
     ensures any_moment { (blocks half : ℕ) (tables : List ℕ) → AreLimits blocks half
         → length tables + AROUND_TABLES ≤ half
         → Only (new_with blocks half 0 tables) (D.left_at disk.old (D.moment disk.old))

@@ -8,7 +8,7 @@ ghost use Rattle.disks.specs.Spends.{HasNoNumber, Spends};
 ghost use Rattle.journal.specs.declared.fault.LogFault.TheVariants.{DiskFault};
 ghost use Rattle.journal.specs.Layout.{size_bytes, long_bytes};
 ghost use Rattle.journal.specs.Log.{entry_in, tables_in, closing_of};
-ghost use Rattle.journal.specs.Steps.{ClosedAt, Commits, Opens, Comes};
+ghost use Rattle.journal.specs.Steps.{ClosedAt, Commits, OpensGate, ComesByStep};
 
 use crate::LogFault;
 use crate::piece::{AROUND, AROUND_TABLES, BEFORE, BEFORE_TABLES};
@@ -47,10 +47,10 @@ pub(crate) fn frame_tables(piece: &mut [u8], serial: u8)
 pub(crate) fn open_gate<D: Disk>(disk: &mut D, end: u64, tail: &[u8]) -> Result<(), LogFault>
     requires { end + 1 < 2 ^ 64 }
     ensures ok { Each D.Disk disk.old (ClosedAt end)
-        → OnOk result (Each D.Disk disk.new (Comes (D.left_at disk.old (D.moment disk.old))
-        (Opens end tail.now))) }
+        → OnOk result (Each D.Disk disk.new (ComesByStep (D.left_at disk.old (D.moment disk.old))
+        (OpensGate end tail.now))) }
     ensures any_moment { Each D.Disk disk.old (ClosedAt end)
-        → LeavesOnly D.Disk disk.old disk.new (Comes (D.left_at disk.old (D.moment disk.old))
+        → LeavesOnly D.Disk disk.old disk.new (ComesByStep (D.left_at disk.old (D.moment disk.old))
         (Commits end tail.now)) }
     ensures outside { LeavesOnly D.Disk disk.old disk.new (IsOldOutside end (length tail.now + 1)
         (D.left_at disk.old (D.moment disk.old))) }

@@ -48,8 +48,8 @@ pub struct Recovered {
 }
 
 impl Log {
-    ghost use Rattle.journal.specs.Layout.{AreLimits, IsJournal, NoJournal};
-    ghost use Rattle.journal.specs.Log.{IsOpen, IsEither, Fits, half_of, used_of, end_of, other_of, both_of, need_of, room_of, calls_of, closing_of, entry_in, tables_in};
+    ghost use Rattle.journal.specs.Layout.{AreLimits, IsHalvedJournal, NoJournal};
+    ghost use Rattle.journal.specs.Log.{IsOpen, IsEither, FitsHalf, half_of, used_of, end_of, other_half_start, both_of, need_of, room_left, calls_of, closing_of, entry_in, tables_in};
     ghost use Rattle.journal.specs.Format.{Formats};
 
     /// Makes a new journal of this number of blocks and this half length, of these tables and of no
@@ -67,8 +67,9 @@ impl Log {
         requires limits { AreLimits blocks half }
 
         // From then on each stop leaves the new journal, and reads give it.
-        ensures ok { OnOk result (Each D.Disk disk.new (IsJournal blocks half tables.now [])) }
-        ensures seen { OnOk result (IsJournal blocks half tables.now [] (D.seen disk.new)) }
+        ensures ok { OnOk result (Each D.Disk disk.new
+            (IsHalvedJournal blocks half tables.now [])) }
+        ensures seen { OnOk result (IsHalvedJournal blocks half tables.now [] (D.seen disk.new)) }
         ensures durable { OnOk result (Only (D.seen disk.new) (D.left_at disk.new
             (D.moment disk.new))) }
 
@@ -105,10 +106,10 @@ impl Log {
     pub fn recover<D: Disk>(alloc: Global, disk: &mut D) -> Result<(Log, Recovered), LogFault>
         // What reads give is the journal that is answered, and where it is one that one is
         // answered.
-        ensures found { D.tells disk.new → IfOk result (λ r. IsJournal r.1.blocks r.1.half
+        ensures found { D.tells disk.new → IfOk result (λ r. IsHalvedJournal r.1.blocks r.1.half
             r.1.tables r.1.changes (D.seen disk.old)) }
         ensures same { D.tells disk.new → (blocks half : ℕ) (tables : List ℕ)
-            (changes : List (List ℕ)) → IsJournal blocks half tables changes (D.seen disk.old)
+            (changes : List (List ℕ)) → IsHalvedJournal blocks half tables changes (D.seen disk.old)
             → IfOk result (λ r. (r.1.blocks ≡ blocks) × (r.1.half ≡ half) × (r.1.tables ≡ tables)
             × (r.1.changes ≡ changes)) }
         ensures not_a_log { D.tells disk.new → result ≡ Err NotALog → NoJournal (D.seen disk.old) }
@@ -175,7 +176,7 @@ impl Log {
 
     /// Whether an entry of that length has room in the current half.
     pub fn fits(&self, length: u64) -> bool
-        ensures { IsTrue result ↔ Fits self.now length }
+        ensures { IsTrue result ↔ FitsHalf self.now length }
     {
         let room = self.half - self.gate - 1;
         room >= BEFORE as u64 && length <= room - BEFORE as u64
@@ -215,13 +216,13 @@ impl Log {
 
         // It says that there is no room exactly where the entry does not fit, and then writes
         // nothing.
-        ensures refuses { room_of self.old < need_of piece.old
-            → result ≡ Err (NoRoom (need_of piece.old) (room_of self.old)) }
+        ensures refuses { room_left self.old < need_of piece.old
+            → result ≡ Err (NoRoom (need_of piece.old) (room_left self.old)) }
         ensures faults { IfErr result (λ e. (e ≡ DiskFault)
-            ⊎ ((e ≡ NoRoom (need_of piece.old) (room_of self.old))
-            × (room_of self.old < need_of piece.old))) }
-        ensures unwritten { room_of self.old < need_of piece.old → disk.new ≡ disk.old }
-        ensures unframed { room_of self.old < need_of piece.old → piece.new ≡ piece.old }
+            ⊎ ((e ≡ NoRoom (need_of piece.old) (room_left self.old))
+            × (room_left self.old < need_of piece.old))) }
+        ensures unwritten { room_left self.old < need_of piece.old → disk.new ≡ disk.old }
+        ensures unframed { room_left self.old < need_of piece.old → piece.new ≡ piece.old }
         ensures kept { OnErr result (self.new ≡ self.old) }
         ensures half { half_of self.new ≡ half_of self.old }
         ensures used { OnOk result (used_of self.new ≡ used_of self.old + need_of piece.old) }
@@ -230,7 +231,7 @@ impl Log {
             (result ≡ Err DiskFault) }
         ensures tick { OnOk result (D.moment disk.new ≡ D.moment disk.old + 4) }
         ensures written { OnOk result (D.total disk.new ≡ D.total disk.old + length piece.old) }
-        ensures counted { need_of piece.old ≤ room_of self.old
+        ensures counted { need_of piece.old ≤ room_left self.old
             → (D.moment disk.old + 1 ≤ D.moment disk.new)
             ⊎ HasNoNumber (D.moment disk.new) (D.total disk.new) (length piece.old) }
     {
@@ -272,9 +273,10 @@ impl Log {
 
         // Outside the piece's range in the other half nothing is written, also where the call
         // fails.
-        ensures outside { LeavesOnly D.Disk disk.old disk.new (IsOldOutside (other_of self.old)
-            (length piece.old) (D.left_at disk.old (D.moment disk.old))) }
-        ensures reads_outside { AgreesOutside (other_of self.old) (length piece.old)
+        ensures outside { LeavesOnly D.Disk disk.old disk.new
+            (IsOldOutside (other_half_start self.old) (length piece.old)
+            (D.left_at disk.old (D.moment disk.old))) }
+        ensures reads_outside { AgreesOutside (other_half_start self.old) (length piece.old)
             (D.seen disk.old) (D.seen disk.new) }
 
         // It says that there is no room exactly where the tables do not fit, and then writes

@@ -6,8 +6,8 @@ ghost use Rattle.disks.specs.Spends.{Spends};
 ghost use Rattle.journal.specs.declared.form.TheConstants.{SERIAL_COUNT};
 ghost use Rattle.journal.specs.declared.piece.TheConstants.{BEFORE, BEFORE_TABLES};
 ghost use Rattle.journal.specs.declared.fault.LogFault.TheVariants.{DiskFault, Memory};
-ghost use Rattle.journal.specs.Layout.{part_at, long_bytes, AreLimits, NoJournal, IsNext, OpensWith, IsHalf};
-ghost use Rattle.journal.specs.Steps.{AtGate, NoEntries, OpensSize, IsFirst, StartsSo, IsChosen, Begins, TablesAt, NoTables, IsStep, IsWithin, IsLastStep, FoundHalf};
+ghost use Rattle.journal.specs.Layout.{part_at, long_bytes, AreLimits, NoJournal, IsNextSerial, OpensWith, IsHalf};
+ghost use Rattle.journal.specs.Steps.{AtGate, NoEntries, OpensSize, AreFirstOf, StartsSo, IsChosen, HalvesBegin, TablesAt, NoTables, IsStepAt, IsStepWithin, IsLastStep, FoundHalf};
 ghost use Rattle.journal.specs.Found.{Finds};
 
 use crate::form::SERIAL_COUNT;
@@ -47,8 +47,8 @@ fn read_on<D: Disk>(
     requires below { length bytes.old.items ≤ limit }
     requires wanted { want ≤ limit }
     ensures bytes { D.tells disk.new
-        → IsFirst bytes.old.items (part_at place limit (D.seen disk.old))
-        → IsFirst bytes.new.items (part_at place limit (D.seen disk.old)) }
+        → AreFirstOf bytes.old.items (part_at place limit (D.seen disk.old))
+        → AreFirstOf bytes.new.items (part_at place limit (D.seen disk.old)) }
     ensures enough { D.tells disk.new → OnOk result ((want ≤ length bytes.new.items)
         ⊎ (length (part_at place limit (D.seen disk.old)) ≤ length bytes.new.items)) }
     ensures longer { length bytes.old.items ≤ length bytes.new.items }
@@ -103,7 +103,7 @@ fn read_start(bytes: &[u8]) -> Option<Start>
 
 // Whether the second serial is the one after the first.
 fn is_next(before: u8, serial: u8) -> bool
-    ensures { IsTrue result ↔ IsNext before serial }
+    ensures { IsTrue result ↔ IsNextSerial before serial }
 {
     before < SERIAL_COUNT && serial == (before + 1) % SERIAL_COUNT
 }
@@ -203,9 +203,9 @@ fn read_side<D: Disk>(
     requires room { 0 < length buf.old }
     requires limits { (HALF_LEAST ≤ half) × (half ≤ HALF_LIMIT) }
     ensures found { D.tells disk.new
-        → IfOk result (λ o. IfSome o (λ c. Begins c.0 c.1 c.2 half (D.seen disk.old))) }
+        → IfOk result (λ o. IfSome o (λ c. HalvesBegin c.0 c.1 c.2 half (D.seen disk.old))) }
     ensures none { D.tells disk.new → IfOk result (λ o. IfNone o ((side : Side) (serial : ℕ)
-        (both : Bool) → Begins side serial both half (D.seen disk.old) → ⊥)) }
+        (both : Bool) → HalvesBegin side serial both half (D.seen disk.old) → ⊥)) }
     ensures serial { IfOk result (λ o. IfSome o (λ c. c.1 < SERIAL_COUNT)) }
     ensures still { Untouched D.Disk disk.old disk.new }
     ensures spends { Spends D.Disk 0 0 disk.old disk.new (result ≡ Err DiskFault) }
@@ -241,7 +241,7 @@ fn read_tables<D: Disk>(
     ensures none { D.tells disk.new → IfOk result (λ o. IfNone o (NoTables
         (part_at place half (D.seen disk.old)))) }
     ensures first { D.tells disk.new
-        → OnOk result (IsFirst bytes.new.items (part_at place half (D.seen disk.old))) }
+        → OnOk result (AreFirstOf bytes.new.items (part_at place half (D.seen disk.old))) }
     ensures read { IfOk result (λ o. IfSome o (λ tables.
         BEFORE_TABLES + length tables ≤ length bytes.new.items)) }
     ensures limited { length bytes.new.items ≤ half }
@@ -291,12 +291,12 @@ fn read_entry<D: Disk>(
     requires limits { half ≤ HALF_LIMIT }
     requires read { (gate ≤ length bytes.old.items) × (length bytes.old.items ≤ half) }
     ensures step { D.tells disk.new
-        → IsFirst bytes.old.items (part_at place half (D.seen disk.old))
-        → IfOk result (λ step. IsStep step gate (part_at place half (D.seen disk.old))) }
+        → AreFirstOf bytes.old.items (part_at place half (D.seen disk.old))
+        → IfOk result (λ step. IsStepAt step gate (part_at place half (D.seen disk.old))) }
     ensures first { D.tells disk.new
-        → IsFirst bytes.old.items (part_at place half (D.seen disk.old))
-        → IsFirst bytes.new.items (part_at place half (D.seen disk.old)) }
-    ensures within { IfOk result (λ step. IsWithin step gate (length bytes.new.items)) }
+        → AreFirstOf bytes.old.items (part_at place half (D.seen disk.old))
+        → AreFirstOf bytes.new.items (part_at place half (D.seen disk.old)) }
+    ensures within { IfOk result (λ step. IsStepWithin step gate (length bytes.new.items)) }
     ensures longer { length bytes.old.items ≤ length bytes.new.items }
     ensures limited { length bytes.new.items ≤ half }
     ensures still { Untouched D.Disk disk.old disk.new }
@@ -355,11 +355,11 @@ fn read_changes<D: Disk>(
     requires limits { half ≤ HALF_LIMIT }
     requires read { (from ≤ length bytes.old.items) × (length bytes.old.items ≤ half) }
     ensures found { D.tells disk.new
-        → IsFirst bytes.old.items (part_at place half (D.seen disk.old))
+        → AreFirstOf bytes.old.items (part_at place half (D.seen disk.old))
         → IfOk result (λ o. IfSome o (λ f. AtGate f.0 f.1
         (drop from (part_at place half (D.seen disk.old))))) }
     ensures none { D.tells disk.new
-        → IsFirst bytes.old.items (part_at place half (D.seen disk.old))
+        → AreFirstOf bytes.old.items (part_at place half (D.seen disk.old))
         → IfOk result (λ o. IfNone o (NoEntries
         (drop from (part_at place half (D.seen disk.old))))) }
     ensures within { IfOk result (λ o. IfSome o (λ f. from + f.1 < half)) }

@@ -2,7 +2,7 @@
 ghost use Rattle.std.specs.Prelude.{◌≡◌, ◌<◌, ◌≤◌};
 ghost use Rattle.small_types.specs.declared.limits.TheConstants.{HALF_LIMIT};
 ghost use Rattle.journal.specs.declared.form.TheConstants.{SERIAL_COUNT};
-ghost use Rattle.journal.specs.Layout.{start_of, other_side, IsNext};
+ghost use Rattle.journal.specs.Layout.{start_of, other_side, IsNextSerial};
 
 use crate::form::SERIAL_COUNT;
 use small_types::limits::HEAD_BLOCK_SIZE;
@@ -40,7 +40,7 @@ pub(crate) fn start(side: Side, half: u64) -> u64
 // The serial that comes after this one.
 pub(crate) fn next_serial(serial: u8) -> u8
     requires { serial < SERIAL_COUNT }
-    ensures { IsNext serial result }
+    ensures { IsNextSerial serial result }
 {
     (serial + 1) % SERIAL_COUNT
 }

@@ -2,7 +2,7 @@ use Rattle.std.proofs.Common.{Ok, Result, ◌≡◌, ◌⊎◌, ◌+◌, ◌-◌
 use Rattle.std.proofs.lemmas.Bool.{cases_lt}
 use Rattle.std.proofs.lemmas.List.{take_all}
 use Rattle.outside.specs.declared.failed.Failed.{Failed}
-use Rattle.file_store.specs.Writes.{Adds, touched}
+use Rattle.file_store.specs.Writes.{AddsPiece, touched}
 use Rattle.file_store.specs.Stretches.{AreNeighbours}
 use Rattle.file_store.proofs.Spending.{Calls, all_few, calls_more, calls_start, few, goes_more, goes_start, spent_ill, spent_well}
 use Rattle.file_store.proofs.Writing.{adds_none, adds_start, counts, only_start, slice_few, slice_long, step_adds, step_kept, step_only, total_more}
@@ -72,7 +72,7 @@ loop-done-preserved g c =
 
 pub returns-clause-added : goal.returns-clause-added
 returns-clause-added g c =
-    subst (λ (l : List ℕ). Adds g.D.Disk c.args.base c.args.blocks.now c.args.from l c.args.disk.now c.loop-done.disk) (take_all c.loop-done.done c.args.bytes.now c.loop-done-test.false) c.loop-done.invariant.added
+    subst (λ (l : List ℕ). AddsPiece g.D.Disk c.args.base c.args.blocks.now c.args.from l c.args.disk.now c.loop-done.disk) (take_all c.loop-done.done c.args.bytes.now c.loop-done-test.false) c.loop-done.invariant.added
 
 pub returns-in_err-write_at-clause-counted : goal.returns-in_err-write_at-clause-counted
 returns-in_err-write_at-clause-counted g c = λ some.

@@ -1,5 +1,5 @@
 use Rattle.std.proofs.Common.{◌≡◌, ◌-◌, ◌<◌, ◌≤◌, ◌+◌, ◌/◌, length, take}
-use Rattle.file_store.specs.Writes.{Adds, WritesOnly}
+use Rattle.file_store.specs.Writes.{AddsPiece, WritesOnly}
 use Rattle.file_store.specs.Stretches.{AreNeighbours}
 use Rattle.file_store.proofs.Spending.{Calls, Goes}
 use Rattle.file_store.proofs.piece.write_bytes.Given as goal
@@ -8,7 +8,7 @@ abbrev pub invariant-loop-done : goal.invariant-loop-done
 invariant-loop-done g l = record {
   within : l.done ≤ length l.bytes;
   only : WritesOnly g.D.Disk l.base l.blocks l.initial.disk l.disk;
-  added : Adds g.D.Disk l.base l.blocks l.from (take l.done l.bytes) l.initial.disk l.disk;
+  added : AddsPiece g.D.Disk l.base l.blocks l.from (take l.done l.bytes) l.initial.disk l.disk;
   written : g.D.Disk.total l.disk ≡ g.D.Disk.total l.initial.disk + l.done;
   goes : Goes g.D.Disk l.initial.disk l.disk;
   counted : Calls l.from l.done (length l.bytes) (g.D.Disk.moment l.initial.disk) (g.D.Disk.moment l.disk);

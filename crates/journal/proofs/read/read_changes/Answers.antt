@@ -5,7 +5,7 @@ use Rattle.std.specs.List.{flat_map}
 use Rattle.journal.specs.declared.read.Step.{Step}
 use Rattle.journal.specs.declared.read.Step.TheVariants.{Change, Broken}
 use Rattle.journal.specs.Layout.{part_at, entry_of, AreSmall}
-use Rattle.journal.specs.Steps.{IsFirst, IsStep, IsWithin}
+use Rattle.journal.specs.Steps.{AreFirstOf, IsStepAt, IsStepWithin}
 use Rattle.journal.proofs.EntryReading.{entries_more, entries_broken}
 use Rattle.journal.proofs.read.read_changes.Goals as goal
 
@@ -16,14 +16,14 @@ entries-preserved g c =
     let inv = c.entries.invariant in
     let same = inv.still.same_reads in
     let slice = c.as_slice.ensures in
-    let within : IsWithin (Change c.in-Change.change) c.entries.gate (length c.read_entry.new.bytes.items) = subst (λ (s : Step). IsWithin s c.entries.gate (length c.read_entry.new.bytes.items)) c.in-Change.is c.in_ok-change.ensures.within in
+    let within : IsStepWithin (Change c.in-Change.change) c.entries.gate (length c.read_entry.new.bytes.items) = subst (λ (s : Step). IsStepWithin s c.entries.gate (length c.read_entry.new.bytes.items)) c.in-Change.is c.in_ok-change.ensures.within in
     record {
-      first = λ told was. subst (λ (l : List ℕ). IsFirst c.read_entry.new.bytes.items (part_at c.args.place c.args.half l)) same
-          (c.in_ok-change.ensures.first told (subst (λ (l : List ℕ). IsFirst c.entries.bytes.items (part_at c.args.place c.args.half l)) (sym same) (inv.first (c.read_entry.ensures.spends.told told) was)));
+      first = λ told was. subst (λ (l : List ℕ). AreFirstOf c.read_entry.new.bytes.items (part_at c.args.place c.args.half l)) same
+          (c.in_ok-change.ensures.first told (subst (λ (l : List ℕ). AreFirstOf c.entries.bytes.items (part_at c.args.place c.args.half l)) (sym same) (inv.first (c.read_entry.ensures.spends.told told) was)));
       read = λ told was.
           let first = inv.first (c.read_entry.ensures.spends.told told) was in
-          let step = c.in_ok-change.ensures.step told (subst (λ (l : List ℕ). IsFirst c.entries.bytes.items (part_at c.args.place c.args.half l)) (sym same) first) in
-          let here : IsStep (Change c.in-Change.change) c.entries.gate part = subst (λ (s : Step). IsStep s c.entries.gate part) c.in-Change.is (subst (λ (l : List ℕ). IsStep c.in_ok-change.field-0 c.entries.gate (part_at c.args.place c.args.half l)) same step) in
+          let step = c.in_ok-change.ensures.step told (subst (λ (l : List ℕ). AreFirstOf c.entries.bytes.items (part_at c.args.place c.args.half l)) (sym same) first) in
+          let here : IsStepAt (Change c.in-Change.change) c.entries.gate part = subst (λ (s : Step). IsStepAt s c.entries.gate part) c.in-Change.is (subst (λ (l : List ℕ). IsStepAt c.in_ok-change.field-0 c.entries.gate (part_at c.args.place c.args.half l)) same step) in
           subst (λ (l : List ℕ). (drop c.args.from part ≡ flat_map entry_of c.add.new.changes ++ drop (c.entries.gate + 5 + length l) part) × (c.entries.gate + 5 + length l ≡ c.args.from + length (flat_map entry_of c.add.new.changes)) × AreSmall c.add.new.changes) (sym slice)
           (entries_more part c.args.from c.entries.gate c.entries.changes c.add.new.changes c.in-Change.change (inv.read (c.read_entry.ensures.spends.told told) was) here c.in_ok-add-in-Change.ensures);
       later = omega (arith, inv.later);
@@ -43,6 +43,6 @@ returns-in-Broken-clause-none g c = λ told was.
     let inv = c.entries.invariant in
     let same = inv.still.same_reads in
     let first = inv.first (c.read_entry.ensures.spends.told told) was in
-    let step = c.in_ok-change.ensures.step told (subst (λ (l : List ℕ). IsFirst c.entries.bytes.items (part_at c.args.place c.args.half l)) (sym same) first) in
-    let here : IsStep Broken c.entries.gate part = subst (λ (s : Step). IsStep s c.entries.gate part) c.in-Broken.is (subst (λ (l : List ℕ). IsStep c.in_ok-change.field-0 c.entries.gate (part_at c.args.place c.args.half l)) same step) in
+    let step = c.in_ok-change.ensures.step told (subst (λ (l : List ℕ). AreFirstOf c.entries.bytes.items (part_at c.args.place c.args.half l)) (sym same) first) in
+    let here : IsStepAt Broken c.entries.gate part = subst (λ (s : Step). IsStepAt s c.entries.gate part) c.in-Broken.is (subst (λ (l : List ℕ). IsStepAt c.in_ok-change.field-0 c.entries.gate (part_at c.args.place c.args.half l)) same step) in
     entries_broken part c.args.from c.entries.gate c.entries.changes (inv.read (c.read_entry.ensures.spends.told told) was) here

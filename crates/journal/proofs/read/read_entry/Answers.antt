@@ -1,7 +1,7 @@
 use Rattle.std.proofs.Common.{◌≡◌, ◌≢◌, get_or, ◌⊎◌, ◌≤◌, ◌<◌, ◌+◌, ◌-◌, length, take, drop, arith, sym, ◌∙◌, ap, subst, ℕ, List}
 use Rattle.std.proofs.lemmas.Grind.{common_steps}
 use Rattle.journal.specs.Layout.{part_at}
-use Rattle.journal.specs.Steps.{IsFirst}
+use Rattle.journal.specs.Steps.{AreFirstOf}
 use Rattle.journal.proofs.Reading.{short_part}
 use Rattle.journal.proofs.Halves.{cut_short}
 use Rattle.journal.proofs.EntryReading.{entry_step, cut_step, end_step, broken_step, last_step_is}
@@ -46,8 +46,8 @@ returns-then-len-start-clause-step g c = λ told was.
     let short = short_part c.args.place c.args.half seen in
     let first = c.read_on.ensures.bytes (c.read_on-2.ensures.spends.told told) was in
     let same = c.read_on.ensures.still.same_reads in
-    let more : IsFirst c.read_on-2.new.bytes.items part = subst (λ (l : List ℕ). IsFirst c.read_on-2.new.bytes.items (part_at c.args.place c.args.half l)) same
-    (c.read_on-2.ensures.bytes told (subst (λ (l : List ℕ). IsFirst bytes (part_at c.args.place c.args.half l)) (sym same) first)) in
+    let more : AreFirstOf c.read_on-2.new.bytes.items part = subst (λ (l : List ℕ). AreFirstOf c.read_on-2.new.bytes.items (part_at c.args.place c.args.half l)) same
+    (c.read_on-2.ensures.bytes told (subst (λ (l : List ℕ). AreFirstOf bytes (part_at c.args.place c.args.half l)) (sym same) first)) in
     let is_rest : c.rest_from.result.now ≡ drop gate bytes = c.rest_from.ensures ∙ ap (drop gate) c.deref.ensures.value in
     let few : length c.read_on-2.new.bytes.items < gate + 5 + c.in-Some.size = grind (arith, common_steps, c.if-len-start.true) in
     let enough = subst (λ (l : List ℕ). (gate + 5 + c.in-Some.size ≤ length c.read_on-2.new.bytes.items) ⊎ (length (part_at c.args.place c.args.half l) ≤ length c.read_on-2.new.bytes.items)) same (c.in_ok-read_on-2.ensures.enough told) in
@@ -63,8 +63,8 @@ returns-clause-step g c = λ told was.
     let short = short_part c.args.place c.args.half seen in
     let first = c.read_on.ensures.bytes (c.read_on-2.ensures.spends.told told) was in
     let same = c.read_on.ensures.still.same_reads in
-    let more : IsFirst c.read_on-2.new.bytes.items part = subst (λ (l : List ℕ). IsFirst c.read_on-2.new.bytes.items (part_at c.args.place c.args.half l)) same
-    (c.read_on-2.ensures.bytes told (subst (λ (l : List ℕ). IsFirst bytes (part_at c.args.place c.args.half l)) (sym same) first)) in
+    let more : AreFirstOf c.read_on-2.new.bytes.items part = subst (λ (l : List ℕ). AreFirstOf c.read_on-2.new.bytes.items (part_at c.args.place c.args.half l)) same
+    (c.read_on-2.ensures.bytes told (subst (λ (l : List ℕ). AreFirstOf bytes (part_at c.args.place c.args.half l)) (sym same) first)) in
     let is_rest : c.rest_from.result.now ≡ drop gate bytes = c.rest_from.ensures ∙ ap (drop gate) c.deref.ensures.value in
     let fits : gate + 5 + c.in-Some.size ≤ length c.read_on-2.new.bytes.items = grind (arith, common_steps, c.if-len-start.false) in
     let is : c.in_ok-change.change ≡ take c.in-Some.size (drop (gate + 5) c.read_on-2.new.bytes.items) =

@@ -1,7 +1,7 @@
 use Rattle.std.proofs.Common.{◌≡◌, ◌∙◌, sym, ap, subst, ℕ, Bool, List}
 use Rattle.journal.specs.declared.side.Side.{Side}
 use Rattle.journal.specs.Layout.{part_at, start_of, head_of, AreLimits, OpensWith, IsHalf}
-use Rattle.journal.specs.Steps.{Begins, FoundHalf}
+use Rattle.journal.specs.Steps.{FoundHalf, HalvesBegin}
 use Rattle.journal.proofs.Store.{found_stands, no_journal_head, no_journal_side, no_journal_half}
 use Rattle.journal.proofs.read.read_journal.Goals as goal
 
@@ -22,7 +22,7 @@ returns-in_default-2-clause-none g c = λ told.
     let is_head : head ≡ head_of c.in-Some.blocks c.in-Some.half = read.1 in
     let same = c.read_part.ensures.still.same_reads in
     no_journal_side head seen c.in-Some.blocks c.in-Some.half is limits is_head
-    (subst (λ (l : List ℕ). (side : Side) (serial : ℕ) (both : Bool) → Begins side serial both c.in-Some.half l → ⊥) same (rw c.in_default-2.is at (c.in_ok-side.ensures.none told)))
+    (subst (λ (l : List ℕ). (side : Side) (serial : ℕ) (both : Bool) → HalvesBegin side serial both c.in-Some.half l → ⊥) same (rw c.in_default-2.is at (c.in_ok-side.ensures.none told)))
 
 pub returns-in_default-3-clause-none : goal.returns-in_default-3-clause-none
 returns-in_default-3-clause-none g c = λ told.
@@ -33,8 +33,8 @@ returns-in_default-3-clause-none g c = λ told.
     let limits : AreLimits c.in-Some.blocks c.in-Some.half = read.0 in
     let is_head : head ≡ head_of c.in-Some.blocks c.in-Some.half = read.1 in
     let same = c.read_part.ensures.still.same_reads in
-    let begins : Begins c.in-Some-2.side c.in-Some-2.serial c.in-Some-2.both c.in-Some.half seen =
-    subst (λ (l : List ℕ). Begins c.in-Some-2.side c.in-Some-2.serial c.in-Some-2.both c.in-Some.half l) same (rw c.in-Some-2.is at (c.in_ok-side.ensures.found (c.read_half.ensures.spends.told told))) in
+    let begins : HalvesBegin c.in-Some-2.side c.in-Some-2.serial c.in-Some-2.both c.in-Some.half seen =
+    subst (λ (l : List ℕ). HalvesBegin c.in-Some-2.side c.in-Some-2.serial c.in-Some-2.both c.in-Some.half l) same (rw c.in-Some-2.is at (c.in_ok-side.ensures.found (c.read_half.ensures.spends.told told))) in
     let all = c.read_side.ensures.still.same_reads ∙ same in
     let part : part_at c.start.result c.in-Some.half (g.D.Disk.seen c.read_side.new.disk) ≡ part_at (start_of c.in-Some-2.side c.in-Some.half) c.in-Some.half seen =
     ap (λ (n : ℕ). part_at n c.in-Some.half (g.D.Disk.seen c.read_side.new.disk)) c.start.ensures ∙ ap (part_at (start_of c.in-Some-2.side c.in-Some.half) c.in-Some.half) all in
@@ -50,8 +50,8 @@ returns-clause-found g c = λ told.
     let limits : AreLimits c.in-Some.blocks c.in-Some.half = read.0 in
     let is_head : head ≡ head_of c.in-Some.blocks c.in-Some.half = read.1 in
     let same = c.read_part.ensures.still.same_reads in
-    let begins : Begins c.in-Some-2.side c.in-Some-2.serial c.in-Some-2.both c.in-Some.half seen =
-    subst (λ (l : List ℕ). Begins c.in-Some-2.side c.in-Some-2.serial c.in-Some-2.both c.in-Some.half l) same (rw c.in-Some-2.is at (c.in_ok-side.ensures.found (c.read_half.ensures.spends.told told))) in
+    let begins : HalvesBegin c.in-Some-2.side c.in-Some-2.serial c.in-Some-2.both c.in-Some.half seen =
+    subst (λ (l : List ℕ). HalvesBegin c.in-Some-2.side c.in-Some-2.serial c.in-Some-2.both c.in-Some.half l) same (rw c.in-Some-2.is at (c.in_ok-side.ensures.found (c.read_half.ensures.spends.told told))) in
     let all = c.read_side.ensures.still.same_reads ∙ same in
     let part : part_at c.start.result c.in-Some.half (g.D.Disk.seen c.read_side.new.disk) ≡ part_at (start_of c.in-Some-2.side c.in-Some.half) c.in-Some.half seen =
     ap (λ (n : ℕ). part_at n c.in-Some.half (g.D.Disk.seen c.read_side.new.disk)) c.start.ensures ∙ ap (part_at (start_of c.in-Some-2.side c.in-Some.half) c.in-Some.half) all in

@@ -1,12 +1,12 @@
 use Rattle.std.proofs.Common.{◌≡◌, ◌≤◌, ◌-◌, ◌^◌, length, vec_len}
 use Rattle.disks.specs.Moments.{Untouched}
 use Rattle.journal.specs.Layout.{part_at}
-use Rattle.journal.specs.Steps.{IsFirst}
+use Rattle.journal.specs.Steps.{AreFirstOf}
 use Rattle.journal.proofs.read.read_on.Given as goal
 
 abbrev pub invariant-loop-bytes : goal.invariant-loop-bytes
 invariant-loop-bytes g l = record {
-  bytes : g.D.Disk.tells l.disk → IsFirst l.initial.bytes.items (part_at l.place l.limit (g.D.Disk.seen l.initial.disk)) → IsFirst l.bytes.items (part_at l.place l.limit (g.D.Disk.seen l.initial.disk));
+  bytes : g.D.Disk.tells l.disk → AreFirstOf l.initial.bytes.items (part_at l.place l.limit (g.D.Disk.seen l.initial.disk)) → AreFirstOf l.bytes.items (part_at l.place l.limit (g.D.Disk.seen l.initial.disk));
   longer : length l.initial.bytes.items ≤ length l.bytes.items;
   limited : length l.bytes.items ≤ l.limit;
   still : Untouched g.D.Disk l.initial.disk l.disk;

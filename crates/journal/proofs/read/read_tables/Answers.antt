@@ -1,7 +1,7 @@
 use Rattle.std.proofs.Common.{◌≡◌, ◌⊎◌, ◌≤◌, ◌<◌, ◌+◌, ◌-◌, length, take, drop, arith, sym, ◌∙◌, ap, subst, ℕ, List}
 use Rattle.std.proofs.lemmas.Grind.{common_steps}
 use Rattle.journal.specs.Layout.{part_at, long_bytes}
-use Rattle.journal.specs.Steps.{IsFirst}
+use Rattle.journal.specs.Steps.{AreFirstOf}
 use Rattle.journal.proofs.Reading.{first_none, short_part}
 use Rattle.journal.proofs.Halves.{tables_at, no_tables_short, no_tables_long, cut_short}
 use Rattle.journal.proofs.read.read_tables.Goals as goal
@@ -30,8 +30,8 @@ returns-then-len-end-clause-first g c = λ told.
     let told_1 = c.read_on-2.ensures.spends.told told in
     let first = c.read_on.ensures.bytes told_1 (first_none c.args.bytes.now.items part c.requires.empty) in
     let same = c.read_on.ensures.still.same_reads in
-    let more : IsFirst c.read_on-2.new.bytes.items part = subst (λ (l : List ℕ). IsFirst c.read_on-2.new.bytes.items (part_at c.args.place c.args.half l)) same
-    (c.read_on-2.ensures.bytes told (subst (λ (l : List ℕ). IsFirst bytes (part_at c.args.place c.args.half l)) (sym same) first)) in
+    let more : AreFirstOf c.read_on-2.new.bytes.items part = subst (λ (l : List ℕ). AreFirstOf c.read_on-2.new.bytes.items (part_at c.args.place c.args.half l)) same
+    (c.read_on-2.ensures.bytes told (subst (λ (l : List ℕ). AreFirstOf bytes (part_at c.args.place c.args.half l)) (sym same) first)) in
     more
 
 pub returns-clause-first : goal.returns-clause-first
@@ -42,8 +42,8 @@ returns-clause-first g c = λ told.
     let told_1 = c.read_on-2.ensures.spends.told told in
     let first = c.read_on.ensures.bytes told_1 (first_none c.args.bytes.now.items part c.requires.empty) in
     let same = c.read_on.ensures.still.same_reads in
-    let more : IsFirst c.read_on-2.new.bytes.items part = subst (λ (l : List ℕ). IsFirst c.read_on-2.new.bytes.items (part_at c.args.place c.args.half l)) same
-    (c.read_on-2.ensures.bytes told (subst (λ (l : List ℕ). IsFirst bytes (part_at c.args.place c.args.half l)) (sym same) first)) in
+    let more : AreFirstOf c.read_on-2.new.bytes.items part = subst (λ (l : List ℕ). AreFirstOf c.read_on-2.new.bytes.items (part_at c.args.place c.args.half l)) same
+    (c.read_on-2.ensures.bytes told (subst (λ (l : List ℕ). AreFirstOf bytes (part_at c.args.place c.args.half l)) (sym same) first)) in
     more
 
 pub returns-in_default-clause-none : goal.returns-in_default-clause-none
@@ -74,8 +74,8 @@ returns-then-len-end-clause-none g c = λ told.
     let told_1 = c.read_on-2.ensures.spends.told told in
     let first = c.read_on.ensures.bytes told_1 (first_none c.args.bytes.now.items part c.requires.empty) in
     let same = c.read_on.ensures.still.same_reads in
-    let more : IsFirst c.read_on-2.new.bytes.items part = subst (λ (l : List ℕ). IsFirst c.read_on-2.new.bytes.items (part_at c.args.place c.args.half l)) same
-    (c.read_on-2.ensures.bytes told (subst (λ (l : List ℕ). IsFirst bytes (part_at c.args.place c.args.half l)) (sym same) first)) in
+    let more : AreFirstOf c.read_on-2.new.bytes.items part = subst (λ (l : List ℕ). AreFirstOf c.read_on-2.new.bytes.items (part_at c.args.place c.args.half l)) same
+    (c.read_on-2.ensures.bytes told (subst (λ (l : List ℕ). AreFirstOf bytes (part_at c.args.place c.args.half l)) (sym same) first)) in
     let value = c.deref.ensures.value in
     let ten : 10 ≤ length bytes = omega (arith, ap length value, c.in-Some.ensures.some.0) in
     let size : long_bytes c.in-Some.size ≡ take 8 (drop 2 bytes) = c.in-Some.ensures.some.1 ∙ ap (λ (l : List ℕ). take 8 (drop 2 l)) value in
@@ -92,8 +92,8 @@ returns-clause-found g c = λ told.
     let told_1 = c.read_on-2.ensures.spends.told told in
     let first = c.read_on.ensures.bytes told_1 (first_none c.args.bytes.now.items part c.requires.empty) in
     let same = c.read_on.ensures.still.same_reads in
-    let more : IsFirst c.read_on-2.new.bytes.items part = subst (λ (l : List ℕ). IsFirst c.read_on-2.new.bytes.items (part_at c.args.place c.args.half l)) same
-    (c.read_on-2.ensures.bytes told (subst (λ (l : List ℕ). IsFirst bytes (part_at c.args.place c.args.half l)) (sym same) first)) in
+    let more : AreFirstOf c.read_on-2.new.bytes.items part = subst (λ (l : List ℕ). AreFirstOf c.read_on-2.new.bytes.items (part_at c.args.place c.args.half l)) same
+    (c.read_on-2.ensures.bytes told (subst (λ (l : List ℕ). AreFirstOf bytes (part_at c.args.place c.args.half l)) (sym same) first)) in
     let value = c.deref.ensures.value in
     let ten : 10 ≤ length bytes = omega (arith, ap length value, c.in-Some.ensures.some.0) in
     let size : long_bytes c.in-Some.size ≡ take 8 (drop 2 bytes) = c.in-Some.ensures.some.1 ∙ ap (λ (l : List ℕ). take 8 (drop 2 l)) value in

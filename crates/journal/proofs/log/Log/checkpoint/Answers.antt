@@ -2,7 +2,7 @@ use Rattle.std.proofs.Common.{inl, ◌≡◌, ◌+◌, ◌-◌, ◌≤◌, lengt
 use Rattle.disks.proofs.MomentLemmas.{started}
 use Rattle.journal.specs.declared.side.Side.{Side}
 use Rattle.journal.specs.Layout.{start_of}
-use Rattle.journal.specs.Log.{tables_in, other_of}
+use Rattle.journal.specs.Log.{tables_in, other_half_start}
 use Rattle.journal.proofs.Ranges.{outside_first, outside_both, reads_first, reads_both}
 use Rattle.journal.proofs.Tables.{tables_tail, tables_long, new_end}
 use Rattle.journal.proofs.Turns.{journal}
@@ -65,7 +65,7 @@ returns-in_err-shut_gate-clause-outside g c =
     let long : 11 ≤ length piece = c.requires in
     let place = c.start-place.ensures ∙ ap (λ (s : Side). start_of s log.half) c.turned-side.ensures in
     let some : 1 ≤ length piece = omega (arith, long) in
-    outside_first c.start-place.result (other_of log) (length piece) (length piece) place refl some g.D.Disk c.args.disk.now c.shut_gate.new.disk c.shut_gate.ensures.any_moment
+    outside_first c.start-place.result (other_half_start log) (length piece) (length piece) place refl some g.D.Disk c.args.disk.now c.shut_gate.new.disk c.shut_gate.ensures.any_moment
 
 pub returns-in_err-shut_gate-clause-reads_outside : goal.returns-in_err-shut_gate-clause-reads_outside
 returns-in_err-shut_gate-clause-reads_outside g c =
@@ -74,7 +74,7 @@ returns-in_err-shut_gate-clause-reads_outside g c =
     let long : 11 ≤ length piece = c.requires in
     let place = c.start-place.ensures ∙ ap (λ (s : Side). start_of s log.half) c.turned-side.ensures in
     let some : 1 ≤ length piece = omega (arith, long) in
-    reads_first c.start-place.result (other_of log) (length piece) (length piece) place refl some _ _ c.shut_gate.ensures.reads_outside
+    reads_first c.start-place.result (other_half_start log) (length piece) (length piece) place refl some _ _ c.shut_gate.ensures.reads_outside
 
 pub returns-in_err-open_gate-clause-outside : goal.returns-in_err-open_gate-clause-outside
 returns-in_err-open_gate-clause-outside g c =
@@ -84,7 +84,7 @@ returns-in_err-open_gate-clause-outside g c =
     let place = c.start-place.ensures ∙ ap (λ (s : Side). start_of s log.half) c.turned-side.ensures in
     let some : 1 ≤ length piece = omega (arith, long) in
     let size : length (take (length c.frame_tables.new.piece - 1) (drop 1 c.frame_tables.new.piece)) + 1 ≡ length piece = omega (arith, long, tables_long piece c.frame_tables.new.piece c.next_serial-serial.result long c.frame_tables.ensures.tail) in
-    outside_both c.start-place.result (other_of log) _ (length piece) place size some g.D.Disk c.args.disk.now c.shut_gate.new.disk c.open_gate.new.disk c.shut_gate.ensures.any_moment c.open_gate.ensures.outside
+    outside_both c.start-place.result (other_half_start log) _ (length piece) place size some g.D.Disk c.args.disk.now c.shut_gate.new.disk c.open_gate.new.disk c.shut_gate.ensures.any_moment c.open_gate.ensures.outside
 
 pub returns-in_err-open_gate-clause-reads_outside : goal.returns-in_err-open_gate-clause-reads_outside
 returns-in_err-open_gate-clause-reads_outside g c =
@@ -94,7 +94,7 @@ returns-in_err-open_gate-clause-reads_outside g c =
     let place = c.start-place.ensures ∙ ap (λ (s : Side). start_of s log.half) c.turned-side.ensures in
     let some : 1 ≤ length piece = omega (arith, long) in
     let size : length (take (length c.frame_tables.new.piece - 1) (drop 1 c.frame_tables.new.piece)) + 1 ≡ length piece = omega (arith, long, tables_long piece c.frame_tables.new.piece c.next_serial-serial.result long c.frame_tables.ensures.tail) in
-    reads_both c.start-place.result (other_of log) _ (length piece) place size some _ _ _ c.shut_gate.ensures.reads_outside c.open_gate.ensures.reads_outside
+    reads_both c.start-place.result (other_half_start log) _ (length piece) place size some _ _ _ c.shut_gate.ensures.reads_outside c.open_gate.ensures.reads_outside
 
 pub returns-clause-outside : goal.returns-clause-outside
 returns-clause-outside g c =
@@ -104,7 +104,7 @@ returns-clause-outside g c =
     let place = c.start-place.ensures ∙ ap (λ (s : Side). start_of s log.half) c.turned-side.ensures in
     let some : 1 ≤ length piece = omega (arith, long) in
     let size : length (take (length c.frame_tables.new.piece - 1) (drop 1 c.frame_tables.new.piece)) + 1 ≡ length piece = omega (arith, long, tables_long piece c.frame_tables.new.piece c.next_serial-serial.result long c.frame_tables.ensures.tail) in
-    outside_both c.start-place.result (other_of log) _ (length piece) place size some g.D.Disk c.args.disk.now c.shut_gate.new.disk c.open_gate.new.disk c.shut_gate.ensures.any_moment c.open_gate.ensures.outside
+    outside_both c.start-place.result (other_half_start log) _ (length piece) place size some g.D.Disk c.args.disk.now c.shut_gate.new.disk c.open_gate.new.disk c.shut_gate.ensures.any_moment c.open_gate.ensures.outside
 
 pub returns-clause-reads_outside : goal.returns-clause-reads_outside
 returns-clause-reads_outside g c =
@@ -114,4 +114,4 @@ returns-clause-reads_outside g c =
     let place = c.start-place.ensures ∙ ap (λ (s : Side). start_of s log.half) c.turned-side.ensures in
     let some : 1 ≤ length piece = omega (arith, long) in
     let size : length (take (length c.frame_tables.new.piece - 1) (drop 1 c.frame_tables.new.piece)) + 1 ≡ length piece = omega (arith, long, tables_long piece c.frame_tables.new.piece c.next_serial-serial.result long c.frame_tables.ensures.tail) in
-    reads_both c.start-place.result (other_of log) _ (length piece) place size some _ _ _ c.shut_gate.ensures.reads_outside c.open_gate.ensures.reads_outside
+    reads_both c.start-place.result (other_half_start log) _ (length piece) place size some _ _ _ c.shut_gate.ensures.reads_outside c.open_gate.ensures.reads_outside

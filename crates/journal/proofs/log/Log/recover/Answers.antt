@@ -1,5 +1,5 @@
 use Rattle.std.proofs.Common.{sym, subst, ℕ, List}
-use Rattle.journal.specs.Layout.{IsJournal, NoJournal}
+use Rattle.journal.specs.Layout.{IsHalvedJournal, NoJournal}
 use Rattle.journal.specs.Found.{Finds}
 use Rattle.journal.proofs.Store.{unique}
 use Rattle.journal.proofs.Turns.{journal}
@@ -15,4 +15,4 @@ returns-in-Some-clause-same g c = λ told blocks half tables changes made.
     let finds : Finds found seen = rw c.in-Some.is at (c.in_ok-read_journal.ensures.found told) in
     unique seen found.blocks blocks found.half half found.tables tables found.changes changes
     (journal found.side found.serial found.both found.blocks found.half found.tables found.changes seen finds.stands)
-    (subst (λ (l : List ℕ). IsJournal blocks half tables changes l) (sym c.sync.ensures.seen) made)
+    (subst (λ (l : List ℕ). IsHalvedJournal blocks half tables changes l) (sym c.sync.ensures.seen) made)
