@@ -96,5 +96,5 @@ module _ {L : Type 0} (net : LinksGhosts L) (first : LinksState) where
     sites = λ tell. walk_sites from mark before lines new last bytes behind walk tell;
   }
 
-pub walks_tell : {L : Type 0} (net : LinksGhosts L) (before : L) → WalksTell net before
-walks_tell net before first from mark lines new last bytes behind walk = walk_tells net first from mark before lines new last bytes behind walk
+pub walks_tell : {L : Type 0} (net : LinksGhosts L) (first : LinksState) (before : L) → WalksTell net first before
+walks_tell net first before from mark lines new last bytes behind walk = walk_tells net first from mark before lines new last bytes behind walk

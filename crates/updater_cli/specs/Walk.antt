@@ -43,8 +43,8 @@ pub record WalkTells {L : Type 0} (net : LinksGhosts L) (first : LinksState) (fr
   pub sites : AllTell first → AreOfSites first from lines new
 
 -- so it is of each walk
-abbrev pub WalksTell : {L : Type 0} → LinksGhosts L → L → Type 0
-WalksTell {L = L} net before =
-    (first : LinksState) (from : Origin) (mark : ℕ) (lines : List ReportLine) (new : Session)
-    (last bytes : ℕ) (behind : L) → Walks net first from mark before lines new last bytes behind
+abbrev pub WalksTell : {L : Type 0} → LinksGhosts L → LinksState → L → Type 0
+WalksTell {L = L} net first before =
+    (from : Origin) (mark : ℕ) (lines : List ReportLine) (new : Session) (last bytes : ℕ)
+    (behind : L) → Walks net first from mark before lines new last bytes behind
     → WalkTells net first from before lines new behind

@@ -69,8 +69,8 @@ pub fn downs_are_counted<L: Links>(links: &L)
     ensures { ServedDownsAreCounted L.Links links.now }
 {}
 
-/// A walk over lines is a run of the machine, and the links did what is said of each line. Over links
-/// that tell, what the lines heard and brought is of their sites.
-pub fn walks_tell<L: Links>(links: &L)
-    ensures { WalksTell L.Links links.now }
+/// A walk over lines is a run of the machine, and the links did what is said of each line. Where the
+/// links with which it began tell, what the lines heard and brought is of their sites.
+pub fn walks_tell<L: Links>(first: &L, links: &L)
+    ensures { WalksTell L.Links (L.links first.now) links.now }
 {}
