@@ -31,8 +31,8 @@ returns-in-Err g c = record {
 pub returns-in-Err-Memory-clause-makes : goal.returns-in-Err-Memory-clause-makes
 returns-in-Err-Memory-clause-makes g c = record {
   done = λ e. absurd (omega (arith, e));
-  spends = spends_as g.D.Disk 6 (HEAD_SIZE + 2) c.args.disk.now c.format.new.disk _ _ (λ is. cc (is, c.in-Err-Memory.is)) (λ e. absurd (omega (arith, e))) c.format.ensures.spends;
+  spends = spends_as g.D.Disk 6 (HEAD_SIZE + 2) c.args.disk.now c.format.new.disk _ _ (λ is. cc (is, c.in-Err-Memory.is, c.in-Err-Memory.field-0-is)) (λ e. absurd (omega (arith, e))) c.format.ensures.spends;
   stop = renews g.D.Disk c.args.blocks c.args.disk.now c.format.new.disk c.format.ensures.any_moment;
-  memory = λ _. c.format.ensures.memory c.in-Err-Memory.is;
+  memory = λ _. c.format.ensures.memory (cc (c.in-Err-Memory.is, c.in-Err-Memory.field-0-is));
   statuses = inr (inr refl);
 }
