@@ -130,8 +130,8 @@ fn views_rise(views: &[View]) -> bool
     true
 }
 
-// Whether views are few enough and in order of their numbers, which are below the next one, and list
-// few enough files.
+// Whether views are few enough and in order of their numbers, which are below the next one, and
+// list few enough files.
 fn have_views(views: &[View], next: u64) -> bool
     ensures { IsTrue result ↔ ((length views.now ≤ limits.VIEW_LIMIT)
         × AllPairs (λ (a b : View). nat_cmp a.number b.number ≡ Less) views.now
@@ -296,7 +296,8 @@ fn lease_list(alloc: Global, leases: &[Lease]) -> Result<LeaseList, AllocError>
 
 // The places of the contents in the order of their signs.
 fn content_index(alloc: Global, contents: &[Content]) -> Result<Vec<usize>, AllocError>
-    ensures { IfOk result (λ index. ArePlaces sign_cmp (map content_sign contents.now) index.items) }
+    ensures { IfOk result (λ index. ArePlaces sign_cmp (map content_sign contents.now)
+        index.items) }
 {
     let mut index = Vec::with_capacity(alloc, contents.len())?;
     add_places(contents, &mut index, 0);
@@ -382,10 +383,10 @@ fn assembled(alloc: Global, parts: TableParts) -> Result<StoreState, PartsFault>
 
 impl StoreState {
     /// The tables of these values, where they are tables: applications in order of their printed
-    /// keys, views and leases in that of their numbers, which are below the next ones, data files in
-    /// that of their names; nothing over its limit; each view as an install could bring it; and just
-    /// the contents of the program files that stand in views. Each other values are refused as no
-    /// tables.
+    /// keys, views and leases in that of their numbers, which are below the next ones, data files
+    /// in that of their names; nothing over its limit; each view as an install could bring it; and
+    /// just the contents of the program files that stand in views. Each other values are refused as
+    /// no tables.
     pub fn from_parts(alloc: Global, parts: TableParts) -> Result<StoreState, PartsFault>
         ensures same { IfOk result (λ state. state ≡ parts) }
         ensures tables { OnOk result (AreTables parts) }

@@ -10,8 +10,8 @@ abbrev pub AreSpelledOnce : Type 0
 AreSpelledOnce = (t u : Tables) → IsEncodableState t → IsEncodableState u
     → state_text t ≡ state_text u → t ≡ u
 
--- An encoding is at most as long as its tables weigh, where a file counts the bytes that are spelled
--- of it, but for their number, in place of its blocks.
+-- An encoding is at most as long as its tables weigh, where a file counts the bytes that are
+-- spelled of it, but for their number, in place of its blocks.
 abbrev pub AreWithinWeights : Type 0
 AreWithinWeights = (t : Tables) → IsEncodableState t
     → length (state_text t) ≤ weight_with spelled_cost t

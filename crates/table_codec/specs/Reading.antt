@@ -116,8 +116,8 @@ tables_of bytes = do
   tables ← tables_at bytes 0
   if tables.1 == length bytes then Ok tables.0 else Err (Bad tables.1)
 
--- Where the bytes are no encoding, a call gives that fault. Where they spell tables, it gives these;
--- and where they spell what is none, the fault is at their end.
+-- Where the bytes are no encoding, a call gives that fault. Where they spell tables, it gives
+-- these; and where they spell what is none, the fault is at their end.
 abbrev pub Judges : List ℕ → Result Tables CodecFault → Result Tables CodecFault → Type 0
 Judges bytes (Ok tables) result =
     (AreTables tables → Gives result (Ok tables))

@@ -123,9 +123,9 @@ fn read_all(alloc: Global, bytes: &[u8]) -> Result<TableParts, CodecFault>
 }
 
 /// The tables that the bytes encode, in whatever order: what is read is within its limits, and the
-/// bytes are its encoding; bytes that encode tables within their limits are read, unless memory runs
-/// out. `Bad` names the place, at most their length, where the first field begins that cannot be
-/// read, or where bytes are left over.
+/// bytes are its encoding; bytes that encode tables within their limits are read, unless memory
+/// runs out. `Bad` names the place, at most their length, where the first field begins that cannot
+/// be read, or where bytes are left over.
 pub fn decode_tables(alloc: Global, bytes: &[u8]) -> Result<TableParts, CodecFault>
     ensures found { IfOk result (λ t. IsEncodableState t × (bytes.now ≡ state_text t)) }
     ensures only { (t : Tables) → IsEncodableState t → bytes.now ≡ state_text t
@@ -150,10 +150,10 @@ fn made_of(alloc: Global, end: usize, parts: TableParts) -> Result<StoreState, C
 }
 
 /// The tables in memory that the bytes encode: what is read is within its limits and is tables, and
-/// the bytes are its encoding; bytes that encode such tables are read, unless memory runs out. `Bad`
-/// names the place, at most their length, where the first field begins that cannot be read, or where
-/// bytes are left over; and the end of the bytes, where what they encode is no tables, as values out
-/// of their order are none.
+/// the bytes are its encoding; bytes that encode such tables are read, unless memory runs out.
+/// `Bad` names the place, at most their length, where the first field begins that cannot be read,
+/// or where bytes are left over; and the end of the bytes, where what they encode is no tables, as
+/// values out of their order are none.
 pub fn decode_state(alloc: Global, bytes: &[u8]) -> Result<StoreState, CodecFault>
     ensures found { IfOk result (λ t. IsEncodableState t × AreTables t
         × (bytes.now ≡ state_text t)) }

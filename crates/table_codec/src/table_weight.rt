@@ -235,11 +235,11 @@ fn sum_tables(state: &StoreState) -> u64
 }
 
 /// How much the tables weigh: 131,072, and for each application 256 and the bytes of its key and of
-/// the address that updates come from; for each view 1,024, the bytes of its texts outside files and
-/// 72 a digest of its application manifest; for each group that stands in a view 16 and the bytes of
-/// its name; for each listed file 64, the bytes of its name and its group and 72 a digest; for each
-/// data file 24, the bytes of its name and 4 a block; and for each content 24, 72 a digest and 4 a
-/// block. It takes no memory.
+/// the address that updates come from; for each view 1,024, the bytes of its texts outside files
+/// and 72 a digest of its application manifest; for each group that stands in a view 16 and the
+/// bytes of its name; for each listed file 64, the bytes of its name and its group and 72 a digest;
+/// for each data file 24, the bytes of its name and 4 a block; and for each content 24, 72 a digest
+/// and 4 a block. It takes no memory.
 pub fn weight(state: &StoreState) -> u64
     requires { IsEncodableState state.now }
     ensures { result ≡ weight_of state.now }
