@@ -1,3 +1,4 @@
+// Tables as bytes, by encodings that were written from the format.
 ghost use Rattle.table_codec.specs.Values.{IsEncodableState};
 
 use record_fields::CodecFault;

@@ -9,7 +9,7 @@ use Rattle.record_fields.specs.Fields.{key_field}
 use Rattle.record_fields.specs.Spelling.{list_field, option_field, target_field}
 use Rattle.record_fields.proofs.Bounds.{key_le, list_le, option_le, target_le}
 use Rattle.record_codec.specs.Spelling.{content_field, view_field}
-use Rattle.record_codec.specs.Values.{IsContent, IsView}
+use Rattle.record_codec.specs.Values.{IsEncodableContent, IsEncodableView}
 use Rattle.record_codec.proofs.Bounds.{content_le, view_le}
 use Rattle.table_codec.specs.Spelling.{app_field, lease_field, lists_field, number_field, rest_field, state_text}
 use Rattle.table_codec.specs.Values.{IsEncodableApp, IsEncodableLease, IsEncodableState}
@@ -40,9 +40,9 @@ lists_le t is =
       arith,
       list_le lease_field IsEncodableLease 16 LEASE_LIMIT t.leases lease_long is.few_leases
           is.leases,
-      list_le view_field IsView 70368769999999 VIEW_LIMIT t.views view_le is.few_views is.views,
+      list_le view_field IsEncodableView 70368769999999 VIEW_LIMIT t.views view_le is.few_views is.views,
       list_le app_field IsEncodableApp 4619 APPLICATION_LIMIT t.apps app_le is.few_apps is.apps,
-      list_le content_field IsContent 4294967863 FILE_COUNT_LIMIT t.contents content_le
+      list_le content_field IsEncodableContent 4294967863 FILE_COUNT_LIMIT t.contents content_le
           is.few_contents is.contents,
       length-append l (v ++ (p ++ o)),
       length-append v (p ++ o),

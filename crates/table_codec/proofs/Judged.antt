@@ -5,7 +5,7 @@ use Rattle.store_state.specs.Kept.{AreTables}
 use Rattle.store_state.specs.Tables.{Tables}
 use Rattle.record_fields.specs.declared.fault.CodecFault.{CodecFault}
 use Rattle.record_fields.specs.declared.fault.CodecFault.TheVariants.{Bad, Memory}
-use Rattle.record_fields.specs.Reading.{Fails, Gives, IsWithin}
+use Rattle.record_fields.specs.Reading.{Fails, Gives, IsFaultWithin}
 use Rattle.table_codec.specs.Reading.{IsRefused, Judges, tables_of}
 use Rattle.table_codec.specs.Spelling.{state_text}
 use Rattle.table_codec.specs.Values.{IsEncodableState}
@@ -53,7 +53,7 @@ module _ (bytes : List ℕ) where
         subst (λ (n : ℕ). Judged (Err (Bad n))) (sym (refused.0 ∙ at)) (none_judged t read refused.1)
 
     pub made_within : (end : ℕ) (result : Result Tables CodecFault) → end ≡ length bytes
-        → IfErr result (IsRefused end t) → IfErr result (IsWithin (length bytes))
+        → IfErr result (IsRefused end t) → IfErr result (IsFaultWithin (length bytes))
     made_within end (Ok state) at refused = tt
     made_within end (Err Memory) at refused = tt
     made_within end (Err (Bad place)) at refused = omega (arith, refused.0, at)

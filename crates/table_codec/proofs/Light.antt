@@ -30,9 +30,9 @@ use Rattle.store_state.specs.Contents.{is_content_of}
 use Rattle.store_state.specs.Kept.{AreTables}
 use Rattle.store_state.specs.Tables.{Tables, bare_row}
 use Rattle.store_state.proofs.Keyed.{any_in, of_key}
-use Rattle.record_fields.specs.Values.{AreDigests, IsApplication, IsDeployment, IsEntry, IsIdentity}
+use Rattle.record_fields.specs.Values.{AreDigests, IsEncodableApplication, IsEncodableDeployment, IsEncodableEntry, IsEncodableIdentity}
 use Rattle.record_fields.proofs.Sizes.{name_le}
-use Rattle.record_codec.specs.Values.{IsContent, IsLocal, IsView}
+use Rattle.record_codec.specs.Values.{IsEncodableContent, IsEncodableLocal, IsEncodableView}
 use Rattle.table_codec.specs.Values.{IsEncodableApp, IsEncodableState}
 use Rattle.table_codec.specs.Weight.{app_weight, application_bytes, block_cost, content_weight, counted, deployment_bytes, digests_weight, file_weight, group_weight, identity_bytes, key_bytes, local_weight, target_bytes, view_weight, weight_of, weight_with}
 
@@ -62,11 +62,11 @@ target_light : (t : Target) → IsTarget t → target_bytes t ≤ 4096
 unfolding target_bytes
 target_light t is = omega (arith, is.host.within, is.path.within)
 
-identity_light : (i : Identity) → IsIdentity i → identity_bytes i ≤ 496
+identity_light : (i : Identity) → IsEncodableIdentity i → identity_bytes i ≤ 496
 unfolding identity_bytes
 identity_light i is = omega (arith, key_light i.key is.key, is.kind.within)
 
-deployment_light : (d : Deployment) → IsDeployment d → deployment_bytes d ≤ 5088
+deployment_light : (d : Deployment) → IsEncodableDeployment d → deployment_bytes d ≤ 5088
 unfolding deployment_bytes
 deployment_light d is =
     omega (
@@ -78,12 +78,12 @@ deployment_light d is =
       identity_light d.app is.app,
     )
 
-application_light : (a : Application) → IsApplication a → application_bytes a ≤ 2784
+application_light : (a : Application) → IsEncodableApplication a → application_bytes a ≤ 2784
 unfolding application_bytes
 application_light a is =
     omega (arith, identity_light a.identity is.identity, is.entry.within, is.parameters.within)
 
-entry_light : (e : FileEntry) → IsEntry e → file_weight e ≤ 1120
+entry_light : (e : FileEntry) → IsEncodableEntry e → file_weight e ≤ 1120
 unfolding file_weight
 entry_light e is =
     omega (
@@ -96,11 +96,11 @@ entry_light e is =
 group_light : (group : List ℕ) → IsShort NAME_LIMIT group → group_weight group ≤ 256
 group_light group is = omega (arith, is.within)
 
-local_light : (f : LocalFile) → IsLocal f × IsRowLocal f → local_weight block_cost f ≤ 4194600
+local_light : (f : LocalFile) → IsEncodableLocal f × IsRowLocal f → local_weight block_cost f ≤ 4194600
 unfolding local_weight
 local_light f is = omega (arith, name_le f.name is.0.name, is.0.bytes, is.1.measured)
 
-view_light : (v : View) → IsView v × IsRow v → view_weight block_cost v ≤ 68746900000
+view_light : (v : View) → IsEncodableView v × IsRow v → view_weight block_cost v ≤ 68746900000
 unfolding view_weight
 view_light v is =
     let view = is.0 in
@@ -113,9 +113,9 @@ view_light v is =
       view.deployment.app_list.count.within,
       sum_few group_weight (IsShort NAME_LIMIT) 256 FILE_COUNT_LIMIT v.groups group_light
           view.few_groups view.groups,
-      sum_few file_weight IsEntry 1120 FILE_COUNT_LIMIT v.application.files entry_light
+      sum_few file_weight IsEncodableEntry 1120 FILE_COUNT_LIMIT v.application.files entry_light
           view.application.few view.application.files,
-      sum_few (local_weight block_cost) (λ f. IsLocal f × IsRowLocal f) 4194600 FILE_COUNT_LIMIT
+      sum_few (local_weight block_cost) (λ f. IsEncodableLocal f × IsRowLocal f) 4194600 FILE_COUNT_LIMIT
           v.locals local_light view.few_locals
           (λ i d within. (view.locals i d within, row.locals i d within)),
     )
@@ -155,7 +155,7 @@ module _ (t : Tables) (are : AreTables t) where
       let size = ap (λ (k : ContentKey). k.size) (of_key one.0 content one.2) in
       omega (arith, file.size, limit_le one.0.local, size)
 
-  content_light : (content : Content) → IsContent content
+  content_light : (content : Content) → IsEncodableContent content
       × Any (λ (e : FileEntry). is_content_of e content ≡ true)
       (standing_files (map bare_row t.views)) → content_weight block_cost content ≤ 66136
   unfolding content_weight
@@ -168,9 +168,9 @@ module _ (t : Tables) (are : AreTables t) where
       omega (
         arith,
         sum_few app_weight IsEncodableApp 4784 APPLICATION_LIMIT t.apps app_light is.few_apps is.apps,
-        sum_few (view_weight block_cost) (λ v. IsView v × IsRow v) 68746900000 VIEW_LIMIT t.views
+        sum_few (view_weight block_cost) (λ v. IsEncodableView v × IsRow v) 68746900000 VIEW_LIMIT t.views
             view_light is.few_views (λ i d within. (is.views i d within, are.rows i d within)),
-        sum_few (content_weight block_cost) (λ c. IsContent c
+        sum_few (content_weight block_cost) (λ c. IsEncodableContent c
             × Any (λ (e : FileEntry). is_content_of e c ≡ true)
             (standing_files (map bare_row t.views))) 66136 FILE_COUNT_LIMIT t.contents content_light
             is.few_contents (λ i d within. (is.contents i d within, are.contents.only i d within)),

@@ -13,7 +13,7 @@ use Rattle.store_state.specs.Tables.{Tables}
 use Rattle.record_fields.specs.Fields.{key_field, version_field}
 use Rattle.record_fields.specs.Parts.{list_at, option_at, target_at, truth_at}
 use Rattle.record_fields.specs.Reading.{key_at, version_at}
-use Rattle.record_fields.specs.Reads.{Reads}
+use Rattle.record_fields.specs.Reads.{ReadsField}
 use Rattle.record_fields.specs.Spelling.{list_field, option_field, target_field, truth_field}
 use Rattle.record_fields.proofs.Forms.{truth_reads}
 use Rattle.record_fields.proofs.Lists.{list_reads, option_reads}
@@ -21,7 +21,7 @@ use Rattle.record_fields.proofs.Structs.{key_reads, number64_reads, target_reads
 use Rattle.record_fields.proofs.Together.{first, last, same_values}
 use Rattle.record_codec.specs.Records.{content_at, view_at}
 use Rattle.record_codec.specs.Spelling.{content_field, view_field}
-use Rattle.record_codec.specs.Values.{IsContent, IsView}
+use Rattle.record_codec.specs.Values.{IsEncodableContent, IsEncodableView}
 use Rattle.record_codec.proofs.Records.{content_reads, view_reads}
 use Rattle.table_codec.specs.declared.app_field.AppRest.{AppRest}
 use Rattle.table_codec.specs.declared.table_reading.Lists.{Lists}
@@ -31,7 +31,7 @@ use Rattle.table_codec.specs.Values.{IsEncodableApp, IsEncodableLease, IsEncodab
 
 -- ---- leases
 
-pub lease_reads : Reads IsEncodableLease lease_field lease_at
+pub lease_reads : ReadsField IsEncodableLease lease_field lease_at
 unfolding lease_at lease_field
 lease_reads = same_values IsEncodableLease (
     first {X = Lease} number64_reads (λ x. x.number) (λ a0 x. (IsWide x.view × (x ≡ record { number = a0; view = x.view }))) (λ x. number_field x.view) (λ a0 bytes place. wide_at bytes place >>= λ p1. Ok (record { number = a0; view = p1.0 }, p1.1)) (λ a0 x is. ap (λ (y : Lease). y.number) is.1) (λ a0.
@@ -57,7 +57,7 @@ rest_text rest =
     ++ (option_field version_field rest.skipped ++ (option_field version_field rest.excluded
     ++ (option_field number_field rest.last_check ++ truth_field rest.checked))))))
 
-rest_reads : Reads IsEncodableRest rest_text rest_at
+rest_reads : ReadsField IsEncodableRest rest_text rest_at
 unfolding rest_at
 rest_reads = same_values IsEncodableRest (
     first {X = AppRest} (option_reads number64_reads) (λ x. x.current) (λ a0 x. (IfSome x.previous IsWide × (IfSome x.minimum IsVersion × (IfSome x.offer IsVersion × (IfSome x.skipped IsVersion × (IfSome x.excluded IsVersion × (IfSome x.last_check IsWide × (Unit {0} × (x ≡ record { current = a0; previous = x.previous; minimum = x.minimum; offer = x.offer; skipped = x.skipped; excluded = x.excluded; last_check = x.last_check; checked = x.checked }))))))))) (λ x. option_field number_field x.previous ++ (option_field version_field x.minimum ++ (option_field version_field x.offer ++ (option_field version_field x.skipped ++ (option_field version_field x.excluded ++ (option_field number_field x.last_check ++ (truth_field x.checked))))))) (λ a0 bytes place. option_at wide_at bytes place >>= λ p1. option_at version_at bytes p1.1 >>= λ p2. option_at version_at bytes p2.1 >>= λ p3. option_at version_at bytes p3.1 >>= λ p4. option_at version_at bytes p4.1 >>= λ p5. option_at wide_at bytes p5.1 >>= λ p6. truth_at bytes p6.1 >>= λ p7. Ok (record { current = a0; previous = p1.0; minimum = p2.0; offer = p3.0; skipped = p4.0; excluded = p5.0; last_check = p6.0; checked = p7.0 }, p7.1)) (λ a0 x is. ap (λ (y : AppRest). y.current) is.1.1.1.1.1.1.1) (λ a0.
@@ -83,7 +83,7 @@ rest_of app = record {
   checked = app.checked;
 }
 
-pub app_reads : Reads IsEncodableApp app_field app_at
+pub app_reads : ReadsField IsEncodableApp app_field app_at
 unfolding app_at app_field rest_field
 app_reads = same_values IsEncodableApp (
     first {X = AppState} key_reads (λ x. x.key) (λ a0 x. IfSome x.provider IsTarget × (IsEncodableRest (rest_of x) × (x ≡ whole_app a0 x.provider (rest_of x)))) (λ x. option_field target_field x.provider ++ rest_text (rest_of x)) (λ a0 bytes place. option_at target_at bytes place >>= λ p1. rest_at bytes p1.1 >>= λ p2. Ok (whole_app a0 p1.0 p2.0, p2.1)) (λ a0 x is. ap (λ (y : AppState). y.key) is.1.1) (λ a0.
@@ -98,23 +98,23 @@ record AreEncodableLists (lists : Lists) : Type 0 where
   few_leases : length lists.leases ≤ LEASE_LIMIT
   leases : All IsEncodableLease lists.leases
   few_views : length lists.views ≤ VIEW_LIMIT
-  views : All IsView lists.views
+  views : All IsEncodableView lists.views
   few_apps : length lists.apps ≤ APPLICATION_LIMIT
   apps : All IsEncodableApp lists.apps
   few_contents : length lists.contents ≤ FILE_COUNT_LIMIT
-  contents : All IsContent lists.contents
+  contents : All IsEncodableContent lists.contents
 
 abbrev lists_text : Lists → List ℕ
 lists_text lists =
     list_field lease_field lists.leases ++ (list_field view_field lists.views
     ++ (list_field app_field lists.apps ++ list_field content_field lists.contents))
 
-lists_reads : Reads AreEncodableLists lists_text lists_at
+lists_reads : ReadsField AreEncodableLists lists_text lists_at
 unfolding lists_at
 lists_reads = same_values AreEncodableLists (
-    first {X = Lists} (list_reads lease_reads LEASE_LIMIT (omega arith)) (λ x. x.leases) (λ a0 x. (((length x.views ≤ VIEW_LIMIT) × All IsView x.views) × (((length x.apps ≤ APPLICATION_LIMIT) × All IsEncodableApp x.apps) × (((length x.contents ≤ FILE_COUNT_LIMIT) × All IsContent x.contents) × (x ≡ record { leases = a0; views = x.views; apps = x.apps; contents = x.contents }))))) (λ x. list_field view_field x.views ++ (list_field app_field x.apps ++ (list_field content_field x.contents))) (λ a0 bytes place. list_at VIEW_LIMIT view_at bytes place >>= λ p1. list_at APPLICATION_LIMIT app_at bytes p1.1 >>= λ p2. list_at FILE_COUNT_LIMIT content_at bytes p2.1 >>= λ p3. Ok (record { leases = a0; views = p1.0; apps = p2.0; contents = p3.0 }, p3.1)) (λ a0 x is. ap (λ (y : Lists). y.leases) is.1.1.1) (λ a0.
-    first {X = Lists} (list_reads view_reads VIEW_LIMIT (omega arith)) (λ x. x.views) (λ a1 x. (((length x.apps ≤ APPLICATION_LIMIT) × All IsEncodableApp x.apps) × (((length x.contents ≤ FILE_COUNT_LIMIT) × All IsContent x.contents) × (x ≡ record { leases = a0; views = a1; apps = x.apps; contents = x.contents })))) (λ x. list_field app_field x.apps ++ (list_field content_field x.contents)) (λ a1 bytes place. list_at APPLICATION_LIMIT app_at bytes place >>= λ p2. list_at FILE_COUNT_LIMIT content_at bytes p2.1 >>= λ p3. Ok (record { leases = a0; views = a1; apps = p2.0; contents = p3.0 }, p3.1)) (λ a1 x is. ap (λ (y : Lists). y.views) is.1.1) (λ a1.
-    first {X = Lists} (list_reads app_reads APPLICATION_LIMIT (omega arith)) (λ x. x.apps) (λ a2 x. (((length x.contents ≤ FILE_COUNT_LIMIT) × All IsContent x.contents) × (x ≡ record { leases = a0; views = a1; apps = a2; contents = x.contents }))) (λ x. list_field content_field x.contents) (λ a2 bytes place. list_at FILE_COUNT_LIMIT content_at bytes place >>= λ p3. Ok (record { leases = a0; views = a1; apps = a2; contents = p3.0 }, p3.1)) (λ a2 x is. ap (λ (y : Lists). y.apps) is.1) (λ a2.
+    first {X = Lists} (list_reads lease_reads LEASE_LIMIT (omega arith)) (λ x. x.leases) (λ a0 x. (((length x.views ≤ VIEW_LIMIT) × All IsEncodableView x.views) × (((length x.apps ≤ APPLICATION_LIMIT) × All IsEncodableApp x.apps) × (((length x.contents ≤ FILE_COUNT_LIMIT) × All IsEncodableContent x.contents) × (x ≡ record { leases = a0; views = x.views; apps = x.apps; contents = x.contents }))))) (λ x. list_field view_field x.views ++ (list_field app_field x.apps ++ (list_field content_field x.contents))) (λ a0 bytes place. list_at VIEW_LIMIT view_at bytes place >>= λ p1. list_at APPLICATION_LIMIT app_at bytes p1.1 >>= λ p2. list_at FILE_COUNT_LIMIT content_at bytes p2.1 >>= λ p3. Ok (record { leases = a0; views = p1.0; apps = p2.0; contents = p3.0 }, p3.1)) (λ a0 x is. ap (λ (y : Lists). y.leases) is.1.1.1) (λ a0.
+    first {X = Lists} (list_reads view_reads VIEW_LIMIT (omega arith)) (λ x. x.views) (λ a1 x. (((length x.apps ≤ APPLICATION_LIMIT) × All IsEncodableApp x.apps) × (((length x.contents ≤ FILE_COUNT_LIMIT) × All IsEncodableContent x.contents) × (x ≡ record { leases = a0; views = a1; apps = x.apps; contents = x.contents })))) (λ x. list_field app_field x.apps ++ (list_field content_field x.contents)) (λ a1 bytes place. list_at APPLICATION_LIMIT app_at bytes place >>= λ p2. list_at FILE_COUNT_LIMIT content_at bytes p2.1 >>= λ p3. Ok (record { leases = a0; views = a1; apps = p2.0; contents = p3.0 }, p3.1)) (λ a1 x is. ap (λ (y : Lists). y.views) is.1.1) (λ a1.
+    first {X = Lists} (list_reads app_reads APPLICATION_LIMIT (omega arith)) (λ x. x.apps) (λ a2 x. (((length x.contents ≤ FILE_COUNT_LIMIT) × All IsEncodableContent x.contents) × (x ≡ record { leases = a0; views = a1; apps = a2; contents = x.contents }))) (λ x. list_field content_field x.contents) (λ a2 bytes place. list_at FILE_COUNT_LIMIT content_at bytes place >>= λ p3. Ok (record { leases = a0; views = a1; apps = a2; contents = p3.0 }, p3.1)) (λ a2 x is. ap (λ (y : Lists). y.apps) is.1) (λ a2.
     last {X = Lists} (list_reads content_reads FILE_COUNT_LIMIT (omega arith)) (λ x. x.contents) (λ a3. record { leases = a0; views = a1; apps = a2; contents = a3 }) (λ a3. refl)))))
     (λ x is. record { few_leases = is.0.0; leases = is.0.1; few_views = is.1.0.0; views = is.1.0.1; few_apps = is.1.1.0.0; apps = is.1.1.0.1; few_contents = is.1.1.1.0.0; contents = is.1.1.1.0.1 })
     (λ x is. ((is.few_leases, is.leases), ((is.few_views, is.views), ((is.few_apps, is.apps), ((is.few_contents, is.contents), refl)))))
@@ -124,7 +124,7 @@ lists_reads = same_values AreEncodableLists (
 abbrev lists_of : Tables → Lists
 lists_of t = record { leases = t.leases; views = t.views; apps = t.apps; contents = t.contents }
 
-pub tables_reads : Reads IsEncodableState state_text tables_at
+pub tables_reads : ReadsField IsEncodableState state_text tables_at
 unfolding tables_at state_text lists_field
 tables_reads = same_values IsEncodableState (
     first {X = Tables} number64_reads (λ x. x.boot) (λ a0 x. IsWide x.next_view × (IsWide x.next_lease × (AreEncodableLists (lists_of x) × (x ≡ tables_with a0 x.next_view x.next_lease (lists_of x))))) (λ x. number_field x.next_view ++ (number_field x.next_lease ++ lists_text (lists_of x))) (λ a0 bytes place. wide_at bytes place >>= λ p1. wide_at bytes p1.1 >>= λ p2. lists_at bytes p2.1 >>= λ p3. Ok (tables_with a0 p1.0 p2.0 p3.0, p3.1)) (λ a0 x is. ap (λ (y : Tables). y.boot) is.1.1.1) (λ a0.

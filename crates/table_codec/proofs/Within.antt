@@ -25,11 +25,11 @@ use Rattle.store_state.specs.declared.view.View.{View}
 use Rattle.store_state.specs.Tables.{Tables}
 use Rattle.record_fields.specs.Fields.{key_field, text_field, version_field}
 use Rattle.record_fields.specs.Spelling.{application_field, deployment_field, digest_field, entry_field, identity_field, list_field, listed_field, option_field, rule_field, target_field, terms_field, truth_field}
-use Rattle.record_fields.specs.Values.{AreDigests, IsApplication, IsDeployment, IsEntry}
+use Rattle.record_fields.specs.Values.{AreDigests, IsEncodableApplication, IsEncodableDeployment, IsEncodableEntry}
 use Rattle.record_fields.proofs.Bounds.{digest_field_le, list_le, option_le, rule_le, version_le}
 use Rattle.record_fields.proofs.Long.{length-key_field, length-list_field, length-text_field, length-truth_field, length-version_field}
 use Rattle.record_codec.specs.Spelling.{content_field, local_field, view_field}
-use Rattle.record_codec.specs.Values.{IsContent, IsLocal, IsView}
+use Rattle.record_codec.specs.Values.{IsEncodableContent, IsEncodableLocal, IsEncodableView}
 use Rattle.table_codec.specs.Spelling.{app_field, lease_field, lists_field, number_field, rest_field, state_text}
 use Rattle.table_codec.specs.Values.{IsEncodableApp, IsEncodableLease, IsEncodableState, IsWide}
 use Rattle.table_codec.specs.Weight.{app_weight, application_bytes, content_weight, counted, deployment_bytes, digests_weight, file_weight, group_weight, identity_bytes, key_bytes, local_weight, spelled_cost, target_bytes, view_weight, weight_with}
@@ -95,7 +95,7 @@ digests_within list are =
 
 -- ---- manifests
 
-entry_within : (e : FileEntry) → IsEntry e → length (entry_field e) ≤ file_weight e
+entry_within : (e : FileEntry) → IsEncodableEntry e → length (entry_field e) ≤ file_weight e
 unfolding entry_field file_weight
 entry_within e is =
     let a = text_field e.name in
@@ -115,7 +115,7 @@ entry_within e is =
       length-append g t,
     )
 
-deployment_within : (d : Deployment) → IsDeployment d
+deployment_within : (d : Deployment) → IsEncodableDeployment d
     → length (deployment_field d) ≤ 97 + deployment_bytes d + 69 * length d.app_list
 unfolding deployment_field terms_field listed_field deployment_bytes
 deployment_within d is =
@@ -151,7 +151,7 @@ deployment_within d is =
       length-append s l,
     )
 
-application_within : (a : Application) → IsApplication a
+application_within : (a : Application) → IsEncodableApplication a
     → length (application_field a) ≤ 40 + application_bytes a + sum_by file_weight a.files
 unfolding application_field application_bytes
 application_within a is =
@@ -164,7 +164,7 @@ application_within a is =
       identity_within a.identity,
       length-text_field a.entry,
       length-text_field a.parameters,
-      list_within entry_field file_weight IsEntry a.files entry_within is.files,
+      list_within entry_field file_weight IsEncodableEntry a.files entry_within is.files,
       length-append i (e ++ (p ++ f)),
       length-append e (p ++ f),
       length-append p f,
@@ -172,7 +172,7 @@ application_within a is =
 
 -- ---- views and contents
 
-local_within : (f : LocalFile) → IsLocal f
+local_within : (f : LocalFile) → IsEncodableLocal f
     → length (local_field f) ≤ local_weight spelled_cost f
 unfolding local_field local_weight
 local_within f is =
@@ -185,7 +185,7 @@ local_within f is =
       length-append s (text_field f.held),
     )
 
-content_within : (c : Content) → IsContent c
+content_within : (c : Content) → IsEncodableContent c
     → length (content_field c) ≤ content_weight spelled_cost c
 unfolding content_field content_weight
 content_within c is =
@@ -204,7 +204,7 @@ group_within : (group : List ℕ) → IsShort NAME_LIMIT group
     → length (text_field group) ≤ group_weight group
 group_within group is = omega (arith, length-text_field group)
 
-view_within : (v : View) → IsView v → length (view_field v) ≤ view_weight spelled_cost v
+view_within : (v : View) → IsEncodableView v → length (view_field v) ≤ view_weight spelled_cost v
 unfolding view_field view_weight
 view_within v is =
     let n = to_be_bytes w64 v.number in
@@ -219,7 +219,7 @@ view_within v is =
       application_within v.application is.application,
       target_within v.base,
       list_within text_field group_weight (IsShort NAME_LIMIT) v.groups group_within is.groups,
-      list_within local_field (local_weight spelled_cost) IsLocal v.locals local_within is.locals,
+      list_within local_field (local_weight spelled_cost) IsEncodableLocal v.locals local_within is.locals,
       length-append n (d ++ (a ++ (b ++ (g ++ l)))),
       length-append d (a ++ (b ++ (g ++ l))),
       length-append a (b ++ (g ++ l)),
@@ -300,9 +300,9 @@ state_within t is =
     omega (
       arith,
       list_le lease_field IsEncodableLease 16 LEASE_LIMIT t.leases lease_long is.few_leases is.leases,
-      list_within view_field (view_weight spelled_cost) IsView t.views view_within is.views,
+      list_within view_field (view_weight spelled_cost) IsEncodableView t.views view_within is.views,
       list_within app_field app_weight IsEncodableApp t.apps app_within is.apps,
-      list_within content_field (content_weight spelled_cost) IsContent t.contents content_within
+      list_within content_field (content_weight spelled_cost) IsEncodableContent t.contents content_within
           is.contents,
       length-append a (b ++ (c ++ (l ++ (v ++ (p ++ o))))),
       length-append b (c ++ (l ++ (v ++ (p ++ o)))),

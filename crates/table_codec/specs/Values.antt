@@ -8,7 +8,7 @@ use Rattle.identity.specs.Version.{IsVersion}
 use Rattle.machine.specs.declared.app.AppState.{AppState}
 use Rattle.machine.specs.declared.lease.Lease.{Lease}
 use Rattle.store_state.specs.Tables.{Tables}
-use Rattle.record_codec.specs.Values.{IsContent, IsView}
+use Rattle.record_codec.specs.Values.{IsEncodableContent, IsEncodableView}
 
 -- a number that eight bytes can say
 abbrev pub IsWide : ℕ → Type 0
@@ -38,8 +38,8 @@ pub record IsEncodableState (tables : Tables) : Type 0 where
   pub few_leases : length tables.leases ≤ LEASE_LIMIT
   pub leases : All IsEncodableLease tables.leases
   pub few_views : length tables.views ≤ VIEW_LIMIT
-  pub views : All IsView tables.views
+  pub views : All IsEncodableView tables.views
   pub few_apps : length tables.apps ≤ APPLICATION_LIMIT
   pub apps : All IsEncodableApp tables.apps
   pub few_contents : length tables.contents ≤ FILE_COUNT_LIMIT
-  pub contents : All IsContent tables.contents
+  pub contents : All IsEncodableContent tables.contents

@@ -1,7 +1,7 @@
 // Applications.
 ghost use Rattle.std.specs.Prelude.{◌≡◌, ◌+◌, ◌<◌, ◌≤◌, ◌^◌, length, Option, IfOk, IfErr};
-ghost use Rattle.record_fields.specs.Places.{Writes};
-ghost use Rattle.record_fields.specs.Reading.{Gives, IsWithin};
+ghost use Rattle.record_fields.specs.Places.{WritesField};
+ghost use Rattle.record_fields.specs.Reading.{Gives, IsFaultWithin};
 ghost use Rattle.table_codec.specs.Reading.{rest_at, whole_app};
 ghost use Rattle.table_codec.specs.Spelling.{app_field, rest_field};
 ghost use Rattle.table_codec.specs.Values.{IsEncodableApp};
@@ -71,12 +71,12 @@ fn app_length(app: &AppState) -> u64
     key_length(&app.key) + option_length::<TargetField>(&app.provider) + rest_length(app)
 }
 
-// Writes what comes behind the address at the place, and answers the place behind it.
+// WritesField what comes behind the address at the place, and answers the place behind it.
 #[tactic(auto, using(record_fields::proofs::Long::lengths), unfolding(crate::specs::Spelling::rest_field))]
 fn write_rest(out: &mut [u8], place: usize, app: &AppState) -> usize
     requires app { IsEncodableApp app.now }
     requires room { place + length (rest_field app.now) ≤ length out.old }
-    ensures { Writes out.old place (rest_field app.now) out.new result }
+    ensures { WritesField out.old place (rest_field app.now) out.new result }
 {
     let next = write_option::<NumberField>(out, place, &app.current);
     let next = write_option::<NumberField>(out, next, &app.previous);
@@ -88,12 +88,12 @@ fn write_rest(out: &mut [u8], place: usize, app: &AppState) -> usize
     write_truth(out, next, app.checked)
 }
 
-// Writes the application at the place, its fields in their order, and answers the place behind it.
+// WritesField the application at the place, its fields in their order, and answers the place behind it.
 #[tactic(auto, using(record_fields::proofs::Long::lengths), unfolding(crate::specs::Spelling::app_field))]
 fn write_app(out: &mut [u8], place: usize, app: &AppState) -> usize
     requires app { IsEncodableApp app.now }
     requires room { place + length (app_field app.now) ≤ length out.old }
-    ensures { Writes out.old place (app_field app.now) out.new result }
+    ensures { WritesField out.old place (app_field app.now) out.new result }
 {
     let next = write_key(out, place, &app.key);
     let next = write_option::<TargetField>(out, next, &app.provider);
@@ -106,7 +106,7 @@ fn rest_here(alloc: Global, bytes: &[u8], place: usize) -> Result<(AppRest, usiz
     requires { place ≤ length bytes.now }
     ensures exact { Gives result (rest_at bytes.now place) }
     ensures next { IfOk result (λ x. x.1 ≤ length bytes.now) }
-    ensures fault { IfErr result (IsWithin (length bytes.now)) }
+    ensures fault { IfErr result (IsFaultWithin (length bytes.now)) }
 {
     let (current, next) = option_here::<NumberField>(alloc, bytes, place)?;
     let (previous, next) = option_here::<NumberField>(alloc, bytes, next)?;

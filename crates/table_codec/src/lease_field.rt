@@ -1,6 +1,6 @@
 // Leases.
 ghost use Rattle.std.specs.Prelude.{◌≡◌, ◌+◌, ◌≤◌, length};
-ghost use Rattle.record_fields.specs.Places.{Writes};
+ghost use Rattle.record_fields.specs.Places.{WritesField};
 ghost use Rattle.table_codec.specs.Spelling.{lease_field};
 
 use machine::Lease;
@@ -29,11 +29,11 @@ impl Item for LeaseField {
     }
 }
 
-// Writes the lease at the place, its number and that of its view, and answers the place behind it.
+// WritesField the lease at the place, its number and that of its view, and answers the place behind it.
 #[tactic(auto, unfolding(crate::specs::Spelling::lease_field))]
 fn write_lease(out: &mut [u8], place: usize, lease: Lease) -> usize
     requires { place + length (lease_field lease) ≤ length out.old }
-    ensures { Writes out.old place (lease_field lease) out.new result }
+    ensures { WritesField out.old place (lease_field lease) out.new result }
 {
     let next = write_u64(out, place, lease.number);
     write_u64(out, next, lease.view)

@@ -1,6 +1,6 @@
 // Numbers and addresses that may be there or not.
 ghost use Rattle.std.specs.Prelude.{◌≤◌, length, true, IfOk, IfErr};
-ghost use Rattle.record_fields.specs.Reading.{Gives, IsWithin};
+ghost use Rattle.record_fields.specs.Reading.{Gives, IsFaultWithin};
 ghost use Rattle.record_fields.specs.Parts.{option_at, option_of};
 
 use record_fields::{
@@ -102,7 +102,7 @@ fn some_here<T: Readable>(
     requires { place ≤ length bytes.now }
     ensures exact { Gives result (option_of T.at true bytes.now place) }
     ensures next { IfOk result (λ x. x.1 ≤ length bytes.now) }
-    ensures fault { IfErr result (IsWithin (length bytes.now)) }
+    ensures fault { IfErr result (IsFaultWithin (length bytes.now)) }
 {
     let (value, next) = T::read_here(alloc, bytes, place)?;
     Ok((Some(value), next))
@@ -118,7 +118,7 @@ pub(crate) fn option_here<T: Readable>(
     requires { place ≤ length bytes.now }
     ensures exact { Gives result (option_at T.at bytes.now place) }
     ensures next { IfOk result (λ x. x.1 ≤ length bytes.now) }
-    ensures fault { IfErr result (IsWithin (length bytes.now)) }
+    ensures fault { IfErr result (IsFaultWithin (length bytes.now)) }
 {
     let (is_there, next) = read_truth(bytes, place)?;
     match is_there {

@@ -2,7 +2,7 @@
 ghost use Rattle.std.specs.Prelude.{◌≡◌, ◌≤◌, length, Ok, IfOk, IfErr, OnOk};
 ghost use Rattle.store_state.specs.Kept.{AreTables};
 ghost use Rattle.store_state.specs.Tables.{Tables};
-ghost use Rattle.record_fields.specs.Reading.{Gives, IsWithin};
+ghost use Rattle.record_fields.specs.Reading.{Gives, IsFaultWithin};
 ghost use Rattle.table_codec.specs.Reading.{IsRefused, Judges, lists_at, tables_at, tables_of, tables_with};
 ghost use Rattle.table_codec.specs.Spelling.{state_text};
 ghost use Rattle.table_codec.specs.Values.{IsEncodableState};
@@ -42,7 +42,7 @@ fn lists_here(alloc: Global, bytes: &[u8], place: usize) -> Result<(Lists, usize
     requires { place ≤ length bytes.now }
     ensures exact { Gives result (lists_at bytes.now place) }
     ensures next { IfOk result (λ x. x.1 ≤ length bytes.now) }
-    ensures fault { IfErr result (IsWithin (length bytes.now)) }
+    ensures fault { IfErr result (IsFaultWithin (length bytes.now)) }
 {
     let (leases, next) = read_list::<LeaseField>(alloc, bytes, place, LEASE_LIMIT)?;
     let (views, next) = match read_list::<ViewField>(alloc, bytes, next, VIEW_LIMIT) {
@@ -99,7 +99,7 @@ fn tables_here(alloc: Global, bytes: &[u8], place: usize) -> Result<(TableParts,
     requires { place ≤ length bytes.now }
     ensures exact { Gives result (tables_at bytes.now place) }
     ensures next { IfOk result (λ x. x.1 ≤ length bytes.now) }
-    ensures fault { IfErr result (IsWithin (length bytes.now)) }
+    ensures fault { IfErr result (IsFaultWithin (length bytes.now)) }
 {
     let (boot, next) = read_u64(bytes, place)?;
     let (next_view, next) = read_u64(bytes, next)?;
@@ -112,7 +112,7 @@ fn tables_here(alloc: Global, bytes: &[u8], place: usize) -> Result<(TableParts,
 #[tactic(auto, unfolding(crate::specs::Reading::tables_of))]
 fn read_all(alloc: Global, bytes: &[u8]) -> Result<TableParts, CodecFault>
     ensures exact { Gives result (tables_of bytes.now) }
-    ensures fault { IfErr result (IsWithin (length bytes.now)) }
+    ensures fault { IfErr result (IsFaultWithin (length bytes.now)) }
 {
     let (tables, next) = tables_here(alloc, bytes, 0)?;
     if next != bytes.len() {
@@ -131,7 +131,7 @@ pub fn decode_tables(alloc: Global, bytes: &[u8]) -> Result<TableParts, CodecFau
     ensures only { (t : Tables) → IsEncodableState t → bytes.now ≡ state_text t
         → Gives result (Ok t) }
     ensures exact { Gives result (tables_of bytes.now) }
-    ensures fault { IfErr result (IsWithin (length bytes.now)) }
+    ensures fault { IfErr result (IsFaultWithin (length bytes.now)) }
 {
     read_all(alloc, bytes)
 }
@@ -160,7 +160,7 @@ pub fn decode_state(alloc: Global, bytes: &[u8]) -> Result<StoreState, CodecFaul
     ensures only { (t : Tables) → IsEncodableState t → AreTables t → bytes.now ≡ state_text t
         → Gives result (Ok t) }
     ensures exact { Judges bytes.now (tables_of bytes.now) result }
-    ensures fault { IfErr result (IsWithin (length bytes.now)) }
+    ensures fault { IfErr result (IsFaultWithin (length bytes.now)) }
 {
     match decode_tables(alloc, bytes) {
         Ok(parts) => made_of(alloc, bytes.len(), parts),

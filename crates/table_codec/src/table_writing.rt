@@ -1,6 +1,6 @@
 // Writing tables, and how long they are.
 ghost use Rattle.std.specs.Prelude.{◌≡◌, ◌+◌, ◌<◌, ◌≤◌, ◌^◌, ◌++◌, length, drop};
-ghost use Rattle.record_fields.specs.Places.{Writes};
+ghost use Rattle.record_fields.specs.Places.{WritesField};
 ghost use Rattle.table_codec.specs.Spelling.{lists_field, state_text};
 ghost use Rattle.table_codec.specs.Values.{IsEncodableState};
 
@@ -31,13 +31,13 @@ pub fn encoded_length_of_state(state: &StoreState) -> u64
     24 + lists_length(state)
 }
 
-// Writes the leases, the views, the applications and the contents at the place, and answers the
+// WritesField the leases, the views, the applications and the contents at the place, and answers the
 // place behind them.
 #[tactic(auto, using(record_fields::proofs::Long::lengths), unfolding(crate::specs::Spelling::lists_field))]
 fn write_lists(out: &mut [u8], place: usize, state: &StoreState) -> usize
     requires state { IsEncodableState state.now }
     requires room { place + length (lists_field state.now) ≤ length out.old }
-    ensures { Writes out.old place (lists_field state.now) out.new result }
+    ensures { WritesField out.old place (lists_field state.now) out.new result }
 {
     let next = write_list::<LeaseField>(out, place, state.leases.as_slice());
     let next = write_list::<ViewField>(out, next, state.views.as_slice());
@@ -45,7 +45,7 @@ fn write_lists(out: &mut [u8], place: usize, state: &StoreState) -> usize
     write_list::<ContentField>(out, next, state.contents.as_slice())
 }
 
-/// Writes the encoding of the tables to the front of the buffer, leaves the rest, and answers how
+/// WritesField the encoding of the tables to the front of the buffer, leaves the rest, and answers how
 /// many bytes it has. It takes no memory.
 #[tactic(auto, using(record_fields::proofs::Long::lengths), unfolding(crate::specs::Spelling::state_text))]
 pub fn encode_state(state: &StoreState, out: &mut [u8]) -> usize

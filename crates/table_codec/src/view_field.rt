@@ -1,6 +1,6 @@
 // Views.
 ghost use Rattle.record_codec.specs.Spelling.{view_field};
-ghost use Rattle.record_codec.specs.Values.{IsView};
+ghost use Rattle.record_codec.specs.Values.{IsEncodableView};
 
 use record_codec::{read_view, view_length, write_view};
 use record_fields::{CodecFault, Item, Readable};
@@ -15,7 +15,7 @@ impl Item for ViewField {
 
     ghost field = { view_field };
 
-    ghost fits = { IsView };
+    ghost fits = { IsEncodableView };
 
     fn item_length(value: &View) -> u64 {
         view_length(value)
@@ -33,7 +33,7 @@ impl Readable for ViewField {
 
     ghost field = { view_field };
 
-    ghost fits = { IsView };
+    ghost fits = { IsEncodableView };
 
     ghost at = { view_at };
 
