@@ -273,8 +273,8 @@ module _ (t now : Tables) (is : t ≡ now) where
   module _ (leases : List Lease) (same : leases ≡ t.leases) (answer : Bool)
       (answers : IsTrue answer ↔ HasLeases leases t.next_lease) where
     pub no_leases : answer ≡ false → ¬ AreTables now
-    no_leases no = λ are. apart (sym (answers.1 (subst (λ (ls : List Lease). HasLeases ls t.next_lease)
-        (sym same) (has_leases t (subst AreTables (sym is) are)))) ∙ no)
+    no_leases fails = λ are. apart (sym (answers.1 (subst (λ (ls : List Lease). HasLeases ls t.next_lease)
+        (sym same) (has_leases t (subst AreTables (sym is) are)))) ∙ fails)
 
     leases_are : IsTrue answer → HasLeases t.leases t.next_lease
     leases_are found =
@@ -283,8 +283,8 @@ module _ (t now : Tables) (is : t ≡ now) where
   module _ (views : List View) (same : views ≡ t.views) (answer : Bool)
       (answers : IsTrue answer ↔ HasViews views t.next_view) where
     pub no_views : answer ≡ false → ¬ AreTables now
-    no_views no = λ are. apart (sym (answers.1 (subst (λ (vs : List View). HasViews vs t.next_view)
-        (sym same) (has_views t (subst AreTables (sym is) are)))) ∙ no)
+    no_views fails = λ are. apart (sym (answers.1 (subst (λ (vs : List View). HasViews vs t.next_view)
+        (sym same) (has_views t (subst AreTables (sym is) are)))) ∙ fails)
 
     views_are : IsTrue answer → HasViews t.views t.next_view
     views_are found =
