@@ -1,5 +1,5 @@
 -- Plain values that are tables, and the indexes that are made of them.
-use Rattle.std.proofs.Common.{◌≡◌, ◌≢◌, ◌∙◌, ◌⊎◌, ◌↔◌, ◌+◌, ◌-◌, ◌<◌, ◌≤◌, ◌++◌, inl, inr, refl, sym, ap, subst, ℕ, Bool, true, false, List, [], ◌∷◌, length, map, take, All, AllPairs, Contains, IsSome, IsTrue, Result, Ok, Err, arith}
+use Rattle.std.proofs.Common.{◌≡◌, ◌≢◌, ◌∙◌, ◌⊎◌, ◌↔◌, ◌+◌, ◌-◌, ◌<◌, ◌≤◌, ◌++◌, inl, inr, sym, ap, subst, ℕ, Bool, true, false, List, [], ◌∷◌, length, map, All, AllPairs, Contains, IsSome, IsTrue, Result, Ok, Err, arith}
 use Rattle.std.specs.Prelude.{Any, IfOk}
 use Rattle.std.specs.Cmp.{nat_cmp_is}
 use Rattle.std.specs.List.{range_with_len}
@@ -8,7 +8,7 @@ use Rattle.std.proofs.lemmas.List.Sorted.{IsPermutation-sym}
 use Rattle.std.specs.Ordering.{nat_cmp}
 use Rattle.std.specs.declared.cmp.Ordering.TheVariants.{Less, Equal, Greater}
 use Rattle.std.proofs.lemmas.Bool.{cases_lt, false_from_ne_true}
-use Rattle.std.proofs.lemmas.List.{length-map, take_more}
+use Rattle.std.proofs.lemmas.List.{length-map}
 use Rattle.std.proofs.lemmas.List.Elements.{All-head, All-tail}
 use Rattle.small_types.specs.declared.limits.TheConstants.{APPLICATION_LIMIT, FILE_COUNT_LIMIT, LEASE_LIMIT, NUMBER_LIMIT, VIEW_LIMIT}
 use Rattle.identity.specs.declared.key.Key.{Key}
@@ -19,7 +19,7 @@ use Rattle.machine.specs.declared.app.AppState.{AppState}
 use Rattle.machine.specs.declared.lease.Lease.{Lease}
 use Rattle.machine.specs.Blocks.{standing_files}
 use Rattle.machine.specs.Entries.{AreInOrder, IsBelowAll, key_cmp}
-use Rattle.machine.proofs.Members.{In, all_in, contains_in, in_all, in_contains, in_map, map_in, pairs_head, pairs_map, pairs_tail, pairs_weaker}
+use Rattle.machine.proofs.Members.{all_in, contains_in, in_all, in_contains, in_map, map_in, pairs_head, pairs_map, pairs_tail, pairs_weaker}
 use Rattle.machine.proofs.Places.{rising}
 use Rattle.store_state.specs.declared.sign.Sign.{Sign}
 use Rattle.store_state.specs.declared.view.Content.{Content}
@@ -87,7 +87,7 @@ pairs_order : (apps : List AppState)
 pairs_order [] pairs = tt
 pairs_order (app ∷ apps) pairs = (
   below_each app.key apps
-  (pairs_head (λ (a b : AppState). key_cmp a.key b.key ≡ Less) app apps pairs),
+      (pairs_head (λ (a b : AppState). key_cmp a.key b.key ≡ Less) app apps pairs),
   pairs_order apps (pairs_tail (λ (a b : AppState). key_cmp a.key b.key ≡ Less) app apps pairs),
 )
 

@@ -1,11 +1,10 @@
 -- The weight of the tables of a store is far below what a number can say.
-use Rattle.std.proofs.Common.{◌≡◌, ◌∙◌, ◌<◌, ◌≤◌, ◌+◌, ◌-◌, ◌*◌, ◌/◌, ◌^◌, ◌&&◌, sym, ap, ℕ, Bool, true, false, not, List, All, IfSome, Option, Some, None, length, map, sum_by, arith}
+use Rattle.std.proofs.Common.{◌≡◌, ◌<◌, ◌≤◌, ◌-◌, ◌*◌, ◌^◌, ◌&&◌, ap, ℕ, Bool, true, false, not, List, All, IfSome, Option, Some, None, length, map, sum_by, arith}
 use Rattle.std.specs.Prelude.{Any}
 use Rattle.std.proofs.lemmas.List.Sums.{sum_by-le}
 use Rattle.std.proofs.lemmas.Nat.{mul-le}
-use Rattle.small_types.specs.declared.limits.TheConstants.{APPLICATION_LIMIT, FILE_COUNT_LIMIT, FILE_SIZE_LIMIT, IDENTITY_PART_LIMIT, NAME_LIMIT, URL_LIMIT, VIEW_LIMIT}
+use Rattle.small_types.specs.declared.limits.TheConstants.{APPLICATION_LIMIT, FILE_COUNT_LIMIT, FILE_SIZE_LIMIT, NAME_LIMIT, URL_LIMIT, VIEW_LIMIT}
 use Rattle.small_types.specs.declared.target.Target.{Target}
-use Rattle.small_types.specs.Name.{IsName}
 use Rattle.small_types.specs.Short.{IsShort, IsTarget}
 use Rattle.identity.specs.declared.identity.Identity.{Identity}
 use Rattle.identity.specs.declared.key.Key.{Key}
@@ -16,11 +15,11 @@ use Rattle.manifests.specs.declared.facts.FileEntry.{FileEntry}
 use Rattle.manifests.specs.Applications.{size_limit}
 use Rattle.manifests.specs.Facts.{IsFile}
 use Rattle.machine.specs.declared.app.AppState.{AppState}
-use Rattle.machine.specs.Blocks.{blocks_of, standing_files}
+use Rattle.machine.specs.Blocks.{standing_files}
 use Rattle.machine.specs.Shape.{BareView}
 use Rattle.machine.specs.Views.{ContentKey, standing_entries, stands_by}
 use Rattle.machine.proofs.Mapping.{flat_map_in}
-use Rattle.machine.proofs.Members.{all_in, contains_in, filter_in, in_all, map_in}
+use Rattle.machine.proofs.Members.{all_in, filter_in, map_in}
 use Rattle.store_state.specs.declared.view.Content.{Content}
 use Rattle.store_state.specs.declared.view.LocalFile.{LocalFile}
 use Rattle.store_state.specs.declared.view.View.{View}
@@ -30,11 +29,11 @@ use Rattle.store_state.specs.Contents.{is_content_of}
 use Rattle.store_state.specs.Kept.{AreTables}
 use Rattle.store_state.specs.Tables.{Tables, bare_row}
 use Rattle.store_state.proofs.Keyed.{any_in, of_key}
-use Rattle.record_fields.specs.Values.{AreDigests, IsEncodableApplication, IsEncodableDeployment, IsEncodableEntry, IsEncodableIdentity}
+use Rattle.record_fields.specs.Values.{IsEncodableApplication, IsEncodableDeployment, IsEncodableEntry, IsEncodableIdentity}
 use Rattle.record_fields.proofs.Sizes.{name_le}
 use Rattle.record_codec.specs.Values.{IsEncodableContent, IsEncodableLocal, IsEncodableView}
 use Rattle.table_codec.specs.Values.{IsEncodableApp, IsEncodableState}
-use Rattle.table_codec.specs.Weight.{app_weight, application_bytes, block_cost, content_weight, counted, deployment_bytes, digests_weight, file_weight, group_weight, identity_bytes, key_bytes, local_weight, target_bytes, view_weight, weight_of, weight_with}
+use Rattle.table_codec.specs.Weight.{app_weight, application_bytes, block_cost, content_weight, counted, deployment_bytes, file_weight, group_weight, identity_bytes, key_bytes, local_weight, target_bytes, view_weight, weight_of, weight_with}
 
 sum_few : {A : Type 0} (w : A → ℕ) (P : A → Type 0) (most n : ℕ) (xs : List A)
     → ((x : A) → P x → w x ≤ most) → length xs ≤ n → All P xs → sum_by w xs ≤ n * most

@@ -1,18 +1,16 @@
 -- Tables are read just as they are spelled.
-use Rattle.std.proofs.Common.{◌≡◌, ℕ, ◌≤◌, List, ◌++◌, length, Option, Ok, refl, ap, arith}
+use Rattle.std.proofs.Common.{◌≡◌, ℕ, ◌≤◌, List, ◌++◌, length, Ok, refl, ap, arith}
 use Rattle.std.specs.Prelude.{All, IfSome}
 use Rattle.small_types.specs.declared.limits.TheConstants.{APPLICATION_LIMIT, FILE_COUNT_LIMIT, LEASE_LIMIT, VIEW_LIMIT}
-use Rattle.small_types.specs.declared.target.Target.{Target}
 use Rattle.small_types.specs.Reading.{◌>>=◌}
 use Rattle.small_types.specs.Short.{IsTarget}
-use Rattle.identity.specs.Key.{IsShortKey}
 use Rattle.identity.specs.Version.{IsVersion}
 use Rattle.machine.specs.declared.app.AppState.{AppState}
 use Rattle.machine.specs.declared.lease.Lease.{Lease}
 use Rattle.store_state.specs.Tables.{Tables}
-use Rattle.record_fields.specs.Fields.{key_field, version_field}
+use Rattle.record_fields.specs.Fields.{version_field}
 use Rattle.record_fields.specs.Parts.{list_at, option_at, target_at, truth_at}
-use Rattle.record_fields.specs.Reading.{key_at, version_at}
+use Rattle.record_fields.specs.Reading.{version_at}
 use Rattle.record_fields.specs.Reads.{ReadsField}
 use Rattle.record_fields.specs.Spelling.{list_field, option_field, target_field, truth_field}
 use Rattle.record_fields.proofs.Forms.{truth_reads}

@@ -1,6 +1,6 @@
 -- The encoding of tables is at most what they weigh, where a file counts the bytes that are spelled
 -- of it.
-use Rattle.std.proofs.Common.{◌≡◌, ℕ, ◌+◌, ◌*◌, ◌≤◌, List, [], ◌∷◌, ◌++◌, All, IfSome, Option, Some, None, length, flat_map, sum_by, refl, arith}
+use Rattle.std.proofs.Common.{ℕ, ◌+◌, ◌*◌, ◌≤◌, List, [], ◌∷◌, ◌++◌, All, IfSome, Option, Some, None, length, flat_map, sum_by, arith}
 use Rattle.std.specs.Int.{to_be_bytes, w16, w64}
 use Rattle.std.proofs.Math.Nat.{mul_comm}
 use Rattle.std.proofs.lemmas.List.{length-append}
@@ -8,7 +8,7 @@ use Rattle.std.proofs.lemmas.List.Elements.{All-head, All-tail}
 use Rattle.std.proofs.lemmas.List.Sums.{sum_by-cons}
 use Rattle.small_types.specs.declared.limits.TheConstants.{LEASE_LIMIT, NAME_LIMIT}
 use Rattle.small_types.specs.declared.target.Target.{Target}
-use Rattle.small_types.specs.Short.{IsShort, IsTarget}
+use Rattle.small_types.specs.Short.{IsShort}
 use Rattle.identity.specs.declared.identity.Identity.{Identity}
 use Rattle.identity.specs.Version.{IsVersion}
 use Rattle.identity.specs.declared.version.Version.{Version}
@@ -32,7 +32,7 @@ use Rattle.record_codec.specs.Spelling.{content_field, local_field, view_field}
 use Rattle.record_codec.specs.Values.{IsEncodableContent, IsEncodableLocal, IsEncodableView}
 use Rattle.table_codec.specs.Spelling.{app_field, lease_field, lists_field, number_field, rest_field, state_text}
 use Rattle.table_codec.specs.Values.{IsEncodableApp, IsEncodableLease, IsEncodableState, IsWide}
-use Rattle.table_codec.specs.Weight.{app_weight, application_bytes, content_weight, counted, deployment_bytes, digests_weight, file_weight, group_weight, identity_bytes, key_bytes, local_weight, spelled_cost, target_bytes, view_weight, weight_with}
+use Rattle.table_codec.specs.Weight.{app_weight, application_bytes, content_weight, counted, deployment_bytes, file_weight, group_weight, identity_bytes, key_bytes, local_weight, spelled_cost, target_bytes, view_weight, weight_with}
 
 -- ---- lists and options
 

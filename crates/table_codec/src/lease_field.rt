@@ -1,5 +1,5 @@
 // Leases.
-ghost use Rattle.std.specs.Prelude.{◌≡◌, ◌+◌, ◌≤◌, length};
+ghost use Rattle.std.specs.Prelude.{◌+◌, ◌≤◌, length};
 ghost use Rattle.record_fields.specs.Places.{WritesField};
 ghost use Rattle.table_codec.specs.Spelling.{lease_field};
 

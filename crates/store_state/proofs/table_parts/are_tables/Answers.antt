@@ -15,7 +15,7 @@ pub returns-then-apps-gt-APPLICATION_LIMIT : goal.returns-then-apps-gt-APPLICATI
 returns-then-apps-gt-APPLICATION_LIMIT c = (
   λ no. absurd cc,
   λ are. absurd (elim c.then-apps-gt-APPLICATION_LIMIT.branch [
-    then-apps-gt-APPLICATION_LIMIT-via-then-apps-gt-APPLICATION_LIMIT w ↦
+    | then-apps-gt-APPLICATION_LIMIT-via-then-apps-gt-APPLICATION_LIMIT w ↦
         too_many _ c.args.parts.now c.parts.view_is c.as_slice-apps.result.now
         c.as_slice-apps.ensures w.if-apps-gt-APPLICATION_LIMIT.true are
     | then-apps-gt-APPLICATION_LIMIT-via-else-apps-gt-APPLICATION_LIMIT+then-not-have_views w ↦

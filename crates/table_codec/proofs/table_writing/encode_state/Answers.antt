@@ -8,9 +8,9 @@ pub returns-clause-length : goal.returns-clause-length
 unfolding state_text
 returns-clause-length c =
     let whole =
-        then c.write_u64-next.ensures
-        (then c.write_u64-next-2.ensures
-        (then c.write_u64-next-3.ensures c.write_lists.ensures))
+    then c.write_u64-next.ensures
+    (then c.write_u64-next-2.ensures
+    (then c.write_u64-next-3.ensures c.write_lists.ensures))
     in
     let behind = whole.behind in
     omega arith
