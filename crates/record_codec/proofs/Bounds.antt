@@ -24,7 +24,7 @@ use Rattle.record_fields.proofs.Bounds.{application_le, deployment_le, digests_l
 
 -- ---- views and their files
 
-content_le : (c : Content) → IsEncodableContent c → length (content_field c) ≤ 4294967863
+pub content_le : (c : Content) → IsEncodableContent c → length (content_field c) ≤ 4294967863
 unfolding content_field
 content_le c is =
     let s = to_be_bytes w64 c.size in
@@ -53,7 +53,7 @@ local_le f is =
       length-append s (text_field f.held),
     )
 
-view_le : (v : View) → IsEncodableView v → length (view_field v) ≤ 70368769999999
+pub view_le : (v : View) → IsEncodableView v → length (view_field v) ≤ 70368769999999
 unfolding view_field
 view_le v is =
     let n = to_be_bytes w64 v.number in

@@ -28,8 +28,9 @@ pub(crate) fn local_length(local: &LocalFile) -> u64
     name_length(&local.name) + 8 + bytes_length(local.held.as_slice())
 }
 
+/// How many bytes a view takes.
 #[tactic(auto, using(record_fields::proofs::Long::lengths), unfolding(crate::specs::Spelling::view_field))]
-fn view_length(view: &View) -> u64
+pub fn view_length(view: &View) -> u64
     requires { length (view_field view.now) < 2 ^ 63 }
     ensures { result ≡ length (view_field view.now) }
 {

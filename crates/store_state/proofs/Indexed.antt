@@ -161,7 +161,7 @@ same_decides a b = (
     is_equal Equal e = refl
     is_equal Greater e = absurd cc
 
-differ_moved : (xs ys : List Sign) → IsPermutation xs ys → AllPairs (λ (a b : Sign). a ≢ b) xs
+pub differ_moved : (xs ys : List Sign) → IsPermutation xs ys → AllPairs (λ (a b : Sign). a ≢ b) xs
     → AllPairs (λ (a b : Sign). a ≢ b) ys
 differ_moved xs ys moved differ =
     AllPairs-from_IsDistinct same_decides ys

@@ -6,6 +6,7 @@ pub mod Current
 pub mod Drops
 pub mod Edited
 pub mod Firsts
+pub mod FromParts
 pub mod GroupShown
 pub mod Growing
 pub mod Holding

@@ -7,6 +7,7 @@ pub mod Locals
 pub mod Marks
 pub mod Named
 pub mod Notes
+pub mod Parts
 pub mod Places
 pub mod Rows
 pub mod Shows

@@ -23,6 +23,7 @@ mod numbers;
 mod reading;
 mod sign;
 mod state;
+mod table_parts;
 mod view;
 mod views;
 
@@ -37,4 +38,5 @@ pub use laws::{
 };
 pub use lease_list::LeaseList;
 pub use state::{StateFault, StoreState};
+pub use table_parts::{PartsFault, TableParts};
 pub use view::{Content, LocalFile, Stored, View, is_in_group};

@@ -1,5 +1,5 @@
-//! Tests of the tables, of their changes as bytes, of what a clean takes, and of lines and
-//! replies.
+//! Tests of the tables, of their changes and of themselves as bytes, of what a clean takes, and of
+//! lines and replies.
 #![tactic(auto)]
 
 #[cfg(test)]
@@ -10,3 +10,5 @@ mod command_text_tests;
 mod record_codec_tests;
 #[cfg(test)]
 mod store_state_tests;
+#[cfg(test)]
+mod table_codec_tests;

@@ -1,0 +1,6 @@
+mod Bounds
+mod Judged
+mod Light
+mod Tables
+mod Whole
+mod Within
