@@ -1,4 +1,5 @@
-//! Tests of the devices in memory, of what a device notes, and of both logs: that calls succeed and fail by their numbers.
+//! Tests of the devices in memory, of what a device notes, of the file store and of both logs: that calls succeed and fail
+//! by their numbers.
 #![tactic(auto)]
 
 #[cfg(test)]
@@ -7,6 +8,8 @@ mod call_record_tests;
 mod connections_tests;
 #[cfg(test)]
 mod disks_tests;
+#[cfg(test)]
+mod file_store_tests;
 #[cfg(test)]
 mod folders_tests;
 #[cfg(test)]
