@@ -1,7 +1,7 @@
 // What no clause says of a file store, and of a draft as a basket: that their calls answer, and
 // worked values.
 ghost use Rattle.std.specs.Prelude.{◌≡◌, ◌∷◌, ◌++◌, [], length, IfOk, OnOk};
-ghost use Rattle.file_store.specs.Stores.{AreUsed, blocks_of, filled_of, size_of};
+ghost use Rattle.file_store.specs.Stores.{AreUsed, draft_blocks, filled_of, draft_size};
 
 use crate::made::{bytes, numbers};
 use disks::{Disk, MemDisk};
@@ -70,10 +70,10 @@ fn write_twice(
     content: &Content,
 ) -> Result<[(u64, u64); 2], FileFault>
     requires empty { filled_of draft.old ≡ 0 }
-    requires size { size_of draft.old ≡ 5000 }
+    requires size { draft_size draft.old ≡ 5000 }
     ensures filled { OnOk result (filled_of draft.new ≡ 5000) }
-    ensures size { size_of draft.new ≡ size_of draft.old }
-    ensures blocks { blocks_of draft.new ≡ blocks_of draft.old }
+    ensures size { draft_size draft.new ≡ draft_size draft.old }
+    ensures blocks { draft_blocks draft.new ≡ draft_blocks draft.old }
     ensures store { store.new ≡ store.old }
 {
     store.store_piece(disk, draft, &content.front)?;
@@ -167,9 +167,9 @@ fn seal_both(
     first: Draft,
     second: Draft,
 ) -> Result<bool, FileFault>
-    requires first { filled_of first ≡ size_of first }
-    requires second { filled_of second ≡ size_of second }
-    requires used { AreUsed store.old (blocks_of first ++ blocks_of second) }
+    requires first { filled_of first ≡ draft_size first }
+    requires second { filled_of second ≡ draft_size second }
+    requires used { AreUsed store.old (draft_blocks first ++ draft_blocks second) }
 {
     let drafts = both(alloc, first, second)?;
     let result = store.seal_all(disk, drafts);
