@@ -296,15 +296,10 @@ module _ {S K D L : Type 0} (source : SourceGhosts S) (on : Ghosts D) (net : Lin
   unopened_lines SinkFault end = absurd end
   unopened_lines TooMuchInput end = absurd end
 
--- what it wrote
-abbrev Spent : {D : Type 0} → Ghosts D → ℕ → ℕ → D → D → Store → Status → Type 0
-Spent on boot now old new store status = (more : ℕ) × CostsBegun now (session_over store) (begun_by boot status) more
-    × ((on.total new ≤ on.total old + 0 + more) ⊎ ((code_of status ≡ 6) × (◌≡◌ {A = List ReportLine} [] [])))
-
 -- and its run
 pub unopened_run : {S K D L : Type 0} (to : SinkGhosts K) (on : Ghosts D) (net : LinksGhosts L) (boot now : ℕ) (s : S) (k : K) (l : L) (old new : D) (status : Status) → IsOpeningEnd status
     → (on.tells new → status ≡ NotAStore → StandsForNone (on.seen old)) → (status ≢ DiskFault → on.moment new ≤ on.moment old + 1) → (status ≢ DiskFault → on.seen new ≡ on.seen old)
-    → (on.tells new → (store : Store) → StandsFor (on.seen old) store → status ≢ Memory → (more : ℕ) × CostsBegun now (session_over store) (begun_by boot status) more × (on.total new ≤ on.total old + more))
+    → (on.tells new → (store : Store) → StandsFor (on.seen old) store → (more : ℕ) × CostsBegun now (session_over store) (begun_by boot status) more × (on.total new ≤ on.total old + more))
     → HeadlineRun to on net now (code_of status) (devices_of s k old l) (devices_of s k new l) (report_of [] (begun_by boot status))
 unopened_run to on net boot now s k l old new status end no_store within reads costs = record {
   leads = λ told store stands. record {
@@ -314,9 +309,9 @@ unopened_run to on net boot now s k l old new status end no_store within reads c
     last = on.moment old + 1;
     bytes = 0;
     walk = (refl, refl, refl, refl);
-    more = (spent store status end (costs told store stands.stands)).0;
-    begins = (spent store status end (costs told store stands.stands)).1;
-    written = (spent store status end (costs told store stands.stands)).2;
+    more = (costs told store stands.stands).0;
+    begins = (costs told store stands.stands).1;
+    written = omega (arith, (costs told store stands.stands).2);
     calls = made status end (λ is. no_store told is store stands.stands) within;
     behind = l;
     downs = tt;
@@ -325,19 +320,6 @@ unopened_run to on net boot now s k l old new status end no_store within reads c
   output = λ told. record { whole = λ other. sym (append-nil (to.taken k)); part = λ three. absurd (not_three status end three) };
 }
   where
-    by : (store : Store) (status : Status) → (status ≡ Memory → ⊥) → (status ≢ Memory → (more : ℕ) × CostsBegun now (session_over store) (begun_by boot status) more × (on.total new ≤ on.total old + more)) → Spent on boot now old new store status
-    by store status other costs = let c = costs other in (c.0, c.1, inl (omega (arith, c.2)))
-
-    spent : (store : Store) (status : Status) → IsOpeningEnd status → (status ≢ Memory → (more : ℕ) × CostsBegun now (session_over store) (begun_by boot status) more × (on.total new ≤ on.total old + more)) → Spent on boot now old new store status
-    spent store Memory end costs = (0, refl, inr (refl, refl))
-    spent store NotAStore end costs = by store NotAStore (λ is. cc (is)) costs
-    spent store DiskFault end costs = by store DiskFault (λ is. cc (is)) costs
-    spent store Done end costs = absurd end
-    spent store Words end costs = absurd end
-    spent store SourceFault end costs = absurd end
-    spent store SinkFault end costs = absurd end
-    spent store TooMuchInput end costs = absurd end
-
     not_three : (status : Status) → IsOpeningEnd status → code_of status ≡ 3 → ⊥
     not_three Memory end three = omega arith
     not_three NotAStore end three = omega arith

@@ -130,7 +130,7 @@ module _ {S K D L : Type 0} (from : SourceGhosts S) (to : SinkGhosts K) (on : Gh
           calls = λ other. inl (end.calls other);
           more = end.more;
           begins = end.begins;
-          written = inl end.written;
+          written = end.written;
           downs =
               downs_are_counted net old.links (origin_over now store) new.course.lines.items end.session end.behind
               (walk_served net (net.links old.links) (origin_over now store) (on.moment disk + 1) old.links new.course.lines.items end.session end.last end.bytes end.behind end.walk);

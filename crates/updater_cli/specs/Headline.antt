@@ -112,9 +112,8 @@ MadeCalls status old new lines last =
 -- The report's lines are one walk from a new session over the store to this session, which is
 -- sound; each line holds what is said of it. Unless the disk failed, which is status 4, the reads
 -- then stand for its store. No more bytes are written than the changes of the lines take in the
--- journal, and that of the event that was begun; where there was no memory before a line was run,
--- nothing is said of it. Where a reply says of a link that it failed, the number of failures rose
--- with the line.
+-- journal, and that of the event that was begun. Where a reply says of a link that it failed, the
+-- number of failures rose with the line.
 pub record LeadsTo {S K D L : Type 0} (on : Ghosts D) (net : LinksGhosts L) (now status : ℕ)
     (old new : Devices S K D L) (report : Report) (store : Store) : Type 0 where
   pub session : Session
@@ -128,8 +127,7 @@ pub record LeadsTo {S K D L : Type 0} (on : Ghosts D) (net : LinksGhosts L) (now
   pub calls : MadeCalls status (on.moment old.disk) (on.moment new.disk) report.lines last
   pub more : ℕ
   pub begins : CostsBegun (moment_behind now report.lines) session report.begun more
-  pub written : (on.total new.disk ≤ on.total old.disk + bytes + more)
-      ⊎ ((status ≡ code_of Memory) × (report.lines ≡ []))
+  pub written : on.total new.disk ≤ on.total old.disk + bytes + more
   pub downs : DownsAreCounted (failures_of (net.links old.links)) report.lines
   pub begun : IsBegunServed net (moment_behind now report.lines) session behind
       report.begun new.links
