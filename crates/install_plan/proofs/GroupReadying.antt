@@ -35,6 +35,7 @@ use Rattle.install_plan.specs.GroupAsked.{AreBrought, GroupServed}
 use Rattle.install_plan.specs.GroupReady.{GroupStep, HasBrought, IsGroupOver, IsGroupReady, address_in, ungrouped}
 use Rattle.install_plan.proofs.Aligning.{contents_for, count_for, keys_for, whole_for}
 use Rattle.install_plan.proofs.Coming.{brings_group}
+use Rattle.install_plan.proofs.Downs.{counts_none}
 use Rattle.install_plan.proofs.GroupOver.{by_effect}
 use Rattle.install_plan.proofs.GroupServing.{asks, at_addresses, at_places, entries, memory_behind, passes_all, served_of}
 use Rattle.install_plan.proofs.GroupStanding.{led_brought, led_grouped, led_other}
@@ -172,6 +173,7 @@ module _ (room : Room) (tables : Tables) (lease : ℕ) (group : List ℕ) (view 
     ready = record {
       kept = got.fetched.kept;
       still = λ now. refl;
+      downs = counts_none refl;
       of = (refl, few_contents);
       fits = fits;
       step = λ now image old idle shows sound. step image old idle shows sound now;

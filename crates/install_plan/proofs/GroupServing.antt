@@ -36,6 +36,7 @@ use Rattle.install_plan.specs.GroupReady.{AreLacking, AreUnasked, IsGroupOver, I
 use Rattle.install_plan.specs.Hearing.{WereGiven}
 use Rattle.install_plan.proofs.Aligning.{IsAmong, among, contents_for, given_for}
 use Rattle.install_plan.proofs.Asking.{same_oks}
+use Rattle.install_plan.proofs.Downs.{counts_none, group_counts}
 use Rattle.install_plan.proofs.Extends.{ungiven_end}
 use Rattle.install_plan.proofs.GroupOver.{bad_url_over, by_refusal, full_over, has_group, memory_over, need_is, of_view, over_by, reached}
 use Rattle.install_plan.proofs.LeasedRows.{IsLeased, lease_lives, view_valid}
@@ -158,7 +159,7 @@ module _ (room : Room) (tables : Tables) (lease : ℕ) (group : List ℕ) (view 
           → addresses wanted ≡ asked ++ rest
           → IsGroupOver room tables lease group a c says.Memory
       memory_behind asked rest grown front =
-          over_by room tables lease group a c says.Memory kept (λ now. refl)
+          over_by room tables lease group a c says.Memory kept (λ now. refl) (counts_none refl)
           (λ now image old idle shows sound. record {
             answers = inl (inl (refl, refl));
             served = served_of a c says.Memory asked rest kept (view_valid shows leased sound) grown
@@ -240,6 +241,8 @@ module _ (room : Room) (tables : Tables) (lease : ℕ) (group : List ℕ) (view 
         pub links_over : IsGroupOver room tables lease group a c (says.AllLinks named reasons)
         links_over =
             over_by room tables lease group a c (says.AllLinks named reasons) kept (λ now. refl)
+            (group_counts a c kept (table_shape room tables) group asked named reasons (bare_row view)
+            lacks)
             (λ now image old idle shows sound. (
             let is = view_valid shows leased sound in
             let passed = passes_room is in

@@ -32,6 +32,7 @@ use Rattle.links.specs.Links.{LinksState}
 use Rattle.fetcher.specs.Fetched.{Kept}
 use Rattle.install_plan.specs.declared.plan.WantedFile.{WantedFile}
 use Rattle.install_plan.specs.Checks.{LedBy}
+use Rattle.install_plan.specs.Downs.{CountsDowns}
 use Rattle.install_plan.specs.FetchedFiles.{HasFetched, IsStopped}
 use Rattle.install_plan.specs.GroupAsked.{AreBrought, GroupServed}
 use Rattle.install_plan.specs.Judges.{Refused, room_checks}
@@ -133,6 +134,7 @@ pub record IsGroupReady (room : Room) (tables : Tables) (lease : ℕ) (group : L
     (before after : LinksState) (change : Change) (reply : Reply) : Type 0 where
   pub kept : Kept before after
   pub still : (now : ℕ) → moment_after now (Some reply) ≡ now
+  pub downs : CountsDowns before after reply
   pub of : IsOfGroup group change
   pub fits : Fits tables change
   pub step : GroupsTo room tables lease group before after reply (LedBy room tables change)
@@ -142,4 +144,5 @@ pub record IsGroupOver (room : Room) (tables : Tables) (lease : ℕ) (group : Li
     (before after : LinksState) (reply : Reply) : Type 0 where
   pub kept : Kept before after
   pub still : (now : ℕ) → moment_after now (Some reply) ≡ now
+  pub downs : CountsDowns before after reply
   pub step : GroupsTo room tables lease group before after reply (λ old new. new ≡ old)

@@ -26,6 +26,7 @@ use Rattle.install_plan.specs.Hearing.{Served}
 use Rattle.install_plan.specs.Plans.{IsRefused}
 use Rattle.install_plan.specs.Ready.{IsReady, IsStep}
 use Rattle.install_plan.specs.LeadsIn.{LeadsIn}
+use Rattle.install_plan.proofs.Downs.{counts_none, install_counts}
 use Rattle.updater.specs.declared.fault.StepFault.{StepFault}
 use Rattle.updater.specs.declared.updater.Updater.{Updater}
 use Rattle.updater.specs.Answer.{IsAnswer}
@@ -124,6 +125,7 @@ module _ {D L : Type 0} (on : Ghosts D) (net : LinksGhosts L) (now : ℕ) (url :
       rested on net now heard (Install url) updater disk links_old links_new seen_left moment
       (record { kept = refused.served.hearing.kept; left = tt; hears = refused.hears }) reply
       (refused_moment now url heard (table_shape (room_of updater) (tables_of updater)) reply moment refused.refused)
+      (install_counts (table_shape (room_of updater) (tables_of updater)) url heard (net.links links_old) (net.links links_new) reply refused.served)
       (refused_rests now url heard (net.links links_old) (net.links links_new) updater (on.seen disk) moment reply refused)
 
   -- all was fetched, and the change was tried
@@ -136,7 +138,8 @@ module _ {D L : Type 0} (on : Ghosts D) (net : LinksGhosts L) (now : ℕ) (url :
       let after = net.links links_new in
       kept on net now heard (Install url) updater disk links_old links_new seen_left moment linked change reply
       (ready_moment now url heard before after updater (on.seen disk) moment change reply ready)
+      (install_counts (table_shape (room_of updater) (tables_of updater)) url heard before after reply ready.served)
       (ready_does now url heard before after updater (on.seen disk) moment change reply ready)
-      (rested on net now heard (Install url) updater disk links_old links_new seen_left moment linked says.Memory moment
+      (rested on net now heard (Install url) updater disk links_old links_new seen_left moment linked says.Memory moment (counts_none refl)
       (missed_rests now url heard before after updater (on.seen disk) moment (ready_served now url heard before after updater (on.seen disk) moment change reply ready)))
       updater_new disk_new tried result keeps is
