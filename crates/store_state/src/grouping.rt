@@ -5,7 +5,6 @@ ghost use Rattle.store_state.specs.declared.change.Change.TheVariants as change;
 ghost use Rattle.store_state.specs.Change.{FitsGroup, effect, grown};
 ghost use Rattle.store_state.specs.Rows.{row_at};
 
-use crate::installing::{append, cut};
 use crate::sign::add_places;
 use crate::views::place_of_view;
 use crate::{Content, StateFault, StoreState, View};
@@ -41,10 +40,10 @@ impl StoreState {
         };
         let held = self.contents.as_slice().len();
         self.index.reserve(contents.as_slice().len())?;
-        append(alloc, &mut self.contents, contents)?;
+        self.contents.append(contents)?;
         let done = group_at(alloc, &mut self.views, place, group);
         if let Err(fault) = done {
-            cut(alloc, &mut self.contents, held);
+            self.contents.shorten(held);
             return Err(fault);
         }
         add_places(self.contents.as_slice(), &mut self.index, held);

@@ -1,5 +1,5 @@
 // What an install does to the applications and the rows of the tables.
-ghost use Rattle.std.specs.Prelude.{◌≡◌, ◌<◌, ◌≤◌, [], ◌∷◌, ◌++◌, length, take, slice_set, OnOk, OnErr};
+ghost use Rattle.std.specs.Prelude.{◌≡◌, ◌<◌, ◌≤◌, [], ◌∷◌, ◌++◌, length, slice_set, OnOk, OnErr};
 ghost use Rattle.std.specs.List.{HoldsAt};
 ghost use Rattle.machine.specs.Entries.{fresh, with_entry};
 ghost use Rattle.machine.specs.Installed.{above, installed_app, raised_by};
@@ -139,36 +139,8 @@ fn install_app(
     }
 }
 
-// Keeps so many items.
-pub(crate) fn cut<T: Drop>(alloc: Global, list: &mut List<T>, count: usize)
-    ensures { list.new ≡ take count list.old }
-{
-    let mut items = replace(list, List::from_vec(Vec::new(alloc))).into_vec();
-    items.truncate(count);
-    *list = List::from_vec(items);
-}
-
-// Adds all items at the end. An `Err` changes nothing.
-pub(crate) fn append<T: Drop>(
-    alloc: Global,
-    list: &mut List<T>,
-    more: List<T>,
-) -> Result<(), StateFault>
-    ensures ok { OnOk result (list.new ≡ list.old ++ more) }
-    ensures err { OnErr result (list.new ≡ list.old) }
-{
-    let mut items = replace(list, List::from_vec(Vec::new(alloc))).into_vec();
-    let done = items.append(&mut more.into_vec());
-    *list = List::from_vec(items);
-    match done {
-        Ok(()) => Ok(()),
-        Err(AllocError) => Err(StateFault::Memory),
-    }
-}
-
 // Adds the view and its index, both or neither.
 fn add_view(
-    alloc: Global,
     views: &mut List<View>,
     names: &mut List<List<usize>>,
     view: View,
@@ -184,7 +156,7 @@ fn add_view(
     match names.push(index) {
         Ok(()) => Ok(()),
         Err(AllocFailed { .. }) => {
-            cut(alloc, views, count);
+            views.shorten(count);
             Err(StateFault::Memory)
         }
     }
@@ -192,7 +164,6 @@ fn add_view(
 
 // Adds the view with its index and the contents, all or nothing.
 fn add_rows(
-    alloc: Global,
     views: &mut List<View>,
     names: &mut List<List<usize>>,
     contents: &mut List<Content>,
@@ -209,12 +180,12 @@ fn add_rows(
     ensures same_contents { OnErr result (contents.new ≡ contents.old) }
 {
     let count = views.as_slice().len();
-    add_view(alloc, views, names, view, index)?;
-    match append(alloc, contents, new) {
+    add_view(views, names, view, index)?;
+    match contents.append(new) {
         Ok(()) => Ok(()),
-        Err(StateFault::Memory) => {
-            cut(alloc, views, count);
-            cut(alloc, names, count);
+        Err(AllocError) => {
+            views.shorten(count);
+            names.shorten(count);
             Err(StateFault::Memory)
         }
     }
@@ -250,14 +221,14 @@ pub(crate) fn add_installed(
 {
     let count = views.as_slice().len();
     let held = contents.as_slice().len();
-    add_rows(alloc, views, names, contents, view, index, new)?;
+    add_rows(views, names, contents, view, index, new)?;
     let added = &views.as_slice()[count];
     match install_app(alloc, keys, apps, added, provider, now) {
         Ok(()) => Ok(()),
         Err(StateFault::Memory) => {
-            cut(alloc, views, count);
-            cut(alloc, names, count);
-            cut(alloc, contents, held);
+            views.shorten(count);
+            names.shorten(count);
+            contents.shorten(held);
             Err(StateFault::Memory)
         }
     }

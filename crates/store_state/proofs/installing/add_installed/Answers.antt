@@ -15,17 +15,17 @@ returns-in-Ok-clause-apps c =
 -- what was added is taken out again
 pub returns-in-Err-Memory-clause-same_views : goal.returns-in-Err-Memory-clause-same_views
 returns-in-Err-Memory-clause-same_views c =
-    cut_back c.args.views.now _ c.add_rows.new.views c.cut.new.list (length c.as_slice-count.result.now)
-    (ap (λ (vs : List View). length vs) c.as_slice-count.ensures) c.in_ok-add_rows.ensures.views c.cut.ensures
+    cut_back c.args.views.now _ c.add_rows.new.views c.shorten.new.self (length c.as_slice-count.result.now)
+    (ap (λ (vs : List View). length vs) c.as_slice-count.ensures) c.in_ok-add_rows.ensures.views c.shorten.ensures
 
 pub returns-in-Err-Memory-clause-same_names : goal.returns-in-Err-Memory-clause-same_names
 returns-in-Err-Memory-clause-same_names c =
-    cut_back c.args.names.now _ c.add_rows.new.names c.cut-in-Err-Memory.new.list (length c.as_slice-count.result.now)
+    cut_back c.args.names.now _ c.add_rows.new.names c.shorten-in-Err-Memory.new.self (length c.as_slice-count.result.now)
     (ap (λ (vs : List View). length vs) c.as_slice-count.ensures ∙ sym c.requires.long) c.in_ok-add_rows.ensures.names
-    c.cut-in-Err-Memory.ensures
+    c.shorten-in-Err-Memory.ensures
 
 pub returns-in-Err-Memory-clause-same_contents : goal.returns-in-Err-Memory-clause-same_contents
 returns-in-Err-Memory-clause-same_contents c =
-    cut_back c.args.contents.now _ c.add_rows.new.contents c.cut-in-Err-Memory-2.new.list
+    cut_back c.args.contents.now _ c.add_rows.new.contents c.shorten-in-Err-Memory-2.new.self
     (length c.as_slice-held.result.now) (ap (λ (cs : List Content). length cs) c.as_slice-held.ensures)
-    c.in_ok-add_rows.ensures.contents c.cut-in-Err-Memory-2.ensures
+    c.in_ok-add_rows.ensures.contents c.shorten-in-Err-Memory-2.ensures
