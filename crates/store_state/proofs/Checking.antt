@@ -24,8 +24,8 @@ use Rattle.machine.proofs.Leased.{entry_in}
 use Rattle.machine.proofs.Members.{all_in, contains_in}
 use Rattle.machine.proofs.Places.{found}
 use Rattle.store_state.specs.declared.change.Change.TheVariants.{Heard, Skip, Unheard}
-use Rattle.store_state.specs.declared.noting.Note.{Note}
-use Rattle.store_state.specs.declared.noting.Note.TheVariants as note
+use Rattle.store_state.specs.declared.note.Note.{Note}
+use Rattle.store_state.specs.declared.note.Note.TheVariants as note
 use Rattle.store_state.specs.declared.view.View.{View}
 use Rattle.store_state.specs.Change.{effect}
 use Rattle.store_state.specs.Notes.{noted}
