@@ -3,7 +3,7 @@ use Rattle.updater_cli.specs.declared.status.Status.TheVariants.{Words, SourceFa
 use Rattle.updater_cli.specs.Lines.{place_of}
 use Rattle.updater_cli.proofs.Asking.{rises_none}
 use Rattle.updater_cli.proofs.Whole.{opening_ends, never_opening, unopened_headline, unopened_nothing, unopened_reads, unopened_asks, never_unopened, never_words, opened_reads, opened_writes, opened_asks, opened_headline}
-use Rattle.updater_cli.proofs.opening.session.Goals as goal
+use Rattle.updater_cli.proofs.whole_session.session.Goals as goal
 
 pub returns-in-Err-clause-headline : goal.returns-in-Err-clause-headline
 returns-in-Err-clause-headline g c =

@@ -9,7 +9,7 @@ use Rattle.generated_release.specs.Faults.{fault_of}
 use Rattle.generated_release.specs.SureFolder.{sure_held}
 use Rattle.generated_release.proofs.Refusals.{is_sure}
 use Rattle.generated_release.proofs.Written.{is_refused, written}
-use Rattle.generated_release.proofs.publishing.publish_in.Goals as goal
+use Rattle.generated_release.proofs.published_release.publish_in.Goals as goal
 
 the_fault : (e : ReleaseFault) → ◌≡◌ {A = Result Key ReleaseFault} (Err e) (Err Refused) → e ≡ Refused
 the_fault e is = cc

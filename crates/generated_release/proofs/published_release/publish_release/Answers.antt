@@ -7,7 +7,7 @@ use Rattle.generated_release.specs.Published.{IsWritten}
 use Rattle.generated_release.specs.SureFolder.{sure_held}
 use Rattle.generated_release.proofs.Spelled.{application_spelled, deployment_spelled}
 use Rattle.generated_release.proofs.Written.{application_stands, deployment_stands, is_published}
-use Rattle.generated_release.proofs.publishing.publish_release.Goals as goal
+use Rattle.generated_release.proofs.published_release.publish_release.Goals as goal
 
 pub text_in-requires-clause-name : goal.text_in-requires-clause-name
 text_in-requires-clause-name c = subst IsName (sym c.deployment.ensures) (deployment_spelled c.args.release)

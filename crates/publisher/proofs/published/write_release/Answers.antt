@@ -9,7 +9,7 @@ use Rattle.publisher.proofs.Counting.{counted_after}
 use Rattle.publisher.proofs.Giving.{err_handed_on, err_then, never_reading, on_err, on_error, then_ok, then_err}
 use Rattle.publisher.proofs.NewNames.{files_new, manifest_new}
 use Rattle.publisher.proofs.SecondReads.{part_without_manifests, part_without_deployment, all_of_release}
-use Rattle.publisher.proofs.publishing.write_release.Goals as goal
+use Rattle.publisher.proofs.published.write_release.Goals as goal
 
 pub copy_files-requires-clause-new : goal.copy_files-requires-clause-new
 copy_files-requires-clause-new g c = λ told.

@@ -3,7 +3,7 @@ use Rattle.machine.specs.declared.event.Event.TheVariants.{Boot}
 use Rattle.machine.specs.declared.report.ReportLine.{ReportLine}
 use Rattle.updater.specs.declared.fault.RecoverFault.TheVariants as faults
 use Rattle.updater_cli.proofs.Opened.{no_room, refused_as, kept, changed}
-use Rattle.updater_cli.proofs.opening.open.Goals as goal
+use Rattle.updater_cli.proofs.whole_session.open.Goals as goal
 
 pub returns-in-Err : goal.returns-in-Err
 returns-in-Err g c = no_room g.D.Disk g.L.Links c.args.boot c.args.now c.args.links.now c.args.disk.now

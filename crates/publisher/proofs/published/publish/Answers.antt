@@ -1,6 +1,6 @@
 use Rattle.publish_plan.specs.Early.{early_of}
 use Rattle.publisher.proofs.Promises.{fit_told, options_told, unless_none}
-use Rattle.publisher.proofs.publishing.publish.Goals as goal
+use Rattle.publisher.proofs.published.publish.Goals as goal
 
 pub returns-in_err-check_options : goal.returns-in_err-check_options
 returns-in_err-check_options g c =

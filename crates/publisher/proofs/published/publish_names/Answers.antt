@@ -13,7 +13,7 @@ use Rattle.publisher.proofs.PlanRefusals.{plan_late}
 use Rattle.publisher.proofs.Promises.{stopped, untouched}
 use Rattle.publisher.proofs.PublishSteps.{plan_refused, entries_refused, manifests_refused, refuses_from, device_refuses}
 use Rattle.publisher.proofs.ReleaseFacts.{entries_fit, files_fit}
-use Rattle.publisher.proofs.publishing.publish_names.Goals as goal
+use Rattle.publisher.proofs.published.publish_names.Goals as goal
 
 pub returns-in_err-plan-clause-told : goal.returns-in_err-plan-clause-told
 returns-in_err-plan-clause-told g c = λ told.

@@ -5,7 +5,7 @@ use Rattle.generated_release.specs.declared.files.TheConstants.{FILE_COUNT}
 use Rattle.generated_release.specs.Files.{input_files}
 use Rattle.generated_release.specs.Options.{number_of}
 use Rattle.generated_release.proofs.Apart.{all_differ}
-use Rattle.generated_release.proofs.publishing.input_folder.Goals as goal
+use Rattle.generated_release.proofs.published_release.input_folder.Goals as goal
 
 pub new-requires : goal.new-requires
 new-requires c =

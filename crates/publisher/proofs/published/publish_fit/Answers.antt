@@ -4,7 +4,7 @@ use Rattle.folders.specs.Files.{IsNames}
 use Rattle.folders.proofs.Sorting.{one_list}
 use Rattle.publisher.proofs.Counting.{counted_after}
 use Rattle.publisher.proofs.Promises.{listed_so, unlisted}
-use Rattle.publisher.proofs.publishing.publish_fit.Goals as goal
+use Rattle.publisher.proofs.published.publish_fit.Goals as goal
 
 pub returns-in_err-names-clause-told : goal.returns-in_err-names-clause-told
 returns-in_err-names-clause-told g c = λ told names are.
