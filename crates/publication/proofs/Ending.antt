@@ -3,7 +3,7 @@ use Rattle.std.proofs.Common.{◌≡◌, ◌≢◌, ℕ, true, false, List, Resu
 use Rattle.outside.specs.Streams.{Rose}
 use Rattle.publisher.specs.declared.fault.PublishFault.{PublishFault}
 use Rattle.publisher.specs.declared.fault.PublishFault.TheVariants as fault
-use Rattle.publisher.specs.declared.publishing.Published.{Published}
+use Rattle.publisher.specs.declared.published.Published.{Published}
 use Rattle.publisher.specs.Faults.{FaultsCounted}
 use Rattle.publication.specs.declared.publication.End.{End}
 use Rattle.publication.specs.declared.publication.End.TheVariants as ends

@@ -6,7 +6,7 @@ use Rattle.identity.specs.Version.{version_text}
 use Rattle.manifest_text.specs.Lines.{line, two}
 use Rattle.publication.specs.declared.publication.End.{End}
 use Rattle.publication.specs.declared.publication.End.TheVariants as ends
-use Rattle.publisher.specs.declared.publishing.Published.{Published}
+use Rattle.publisher.specs.declared.published.Published.{Published}
 use Rattle.publisher.specs.declared.fault.PublishFault.{PublishFault}
 use Rattle.publisher.specs.declared.fault.PublishFault.TheVariants.{BadName, MinimumAbove, ReadFault, VersionExists, EmptyInput, BadInput, TooMany, NoEntryPoint, BadMark, FileTooLong, ManifestTooLong, WriteFault, Changed, Memory}
 

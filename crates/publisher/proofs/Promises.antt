@@ -12,7 +12,7 @@ use Rattle.publish_plan.specs.Outcome as plans
 use Rattle.publish_plan.specs.Places.{deployment_name}
 use Rattle.publisher.specs.declared.fault.PublishFault.{PublishFault}
 use Rattle.publisher.specs.declared.fault.PublishFault.TheVariants.{BadName, MinimumAbove, ReadFault, Changed, Memory}
-use Rattle.publisher.specs.declared.publishing.Published.{Published}
+use Rattle.publisher.specs.declared.published.Published.{Published}
 use Rattle.publisher.specs.Changes.{IsLate, ShowsChange}
 use Rattle.publisher.specs.Faults.{FaultsCounted, IsEarly, IsReading, IsRefused, fault_of}
 use Rattle.publisher.specs.Outcome.{KeepsStanding, Leaves, LeavesInput, Refuses}

@@ -8,7 +8,7 @@ use Rattle.publish_plan.specs.Early.{early_of}
 use Rattle.publish_plan.specs.Places.{deployment_name, input_names}
 use Rattle.publisher.specs.declared.fault.PublishFault.{PublishFault}
 use Rattle.publisher.specs.declared.fault.PublishFault.TheVariants.{ReadFault}
-use Rattle.publisher.specs.declared.publishing.Published.{Published}
+use Rattle.publisher.specs.declared.published.Published.{Published}
 use Rattle.publisher.specs.Changes.{ShowsChange}
 use Rattle.publisher.specs.Faults.{FaultsCounted, IsEarly, IsRefused, fault_of}
 use Rattle.publisher.specs.Outcome.{KeepsStanding, Leaves, LeavesInput, Publishes, Refuses}

@@ -6,10 +6,10 @@ mod entries;
 mod fault;
 mod names;
 mod options;
-mod publishing;
+mod published;
 mod release;
 
 pub use fault::PublishFault;
 pub use options::is_publishable;
 pub use publish_plan::{Mark, MarkKind, Options};
-pub use publishing::{Published, publish};
+pub use published::{Published, publish};

@@ -6,10 +6,10 @@ mod demo_end;
 mod laws;
 mod limits;
 mod line;
-mod opening;
 mod session;
 mod status;
 mod top;
+mod whole_session;
 mod words;
 
 pub use demo::DemoFault;
