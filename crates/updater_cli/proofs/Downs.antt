@@ -115,7 +115,8 @@ AsksNothing _ = Unit {0}
 refuse_other : (now : ℕ) (heard : List (List ℕ)) (shape : Shape) (command : Command)
     → AsksNothing command → AllGive NamesNoLinks (refusals now heard shape command)
 refuse_other now heard shape (At next) none = tt
-refuse_other now heard shape (Require key version) none = ((λ r g. ap is_all_links g.1), tt)
+refuse_other now heard shape (Require key version) none =
+    ((λ r g. ap is_all_links g.1), ((λ r g. ap is_all_links g.2), tt))
 refuse_other now heard shape (Install url) none = absurd none
 refuse_other now heard shape (Check key) none = absurd none
 refuse_other now heard shape (Skip key) none = (
@@ -147,7 +148,10 @@ refuse_other now heard shape (Put lease name bytes) none = (
   (λ r g. ap is_all_links g.1),
   (
     (λ r g. ap is_all_links g.1),
-    ((λ r g. ap is_all_links g.1), ((λ r g. ap is_all_links g.2), tt)),
+    (
+      (λ r g. ap is_all_links g.1),
+      ((λ r g. ap is_all_links g.2), ((λ r g. ap is_all_links g.2), tt)),
+    ),
   ),
 )
 refuse_other now heard shape (Remove lease name) none =

@@ -28,7 +28,7 @@ returns-then-putting g c =
     (unlinked g.L.Links command c.args.self.now c.args._links.now) says.Put c.requires.moment
     (λ old s. put_rests c.args.now c.args.lease c.args.self.now.room c.args.name.now
     c.args.bytes.now c.args.self.now.state _ _ _ old s.jobs s.shows s.valid c.requires.words
-    c.requires.moment c.in-Ok.putting (c.in-Ok.ensures.putting _) c.if-putting.true)
+    c.requires.moment c.in-Ok.putting (c.in-Ok.ensures.putting _) s.half c.if-putting.true)
 
 pub keep-requires : goal.keep-requires
 keep-requires g c = (
@@ -52,7 +52,7 @@ returns g c =
     (change.Put c.in-Ok.putting.view c.in-Ok-local_file.file) says.Put c.requires.moment
     (λ old s. put_does c.args.now c.args.lease c.args.self.now.room c.args.name.now
     c.args.bytes.now c.args.self.now.state _ _ _ old s.jobs s.shows s.valid c.requires.words
-    c.requires.moment c.in-Ok.putting (c.in-Ok.ensures.putting _) c.in-Ok-local_file.file
+    c.requires.moment c.in-Ok.putting (c.in-Ok.ensures.putting _) s.half c.in-Ok-local_file.file
     c.in-Ok-local_file.ensures c.puts_show_the_file.ensures
     c.one_data_file_is_changed.ensures.put c.if-putting.false)
     (memory_missed g.D.Disk g.L.Links c.args.now command
