@@ -1,5 +1,5 @@
 -- The weight of a store with one more view.
-use Rattle.std.proofs.Common.{◌≡◌, ◌∙◌, ◌++◌, ◌+◌, refl, sym, ap, ℕ, List, [], ◌∷◌, map, AllPairs, Option, Some, None, arith}
+use Rattle.std.proofs.Common.{◌≡◌, ◌∙◌, ◌++◌, refl, sym, ap, ℕ, List, [], ◌∷◌, map, AllPairs, Option, Some, None, arith}
 use Rattle.std.specs.Prelude.{option_and_then, sum_by}
 use Rattle.std.specs.declared.cmp.Ordering.TheVariants.{Less}
 use Rattle.std.proofs.lemmas.List.{map-append}

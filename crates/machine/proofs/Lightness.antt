@@ -1,8 +1,7 @@
 -- Tables that have room.
-use Rattle.std.proofs.Common.{◌≡◌, ◌≢◌, ◌⊎◌, ◌<◌, ◌≤◌, ◌+◌, inl, inr, ℕ, List, [], arith}
+use Rattle.std.proofs.Common.{◌≡◌, ◌⊎◌, ◌<◌, ◌≤◌, inl, inr, ℕ, [], arith}
 use Rattle.std.proofs.lemmas.Bool.{cases_lt}
 use Rattle.small_types.specs.declared.room.Room.{Room}
-use Rattle.small_types.specs.declared.limits.TheConstants.{HALF_LEAST}
 use Rattle.machine.specs.Laws.{HasLeastHalves}
 use Rattle.machine.specs.Weight.{IsLight, IsTooHeavy, table_room, weight_of}
 

@@ -1,5 +1,5 @@
 -- Fewer data files and fewer views weigh no more.
-use Rattle.std.proofs.Common.{◌≡◌, ◌+◌, ◌*◌, ◌≤◌, refl, ap, ℕ, Bool, true, false, cond, not, eqb, length, List, [], ◌∷◌, map, arith}
+use Rattle.std.proofs.Common.{◌+◌, ◌*◌, ◌≤◌, refl, ap, ℕ, Bool, true, false, cond, not, eqb, List, [], ◌∷◌, map, arith}
 use Rattle.std.specs.Prelude.{filter, sum_by}
 use Rattle.std.proofs.lemmas.List.Filters.{sum_by-filter_both}
 use Rattle.std.proofs.lemmas.List.Sums.{sum_by-cons}

@@ -1,5 +1,5 @@
 -- The data files of a new version without their bytes.
-use Rattle.std.proofs.Common.{◌≡◌, ◌≢◌, ◌∙◌, ◌++◌, ◌≤◌, refl, sym, ap, subst, ℕ, Bool, true, false, cond, not, List, [], ◌∷◌, length, map, All, AllPairs, arith}
+use Rattle.std.proofs.Common.{◌≡◌, ◌≢◌, ◌∙◌, ◌++◌, refl, sym, ap, ℕ, Bool, true, false, cond, not, List, [], ◌∷◌, length, map, All, AllPairs, arith}
 use Rattle.std.specs.Prelude.{filter, flat_map, sum_by}
 use Rattle.std.specs.declared.cmp.Ordering.TheVariants.{Less}
 use Rattle.std.proofs.lemmas.List.{map-append}
@@ -17,7 +17,7 @@ use Rattle.machine.specs.Shape.{BareData, bare_data}
 use Rattle.machine.specs.Sound.{IsWhole}
 use Rattle.machine.specs.Views.{DataFile, ListedFile}
 use Rattle.machine.specs.Weight.{data_weight}
-use Rattle.machine.proofs.Members.{Differ, kept_map, pairs_weaker, sum_map, sum_within}
+use Rattle.machine.proofs.Members.{kept_map, pairs_weaker, sum_map, sum_within}
 use Rattle.machine.proofs.Migrating.{differ, files, migration, migration_is, one_migration}
 use Rattle.machine.proofs.Moving.{copied, files_differ, fresh_file, moved_file}
 use Rattle.machine.proofs.Sorting.{IsNamedOther, in_order, in_order_in, order_in, order_is}

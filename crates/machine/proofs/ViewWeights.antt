@@ -1,5 +1,5 @@
 -- Views without the bytes of their files, of which one is changed.
-use Rattle.std.proofs.Common.{◌≡◌, ◌∙◌, ◌++◌, refl, sym, ap, ℕ, Bool, true, false, cond, eqb, List, [], ◌∷◌, length, map}
+use Rattle.std.proofs.Common.{◌≡◌, ◌∙◌, refl, ap, ℕ, Bool, true, false, cond, eqb, List, [], ◌∷◌, map}
 use Rattle.std.specs.declared.cmp.Ordering.{Ordering}
 use Rattle.std.specs.declared.cmp.Ordering.TheVariants.{Less, Equal, Greater}
 use Rattle.identity.specs.Printed.{text_cmp}
