@@ -8,6 +8,8 @@ use Rattle.outside.specs.Streams.{Rose}
 use Rattle.causes.specs.declared.cause.Cause.{Cause}
 use Rattle.causes.specs.declared.cause.Cause.TheVariants.{Down}
 use Rattle.identity.specs.declared.key.Key.{Key}
+use Rattle.manifests.specs.declared.facts.Application.{Application}
+use Rattle.manifests.specs.declared.facts.Deployment.{Deployment}
 use Rattle.machine.specs.declared.reply.Reply.{Reply}
 use Rattle.machine.specs.declared.reply.Reply.TheVariants as says
 use Rattle.machine.specs.Shape.{BareView, Shape}
@@ -19,7 +21,7 @@ use Rattle.fetcher.proofs.Sequence.{failures_rose}
 use Rattle.install_plan.specs.Checks.{is_missing}
 use Rattle.install_plan.specs.Downs.{CountsDowns, SaysDown}
 use Rattle.install_plan.specs.GroupAsked.{LacksOfGroup}
-use Rattle.install_plan.specs.Hearing.{Accounts, LacksTarget, Served}
+use Rattle.install_plan.specs.Hearing.{Accounts, LacksFile, LacksTarget, Served}
 use Rattle.install_plan.specs.Offers.{AccountsOffer, OfferServed}
 
 -- ---- a reply that names no target
@@ -81,6 +83,16 @@ module _ (before after : LinksState) (kept : Kept before after) where
   check_down key shape asked (says.AllLinks named reasons) accounts there =
       rose_by (IsTextCause MANIFEST_LIMIT named) (λ old new is. is) reasons accounts.1.causes there
   check_down key shape asked _ accounts there = absurd there
+
+  -- no link gave a file of a release
+  pub file_counts : (shape : Shape) (url : List ℕ) (asked : List Target) (named : Target)
+      (reasons : List Cause) (d : Deployment) (a : Application)
+      → LacksFile shape url before after asked named reasons d a
+      → CountsDowns before after (says.AllLinks named reasons)
+  file_counts shape url asked named reasons d a lacks = record {
+    rose = λ there. rose_by (IsFileCause lacks.entry.list lacks.entry.size named)
+        (λ old new is. is) reasons lacks.ungiven.causes there;
+  }
 
   -- no link gave a file of a group
   pub group_counts : (shape : Shape) (group : List ℕ) (asked : List Target) (named : Target)

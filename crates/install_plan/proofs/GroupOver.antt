@@ -84,15 +84,15 @@ module _ (room : Room) (tables : Tables) (lease : ℕ) (group : List ℕ) where
   pub over_by : (a c : LinksState) (reply : Reply) → Kept a c
       → ((now : ℕ) → moment_after now (Some reply) ≡ now)
       → CountsDowns a c reply
-      → ((now : ℕ) (image : List ℕ) (old : Session) → old.jobs ≡ []
+      → (room.half ≡ 0 → (now : ℕ) (image : List ℕ) (old : Session) → old.jobs ≡ []
       → Shows room tables image old.store → Sound old.store → IsDue a c reply now old)
       → IsGroupOver room tables lease group a c reply
   over_by a c reply kept still downs due = record {
     kept = kept;
     still = still;
     downs = downs;
-    step = λ now image old idle shows sound. (
-        let is = due now image old idle shows sound in
+    step = λ plain now image old idle shows sound. (
+        let is = due plain now image old idle shows sound in
         record {
           new = old;
           step = is.answers;
@@ -120,13 +120,13 @@ module _ (room : Room) (tables : Tables) (lease : ℕ) (group : List ℕ) where
   pub memory_over : (a c : LinksState) → AreUnasked a c
       → IsGroupOver room tables lease group a c says.Memory
   memory_over a c unasked = over_by a c says.Memory unasked.kept (λ now. refl) (counts_none refl)
-      (λ now image old idle shows sound.
+      (λ plain now image old idle shows sound.
       record { answers = inl (inl (refl, refl)); served = served_none a c says.Memory unasked tt })
 
   pub no_lease_over : (a c : LinksState) → AreUnasked a c → leased_row lease tables ≡ None
       → IsGroupOver room tables lease group a c says.NoLease
   no_lease_over a c unasked none = over_by a c says.NoLease unasked.kept (λ now. refl) (counts_none refl)
-      (λ now image old idle shows sound. (
+      (λ plain now image old idle shows sound. (
       let gone = no_lease shows lease sound.valid.ordered none in
       record {
         answers = by_refusal now image old says.NoLease idle shows (inl ((gone, refl), refl));
@@ -146,7 +146,7 @@ module _ (room : Room) (tables : Tables) (lease : ℕ) (group : List ℕ) where
         → group_files group view.application ≡ []
         → IsGroupOver room tables lease group a c says.NoGroup
     no_group_over a c unasked none = over_by a c says.NoGroup unasked.kept (λ now. refl) (counts_none refl)
-        (λ now image old idle shows sound. record {
+        (λ plain now image old idle shows sound. record {
           answers = by_refusal now image old says.NoGroup idle shows
               (inr (lives, inl (((bare_row view, leased.bare, none), refl), refl)));
           served = served_none a c says.NoGroup unasked
@@ -180,12 +180,15 @@ module _ (room : Room) (tables : Tables) (lease : ℕ) (group : List ℕ) where
           (says.Group (length (group_files group view.application)))
       stands_over a c unasked stands =
           let reply = says.Group (length (group_files group view.application)) in
-          over_by a c reply unasked.kept (λ now. refl) (counts_none refl) (λ now image old idle shows sound. record {
+          over_by a c reply unasked.kept (λ now. refl) (counts_none refl) (λ plain now image old idle shows sound. record {
             answers = by_effect now image old reply old idle shows (
               lives,
               (
                 has_group,
-                (no_coming stands _, ((λ need. no_coming stands _), (tt, tt))),
+                (
+                  no_coming stands _,
+                  ((λ need. no_coming stands _), ((λ weight. no_coming stands _), (tt, tt))),
+                ),
               ),
             )
                 (record {
@@ -222,7 +225,7 @@ module _ (room : Room) (tables : Tables) (lease : ℕ) (group : List ℕ) where
         bad_url_over a c unasked any =
             let bad = bad_wanted tables view group any in
             over_by a c says.BadUrl unasked.kept (λ now. refl) (counts_none refl)
-            (λ now image old idle shows sound. record {
+            (λ plain now image old idle shows sound. record {
               answers = by_refusal now image old says.BadUrl idle shows
                   (inr (
                     lives,
@@ -288,7 +291,7 @@ module _ (room : Room) (tables : Tables) (lease : ℕ) (group : List ℕ) where
                 (says.Full need (free_blocks (table_shape room tables)))
             full need own less =
                 let reply = says.Full need (free_blocks (table_shape room tables)) in
-                over_by a c reply unasked.kept (λ now. refl) (counts_none refl) (λ now image old idle shows sound. (
+                over_by a c reply unasked.kept (λ now. refl) (counts_none refl) (λ plain now image old idle shows sound. (
                 let same = need_is need (view_valid shows leased sound) (own ∙ is) in
                 record {
                   answers = by_refusal now image old reply idle shows

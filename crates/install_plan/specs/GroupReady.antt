@@ -115,11 +115,12 @@ pub record GroupStep (lease : ℕ) (group : List ℕ) (before after : LinksState
   pub brought : AreBrought lease group (shape_of old) before after new.store
   pub leaves : Leaves new.store
 
--- for each session without jobs over a sound store that the tables show there is one
+-- for each session without jobs over a sound store that the tables show there is one, where the
+-- journal has no halves
 abbrev pub GroupsTo : Room → Tables → ℕ → List ℕ → LinksState → LinksState → Reply
     → (Store → Store → Type 0) → Type 0
 GroupsTo room tables lease group before after reply Leaves =
-    (now : ℕ) (image : List ℕ) (old : Session) → old.jobs ≡ []
+    room.half ≡ 0 → (now : ℕ) (image : List ℕ) (old : Session) → old.jobs ≡ []
     → Shows room tables image old.store → Sound old.store
     → GroupStep lease group before after now reply old (Leaves old.store)
 

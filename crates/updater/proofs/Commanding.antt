@@ -1,5 +1,5 @@
 -- How commands end.
-use Rattle.std.proofs.Common.{◌≡◌, ◌≢◌, ◌+◌, ◌≤◌, ◌++◌, ◌∙◌, ℕ, List, [], length, append-nil, Some, Result, Ok, Err, inl, inr, refl, sym, subst, arith}
+use Rattle.std.proofs.Common.{◌≡◌, ◌≢◌, ◌+◌, ◌≤◌, ◌++◌, ◌∙◌, ℕ, List, [], length, append-nil, Some, Result, Ok, Err, inl, inr, refl, sym, ap, subst, arith}
 use Rattle.small_types.specs.declared.room.Room.{Room}
 use Rattle.small_types.specs.declared.limits.TheConstants.{NUMBER_LIMIT}
 use Rattle.outside.specs.declared.failed.Failed.{Failed}
@@ -102,6 +102,7 @@ pub record Shown (image : List ℕ) (command : Command) (updater : Updater) (old
   pub shape : shape_of old ≡ table_shape (room_of updater) (tables_of updater)
   pub shows : Shows (room_of updater) (tables_of updater) image old.store
   pub room : room_of updater ≡ old.store.room
+  pub half : (room_of updater).half ≡ 0
   pub valid : Valid old.store
   pub sound : SoundFor command old.store
 
@@ -124,7 +125,7 @@ module _ {D L : Type 0} (on : Ghosts D) (net : LinksGhosts L) (now : ℕ) (heard
   shown : (old : Session) → Holds on updater disk old → SoundFor command old.store → Shown (on.seen disk) command updater old
   shown old holds sound =
       let shows = subst (λ (n : Room). Shows n (tables_of updater) (on.seen disk) old.store) (sym holds.room) (holds.shows (on.seen disk) seen_left) in
-      record { jobs = holds.jobs; shape = shape_shown old holds.jobs shows; shows = shows; room = holds.room; valid = holds.valid; sound = sound }
+      record { jobs = holds.jobs; shape = shape_shown old holds.jobs shows; shows = shows; room = holds.room; half = ap (λ (n : Room). n.half) holds.room ∙ holds.log.half; valid = holds.valid; sound = sound }
 
   heard_by : (old : Session) → Shown (on.seen disk) command updater old → Hears (shape_of old) command heard
   heard_by old s = subst (λ (shape : Shape). Hears shape command heard) (sym s.shape) linked.hears

@@ -15,10 +15,11 @@ use small_types::Limit;
 use small_types::limits::APPLICATION_LIMIT;
 use store_state::StoreState;
 
-/// The refusal of `require` that the tables give, whatever their number of blocks.
+/// The refusal of `require` that the tables give, whatever their number of blocks, where the journal
+/// has no halves.
 pub(crate) fn require_refusal(state: &StoreState, key: &Key) -> Option<Reply>
     ensures none { result ≡ None → (now : ℕ) (room : Room) (version : Version)
-        → PassesAll (refusals now [] (table_shape room state.now)
+        → room.half ≡ 0 → PassesAll (refusals now [] (table_shape room state.now)
         (command.Require key.now version)) }
     ensures some { (now : ℕ) (room : Room) (version : Version) (old : Session)
         → IfSome result (λ reply. Refuses (refusals now [] (table_shape room state.now)

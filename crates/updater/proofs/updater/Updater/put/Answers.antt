@@ -31,7 +31,7 @@ returns-then-putting g c =
     (counts_none refl)
     (λ old s. put_rests c.args.now c.args.lease c.args.self.now.room c.args.name.now
     c.args.bytes.now c.args.self.now.state _ _ _ old s.jobs s.shows s.valid c.requires.words
-    c.requires.moment c.in-Ok.putting (c.in-Ok.ensures.putting _) c.if-putting.true)
+    c.requires.moment c.in-Ok.putting (c.in-Ok.ensures.putting _) s.half c.if-putting.true)
 
 pub keep-requires : goal.keep-requires
 keep-requires g c = (
@@ -56,7 +56,7 @@ returns g c =
     (counts_none refl)
     (λ old s. put_does c.args.now c.args.lease c.args.self.now.room c.args.name.now
     c.args.bytes.now c.args.self.now.state _ _ _ old s.jobs s.shows s.valid c.requires.words
-    c.requires.moment c.in-Ok.putting (c.in-Ok.ensures.putting _) c.in-Ok-local_file.file
+    c.requires.moment c.in-Ok.putting (c.in-Ok.ensures.putting _) s.half c.in-Ok-local_file.file
     c.in-Ok-local_file.ensures c.puts_show_the_file.ensures
     c.one_data_file_is_changed.ensures.put c.if-putting.false)
     (memory_missed g.D.Disk g.L.Links c.args.now command

@@ -20,7 +20,7 @@ returns-in-Some-minimum_that_stays g c =
     rested g.D.Disk g.L.Links c.args.now [] command c.args.self.now c.args.disk.now c.args.links.now c.args.links.now (g.met.D.Disk.seen_left c.args.disk.now) c.requires.moment
     (unlinked g.L.Links command c.args.self.now c.args.links.now) (says.Minimum c.in-Some-minimum_that_stays.minimum) c.requires.moment
     (counts_none refl)
-    (λ old s. required_rests c.args.now c.args.key.now c.args.version _ c.args.self.now.state _ _ _ old s.jobs s.shows (c.in_default.ensures.none refl c.args.now c.args.self.now.room c.args.version) c.in-Some-minimum_that_stays.minimum c.in-Some-minimum_that_stays.ensures.some)
+    (λ old s. required_rests c.args.now c.args.key.now c.args.version _ c.args.self.now.state _ _ _ old s.jobs s.shows (c.in_default.ensures.none refl c.args.now c.args.self.now.room c.args.version s.half) c.in-Some-minimum_that_stays.minimum c.in-Some-minimum_that_stays.ensures.some)
 
 pub raise-requires-clause-passed : goal.raise-requires-clause-passed
-raise-requires-clause-passed g c = λ room. c.in_default.ensures.none refl c.args.now room c.args.version
+raise-requires-clause-passed g c = λ room plain. c.in_default.ensures.none refl c.args.now room c.args.version plain
