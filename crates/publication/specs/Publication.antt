@@ -1,7 +1,8 @@
 -- What publishing by options does, with its line.
 use Rattle.std.specs.Prelude.{◌≡◌, ◌≢◌, ℕ, true, List, Result}
 use Rattle.outside.specs.Streams.{Appends, AppendsPart}
-use Rattle.folders.specs.declared.folder.Held.{Held}
+use Rattle.outside.specs.declared.sink.Sink.{Ghosts as SinkGhosts}
+use Rattle.folders.specs.declared.folder.Folder.{Ghosts as FolderGhosts}
 use Rattle.publish_plan.specs.declared.options.Options.{Options}
 use Rattle.publisher.specs.declared.fault.PublishFault.{PublishFault}
 use Rattle.publisher.specs.declared.publishing.Published.{Published}
@@ -44,9 +45,8 @@ EndsWith tells taken old new result ends.Memory =
     × (new ≡ old)
 
 -- A publish by the options was made, and the call ends by what came of it.
-pub record PublishesOptions {F K : Type 0} (folder_tells : Type 0) (held : F → List Held)
-    (count : F → ℕ) (sink_tells : Type 0) (taken : K → List ℕ) (o : Options)
-    (folder_old folder_new : F) (sink_old sink_new : K) (end : End) : Type 0 where
+pub record PublishesOptions {F K : Type 0} (folder : FolderGhosts F) (to : SinkGhosts K)
+    (o : Options) (folder_old folder_new : F) (sink_old sink_new : K) (end : End) : Type 0 where
   pub result : Result Published PublishFault
-  pub published : IsPublish folder_tells held count o folder_old folder_new result
-  pub ended : EndsWith sink_tells taken sink_old sink_new result end
+  pub published : IsPublish folder o folder_old folder_new result
+  pub ended : EndsWith to.tells to.taken sink_old sink_new result end

@@ -84,8 +84,8 @@ pub fn publish_options<F: Folder, K: Sink>(
     sink: &mut K,
 ) -> End
     requires { IsPublishable options.now }
-    ensures done { PublishesOptions F.tells F.held F.count K.tells K.taken
-        options.now folder.old folder.new sink.old sink.new result }
+    ensures done { PublishesOptions F.Folder K.Sink options.now folder.old folder.new
+        sink.old sink.new result }
 
     // The counts of faults never fall. An end says which device failed, and any other end leaves
     // that device's count.
