@@ -13,7 +13,7 @@ use Rattle.publisher.specs.Publication.{Outcome, publish_of}
 use Rattle.publisher.specs.Published.{PublishesFiles}
 use Rattle.publisher.specs.Puts.{PutsAll}
 use Rattle.generated_release.specs.declared.release.GeneratedRelease.{GeneratedRelease}
-use Rattle.generated_release.specs.declared.fault.ReleaseFault.TheVariants.{Refused}
+use Rattle.generated_release.specs.declared.fault.GenerationFault.TheVariants.{Refused}
 use Rattle.generated_release.specs.declared.files.TheConstants.{FILE_COUNT}
 use Rattle.generated_release.specs.declared.published_release.PublishedRelease.{PublishedRelease}
 use Rattle.generated_release.specs.Faults.{IsSure, fault_of}

@@ -2,7 +2,7 @@
 ghost use Rattle.std.specs.Prelude.{◌≡◌, Err, IfOk, IsSome, OnOk, Some};
 ghost use Rattle.small_types.specs.Name.{IsName};
 ghost use Rattle.folders.specs.Files.{file_in};
-ghost use Rattle.generated_release.specs.declared.fault.ReleaseFault.TheVariants.{Refused};
+ghost use Rattle.generated_release.specs.declared.fault.GenerationFault.TheVariants.{Refused};
 ghost use Rattle.generated_release.specs.Faults.{IsSure, fault_of};
 ghost use Rattle.generated_release.specs.Files.{input_files as inputs};
 ghost use Rattle.generated_release.specs.Options.{demo_key, number_of};
@@ -12,7 +12,7 @@ ghost use Rattle.generated_release.specs.SureFolder.{sure_held};
 use crate::files::{input_files, name_of};
 use crate::options::options_of;
 use crate::sure_folder::SureFolder;
-use crate::{GeneratedRelease, ReleaseFault};
+use crate::{GeneratedRelease, GenerationFault};
 use folders::{Folder, FolderFault, MemFolder};
 use identity::Key;
 use publisher::{PublishFault, publish};
@@ -57,12 +57,12 @@ fn text_in(alloc: Global, folder: &mut SureFolder, name: &[u8]) -> Result<Bytes,
 }
 
 // What the fault of a publish is, where the folder never fails.
-fn fault_of(fault: &PublishFault) -> ReleaseFault
+fn fault_of(fault: &PublishFault) -> GenerationFault
     requires { IsSure fault.now }
     ensures { result ≡ fault_of fault.now }
 {
     match fault {
-        PublishFault::Memory => ReleaseFault::Memory,
+        PublishFault::Memory => GenerationFault::Memory,
         PublishFault::ReadFault | PublishFault::WriteFault | PublishFault::Changed { .. } => {
             unreachable!()
         }
@@ -75,7 +75,7 @@ fn fault_of(fault: &PublishFault) -> ReleaseFault
         | PublishFault::NoEntryPoint
         | PublishFault::BadMark { .. }
         | PublishFault::FileTooLong { .. }
-        | PublishFault::ManifestTooLong { .. } => ReleaseFault::Refused,
+        | PublishFault::ManifestTooLong { .. } => GenerationFault::Refused,
     }
 }
 
@@ -84,7 +84,7 @@ fn publish_in(
     alloc: Global,
     folder: &mut SureFolder,
     release: GeneratedRelease,
-) -> Result<Key, ReleaseFault>
+) -> Result<Key, GenerationFault>
     ensures key { IfOk result (λ key. key ≡ demo_key) }
     ensures files { OnOk result (IsWritten release (sure_held folder.old)
         (sure_held folder.new)) }
@@ -104,7 +104,7 @@ pub fn publish_release(
     alloc: Global,
     seed: u64,
     release: GeneratedRelease,
-) -> Result<PublishedRelease, ReleaseFault>
+) -> Result<PublishedRelease, GenerationFault>
     ensures published { IfOk result (IsPublished seed release) }
     ensures refused { result ≡ Err Refused
         → IsRefused release (inputs seed (number_of release)) }

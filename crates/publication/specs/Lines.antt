@@ -50,9 +50,9 @@ end_of_fault Memory = ends.Memory
 end_of_fault e = ends.Refused
 
 -- how it ends after a publish with this result, once its line is written, if it has one
-abbrev pub end_of : Result Published PublishFault → End
-end_of (Ok p) = ends.Done
-end_of (Err e) = end_of_fault e
+abbrev pub end_of_publish : Result Published PublishFault → End
+end_of_publish (Ok p) = ends.Done
+end_of_publish (Err e) = end_of_fault e
 
 -- whether an end has a line
 abbrev pub has_line : End → Bool

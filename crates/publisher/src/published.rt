@@ -1,8 +1,9 @@
 // A publish, and what it answers.
-ghost use Rattle.std.specs.Prelude.{◌≡◌, ℕ, List, map, None, IfOk, IfErr, OnOk, OnErr};
+ghost use Rattle.std.specs.Prelude.{◌≡◌, ℕ, List, All, map, None, IfOk, IfErr, OnOk, OnErr};
 ghost use Rattle.std.specs.Cmp.Lexicographic.{slice_cmp};
 ghost use Rattle.std.specs.List.Sorted.{IsStrictlySortedBy};
 ghost use Rattle.std.specs.Ordering.{nat_cmp};
+ghost use Rattle.folders.specs.declared.answer.FolderAnswer.{FolderAnswer};
 ghost use Rattle.folders.specs.Files.{IsNames};
 ghost use Rattle.publish_plan.specs.Early.{early_of};
 ghost use Rattle.publisher.specs.declared.fault.PublishFault.TheVariants.{ReadFault};
@@ -13,6 +14,7 @@ ghost use Rattle.publisher.specs.Options.{IsPublishable};
 ghost use Rattle.publisher.specs.Publication.{copy_in, entry_in, published_files};
 ghost use Rattle.publisher.specs.Published.{IsAnswer, IsPublish, PublishesFiles};
 ghost use Rattle.publisher.specs.Puts.{AreApart, IsNewPlan, PutsEach, PutsSome};
+ghost use Rattle.publisher.specs.Readings.{IsSourced, ReadsChange, ReadsEach};
 
 use crate::PublishFault;
 use crate::copies::{copy_files, put_file, put_new};
@@ -57,6 +59,10 @@ fn write_release<F: Folder>(
     ensures device { F.tells
         → release.now.entries ≡ map (entry_in (F.held folder.old)) plan.now.files
         → IfErr result IsDevice }
+    ensures readings { F.records → (from : List ℕ) (start : List FolderAnswer)
+        → All (IsSourced from) plan.now.files
+        → ReadsEach plan.now.files release.now.entries start (F.answers folder.old)
+        → IfErr result (ReadsChange from start (F.answers folder.new)) }
     ensures late { IfErr result IsLate }
     ensures counted { FaultsCounted (F.count folder.old) (F.count folder.new) result }
 {
@@ -84,6 +90,8 @@ fn publish_names<F: Folder>(
     ensures told { F.tells
         → PublishesFiles options.now names.now (F.held folder.old) (F.held folder.new) result }
     ensures answer { IfOk result (IsAnswer options.now) }
+    ensures readings { F.records → IfErr result
+        (ReadsChange options.now.from (F.answers folder.old) (F.answers folder.new)) }
     ensures late { IfErr result IsLate }
     ensures counted { FaultsCounted (F.count folder.old) (F.count folder.new) result }
 {
@@ -109,6 +117,8 @@ fn publish_fit<F: Folder>(
     ensures told { F.tells → (names : List (List ℕ)) → IsNames (F.held folder.old) names
         → PublishesFiles options.now names (F.held folder.old) (F.held folder.new) result }
     ensures answer { IfOk result (IsAnswer options.now) }
+    ensures readings { F.records → IfErr result
+        (ReadsChange options.now.from (F.answers folder.old) (F.answers folder.new)) }
     ensures late { IfErr result IsLate }
     ensures counted { FaultsCounted (F.count folder.old) (F.count folder.new) result }
 {
@@ -132,13 +142,17 @@ fn publish_fit<F: Folder>(
 /// manifest, the deployment manifest. After `ReadFault` neither manifest is written, nor are all
 /// the input files. After each error the deployment manifest is as it was, and so is each file that
 /// stood.
+///
+/// Over a folder that records, `Changed` comes only where the folder gave the file that it names
+/// twice, the second time as its last answer, with nothing put under the name between: the
+/// difference is that of what it gave again from the size and the digest of what it gave first.
 pub fn publish<F: Folder>(
     alloc: Global,
     options: &Options,
     folder: &mut F,
 ) -> Result<Published, PublishFault>
     requires { IsPublishable options.now }
-    ensures { IsPublish F.tells F.held F.count options.now folder.old folder.new result }
+    ensures { IsPublish F.Folder options.now folder.old folder.new result }
 {
     check_options(alloc, options)?;
     publish_fit(alloc, options, folder)

@@ -3,15 +3,15 @@ use Rattle.identity.specs.declared.key.Key.{Key}
 use Rattle.publish_plan.specs.declared.options.Options.{Options}
 use Rattle.publisher.specs.Published.{PublishesFiles}
 use Rattle.publisher.specs.Publication.{publish_of}
-use Rattle.generated_release.specs.declared.fault.ReleaseFault.{ReleaseFault}
-use Rattle.generated_release.specs.declared.fault.ReleaseFault.TheVariants.{Refused}
+use Rattle.generated_release.specs.declared.fault.GenerationFault.{GenerationFault}
+use Rattle.generated_release.specs.declared.fault.GenerationFault.TheVariants.{Refused}
 use Rattle.generated_release.specs.Faults.{fault_of}
 use Rattle.generated_release.specs.SureFolder.{sure_held}
 use Rattle.generated_release.proofs.Refusals.{is_sure}
 use Rattle.generated_release.proofs.Written.{is_refused, written}
 use Rattle.generated_release.proofs.published_release.publish_in.Goals as goal
 
-the_fault : (e : ReleaseFault) → ◌≡◌ {A = Result Key ReleaseFault} (Err e) (Err Refused) → e ≡ Refused
+the_fault : (e : GenerationFault) → ◌≡◌ {A = Result Key GenerationFault} (Err e) (Err Refused) → e ≡ Refused
 the_fault e is = cc
 
 pub returns-in-Ok-clause-files : goal.returns-in-Ok-clause-files

@@ -1,4 +1,5 @@
-use Rattle.std.proofs.Common.{◌≡◌, List, Ok, length, map, refl, ap, subst, ◌∙◌}
+use Rattle.std.proofs.Common.{◌≡◌, List, Ok, length, map, refl, ap, subst, sym, ◌∙◌}
+use Rattle.manifests.specs.declared.facts.FileEntry.{FileEntry}
 use Rattle.publish_plan.specs.declared.options.PlannedFile.{PlannedFile}
 use Rattle.publisher.specs.Changes.{IsLate}
 use Rattle.publisher.specs.Entries.{AreEntries}
@@ -6,6 +7,7 @@ use Rattle.publisher.specs.Faults.{fault_of}
 use Rattle.publisher.specs.Outcome.{Fails, LeavesInput}
 use Rattle.publisher.specs.Publication.{copy_in, publish_of, read_entries}
 use Rattle.publisher.specs.Puts.{PutsSome}
+use Rattle.publisher.specs.Readings.{ReadsChange, ReadsEach}
 use Rattle.publisher.proofs.Counting.{counted_still, manifest_quiet, plan_quiet}
 use Rattle.publisher.proofs.Giving.{err_handed_on}
 use Rattle.publisher.proofs.Known as publish
@@ -13,6 +15,7 @@ use Rattle.publisher.proofs.PlanRefusals.{plan_late}
 use Rattle.publisher.proofs.Promises.{stopped, untouched}
 use Rattle.publisher.proofs.PublishSteps.{plan_refused, entries_refused, manifests_refused, refuses_from, device_refuses}
 use Rattle.publisher.proofs.ReleaseFacts.{entries_fit, files_fit}
+use Rattle.publisher.proofs.TwoReadings.{first_late, first_reads, manifest_reads, plan_reads}
 use Rattle.publisher.proofs.published.publish_names.Goals as goal
 
 pub returns-in_err-plan-clause-told : goal.returns-in_err-plan-clause-told
@@ -128,3 +131,45 @@ returns-clause-told g c = λ told.
 
 pub returns-clause-answer : goal.returns-clause-answer
 returns-clause-answer g c = record { key = c.key_of.ensures ∙ c.in_ok-release.ensures.key; version = refl }
+
+pub returns-in_err-plan-clause-readings : goal.returns-in_err-plan-clause-readings
+returns-in_err-plan-clause-readings g c = λ records.
+    let from = c.args.options.now.from in
+    let old = g.F.Folder.answers c.args.folder.now in
+    let f = c.in_err-plan.field-0.0 in
+    err_handed_on c.from_residual.result (ReadsChange from old old) (fault_of f) c.from_residual.ensures (plan_reads from old old f)
+
+pub returns-in_err-entries-clause-readings : goal.returns-in_err-entries-clause-readings
+returns-in_err-entries-clause-readings g c = λ records.
+    let from = c.args.options.now.from in
+    let old = g.F.Folder.answers c.args.folder.now in
+    let new = g.F.Folder.answers c.read_entries.new.folder in
+    let e = c.in_err-entries.field-0.0 in
+    err_handed_on c.from_residual-in_err-entries.result (ReadsChange from old new) e c.from_residual-in_err-entries.ensures (first_reads from old new e c.in_err-entries.ensures.fault)
+
+pub returns-in_err-entries-clause-late : goal.returns-in_err-entries-clause-late
+returns-in_err-entries-clause-late g c =
+    let e = c.in_err-entries.field-0.0 in
+    err_handed_on c.from_residual-in_err-entries.result IsLate e c.from_residual-in_err-entries.ensures (first_late e c.in_err-entries.ensures.fault)
+
+pub returns-in_err-release-clause-readings : goal.returns-in_err-release-clause-readings
+returns-in_err-release-clause-readings g c = λ records.
+    let from = c.args.options.now.from in
+    let old = g.F.Folder.answers c.args.folder.now in
+    let new = g.F.Folder.answers c.read_entries.new.folder in
+    let e = c.in_err-release.field-0.0 in
+    err_handed_on c.from_residual-in_err-release.result (ReadsChange from old new) e c.from_residual-in_err-release.ensures (manifest_reads from old new e c.in_err-release.ensures.fault)
+
+pub returns-in_err-write_release-clause-readings : goal.returns-in_err-write_release-clause-readings
+returns-in_err-write_release-clause-readings g c = λ records.
+    let from = c.args.options.now.from in
+    let old = g.F.Folder.answers c.args.folder.now in
+    let mid = g.F.Folder.answers c.read_entries.new.folder in
+    let new = g.F.Folder.answers c.write_release.new.folder in
+    let plan = c.in_ok-plan.plan in
+    let release = c.in_ok-release.release in
+    let good = publish.good c.args.options.now c.args.names.now plan c.requires.options c.requires.fit c.requires.ascending c.in_ok-plan.ensures in
+    let read : ReadsEach plan.files c.in_ok-entries.entries old mid = subst (λ (fs : List PlannedFile). ReadsEach fs c.in_ok-entries.entries old mid) c.as_slice.ensures (c.in_ok-entries.ensures.noted records) in
+    let listed : ReadsEach plan.files release.entries old mid = subst (λ (es : List FileEntry). ReadsEach plan.files es old mid) (sym c.in_ok-release.ensures.entries) read in
+    let e = c.in_err-write_release.field-0.0 in
+    err_handed_on c.from_residual-in_err-write_release.result (ReadsChange from old new) e c.from_residual-in_err-write_release.ensures (c.in_err-write_release.ensures.readings records from old good.sourced listed)
