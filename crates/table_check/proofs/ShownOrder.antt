@@ -1,15 +1,12 @@
 -- Ordered tables, and the store that they show.
-use Rattle.std.proofs.Common.{◌≡◌, ◌↔◌, ◌≤◌, ◌<◌, ℕ, Bool, refl, sym, ap, subst, List, [], All, AllPairs, Contains, IsSome, IsTrue, length, map, arith}
-use Rattle.std.specs.Prelude.{sum_by}
+use Rattle.std.proofs.Common.{◌≡◌, ◌↔◌, ◌≤◌, ◌<◌, ℕ, Bool, refl, sym, ap, subst, List, All, AllPairs, Contains, IsSome, IsTrue, map, arith}
 use Rattle.std.proofs.lemmas.List.{length-map}
 use Rattle.std.proofs.lemmas.List.Elements.{All-map, All-weaker}
 use Rattle.small_types.specs.declared.room.Room.{Room}
-use Rattle.small_types.specs.declared.limits.TheConstants.{BLOCK_LIMIT, FILE_COUNT_LIMIT, NAME_LIMIT, VIEW_LIMIT}
+use Rattle.small_types.specs.declared.limits.TheConstants.{BLOCK_LIMIT, FILE_COUNT_LIMIT, VIEW_LIMIT}
 use Rattle.manifests.specs.declared.facts.FileEntry.{FileEntry}
-use Rattle.machine.specs.declared.app.AppState.{AppState}
 use Rattle.machine.specs.declared.lease.Lease.{Lease}
 use Rattle.machine.specs.Blocks.{standing_files, used_blocks}
-use Rattle.machine.specs.Fields.{IsShort}
 use Rattle.machine.specs.Shape.{Shape, bare_view, shape_of}
 use Rattle.machine.specs.Store.{Store, session_over}
 use Rattle.machine.specs.Valid.{IsApp, IsInstalled, IsView, Ordered}
@@ -25,7 +22,7 @@ use Rattle.store_state.specs.Rows.{row_at}
 use Rattle.store_state.specs.Shows.{Shows, shown_store}
 use Rattle.store_state.specs.Stored.{HasLocals}
 use Rattle.store_state.specs.Tables.{Tables, bare_row, table_shape}
-use Rattle.store_state.proofs.Growing.{files_row, of_view}
+use Rattle.store_state.proofs.Growing.{files_row}
 use Rattle.store_state.proofs.Showing.{shape_shown}
 use Rattle.table_check.specs.OrderedTables.{AreOrderedTables, IsAppOf, IsInstalledRow}
 use Rattle.table_check.proofs.ShownViews.{app_kept, app_shown, listed_are, number_kept, number_shown, numbers_are, of_kept, shown, view_shown}

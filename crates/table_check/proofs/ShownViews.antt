@@ -1,5 +1,5 @@
 -- Views of tables, and the views that they are shown as.
-use Rattle.std.proofs.Common.{◌≡◌, ◌∙◌, ◌≤◌, ◌<◌, ◌==◌, ℕ, cond, not, refl, sym, ap, subst, List, [], ◌∷◌, All, AllPairs, Contains, IsSome, Option, length, map, eq-eqb, eqb-true, arith}
+use Rattle.std.proofs.Common.{◌≡◌, ◌∙◌, ◌≤◌, ◌<◌, ◌==◌, ℕ, cond, not, refl, sym, ap, subst, List, [], ◌∷◌, All, AllPairs, Contains, IsSome, Option, length, map, eq-eqb, eqb-true}
 use Rattle.std.specs.Prelude.{IsSomeAnd, count_by, sum_by}
 use Rattle.std.specs.declared.cmp.Ordering.TheVariants.{Less}
 use Rattle.std.proofs.lemmas.List.Elements.{All-map, All-weaker}
