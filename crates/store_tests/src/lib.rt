@@ -11,4 +11,6 @@ mod record_codec_tests;
 #[cfg(test)]
 mod store_state_tests;
 #[cfg(test)]
+mod table_check_tests;
+#[cfg(test)]
 mod table_codec_tests;

@@ -8,13 +8,13 @@ use store_state::StoreState;
 use table_codec::{decode_state, encode_state, encoded_length_of_state, weight};
 
 // The tables of the empty store.
-const EMPTY: &[u8] = &[
+pub(crate) const EMPTY: &[u8] = &[
     0, 0, 0, 0, 0, 0, 0, 0, 0, 0, 0, 0, 0, 0, 0, 1, 0, 0, 0, 0, 0, 0, 0, 1, 0, 0, 0, 0, 0, 0, 0, 0,
     0, 0, 0, 0, 0, 0, 0, 0,
 ];
 
 // Tables with leases, a view, applications and a content.
-const FULL: &[u8] = &[
+pub(crate) const FULL: &[u8] = &[
     // The boot number, and the next numbers of views and leases.
     0, 0, 0, 0, 0, 0, 0, 5, 0, 0, 0, 0, 0, 0, 0, 2, 0, 0, 0, 0, 0, 0, 0, 3,
     // Two leases, on the view.

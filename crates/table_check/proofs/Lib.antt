@@ -1,0 +1,3 @@
+pub mod ShownOrder
+pub mod ShownViews
+pub mod Telling
