@@ -1,8 +1,8 @@
 -- The two readings of a file, among all that a folder answered.
-use Rattle.std.proofs.Common.{◌≡◌, ◌≢◌, ℕ, ◌+◌, ◌<◌, ◌≤◌, zero, suc, Bool, true, false, List, [], ◌∷◌, ◌++◌, All, length, get_or, take, append_assoc, Option, Some, None, Ok, Err, IfOk, IfErr, OnOk, refl, sym, ap, subst, ◌∙◌, arith}
-use Rattle.std.specs.Prelude.{◌&&◌, not}
+use Rattle.std.proofs.Common.{◌≡◌, ℕ, ◌+◌, ◌<◌, ◌≤◌, zero, suc, true, false, List, [], ◌∷◌, ◌++◌, All, length, get_or, take, append_assoc, Option, Ok, Err, IfOk, IfErr, OnOk, refl, sym, ap, subst, ◌∙◌, arith}
+use Rattle.std.specs.Prelude.{not}
 use Rattle.std.specs.List.{list_all}
-use Rattle.std.proofs.lemmas.List.{append-nil, take_all, take_more}
+use Rattle.std.proofs.lemmas.List.{take_all, take_more}
 use Rattle.small_types.specs.declared.limits.TheConstants.{FILE_SIZE_LIMIT}
 use Rattle.folders.specs.declared.answer.FolderAnswer.{FolderAnswer}
 use Rattle.folders.specs.declared.answer.FolderAnswer.TheVariants.{Listed, Gave, Measured, Put}
@@ -18,11 +18,11 @@ use Rattle.publish_plan.specs.Places.{lies_below, within}
 use Rattle.publisher.specs.declared.fault.PublishFault.{PublishFault}
 use Rattle.publisher.specs.declared.fault.PublishFault.TheVariants.{ReadFault, WriteFault, FileTooLong, ManifestTooLong, Changed, Memory}
 use Rattle.publisher.specs.Changes.{IsChangeOf, IsLate}
-use Rattle.publisher.specs.Entries.{AreEntries, IsEntry}
+use Rattle.publisher.specs.Entries.{AreEntries}
 use Rattle.publisher.specs.Faults.{IsManifestFault, IsReading, IsWriting, fault_of}
 use Rattle.publisher.specs.Publication.{Outcome, entry_of}
 use Rattle.publisher.specs.Puts.{is_apart}
-use Rattle.publisher.specs.Readings.{AnswersMore, AreReadings, CopiesFile, IsFirstReading, IsSourced, ReadsChange, ReadsEach, ReadsEntry, ReadsFile, ReadsOther, ReadsTwice, ShowsOther, given_bytes}
+use Rattle.publisher.specs.Readings.{AnswersMore, AreReadings, CopiesFile, IsFirstReading, IsSourced, ReadsChange, ReadsEach, ReadsEntry, ReadsFile, ReadsTwice, ShowsOther, given_bytes}
 use Rattle.publisher.proofs.Entering.{entry_is, entry_small}
 use Rattle.publisher.proofs.Giving.{err_then}
 use Rattle.publisher.proofs.SecondReads.{all_at, left_so, not_so, right_so}
@@ -118,10 +118,6 @@ module _ (from : List ℕ) (old new : List FolderAnswer) where
 
 -- ---- the first reading of each file
 
-pub reads_none : (files : List PlannedFile) (made : List FileEntry) (old : List FolderAnswer) → made ≡ [] → ReadsEach (take 0 files) made old old
-reads_none files made old none =
-    subst (λ (es : List FileEntry). ReadsEach (take 0 files) es old old) (sym none) (record { more = []; told = sym (append-nil old); each = tt })
-
 one_more : (files : List PlannedFile) (entries : List FileEntry) (answers : List FolderAnswer) (file : PlannedFile) (given : Option (List ℕ)) → AreReadings files entries answers
     → AreReadings (files ++ file ∷ []) (entries ++ entry_of file (given_bytes given) ∷ []) (answers ++ Gave file.source given ∷ [])
 one_more [] [] [] file given are = (refl, refl, tt)
@@ -216,9 +212,6 @@ pub record PutsBelow (folder : List ℕ) (old new : List FolderAnswer) : Type 0 
   pub more : List FolderAnswer
   pub told : new ≡ old ++ more
   pub below : AreBelow folder more
-
-pub puts_none : (folder : List ℕ) (old : List FolderAnswer) → PutsBelow folder old old
-puts_none folder old = record { more = []; told = sym (append-nil old); below = tt }
 
 both_below : (folder : List ℕ) (first second : List FolderAnswer) → AreBelow folder first → AreBelow folder second → AreBelow folder (first ++ second)
 both_below folder [] second one other = other

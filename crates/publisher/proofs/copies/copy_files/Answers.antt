@@ -6,7 +6,7 @@ use Rattle.publisher.proofs.Entering.{entries_long, entry_at, entry_is}
 use Rattle.publisher.proofs.Giving.{err_handed_on}
 use Rattle.publisher.proofs.NewNames.{still_new}
 use Rattle.publisher.proofs.SecondReads.{bytes_kept, copy_more}
-use Rattle.publisher.proofs.TwoReadings.{puts_more, puts_none, shows_change}
+use Rattle.publisher.proofs.TwoReadings.{puts_more, shows_change}
 use Rattle.publisher.proofs.copies.copy_files.Goals as goal
 
 pub bounds-entries-i : goal.bounds-entries-i
