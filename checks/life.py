@@ -12,7 +12,9 @@ import hashlib, os, resource, select, shutil, signal, subprocess, sys, time
 from programs import (CLIENT, ENTRY, KEY, SESSION, chance, check, command, copied, empty, escaped, finish, holds,
                       read_into, reading, run, same_bytes, serve, session, stop, wanted, work)
 
-HELP = "; see clickstore --help"
+# What a number in a word has to be, and what is said where there is no such command.
+NUMBER = "1 to 19 digits, at most 4611686018427387904"
+COMMANDS = "behind STORE and FOLDER stands format, session, inspect, publish or demo; see clickstore --help"
 # The line that installs from a folder alone: nothing serves this host.
 INSTALL = "install http://127.0.0.1:1/one/demo.application\n"
 
@@ -518,9 +520,11 @@ def other_words(store):
              "two seeds": ["7", "7"], "a seed above 2^62": [str(2**62 + 1)],
              "a seed of twenty digits": ["0" * 19 + "7"]}
     for name, seed in seeds.items():
-        refused(name, store, ["demo"] + seed, 1, f"'demo' does not take these words{HELP}")
+        why = {0: f"SEED is missing: {NUMBER}", 1: f"SEED '{(seed or [''])[0]}' is no number: {NUMBER}",
+               2: "'7' is one word too many"}[len(seed)]
+        refused(name, store, ["demo"] + seed, 1, f"demo: {why}")
     for words in (["rollback", KEY], ["clean"], ["list"], ["show", KEY]):
-        refused(f"{words[0]} as a command", store, words, 1, f"no command '{words[0]}'{HELP}")
+        refused(f"{words[0]} as a command", store, words, 1, f"'{words[0]}' is no command: {COMMANDS}")
     holds("other words leave the store", same_bytes(store, kept))
 
 

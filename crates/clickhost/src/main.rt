@@ -1,32 +1,22 @@
 //! The host's program: `clickhost FOLDER PORT COUNT`, over the files of a folder.
 #![tactic(auto)]
 
+mod help;
 mod other_words;
 
-use crate::other_words::{Misread, what_is_wrong};
+use crate::help::{HELP, VERSION, asks_for_help};
+use crate::other_words::{Asked, Misread, read_words, what_is_wrong};
 use host_cli::{host_run, read_port};
 use outside::{Failed, Sink, write_all};
 use outside_real::{Failure, RealFolder, Reason, StdSink, TcpDoor};
 use small_types::Word;
 use std::alloc::AllocError;
-use std::env;
 use std::fmt::Display;
 use std::io::ErrorKind;
 use std::process::ExitCode;
-
-const HELP: &[u8] = b"usage: clickhost FOLDER PORT COUNT
-
-Serves the files of FOLDER over plain HTTP at PORT, 1 to 65535, of all IPv4
-addresses: one request on each of COUNT connections, at most 1000000, one after
-the other.
-
-Status: 0 done, 1 other words, 2 no connection was accepted, 3 output failed,
-6 no memory. Where it is not 0, one line on the standard error says why.
-";
+use std::{env, fs};
 
 const NO_MEMORY: &str = "no memory";
-
-const VERSION: &[u8] = b"clickhost 0.1.0\n";
 
 // How the command line is read.
 enum Start {
@@ -50,18 +40,19 @@ fn read_args(rt: &HostRuntime) -> Result<Start, AllocError> {
     };
     let mut args = args.skip(1);
     let Some(folder) = args.next() else {
-        return Ok(Start::Words(Misread::Number));
+        return Ok(Start::Words(Misread::Missing("FOLDER")));
     };
     let mut words = Vec::new(rt.alloc());
     for arg in args {
         words.push(Word::from_vec(arg.into_bytes()))?;
     }
     if words.is_empty() {
-        return match folder.as_str() {
-            "--help" => Ok(Start::Print(HELP)),
-            "--version" => Ok(Start::Print(VERSION)),
-            _ => Ok(Start::Words(Misread::Number)),
-        };
+        if asks_for_help(folder.as_str()) {
+            return Ok(Start::Print(HELP));
+        }
+        if folder.as_str() == "--version" {
+            return Ok(Start::Print(VERSION));
+        }
     }
     Ok(Start::Run { folder, words })
 }
@@ -106,8 +97,36 @@ fn explain(rt: &HostRuntime, status: u8, words: &[Word], why: Option<&Reason>) {
     }
 }
 
+// Whether the error says that nothing stands at a path.
+fn is_absence(kind: ErrorKind) -> bool {
+    kind == ErrorKind::NotFound || kind == ErrorKind::NotADirectory
+}
+
+// Says what is served where, and where the folder is not there.
+fn announce(rt: &HostRuntime, folder: &str, asked: Asked) {
+    let Asked { port, count } = asked;
+    let path = folder.escape_debug();
+    say(
+        rt,
+        format_args!("folder {path}, address http://0.0.0.0:{port}/, connections {count}"),
+    );
+    let path = folder.escape_debug();
+    match fs::metadata(rt, folder) {
+        Ok(facts) if facts.is_dir() => {}
+        Ok(_) => say(rt, format_args!("{path}: there is no such folder")),
+        Err(error) if is_absence(error.kind()) => {
+            say(rt, format_args!("{path}: there is no such folder"));
+        }
+        Err(error) => say(rt, format_args!("{path}: {error}")),
+    }
+}
+
 fn run_words(rt: &HostRuntime, folder: String, words: &[Word]) -> Result<u8, AllocError> {
     let alloc = rt.alloc();
+    match read_words(words) {
+        Ok(asked) if asked.count > 0 => announce(rt, folder.as_str(), asked),
+        _ => {}
+    }
     let mut folder = RealFolder::new(rt.clone()?, folder);
     let mut door = TcpDoor::new(rt.clone()?, port_in(words));
     let status = host_run(alloc, words, &mut folder, &mut door);

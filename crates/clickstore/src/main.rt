@@ -1,67 +1,31 @@
 //! The client's program: `clickstore STORE FOLDER COMMAND`, over a store in a file.
 #![tactic(auto)]
 
+mod commands;
 mod folder_site;
+mod forms;
+mod help;
 mod other_words;
+mod publish_words;
 mod shipped;
 
 use crate::folder_site::FolderSite;
+use crate::help::{Page, begins_help, page_of, write_page};
 use crate::other_words::{Misread, what_is_wrong};
 use crate::shipped::run_over_file;
 use disks::{Start, Unknown};
 use http_link::HttpLink;
 use links::{Link, Links};
 use mirrors::Mirrors;
-use outside::{Failed, Sink, write_all};
+use outside::Failed;
 use outside_real::{Failure, FileDisk, RealFolder, StdSink, StdSource, TcpWire};
 use small_types::{List, Word};
 use std::alloc::AllocError;
 use std::env;
 use std::fmt::Display;
-use std::io::ErrorKind;
+use std::io::{self, ErrorKind};
 use std::process::ExitCode;
 use updater_cli::{DemoFault, Report};
-
-const HELP: &[u8] = b"usage: clickstore STORE FOLDER COMMAND
-
-STORE is the file of the store, and FOLDER a folder of published files. What a
-URL names is asked of FOLDER first. What FOLDER does not give as it is wanted is
-asked of the URL's host over HTTP.
-
-  format --blocks N            makes an empty store of N blocks, 1 to 65536
-  session --boot N --now N     answers the lines of the input: `at N`,
-                               `require KEY V`, `install URL`, `check KEY`,
-                               `skip KEY`, `rollback KEY`, `launch KEY`,
-                               `read L NAME FROM COUNT`,
-                               `data L NAME FROM COUNT`, `put L NAME HEX`,
-                               `remove L NAME`, `group L GROUP`, `finish L`,
-                               `clean`, `list` and `show KEY`
-  inspect deployment           says what the deployment manifest in the input says
-  inspect application          the same for an application manifest
-  demo SEED                    makes STORE anew, what it held being lost, and
-                               installs three generated releases there; SEED is
-                               a number, which makes their files
-  publish OPTION.. MARK..      publishes files of the folder, in any order:
-    --name N --release V       as version V of N
-    --entry E                  E is the file that is started
-    --from F --to T            the files below F, written below T
-    --publisher P              by P; N where it is left out
-    --minimum M                and no version below M may run any more
-    --check C                  a client checks for updates: none, before (each
-                               start), or once so many hours, days or weeks
-                               have passed, as 12h, 7d or 2w; none where it is
-                               left out
-    --provider U               updates come from the address U
-    --plain                    files are written without .deploy
-    data:FILE                  FILE is a data file
-    group:GROUP:FILE           FILE is only fetched once GROUP is asked for
-
-Status: 0 done, 1 other words, 2 input failed, 3 output failed, 4 disk failed,
-5 no store, 6 no memory, or a demo that came out wrong, 7 refused manifest or
-publish, 8 more input than a session takes. For publish, 2 and 3 also where the
-folder failed. Where the status is neither 0 nor 7, one line on the standard
-error says why.
-";
 
 // What the standard input and output are called.
 const INPUT: &str = "standard input";
@@ -69,8 +33,6 @@ const INPUT: &str = "standard input";
 const OUTPUT: &str = "standard output";
 
 const NO_MEMORY: &str = "no memory";
-
-const VERSION: &[u8] = b"clickstore 0.1.0\n";
 
 // How the command line is read.
 enum Asked {
@@ -81,41 +43,59 @@ enum Asked {
         words: Vec<Word>,
     },
     // A text to print.
-    Print(&'static [u8]),
+    Print(Page),
     // Other words.
     Words(Misread<'static>),
+    // The page of a command that there is not.
+    NoPage(String),
 }
 
-fn read_args(rt: &HostRuntime) -> Result<Asked, AllocError> {
-    let args = match env::args(rt) {
-        Ok(args) => args,
-        Err(error) => {
-            return match error.kind() {
-                ErrorKind::OutOfMemory => Err(AllocError),
-                _ => Ok(Asked::Words(Misread::NoText)),
-            };
-        }
-    };
-    let mut args = args.skip(1);
-    let Some(store) = args.next() else {
-        return Ok(Asked::Words(Misread::NoCommand));
-    };
-    let Some(folder) = args.next() else {
-        return match store.as_str() {
-            "--help" => Ok(Asked::Print(HELP)),
-            "--version" => Ok(Asked::Print(VERSION)),
-            _ => Ok(Asked::Words(Misread::NoCommand)),
-        };
-    };
+// The words behind the program's name.
+fn read_words(rt: &HostRuntime) -> io::Result<Vec<String>> {
     let mut words = Vec::new(rt.alloc());
-    for arg in args {
-        words.push(Word::from_vec(arg.into_bytes()))?;
+    for word in env::args(rt)?.skip(1) {
+        words.push(word)?;
+    }
+    Ok(words)
+}
+
+// Words that ask for no page.
+fn read_run(rt: &HostRuntime, words: Vec<String>) -> Result<Asked, AllocError> {
+    let mut words = words.into_iter();
+    let Some(store) = words.next() else {
+        return Ok(Asked::Words(Misread::no_command()));
+    };
+    let Some(folder) = words.next() else {
+        return Ok(Asked::Words(Misread::no_command()));
+    };
+    let mut behind = Vec::new(rt.alloc());
+    for word in words {
+        behind.push(Word::from_vec(word.into_bytes()))?;
+    }
+    if behind.is_empty() && begins_help(store.as_str()) {
+        return Ok(Asked::NoPage(folder));
     }
     Ok(Asked::Run {
         store,
         folder,
-        words,
+        words: behind,
     })
+}
+
+fn read_args(rt: &HostRuntime) -> Result<Asked, AllocError> {
+    let words = match read_words(rt) {
+        Ok(words) => words,
+        Err(error) => {
+            return match error.kind() {
+                ErrorKind::OutOfMemory => Err(AllocError),
+                _ => Ok(Asked::Words(Misread::no_text())),
+            };
+        }
+    };
+    match page_of(words.as_slice()) {
+        Some(page) => Ok(Asked::Print(page)),
+        None => read_run(rt, words),
+    }
 }
 
 // Says why the program ends. Where that fails nothing more can be said.
@@ -123,9 +103,9 @@ fn say<D: Display + Drop>(rt: &HostRuntime, why: D) {
     let _ = eprintln!(rt; "clickstore: {why}");
 }
 
-fn print(rt: &HostRuntime, text: &[u8]) -> Result<u8, AllocError> {
+fn print(rt: &HostRuntime, page: Page) -> Result<u8, AllocError> {
     let mut sink = StdSink::new(rt.clone()?);
-    match write_all(&mut sink, text) {
+    match write_page(&mut sink, page) {
         Ok(()) => Ok(0),
         Err(Failed) => {
             say(rt, Failure::new(OUTPUT, sink.why()));
@@ -161,13 +141,18 @@ fn explain(
     failures: &Failures,
 ) {
     match status {
-        1 => say(rt, what_is_wrong(words)),
+        1 => say(rt, what_is_wrong(rt.alloc(), words)),
         2 => say(rt, failures.source.or(failures.folder)),
         3 => say(rt, failures.sink.or(failures.folder)),
         4 => say(rt, failures.disk),
         5 => {
             let path = failures.disk.name();
-            say(rt, format_args!("{path}: no store; 'format' makes one"));
+            say(
+                rt,
+                format_args!(
+                    "{path}: no store, or a damaged one; 'format' erases it and makes a new one"
+                ),
+            );
         }
         6 => explain_early(rt, note),
         8 => say(rt, "more input than a session takes"),
@@ -240,7 +225,11 @@ fn run_args(rt: &HostRuntime) -> Result<u8, AllocError> {
             say(rt, why);
             Ok(1)
         }
-        Asked::Print(text) => print(rt, text),
+        Asked::NoPage(name) => {
+            say(rt, Misread::no_such_command(name.as_str()));
+            Ok(1)
+        }
+        Asked::Print(page) => print(rt, page),
         Asked::Run {
             store,
             folder,

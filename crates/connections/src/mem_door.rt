@@ -134,7 +134,8 @@ impl Door for MemDoor {
         ensures end { door_requests self.old ≡ [] → IsErr result }
         ensures works { door_fails self.old ≡ false → door_requests self.old ≢ []
             → WorksOrStarves (door_starved self.old) (door_starved self.new) result }
-        ensures listed { IsTrue (door_fails self.old) → door_starved self.new ≡ door_starved self.old }
+        ensures listed { IsTrue (door_fails self.old)
+            → door_starved self.new ≡ door_starved self.old }
         ensures unrequested { door_requests self.old ≡ []
             → door_starved self.new ≡ door_starved self.old }
         ensures calls { door_calls self.new ≡ total (door_calls self.old) 1 }
@@ -202,7 +203,8 @@ impl Door for MemDoor {
         ensures first { door_accepted self.old ≡ [] → IsErr result }
         ensures works { door_fails self.old ≡ false → door_accepted self.old ≢ []
             → WorksOrStarves (door_starved self.old) (door_starved self.new) result }
-        ensures listed { IsTrue (door_fails self.old) → door_starved self.new ≡ door_starved self.old }
+        ensures listed { IsTrue (door_fails self.old)
+            → door_starved self.new ≡ door_starved self.old }
         ensures unconnected { door_accepted self.old ≡ []
             → door_starved self.new ≡ door_starved self.old }
         ensures sent { IfOk result (λ n.

@@ -146,7 +146,8 @@ impl Wire for MemWire {
         ensures end { wire_answers self.old ≡ [] → IsErr result }
         ensures works { wire_fails self.old ≡ false → wire_answers self.old ≢ []
             → WorksOrStarves (wire_starved self.old) (wire_starved self.new) result }
-        ensures listed { IsTrue (wire_fails self.old) → wire_starved self.new ≡ wire_starved self.old }
+        ensures listed { IsTrue (wire_fails self.old)
+            → wire_starved self.new ≡ wire_starved self.old }
         ensures unanswered { wire_answers self.old ≡ []
             → wire_starved self.new ≡ wire_starved self.old }
         ensures calls { wire_calls self.new ≡ total (wire_calls self.old) 1 }
@@ -219,7 +220,8 @@ impl Wire for MemWire {
         ensures alone { wire_present self.old ≡ None → IsErr result }
         ensures works { wire_fails self.old ≡ false → wire_present self.old ≢ None
             → WorksOrStarves (wire_starved self.old) (wire_starved self.new) result }
-        ensures listed { IsTrue (wire_fails self.old) → wire_starved self.new ≡ wire_starved self.old }
+        ensures listed { IsTrue (wire_fails self.old)
+            → wire_starved self.new ≡ wire_starved self.old }
         ensures unconnected { wire_present self.old ≡ None
             → wire_starved self.new ≡ wire_starved self.old }
         ensures answers_kept { wire_answers self.new ≡ wire_answers self.old }

@@ -6,7 +6,9 @@ use Rattle.disks.specs.Spends.{Spends}
 use Rattle.machine.specs.declared.event.Event.TheVariants.{Boot}
 use Rattle.machine.specs.Machine.{Step}
 use Rattle.machine.specs.Store.{booted, empty, plain_room, session_over}
+use Rattle.machine.specs.Weight.{weight_of}
 use Rattle.machine.proofs.Keeping.{empty_sound}
+use Rattle.machine.proofs.Lightness.{no_halves}
 use Rattle.machine.proofs.Stepping.{step_sound}
 use Rattle.store_log.specs.declared.fault.LogFault.{LogFault}
 use Rattle.store_log.specs.declared.fault.LogFault.TheVariants as log
@@ -60,7 +62,8 @@ module _ {D : Type 0} (on : Ghosts D) (disk disk_new : D) where
           is = step;
           holds = opened.holds.stored tells (empty room) (fresh (on.seen disk) journal);
           sound = step_sound 0 start (Boot 1) None last (omega arith) step
-              (empty_sound room (omega arith) (omega arith));
+              (empty_sound room (omega arith) (omega arith)
+              (no_halves room (weight_of [] []) refl));
         };
     touches = touches (Ok r) (Ok r.0) opened (λ is. cc (is)) (λ is. cc (is)) (λ tells is. cc (is));
   }

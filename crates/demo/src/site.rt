@@ -6,7 +6,7 @@ ghost use Rattle.demo.specs.Steps.{IsSite};
 use crate::DemoFault;
 use fetcher::FolderLink;
 use folders::MemFolder;
-use generated_release::{GeneratedRelease, PublishedRelease, ReleaseFault, publish_release};
+use generated_release::{GeneratedRelease, GenerationFault, PublishedRelease, publish_release};
 use identity::Key;
 use links::Single;
 use small_types::{Bytes, List};
@@ -33,8 +33,8 @@ pub(crate) fn open_site(
 {
     let published = match publish_release(alloc, seed, release) {
         Ok(published) => published,
-        Err(ReleaseFault::Refused) => return Err(DemoFault::NotPublished { release }),
-        Err(ReleaseFault::Memory) => return Err(DemoFault::Memory),
+        Err(GenerationFault::Refused) => return Err(DemoFault::NotPublished { release }),
+        Err(GenerationFault::Memory) => return Err(DemoFault::Memory),
     };
     let PublishedRelease {
         folder,

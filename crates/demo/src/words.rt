@@ -35,6 +35,7 @@ pub(crate) fn words_of(reply: &Reply) -> &'static str {
         Reply::TooMany { .. } => "no too-many",
         Reply::Spent { .. } => "no spent",
         Reply::Full { .. } => "no full",
+        Reply::TableFull { .. } => "no table-full",
         Reply::AllLinks { .. } => "no links",
         Reply::Manifest { .. } => "no manifest",
         Reply::Release { .. } => "no release",

@@ -80,10 +80,10 @@ AddsCause Memory old new = ⊥
 
 -- how a fetch ends that does not ask the next link: there was no memory to note the cause, or else
 -- what stopped it
-abbrev pub end_of : Stopped → FetchFault
-end_of (By cause) = OutOfMemory
-end_of Basket = BasketFailed
-end_of Memory = OutOfMemory
+abbrev pub end_of_fetch : Stopped → FetchFault
+end_of_fetch (By cause) = OutOfMemory
+end_of_fetch Basket = BasketFailed
+end_of_fetch Memory = OutOfMemory
 
 -- why no more pieces came, by the counts of the link and of the basket
 abbrev pub IsPourStop : LinkState → LinkState → ℕ → ℕ → Stopped → Type 0

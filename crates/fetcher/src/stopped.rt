@@ -1,6 +1,6 @@
 // How a fetch from one link ends without bytes.
 ghost use Rattle.std.specs.Prelude.{◌≡◌, IfErr, OnOk};
-ghost use Rattle.fetcher.specs.Stopped.{AddsCause, TellsCauses, basket_stop, end_of, stop_of};
+ghost use Rattle.fetcher.specs.Stopped.{AddsCause, TellsCauses, basket_stop, end_of_fetch, stop_of};
 
 use crate::FetchFault;
 use causes::Cause;
@@ -46,7 +46,7 @@ pub(crate) fn stopped_basket(fault: BasketFault) -> Stopped
 /// Adds the cause to those of the links before, or says how the fetch ends.
 pub(crate) fn add_cause(causes: &mut Vec<Cause>, stop: Stopped) -> Result<(), FetchFault>
     ensures added { OnOk result (AddsCause stop causes.old.items causes.new.items) }
-    ensures ends { IfErr result (λ fault. fault ≡ end_of stop) }
+    ensures ends { IfErr result (λ fault. fault ≡ end_of_fetch stop) }
 {
     match stop {
         Stopped::By(cause) => {

@@ -6,7 +6,7 @@ use Rattle.publisher.specs.declared.fault.PublishFault.{PublishFault}
 use Rattle.publisher.specs.declared.fault.PublishFault.TheVariants.{ReadFault, WriteFault, Changed, Memory}
 use Rattle.publisher.specs.Outcome.{Refuses}
 use Rattle.publisher.specs.Publication.{Outcome}
-use Rattle.generated_release.specs.declared.fault.ReleaseFault.TheVariants.{Refused}
+use Rattle.generated_release.specs.declared.fault.GenerationFault.TheVariants.{Refused}
 use Rattle.generated_release.specs.Faults.{IsSure, fault_of}
 
 not_rose : Rose 0 0 → ⊥

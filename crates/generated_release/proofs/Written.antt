@@ -7,15 +7,15 @@ use Rattle.folders.specs.Files.{IsNames, file_in}
 use Rattle.folders.specs.MemFolder.{folder_failing, folder_held}
 use Rattle.publish_plan.specs.declared.options.Options.{Options}
 use Rattle.publisher.specs.declared.fault.PublishFault.{PublishFault}
-use Rattle.publisher.specs.declared.publishing.Published.{Published}
+use Rattle.publisher.specs.declared.published.Published.{Published}
 use Rattle.publisher.specs.Outcome.{Publishes, Refuses}
 use Rattle.publisher.specs.Publication.{Outcome, publish_of}
 use Rattle.publisher.specs.Published.{PublishesFiles}
 use Rattle.publisher.specs.Puts.{PutsAll}
 use Rattle.generated_release.specs.declared.release.GeneratedRelease.{GeneratedRelease}
-use Rattle.generated_release.specs.declared.fault.ReleaseFault.TheVariants.{Refused}
+use Rattle.generated_release.specs.declared.fault.GenerationFault.TheVariants.{Refused}
 use Rattle.generated_release.specs.declared.files.TheConstants.{FILE_COUNT}
-use Rattle.generated_release.specs.declared.publishing.PublishedRelease.{PublishedRelease}
+use Rattle.generated_release.specs.declared.published_release.PublishedRelease.{PublishedRelease}
 use Rattle.generated_release.specs.Faults.{IsSure, fault_of}
 use Rattle.generated_release.specs.Files.{input_files}
 use Rattle.generated_release.specs.Options.{application_at, demo_key, deployment_at, number_of, options_of}

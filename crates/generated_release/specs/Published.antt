@@ -7,7 +7,7 @@ use Rattle.publish_plan.specs.Places.{deployment_name, manifest_name}
 use Rattle.publisher.specs.declared.fault.PublishFault.{PublishFault}
 use Rattle.publisher.specs.Publication.{publish_of}
 use Rattle.publisher.specs.Puts.{PutsAll}
-use Rattle.generated_release.specs.declared.publishing.PublishedRelease.{PublishedRelease}
+use Rattle.generated_release.specs.declared.published_release.PublishedRelease.{PublishedRelease}
 use Rattle.generated_release.specs.declared.release.GeneratedRelease.{GeneratedRelease}
 use Rattle.generated_release.specs.Files.{input_files}
 use Rattle.generated_release.specs.Options.{demo_key, number_of, options_of}

@@ -5,11 +5,11 @@
 mod fault;
 mod files;
 mod options;
-mod publishing;
+mod published_release;
 mod release;
 mod sure_folder;
 
-pub use fault::ReleaseFault;
+pub use fault::GenerationFault;
 pub use files::{FILE_COUNT, file_bytes, file_count_is, file_name};
-pub use publishing::{PublishedRelease, publish_release};
+pub use published_release::{PublishedRelease, publish_release};
 pub use release::GeneratedRelease;

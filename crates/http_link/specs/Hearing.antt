@@ -61,12 +61,14 @@ pub record IsRefused (target : Target) (present : Option Made) (rest : List ℕ)
 
 -- what comes of asking for a target over a wire that tells: by the present connection and what is
 -- left of the body afterwards, and by what was counted before and after
-abbrev pub Hears : Target → Option Made → List ℕ → Tally → Tally → Result ℕ LinkFault → Type 0
-Hears target present rest old new (Ok n) = IsMade (IsHeard target rest (Ok n)) present
-Hears target present rest old new (Err Missing) = IsMade (IsHeard target rest (Err Missing)) present
-Hears target present rest old new (Err Down) =
+abbrev pub AsksOverWire
+    : Target → Option Made → List ℕ → Tally → Tally → Result ℕ LinkFault → Type 0
+AsksOverWire target present rest old new (Ok n) = IsMade (IsHeard target rest (Ok n)) present
+AsksOverWire target present rest old new (Err Missing) =
+    IsMade (IsHeard target rest (Err Missing)) present
+AsksOverWire target present rest old new (Err Down) =
     IsLost target present old new ⊎ IsRefused target present rest old new
-Hears target present rest old new (Err Memory) = Unit {0}
+AsksOverWire target present rest old new (Err Memory) = Unit {0}
 
 -- how many bytes are to come: as many as were answered, and none where the target was not served
 abbrev pub Owes : ℕ → Result ℕ LinkFault → Type 0

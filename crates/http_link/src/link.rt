@@ -121,7 +121,7 @@ impl<W: Wire + Drop> Link for HttpLink<W> {
     ghost use Rattle.links.specs.History.{calls_of};
     ghost use Rattle.links.specs.Link.{LinkState, Asks, Takes};
     ghost use Rattle.http_link.specs.Counts.{CountsAsk, Unraised};
-    ghost use Rattle.http_link.specs.Hearing.{Hears, Owes};
+    ghost use Rattle.http_link.specs.Hearing.{AsksOverWire, Owes};
     ghost use Rattle.http_link.specs.Pieces.{GivesPiece, ReceivesAtMost, Stops};
     ghost use Rattle.http_link.specs.States.{OnlyNotes, body_left, coming, http_state, left_on, owed, tally};
 
@@ -144,7 +144,7 @@ impl<W: Wire + Drop> Link for HttpLink<W> {
             (http_state (W.present self.new.wire) (W.count self.new.wire) self.new) result }
 
         // Over a wire that tells, each result comes exactly where the answer gives it.
-        ensures hears { W.tells → Hears target.now (W.present self.new.wire)
+        ensures hears { W.tells → AsksOverWire target.now (W.present self.new.wire)
             (body_left (W.present self.new.wire) self.new)
             (tally (W.count self.old.wire) self.old) (tally (W.count self.new.wire) self.new)
             result }

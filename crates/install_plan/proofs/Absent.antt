@@ -20,6 +20,7 @@ use Rattle.fetcher.proofs.Sequence.{kept_same}
 use Rattle.install_plan.specs.Checks.{IsCheckOver}
 use Rattle.install_plan.specs.Offers.{IsOfferText, OfferServed}
 use Rattle.install_plan.proofs.Currents.{none_current, none_provided}
+use Rattle.install_plan.proofs.Downs.{counts_none}
 
 module _ (room : Room) (tables : Tables) (key : Key) (now : ℕ) (a : LinksState)
     (texts : List (List ℕ)) (none : texts ≡ []) where
@@ -44,6 +45,7 @@ module _ (room : Room) (tables : Tables) (key : Key) (now : ℕ) (a : LinksState
     hears = subst (HearsOffer key (table_shape room tables)) (sym none) tt;
     kept = kept_same a;
     still = refl;
+    downs = counts_none refl;
     step = λ image old idle shows valid. let gone = absent image old shows valid in record {
       new = old;
       step = inl (inr (tt, inl ((gone, refl), refl)));

@@ -14,13 +14,13 @@ use Rattle.manifests.specs.Facts.{IsFile}
 use Rattle.machine.specs.Views.{ContentKey, content_key}
 use Rattle.machine.proofs.Members.{In}
 use Rattle.store_state.specs.declared.view.Content.{Content}
+use Rattle.store_state.specs.Contents.{held_key}
 use Rattle.links.specs.Links.{LinksState}
 use Rattle.install_plan.specs.declared.plan.WantedFile.{WantedFile}
 use Rattle.install_plan.specs.Brought.{AreContentsFor, IsContentFor}
 use Rattle.install_plan.specs.FetchedFiles.{ArePlaces, IsContentAt, addresses}
 use Rattle.install_plan.specs.Hearing.{WereGiven}
 use Rattle.install_plan.specs.Held.{given_bytes}
-use Rattle.install_plan.proofs.Keyed.{kept_key}
 use Rattle.install_plan.proofs.Sufficing.{IsWholeContent}
 
 first_is : {X : Type 0} (x y : X) (xs ys : List X) → x ∷ xs ≡ y ∷ ys → x ≡ y
@@ -130,16 +130,16 @@ module _ (files : List FileEntry) where
 
 -- ---- contents
 
-pub keys_for : (a c : LinksState) (entries : List FileEntry) (targets : List Target) (contents : List Content) → AreContentsFor a c entries targets contents → map kept_key contents ≡ map content_key entries
+pub keys_for : (a c : LinksState) (entries : List FileEntry) (targets : List Target) (contents : List Content) → AreContentsFor a c entries targets contents → map held_key contents ≡ map content_key entries
 keys_for a c [] [] [] are = refl
 keys_for a c [] [] (content ∷ contents) are = absurd are
 keys_for a c [] (target ∷ targets) contents are = absurd are
 keys_for a c (entry ∷ entries) [] contents are = absurd are
 keys_for a c (entry ∷ entries) (target ∷ targets) [] are = absurd are
 keys_for a c (entry ∷ entries) (target ∷ targets) (content ∷ contents) are =
-    let key : kept_key content ≡ content_key entry =
-    ap (λ (n : ℕ). record (kept_key content) { size = n }) are.0.size ∙ ap (λ (l : List Digest). record (content_key entry) { list = l }) are.0.list in
-    ap (λ (k : ContentKey). k ∷ map kept_key contents) key
+    let key : held_key content ≡ content_key entry =
+    ap (λ (n : ℕ). record (held_key content) { size = n }) are.0.size ∙ ap (λ (l : List Digest). record (content_key entry) { list = l }) are.0.list in
+    ap (λ (k : ContentKey). k ∷ map held_key contents) key
     ∙ ap (λ (ks : List ContentKey). content_key entry ∷ ks) (keys_for a c entries targets contents are.1)
 
 pub whole_for : (a c : LinksState) (entries : List FileEntry) (targets : List Target) (contents : List Content) → AreContentsFor a c entries targets contents → All IsWholeContent contents

@@ -54,6 +54,7 @@ use Rattle.install_plan.specs.Hearing.{IsFront}
 use Rattle.install_plan.specs.Offers.{IsNoOffer, IsOfOther, IsOffer, OfferHearing, OfferServed}
 use Rattle.install_plan.specs.Prepared.{IsCheckPrepared}
 use Rattle.install_plan.specs.Stages.{IsGot, IsNotRead, StopsOne}
+use Rattle.install_plan.proofs.Downs.{check_counts, counts_none}
 use Rattle.install_plan.proofs.Entry.{entry_same, entry_stays}
 use Rattle.install_plan.proofs.NewFiles.{leads_over}
 use Rattle.install_plan.proofs.Rows.{unrefused}
@@ -156,6 +157,7 @@ module _ (room : Room) (tables : Tables) (key : Key) (now : ℕ)
     hears = hears;
     kept = both;
     still = refl;
+    downs = counts_none refl;
     step = λ image old idle shows valid. record {
       new = old;
       step = inl (inl (refl, refl));
@@ -174,6 +176,7 @@ module _ (room : Room) (tables : Tables) (key : Key) (now : ℕ)
     hears = hears;
     kept = both;
     still = still;
+    downs = check_counts key shape texts a b reply served;
     step = λ image old idle shows valid. record {
       new = old;
       step = by_refusal old image idle shows texts reply old (refuses old);
@@ -214,6 +217,7 @@ module _ (room : Room) (tables : Tables) (key : Key) (now : ℕ)
       hears = tt;
       kept = both;
       still = refl;
+      downs = check_counts key shape [] a b missing unserved;
       of = refl;
       fits = some_there (current_row key tables) row is_row;
       step = λ image old idle shows valid. record {
@@ -234,6 +238,7 @@ module _ (room : Room) (tables : Tables) (key : Key) (now : ℕ)
       hears = tt;
       kept = both;
       still = refl;
+      downs = check_counts key shape [] a b missing unserved;
       step = λ image old idle shows valid. record {
         new = record old { store = unheard_store key old.store };
         step = by_refusal old image idle shows [] missing (record old { store = unheard_store key old.store })
@@ -367,6 +372,7 @@ module _ (room : Room) (tables : Tables) (key : Key) (now : ℕ)
             hears = some_current;
             kept = both;
             still = refl;
+            downs = counts_none refl;
             of = refl;
             fits = record {
               installed = some_there (current_row key tables) row is_row;
@@ -393,6 +399,7 @@ module _ (room : Room) (tables : Tables) (key : Key) (now : ℕ)
             hears = some_current;
             kept = both;
             still = refl;
+            downs = counts_none refl;
             step = λ image old idle shows valid. record {
               new = left old;
               step = by_effect old image idle shows (text ∷ []) (checked_of offered app) (left old) passes

@@ -13,15 +13,16 @@ use Rattle.machine.proofs.Members.{In, all_in, contains_in, in_all, in_contains,
 use Rattle.machine.proofs.Missing.{are_missing}
 use Rattle.machine.proofs.Needing.{in_passes, is_same, passes_in, same_is}
 use Rattle.store_state.specs.declared.view.Content.{Content}
-use Rattle.store_state.specs.Contents.{AreContentsOf, Brings, IsMeasured, content_of, is_content_of}
+use Rattle.store_state.specs.Contents.{AreContentsOf, Brings, IsMeasured, content_of, held_key, is_content_of}
 use Rattle.store_state.specs.Contents.{is_same as same_contents}
-use Rattle.install_plan.proofs.Keyed.{both, content_is, found, is_content, kept_key, pairs_before, same_kept, some_found}
+use Rattle.store_state.proofs.Keyed.{key_of, of_key, same_key}
+use Rattle.install_plan.proofs.Keyed.{both, found, pairs_before, some_found}
 use Rattle.install_plan.proofs.Sufficing.{IsWholeContent}
 use Rattle.install_plan.proofs.Wants.{in_any}
 
 module _ (views : List BareView) (group : List ℕ) (a : Application) (contents new : List Content)
     (are : AreContentsOf (standing_files views) contents)
-    (keys : map kept_key new ≡ map content_key (group_wanted views group a))
+    (keys : map held_key new ≡ map content_key (group_wanted views group a))
     (whole : All IsWholeContent new) where
   abbrev held : List FileEntry
   held = standing_files views
@@ -37,19 +38,19 @@ module _ (views : List BareView) (group : List ℕ) (a : Application) (contents 
 
   -- the content that was brought for a wanted file
   brought : (entry : FileEntry) → In entry wants
-      → (content : Content) × In content new × (kept_key content ≡ content_key entry)
+      → (content : Content) × In content new × (held_key content ≡ content_key entry)
   brought entry there =
-      map_in kept_key new (content_key entry)
+      map_in held_key new (content_key entry)
       (subst (λ (ks : List ContentKey). In (content_key entry) ks) (sym keys)
       (in_map content_key wants entry there))
 
   -- the wanted file that a content was brought for
   brought_for : (content : Content) → In content new
-      → (entry : FileEntry) × In entry wants × (content_key entry ≡ kept_key content)
+      → (entry : FileEntry) × In entry wants × (content_key entry ≡ held_key content)
   brought_for content there =
-      map_in content_key wants (kept_key content)
-      (subst (λ (ks : List ContentKey). In (kept_key content) ks) keys
-      (in_map kept_key new content there))
+      map_in content_key wants (held_key content)
+      (subst (λ (ks : List ContentKey). In (held_key content) ks) keys
+      (in_map held_key new content there))
 
   has_content : (entry : FileEntry) → In entry entries → IsSome (content_of (contents ++ new) entry)
   has_content entry there = by (missing.each entry (contains_in entries entry there))
@@ -61,14 +62,14 @@ module _ (views : List BareView) (group : List ℕ) (a : Application) (contents 
           (all_in (λ (e : FileEntry). IsSome (content_of contents e)) held file are.each of) in
           some_found (is_content_of entry) (contents ++ new) first.item
           (in_left contents new first.item first.there)
-          (is_content entry first.item (same ∙ content_is file first.item first.passes))
+          (key_of entry first.item (same ∙ of_key file first.item first.passes))
 
       brought_by : (file : FileEntry) → In file wants → content_key entry ≡ content_key file
           → IsSome (content_of (contents ++ new) entry)
       brought_by file of same =
           let from = brought file of in
           some_found (is_content_of entry) (contents ++ new) from.0
-          (in_right contents new from.0 from.1) (is_content entry from.0 (same ∙ sym from.2))
+          (in_right contents new from.0 from.1) (key_of entry from.0 (same ∙ sym from.2))
 
       by : (is_held held entry ≡ true) ⊎ (is_held wants entry ≡ true)
           → IsSome (content_of (contents ++ new) entry)
@@ -87,7 +88,7 @@ module _ (views : List BareView) (group : List ℕ) (a : Application) (contents 
       in_contains entries from.0
       (all_in (Contains entries) wants from.0 missing.among from.1) in
       in_any (λ (entry : FileEntry). is_content_of entry content ≡ true) entries from.0 within
-      (is_content from.0 content from.2)
+      (key_of from.0 content from.2)
 
   is_lacking : (content other : Content) → In content new → In other contents
       → same_contents other content ≡ false
@@ -101,7 +102,7 @@ module _ (views : List BareView) (group : List ℕ) (a : Application) (contents 
           contents other are.only kept in
           let file : In of.1 held = in_contains held of.1 (of.0, of.2, of.3) in
           let same : content_key from.0 ≡ content_key of.1 =
-          from.2 ∙ sym (same_kept other content e) ∙ sym (content_is of.1 other of.4) in
+          from.2 ∙ sym (same_key other content e) ∙ sym (of_key of.1 other of.4) in
           let fresh = all_in (λ (entry : FileEntry). is_held held entry ≡ false) wants from.0
           missing.new from.1 in
           both (is_held held from.0)
@@ -113,15 +114,15 @@ module _ (views : List BareView) (group : List ℕ) (a : Application) (contents 
       let apart = pairs_map content_key
       (λ (x y : FileEntry). ◌≢◌ {A = ContentKey} (content_key x) (content_key y))
       (λ (x y : ContentKey). x ≢ y) wants (λ x y differ. differ) missing.once in
-      let kept = pairs_before kept_key (λ (x y : ContentKey). x ≢ y) new
+      let kept = pairs_before held_key (λ (x y : ContentKey). x ≢ y) new
       (subst (AllPairs (λ (x y : ContentKey). x ≢ y)) (sym keys) apart) in
-      pairs_weaker (λ (x y : Content). ◌≢◌ {A = ContentKey} (kept_key x) (kept_key y))
+      pairs_weaker (λ (x y : Content). ◌≢◌ {A = ContentKey} (held_key x) (held_key y))
       (λ (x y : Content). same_contents x y ≡ false) new
       (λ x y differ. other x y differ (same_contents x y) refl) kept
     where
-      other : (x y : Content) → ◌≢◌ {A = ContentKey} (kept_key x) (kept_key y) → (b : Bool)
+      other : (x y : Content) → ◌≢◌ {A = ContentKey} (held_key x) (held_key y) → (b : Bool)
           → same_contents x y ≡ b → same_contents x y ≡ false
-      other x y differ true e = absurd (differ (same_kept x y e))
+      other x y differ true e = absurd (differ (same_key x y e))
       other x y differ false e = e
 
   pub brings_group : Brings contents (group_files group a) new

@@ -31,7 +31,7 @@ use Rattle.install_plan.specs.declared.plan.WantedFile.{WantedFile}
 use Rattle.install_plan.specs.Judges.{Refused, address_checks, deployment_checks, release_checks}
 use Rattle.install_plan.specs.Plans.{IsPlanned, IsRefused}
 use Rattle.install_plan.specs.Stages.{HearsOne, StopsOne}
-use Rattle.install_plan.proofs.Ends.{address_end, application_end, deployment_end, judged_end, plan_end, release_end}
+use Rattle.install_plan.proofs.Ends.{address_end, application_end, deployment_end, ended, judged_end, plan_end, release_end}
 use Rattle.install_plan.proofs.Told.{base_is}
 
 oks : (ws : List WantedFile) → ◌≡◌ {A = List (Result Target UrlFault)} (map Ok (map (λ file. file.target) ws)) (map (λ file. Ok file.target) ws)
@@ -52,28 +52,28 @@ grown text noted same = noted ∙ ap (λ (ts : List (List ℕ)). ts ++ text ∷ 
 
 module _ {shape : Shape} {url : List ℕ} {a : LinksState} {none : List (List ℕ)} (empty : none ≡ []) where
   pub at_address : {reply : Reply} → Refused (address_checks (target_of_text url)) reply → IsRefused shape url none a a reply
-  at_address {reply = reply} refused = subst (λ (ts : List (List ℕ)). IsRefused shape url ts a a reply) (sym empty) (address_end shape url a reply refused)
+  at_address {reply = reply} refused = subst (λ (ts : List (List ℕ)). IsRefused shape url ts a a reply) (sym empty) (ended (address_end shape url a reply refused))
 
   module _ {target : Target} (read : target_of_text url ≡ Ok target) {b : LinksState} (one : Kept a b) {first : List (List ℕ)} where
     pub at_deployment : {reply : Reply} → StopsOne deployment_of (IsTextCause MANIFEST_LIMIT target) (FitsText MANIFEST_LIMIT) target a b none first reply → IsRefused shape url first a b reply
-    at_deployment {reply = reply} stops = deployment_end shape url target read a b one first reply
-        (subst (λ (ts : List (List ℕ)). StopsOne deployment_of (IsTextCause MANIFEST_LIMIT target) (FitsText MANIFEST_LIMIT) target a b ts first reply) empty stops)
+    at_deployment {reply = reply} stops = ended (deployment_end shape url target read a b one first reply
+        (subst (λ (ts : List (List ℕ)). StopsOne deployment_of (IsTextCause MANIFEST_LIMIT target) (FitsText MANIFEST_LIMIT) target a b ts first reply) empty stops))
 
     module _ {d : Deployment} (hears : HearsOne deployment_of (FitsText MANIFEST_LIMIT) target a b none first d) where
       pub at_judgement : {reply : Reply} → Refused (deployment_checks shape d (app_target_of target d.codebase)) reply → IsRefused shape url first a b reply
       at_judgement {reply = reply} refused = subst (λ (ts : List (List ℕ)). IsRefused shape url ts a b reply) (sym (grown hears.text hears.noted empty))
-          (judged_end shape url target read a b one hears.text d hears.got hears.tells reply refused)
+          (ended (judged_end shape url target read a b one hears.text d hears.got hears.tells reply refused))
 
       module _ {base : Target} (joined : app_target_of target d.codebase ≡ Ok base) (passed : PassesAll (deployment_checks shape d (app_target_of target d.codebase)))
           {c : LinksState} (two : Kept b c) {both : List (List ℕ)} where
         pub at_application : {reply : Reply} → StopsOne application_of (IsFileCause d.app_list d.app_size base) (Matches d.app_list d.app_size) base b c first both reply → IsRefused shape url both a c reply
-        at_application {reply = reply} stops = application_end shape url target read a b one hears.text d hears.got hears.tells base joined passed c two both reply
-            (subst (λ (ts : List (List ℕ)). StopsOne application_of (IsFileCause d.app_list d.app_size base) (Matches d.app_list d.app_size) base b c ts both reply) (grown hears.text hears.noted empty) stops)
+        at_application {reply = reply} stops = ended (application_end shape url target read a b one hears.text d hears.got hears.tells base joined passed c two both reply
+            (subst (λ (ts : List (List ℕ)). StopsOne application_of (IsFileCause d.app_list d.app_size base) (Matches d.app_list d.app_size) base b c ts both reply) (grown hears.text hears.noted empty) stops))
 
         module _ {app : Application} (second : HearsOne application_of (Matches d.app_list d.app_size) base b c first both app) where
           pub at_release : {reply : Reply} → (base_of url d ≡ Ok base → IsApplication app → Refused (release_checks url shape d app) reply) → IsRefused shape url both a c reply
           at_release {reply = reply} refused = subst (λ (ts : List (List ℕ)). IsRefused shape url ts a c reply) (sym (grown second.text second.noted (grown hears.text hears.noted empty)))
-              (release_end shape url target read a b one hears.text d hears.got hears.tells base joined passed c two second.text second.got app second.tells reply (refused (base_is url d target (Ok base) read joined) (application_read second.text app second.tells)))
+              (ended (release_end shape url target read a b one hears.text d hears.got hears.tells base joined passed c two second.text second.got app second.tells reply (refused (base_is url d target (Ok base) read joined) (application_read second.text app second.tells))))
 
           pub at_plan : {provider : Target} {files : List WantedFile} → IsProvidedBy target d.provider provider
               → map (λ file. slice_get app.files file.place) files ≡ map Some (wanted shape.views app)

@@ -19,9 +19,10 @@ use Rattle.machine.specs.Wanted.{is_held, wanted}
 use Rattle.machine.proofs.Members.{In, all_in, contains_in, in_all, in_contains, map_in}
 use Rattle.machine.proofs.Needing.{in_passes, is_same}
 use Rattle.store_state.specs.declared.view.Content.{Content}
-use Rattle.store_state.specs.Contents.{AreContentsOf, Brings, content_of, is_content_of}
+use Rattle.store_state.specs.Contents.{AreContentsOf, Brings, content_of, held_key, is_content_of}
 use Rattle.store_state.specs.Shows.{bytes_in, shown_file}
 use Rattle.store_state.specs.Tables.{Tables, bare_row, table_shape}
+use Rattle.store_state.proofs.Keyed.{of_key}
 use Rattle.links.specs.Links.{LinksState}
 use Rattle.install_plan.specs.declared.plan.Plan.{Plan}
 use Rattle.install_plan.specs.Brought.{AreContentsFor, IsBrought, IsCarriedOrFetched, IsFileFrom, IsHeldOrCame}
@@ -31,7 +32,7 @@ use Rattle.install_plan.specs.Plans.{IsPlan, targets_of}
 use Rattle.install_plan.proofs.Aligning.{for_one, rest_is}
 use Rattle.install_plan.proofs.Fetched.{IsOriginal}
 use Rattle.install_plan.proofs.Sufficing.{wanted_within}
-use Rattle.install_plan.proofs.Keyed.{content_is, find_right, found, kept_key}
+use Rattle.install_plan.proofs.Keyed.{find_right, found}
 
 -- a list ends in one item
 last_is : {X : Type 0} (xs : List X) (x y : X) → xs ++ x ∷ [] ≡ xs ++ y ∷ [] → x ≡ y
@@ -67,7 +68,7 @@ module _ (room : Room) (tables : Tables) (image : List ℕ) (url : List ℕ) (te
       let first = found (is_content_of entry) tables.contents some in
       let of = all_in (λ (content : Content). Any (λ file. is_content_of file content ≡ true) held) tables.contents first.item are.only first.there in
       in_passes (same_content entry) held of.1 (in_contains held of.1 (of.0, of.2, of.3))
-      (is_same entry of.1 (content_is entry first.item first.passes ∙ sym (content_is of.1 first.item of.4)))
+      (is_same entry of.1 (of_key entry first.item first.passes ∙ sym (of_key of.1 first.item of.4)))
 
   new_one : (entry : FileEntry) → content_of tables.contents entry ≡ None → IsSome (content_of after entry) → IsFetchedFor entry
   unfolding IsFetchedFor
@@ -76,8 +77,8 @@ module _ (room : Room) (tables : Tables) (image : List ℕ) (url : List ℕ) (te
       let first = found (is_content_of entry) new (subst (λ (o : Option Content). IsSome o) right some) in
       let one = for_one a c place_of wants (targets_of plan) contents first.item fetched is.targets (within first.item first.there) in
       let bytes : (shown_file room image after entry).bytes ≡ given_bytes first.item.held = ap (bytes_in room image) (right ∙ first.is) in
-      let key : kept_key first.item ≡ content_key one.entry =
-      ap (λ (n : ℕ). record (kept_key first.item) { size = n }) one.is.size ∙ ap (λ l. record (content_key one.entry) { list = l }) one.is.list in
+      let key : held_key first.item ≡ content_key one.entry =
+      ap (λ (n : ℕ). record (held_key first.item) { size = n }) one.is.size ∙ ap (λ l. record (content_key one.entry) { list = l }) one.is.list in
       let at = contains_in wants one.entry one.there in (
         at.0,
         one.entry,
@@ -86,7 +87,7 @@ module _ (room : Room) (tables : Tables) (image : List ℕ) (url : List ℕ) (te
         (
           one.target,
           one.named,
-          is_same one.entry entry (sym key ∙ sym (content_is entry first.item first.passes)),
+          is_same one.entry entry (sym key ∙ sym (of_key entry first.item first.passes)),
           subst (λ (bs : List ℕ). IsFrom (Matches one.entry.list one.entry.size) one.target a c bs) (sym bytes) one.is.from,
         ),
       )

@@ -15,13 +15,15 @@ use Rattle.machine.specs.declared.reply.Reply.{Reply}
 use Rattle.machine.specs.declared.reply.Reply.TheVariants as says
 use Rattle.machine.specs.Asked.{AsksApplication, AsksInstall}
 use Rattle.machine.specs.Installed.{IsProvidedBy}
-use Rattle.machine.specs.InstallRow.{OfDeployment, OfRelease, base_of}
+use Rattle.machine.specs.InstallRow.{HearsRelease, OfDeployment, OfRelease, base_of, install_refusals}
+use Rattle.machine.specs.Machine.{moment_after}
 use Rattle.machine.specs.Rows.{AreExact, PassesAll, Refusal}
 use Rattle.machine.specs.Shape.{Shape}
 use Rattle.machine.specs.Store.{Session}
 use Rattle.machine.specs.Wanted.{wanted}
 use Rattle.machine.proofs.Choosing.{none_refuses}
 use Rattle.machine.proofs.InstallExact.{address_exact, deployment_exact, release_exact}
+use Rattle.machine.proofs.Moments.{refusal_moment}
 use Rattle.links.specs.Links.{LinksState}
 use Rattle.fetcher.specs.Causes.{IsFileCause, IsTextCause}
 use Rattle.fetcher.specs.Fetched.{Asked, Kept, MayAsk}
@@ -34,6 +36,7 @@ use Rattle.install_plan.specs.Judges.{Refused, address_checks, deployment_checks
 use Rattle.install_plan.specs.Plans.{IsPlanned, IsRefused, targets_of}
 use Rattle.install_plan.specs.Stages.{IsGot, IsNotGiven, IsNotRead, StopsOne}
 use Rattle.install_plan.proofs.Causes.{file_follows}
+use Rattle.install_plan.proofs.Downs.{install_counts}
 use Rattle.install_plan.proofs.Exits.{AllPlain, IsPlain, addresses, deployments, releases, address_passes, by_address, by_deployment, by_release, memory_accounts, plain_accounts, plain_refused, some_session}
 use Rattle.install_plan.proofs.Extends.{from_on, got_from, ungiven_from}
 use Rattle.install_plan.proofs.Rows.{deployment_passed, deployment_refused, release_passed, release_refused}
@@ -61,6 +64,27 @@ module _ (shape : Shape) (url : List ℕ) (a : LinksState) where
       plain_accounts shape url texts a c asked reply (plain_refused checks some_session reply some_session plain (first some_session))
       (asks (λ passes. none_refuses rows some_session reply some_session exact passes (second some_session)))
 
+-- what an end of the hearing says
+pub record Ended (shape : Shape) (url : List ℕ) (texts : List (List ℕ)) (before after : LinksState) (reply : Reply) : Type 0 where
+  pub hears : HearsRelease url shape texts
+  pub refused : Refused (install_refusals url texts shape) reply
+  pub served : Served shape url texts before after reply
+
+-- no refusal sets the moment
+still_of : (shape : Shape) (url : List ℕ) (texts : List (List ℕ)) (reply : Reply) → Refused (install_refusals url texts shape) reply → (now : ℕ) → moment_after now (Some reply) ≡ now
+still_of shape url texts reply (inl memory) now = ap (λ (r : Reply). moment_after now (Some r)) memory
+still_of shape url texts reply (inr refuses) now = refusal_moment now url texts shape some_session reply some_session (refuses some_session)
+
+pub ended : {shape : Shape} {url : List ℕ} {texts : List (List ℕ)} {before after : LinksState} {reply : Reply} → Ended shape url texts before after reply → IsRefused shape url texts before after reply
+ended {shape = shape} {url = url} {texts = texts} {before = before} {after = after} {reply = reply} end = record {
+  hears = end.hears;
+  kept = end.served.hearing.kept;
+  still = still_of shape url texts reply end.refused;
+  refused = λ plain. end.refused;
+  served = λ plain. end.served;
+  downs = install_counts shape url texts before after reply end.served;
+}
+
 -- what is at the beginning
 none_more : (xs : List Target) → xs ≡ xs ++ []
 none_more [] = refl
@@ -75,7 +99,7 @@ module _ (shape : Shape) (url : List ℕ) (a : LinksState) where
   plain_address : AllPlain (addresses shape url [])
   plain_address = ((λ reply given. subst IsPlain (sym given.1) tt), ((λ reply given. subst IsPlain (sym given.2) tt), tt))
 
-  pub address_end : (reply : Reply) → Refused (address_checks (target_of_text url)) reply → IsRefused shape url [] a a reply
+  pub address_end : (reply : Reply) → Refused (address_checks (target_of_text url)) reply → Ended shape url [] a a reply
   address_end reply refused = record {
     hears = tt;
     refused = by_address shape url [] reply refused;
@@ -98,14 +122,14 @@ module _ (shape : Shape) (url : List ℕ) (target : Target) (read : target_of_te
   front_one texts targets (inr asks) = (asks.1, asks.2 ∙ ap (λ (t : Target). t ∷ asks.1) (ok_one (target_of_text url) asks.0 target asks.3 read))
 
   -- no text was noted
-  unheard : (reply : Reply) → MayAsk target a b → reply ≡ says.Memory → IsRefused shape url [] a b reply
+  unheard : (reply : Reply) → MayAsk target a b → reply ≡ says.Memory → Ended shape url [] a b reply
   unheard reply may memory = record { hears = tt; refused = inl memory; served = at may }
     where
       at : MayAsk target a b → Served shape url [] a b reply
       at (inl same) = served_by shape url a [] b [] reply one tt tt (same ∙ none_more a.asked) (λ targets asks. (targets, refl)) (memory_accounts shape url [] a b [] reply memory)
       at (inr asked) = served_by shape url a [] b (target ∷ []) reply one tt tt asked (front_one []) (memory_accounts shape url [] a b (target ∷ []) reply memory)
 
-  no_link : (reply : Reply) → IsNotGiven (IsTextCause MANIFEST_LIMIT target) (FitsText MANIFEST_LIMIT) target a b [] [] reply → IsRefused shape url [] a b reply
+  no_link : (reply : Reply) → IsNotGiven (IsTextCause MANIFEST_LIMIT target) (FitsText MANIFEST_LIMIT) target a b [] [] reply → Ended shape url [] a b reply
   no_link reply is =
       let replied : reply ≡ says.AllLinks target is.reasons = is.replied ∙ ap (λ (t : Target). says.AllLinks t is.reasons) is.gave.shown in
       let ungiven : IsUngiven (IsTextCause MANIFEST_LIMIT target) (FitsText MANIFEST_LIMIT) target a b a is.reasons = record { causes = is.gave.causes; none = is.gave.none } in
@@ -120,7 +144,7 @@ module _ (shape : Shape) (url : List ℕ) (target : Target) (read : target_of_te
     noted : (reply : Reply) → Accounts shape url (text ∷ []) a b (target ∷ []) reply → Served shape url (text ∷ []) a b reply
     noted reply accounts = served_by shape url a (text ∷ []) b (target ∷ []) reply one (target, read, got.from) tt got.asked (front_one (text ∷ [])) accounts
 
-    no_room : (reply : Reply) → reply ≡ says.Memory → IsRefused shape url (text ∷ []) a b reply
+    no_room : (reply : Reply) → reply ≡ says.Memory → Ended shape url (text ∷ []) a b reply
     no_room reply memory = record {
       hears = passes;
       refused = inl memory;
@@ -130,7 +154,7 @@ module _ (shape : Shape) (url : List ℕ) (target : Target) (read : target_of_te
   is_none : (text : List ℕ) → ◌≡◌ {A = Option (List ℕ)} (Some text) None → ⊥
   is_none text e = cc
 
-  no_text : (reply : Reply) (texts : List (List ℕ)) (is : IsNotRead deployment_of (FitsText MANIFEST_LIMIT) target a b [] texts reply) → IsRefused shape url (is.text ∷ []) a b reply
+  no_text : (reply : Reply) (texts : List (List ℕ)) (is : IsNotRead deployment_of (FitsText MANIFEST_LIMIT) target a b [] texts reply) → Ended shape url (is.text ∷ []) a b reply
   no_text reply texts is = record {
     hears = passes;
     refused = by_deployment shape url (is.text ∷ []) reply passes (inr (λ old. inr ((λ x lacks. is_none is.text lacks.1), inl ((is.reason, (is.text, refl, is.refuses, is.other), is.replied), refl))));
@@ -138,15 +162,15 @@ module _ (shape : Shape) (url : List ℕ) (target : Target) (read : target_of_te
         (subst (Accounts shape url (is.text ∷ []) a b (target ∷ [])) (sym is.replied) (asks_one (is.text ∷ []) (λ passed. passed.1.0 is.reason (is.text, refl, is.refuses, is.other))));
   }
 
-  pub deployment_end : (texts : List (List ℕ)) (reply : Reply) → StopsOne deployment_of (IsTextCause MANIFEST_LIMIT target) (FitsText MANIFEST_LIMIT) target a b [] texts reply → IsRefused shape url texts a b reply
-  deployment_end texts reply (inl is) = subst (λ (ts : List (List ℕ)). IsRefused shape url ts a b reply) (sym is.noted)
+  pub deployment_end : (texts : List (List ℕ)) (reply : Reply) → StopsOne deployment_of (IsTextCause MANIFEST_LIMIT target) (FitsText MANIFEST_LIMIT) target a b [] texts reply → Ended shape url texts a b reply
+  deployment_end texts reply (inl is) = subst (λ (ts : List (List ℕ)). Ended shape url ts a b reply) (sym is.noted)
       (no_link reply (record { noted = refl; named = is.named; reasons = is.reasons; gave = is.gave; replied = is.replied }))
-  deployment_end texts reply (inr (inl is)) = subst (λ (ts : List (List ℕ)). IsRefused shape url ts a b reply) (sym is.noted) (no_text reply texts is)
+  deployment_end texts reply (inr (inl is)) = subst (λ (ts : List (List ℕ)). Ended shape url ts a b reply) (sym is.noted) (no_text reply texts is)
   deployment_end texts reply (inr (inr is)) = at is.noted
     where
-      at : ((texts ≡ []) × MayAsk target a b) ⊎ ((text : List ℕ) × (texts ≡ [] ++ text ∷ []) × IsGot (FitsText MANIFEST_LIMIT) target a b text) → IsRefused shape url texts a b reply
-      at (inl before) = subst (λ (ts : List (List ℕ)). IsRefused shape url ts a b reply) (sym before.0) (unheard reply before.1 is.replied)
-      at (inr behind) = subst (λ (ts : List (List ℕ)). IsRefused shape url ts a b reply) (sym behind.1) (no_room behind.0 behind.2 reply is.replied)
+      at : ((texts ≡ []) × MayAsk target a b) ⊎ ((text : List ℕ) × (texts ≡ [] ++ text ∷ []) × IsGot (FitsText MANIFEST_LIMIT) target a b text) → Ended shape url texts a b reply
+      at (inl before) = subst (λ (ts : List (List ℕ)). Ended shape url ts a b reply) (sym before.0) (unheard reply before.1 is.replied)
+      at (inr behind) = subst (λ (ts : List (List ℕ)). Ended shape url ts a b reply) (sym behind.1) (no_room behind.0 behind.2 reply is.replied)
 
   -- ---- the deployment is judged
 
@@ -164,7 +188,7 @@ module _ (shape : Shape) (url : List ℕ) (target : Target) (read : target_of_te
       ((λ reply given. subst IsPlain (sym given.2) tt), ((λ reply given. subst IsPlain (sym given.1) tt), ((λ reply given. subst IsPlain (sym given.1) tt), ((λ reply given. subst IsPlain (sym given.1) tt), ((λ reply given. subst IsPlain (sym given.1) tt), ((λ reply given. subst IsPlain (sym given.2) tt), tt)))))),
     )
 
-    pub judged_end : (reply : Reply) → Refused (deployment_checks shape d (app_target_of target d.codebase)) reply → IsRefused shape url (text ∷ []) a b reply
+    pub judged_end : (reply : Reply) → Refused (deployment_checks shape d (app_target_of target d.codebase)) reply → Ended shape url (text ∷ []) a b reply
     judged_end reply refused =
         let row = deployment_refused shape url (text ∷ []) d target read (told_in []) reply refused in
         record {
@@ -216,14 +240,14 @@ module _ (shape : Shape) (url : List ℕ) (target : Target) (read : target_of_te
       asked_two : Asked base b c → c.asked ≡ a.asked ++ target ∷ base ∷ []
       asked_two second = two_more a.asked b.asked c.asked target base got.asked second
 
-      base_unheard : (reply : Reply) → MayAsk base b c → reply ≡ says.Memory → IsRefused shape url (text ∷ []) a c reply
+      base_unheard : (reply : Reply) → MayAsk base b c → reply ≡ says.Memory → Ended shape url (text ∷ []) a c reply
       base_unheard reply may memory = record { hears = passes; refused = inl memory; served = at may }
         where
           at : MayAsk base b c → Served shape url (text ∷ []) a c reply
           at (inl same) = alone (target ∷ []) reply (same ∙ got.asked) (front_one (text ∷ [])) (memory_accounts shape url (text ∷ []) a c (target ∷ []) reply memory)
           at (inr second) = alone (target ∷ base ∷ []) reply (asked_two second) (front_two []) (memory_accounts shape url (text ∷ []) a c (target ∷ base ∷ []) reply memory)
 
-      base_no_link : (reply : Reply) → IsNotGiven (IsFileCause d.app_list d.app_size base) (Matches d.app_list d.app_size) base b c (text ∷ []) (text ∷ []) reply → IsRefused shape url (text ∷ []) a c reply
+      base_no_link : (reply : Reply) → IsNotGiven (IsFileCause d.app_list d.app_size base) (Matches d.app_list d.app_size) base b c (text ∷ []) (text ∷ []) reply → Ended shape url (text ∷ []) a c reply
       base_no_link reply is =
           let replied : reply ≡ says.AllLinks base is.reasons = is.replied ∙ ap (λ (t : Target). says.AllLinks t is.reasons) is.gave.shown in
           let ungiven = ungiven_from a b c one two (IsFileCause d.app_list d.app_size base) (Matches d.app_list d.app_size) base is.named is.reasons (file_follows d.app_list d.app_size base) is.gave in
@@ -249,14 +273,14 @@ module _ (shape : Shape) (url : List ℕ) (target : Target) (read : target_of_te
         noted_both reply accounts = served_by shape url a (text ∷ other ∷ []) c (target ∷ base ∷ []) reply both deployment_text application_text (asked_two second.asked) (front_two (other ∷ [])) accounts
 
         -- there was no memory behind them
-        pub memory_end : (reply : Reply) → reply ≡ says.Memory → IsRefused shape url (text ∷ other ∷ []) a c reply
+        pub memory_end : (reply : Reply) → reply ≡ says.Memory → Ended shape url (text ∷ other ∷ []) a c reply
         memory_end reply memory = record {
           hears = hears_both;
           refused = inl memory;
           served = noted_both reply (memory_accounts shape url (text ∷ other ∷ []) a c (target ∷ base ∷ []) reply memory);
         }
 
-      base_no_text : (reply : Reply) (texts : List (List ℕ)) (is : IsNotRead application_of (Matches d.app_list d.app_size) base b c (text ∷ []) texts reply) → IsRefused shape url (text ∷ is.text ∷ []) a c reply
+      base_no_text : (reply : Reply) (texts : List (List ℕ)) (is : IsNotRead application_of (Matches d.app_list d.app_size) base b c (text ∷ []) texts reply) → Ended shape url (text ∷ is.text ∷ []) a c reply
       base_no_text reply texts is = record {
         hears = hears_both is.text is.got;
         refused = by_release shape url (text ∷ is.text ∷ []) reply passes (deployed (is.text ∷ []))
@@ -266,15 +290,15 @@ module _ (shape : Shape) (url : List ℕ) (target : Target) (read : target_of_te
             (asks_two (is.text ∷ []) (λ passed. passed.1.0 is.reason (is.text, refl, is.refuses, is.other))));
       }
 
-      pub application_end : (texts : List (List ℕ)) (reply : Reply) → StopsOne application_of (IsFileCause d.app_list d.app_size base) (Matches d.app_list d.app_size) base b c (text ∷ []) texts reply → IsRefused shape url texts a c reply
-      application_end texts reply (inl is) = subst (λ (ts : List (List ℕ)). IsRefused shape url ts a c reply) (sym is.noted)
+      pub application_end : (texts : List (List ℕ)) (reply : Reply) → StopsOne application_of (IsFileCause d.app_list d.app_size base) (Matches d.app_list d.app_size) base b c (text ∷ []) texts reply → Ended shape url texts a c reply
+      application_end texts reply (inl is) = subst (λ (ts : List (List ℕ)). Ended shape url ts a c reply) (sym is.noted)
           (base_no_link reply (record { noted = refl; named = is.named; reasons = is.reasons; gave = is.gave; replied = is.replied }))
-      application_end texts reply (inr (inl is)) = subst (λ (ts : List (List ℕ)). IsRefused shape url ts a c reply) (sym is.noted) (base_no_text reply texts is)
+      application_end texts reply (inr (inl is)) = subst (λ (ts : List (List ℕ)). Ended shape url ts a c reply) (sym is.noted) (base_no_text reply texts is)
       application_end texts reply (inr (inr is)) = at is.noted
         where
-          at : ((texts ≡ text ∷ []) × MayAsk base b c) ⊎ ((other : List ℕ) × (texts ≡ (text ∷ []) ++ other ∷ []) × IsGot (Matches d.app_list d.app_size) base b c other) → IsRefused shape url texts a c reply
-          at (inl before) = subst (λ (ts : List (List ℕ)). IsRefused shape url ts a c reply) (sym before.0) (base_unheard reply before.1 is.replied)
-          at (inr behind) = subst (λ (ts : List (List ℕ)). IsRefused shape url ts a c reply) (sym behind.1) (memory_end behind.0 behind.2 reply is.replied)
+          at : ((texts ≡ text ∷ []) × MayAsk base b c) ⊎ ((other : List ℕ) × (texts ≡ (text ∷ []) ++ other ∷ []) × IsGot (Matches d.app_list d.app_size) base b c other) → Ended shape url texts a c reply
+          at (inl before) = subst (λ (ts : List (List ℕ)). Ended shape url ts a c reply) (sym before.0) (base_unheard reply before.1 is.replied)
+          at (inr behind) = subst (λ (ts : List (List ℕ)). Ended shape url ts a c reply) (sym behind.1) (memory_end behind.0 behind.2 reply is.replied)
 
       -- ---- the release is judged
 
@@ -289,7 +313,7 @@ module _ (shape : Shape) (url : List ℕ) (target : Target) (read : target_of_te
           ((λ reply given. subst IsPlain (sym given.1) tt), ((λ reply given. subst IsPlain (sym given.1) tt), ((λ reply given. subst IsPlain (sym given.1) tt), ((λ reply given. subst IsPlain (sym given.2) tt), tt)))),
         )
 
-        pub release_end : (reply : Reply) → Refused (release_checks url shape d app) reply → IsRefused shape url (text ∷ other ∷ []) a c reply
+        pub release_end : (reply : Reply) → Refused (release_checks url shape d app) reply → Ended shape url (text ∷ other ∷ []) a c reply
         release_end reply refused =
             let row = release_refused shape url (text ∷ other ∷ []) d app told_both reply refused in
             record {

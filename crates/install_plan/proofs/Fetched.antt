@@ -14,13 +14,13 @@ use Rattle.machine.specs.Views.{ContentKey, ListedFile, content_key, is_required
 use Rattle.machine.specs.Wanted.{is_held, wanted, wanted_beside}
 use Rattle.machine.proofs.Members.{In, all_in, in_all}
 use Rattle.store_state.specs.declared.view.Content.{Content}
+use Rattle.store_state.specs.Contents.{held_key}
 use Rattle.links.specs.Links.{LinksState}
 use Rattle.install_plan.specs.Brought.{AreContentsFor, IsContentFor}
 use Rattle.install_plan.specs.Changes.{data_part, is_data, program_part}
 use Rattle.install_plan.specs.Given.{IsFrom}
 use Rattle.install_plan.specs.Held.{given_bytes}
 use Rattle.install_plan.proofs.Aligning.{count_for, oks, rest_is, somes, whole_for}
-use Rattle.install_plan.proofs.Keyed.{kept_key}
 use Rattle.install_plan.proofs.Sufficing.{IsWholeContent, wanted_required}
 
 -- ---- program files
@@ -81,10 +81,10 @@ data_step : (b : Bool) (entry : FileEntry) (content : Content) (rest : List List
 data_step true entry content rest es more = ap (λ (xs : List FileEntry). entry ∷ xs) more
 data_step false entry content rest es more = more
 
-keys_step : (b : Bool) (entry : FileEntry) (content : Content) (rest : List Content) (es : List FileEntry) → kept_key content ≡ content_key entry → map kept_key rest ≡ map content_key es
-    → map kept_key (cond b rest (content ∷ rest)) ≡ map content_key (cond (not b) (entry ∷ es) es)
+keys_step : (b : Bool) (entry : FileEntry) (content : Content) (rest : List Content) (es : List FileEntry) → held_key content ≡ content_key entry → map held_key rest ≡ map content_key es
+    → map held_key (cond b rest (content ∷ rest)) ≡ map content_key (cond (not b) (entry ∷ es) es)
 keys_step true entry content rest es key more = more
-keys_step false entry content rest es key more = ap (λ (k : ContentKey). k ∷ map kept_key rest) key ∙ ap (λ (ks : List ContentKey). content_key entry ∷ ks) more
+keys_step false entry content rest es key more = ap (λ (k : ContentKey). k ∷ map held_key rest) key ∙ ap (λ (ks : List ContentKey). content_key entry ∷ ks) more
 
 head_of : {X : Type 0} (x y : X) (xs ys : List X) → x ∷ xs ≡ y ∷ ys → x ≡ y
 head_of x y xs ys e = cc
@@ -99,7 +99,7 @@ data_listed (entry ∷ entries) (content ∷ contents) same =
 
 module _ (a c : LinksState) where
   pub program_keys : (entries : List FileEntry) (targets : List Target) (contents : List Content) → AreContentsFor a c entries targets contents → ((e : FileEntry) → In e entries → IsEither e)
-      → map kept_key (program_part (somes entries) contents) ≡ map content_key (filter is_required entries)
+      → map held_key (program_part (somes entries) contents) ≡ map content_key (filter is_required entries)
   program_keys [] [] [] are each = refl
   program_keys [] [] (content ∷ contents) are each = absurd are
   program_keys [] (target ∷ targets) contents are each = absurd are
@@ -107,7 +107,7 @@ module _ (a c : LinksState) where
   program_keys (entry ∷ entries) (target ∷ targets) [] are each = absurd are
   program_keys (entry ∷ entries) (target ∷ targets) (content ∷ contents) are each =
       keys_step entry.local entry content (program_part (somes entries) contents) (filter is_required entries)
-      (ap (λ (n : ℕ). record (kept_key content) { size = n }) are.0.size ∙ ap (λ (l : List Digest). record (content_key entry) { list = l }) are.0.list)
+      (ap (λ (n : ℕ). record (held_key content) { size = n }) are.0.size ∙ ap (λ (l : List Digest). record (content_key entry) { list = l }) are.0.list)
       (program_keys entries targets contents are.1 (λ e there. each e (inr there)))
       ∙ sym (ap (λ (b : Bool). map content_key (cond b (entry ∷ filter is_required entries) (filter is_required entries))) (each entry (inl refl)))
 
@@ -154,7 +154,7 @@ module _ (a c : LinksState) where
   -- ---- all that is known of them
 
   pub record ArePartsOf (at : FileEntry → Result Target UrlFault) (views : List BareView) (app : Application) (contents : List Content) (places : List (Option FileEntry)) : Type 0 where
-    pub keys : map kept_key (program_part places contents) ≡ map content_key (filter is_required (wanted views app))
+    pub keys : map held_key (program_part places contents) ≡ map content_key (filter is_required (wanted views app))
     pub whole : All IsWholeContent (program_part places contents)
     pub few : length (program_part places contents) ≤ length contents
     pub within : (content : Content) → In content (program_part places contents) → In content contents

@@ -31,9 +31,11 @@ use Rattle.store_state.specs.Tables.{Tables, bare_row, table_shape}
 use Rattle.store_state.proofs.Showing.{shape_shown}
 use Rattle.links.specs.Links.{LinksState}
 use Rattle.fetcher.specs.Fetched.{Kept}
+use Rattle.install_plan.specs.Downs.{CountsDowns}
 use Rattle.install_plan.specs.GroupAsked.{AccountsGroup, GroupServed}
 use Rattle.install_plan.specs.GroupReady.{AreUnasked, IsGroupOver, IsNoFiles, address_in, lacking, ungrouped}
 use Rattle.install_plan.specs.Judges.{Refused, room_checks}
+use Rattle.install_plan.proofs.Downs.{counts_none}
 use Rattle.install_plan.proofs.Exits.{some_session}
 use Rattle.install_plan.proofs.Fitting.{few_blocks}
 use Rattle.install_plan.proofs.LeasedRows.{IsLeased, lease_lives, no_lease, still_brought, view_shown, view_valid}
@@ -81,14 +83,16 @@ module _ (room : Room) (tables : Tables) (lease : ℕ) (group : List ℕ) where
 
   pub over_by : (a c : LinksState) (reply : Reply) → Kept a c
       → ((now : ℕ) → moment_after now (Some reply) ≡ now)
-      → ((now : ℕ) (image : List ℕ) (old : Session) → old.jobs ≡ []
+      → CountsDowns a c reply
+      → (room.half ≡ 0 → (now : ℕ) (image : List ℕ) (old : Session) → old.jobs ≡ []
       → Shows room tables image old.store → Sound old.store → IsDue a c reply now old)
       → IsGroupOver room tables lease group a c reply
-  over_by a c reply kept still due = record {
+  over_by a c reply kept still downs due = record {
     kept = kept;
     still = still;
-    step = λ now image old idle shows sound. (
-        let is = due now image old idle shows sound in
+    downs = downs;
+    step = λ plain now image old idle shows sound. (
+        let is = due plain now image old idle shows sound in
         record {
           new = old;
           step = is.answers;
@@ -115,14 +119,14 @@ module _ (room : Room) (tables : Tables) (lease : ℕ) (group : List ℕ) where
 
   pub memory_over : (a c : LinksState) → AreUnasked a c
       → IsGroupOver room tables lease group a c says.Memory
-  memory_over a c unasked = over_by a c says.Memory unasked.kept (λ now. refl)
-      (λ now image old idle shows sound.
+  memory_over a c unasked = over_by a c says.Memory unasked.kept (λ now. refl) (counts_none refl)
+      (λ plain now image old idle shows sound.
       record { answers = inl (inl (refl, refl)); served = served_none a c says.Memory unasked tt })
 
   pub no_lease_over : (a c : LinksState) → AreUnasked a c → leased_row lease tables ≡ None
       → IsGroupOver room tables lease group a c says.NoLease
-  no_lease_over a c unasked none = over_by a c says.NoLease unasked.kept (λ now. refl)
-      (λ now image old idle shows sound. (
+  no_lease_over a c unasked none = over_by a c says.NoLease unasked.kept (λ now. refl) (counts_none refl)
+      (λ plain now image old idle shows sound. (
       let gone = no_lease shows lease sound.valid.ordered none in
       record {
         answers = by_refusal now image old says.NoLease idle shows (inl ((gone, refl), refl));
@@ -141,8 +145,8 @@ module _ (room : Room) (tables : Tables) (lease : ℕ) (group : List ℕ) where
     pub no_group_over : (a c : LinksState) → AreUnasked a c
         → group_files group view.application ≡ []
         → IsGroupOver room tables lease group a c says.NoGroup
-    no_group_over a c unasked none = over_by a c says.NoGroup unasked.kept (λ now. refl)
-        (λ now image old idle shows sound. record {
+    no_group_over a c unasked none = over_by a c says.NoGroup unasked.kept (λ now. refl) (counts_none refl)
+        (λ plain now image old idle shows sound. record {
           answers = by_refusal now image old says.NoGroup idle shows
               (inr (lives, inl (((bare_row view, leased.bare, none), refl), refl)));
           served = served_none a c says.NoGroup unasked
@@ -176,12 +180,15 @@ module _ (room : Room) (tables : Tables) (lease : ℕ) (group : List ℕ) where
           (says.Group (length (group_files group view.application)))
       stands_over a c unasked stands =
           let reply = says.Group (length (group_files group view.application)) in
-          over_by a c reply unasked.kept (λ now. refl) (λ now image old idle shows sound. record {
+          over_by a c reply unasked.kept (λ now. refl) (counts_none refl) (λ plain now image old idle shows sound. record {
             answers = by_effect now image old reply old idle shows (
               lives,
               (
                 has_group,
-                (no_coming stands _, ((λ need. no_coming stands _), (tt, tt))),
+                (
+                  no_coming stands _,
+                  ((λ need. no_coming stands _), ((λ weight. no_coming stands _), (tt, tt))),
+                ),
               ),
             )
                 (record {
@@ -217,8 +224,8 @@ module _ (room : Room) (tables : Tables) (lease : ℕ) (group : List ℕ) where
             → IsGroupOver room tables lease group a c says.BadUrl
         bad_url_over a c unasked any =
             let bad = bad_wanted tables view group any in
-            over_by a c says.BadUrl unasked.kept (λ now. refl)
-            (λ now image old idle shows sound. record {
+            over_by a c says.BadUrl unasked.kept (λ now. refl) (counts_none refl)
+            (λ plain now image old idle shows sound. record {
               answers = by_refusal now image old says.BadUrl idle shows
                   (inr (
                     lives,
@@ -284,7 +291,7 @@ module _ (room : Room) (tables : Tables) (lease : ℕ) (group : List ℕ) where
                 (says.Full need (free_blocks (table_shape room tables)))
             full need own less =
                 let reply = says.Full need (free_blocks (table_shape room tables)) in
-                over_by a c reply unasked.kept (λ now. refl) (λ now image old idle shows sound. (
+                over_by a c reply unasked.kept (λ now. refl) (counts_none refl) (λ plain now image old idle shows sound. (
                 let same = need_is need (view_valid shows leased sound) (own ∙ is) in
                 record {
                   answers = by_refusal now image old reply idle shows

@@ -35,6 +35,7 @@ use Rattle.install_plan.specs.GroupAsked.{AreBrought, GroupServed}
 use Rattle.install_plan.specs.GroupReady.{GroupStep, HasBrought, IsGroupOver, IsGroupReady, address_in, ungrouped}
 use Rattle.install_plan.proofs.Aligning.{contents_for, count_for, keys_for, whole_for}
 use Rattle.install_plan.proofs.Coming.{brings_group}
+use Rattle.install_plan.proofs.Downs.{counts_none}
 use Rattle.install_plan.proofs.GroupOver.{by_effect}
 use Rattle.install_plan.proofs.GroupServing.{asks, at_addresses, at_places, entries, memory_behind, passes_all, served_of}
 use Rattle.install_plan.proofs.GroupStanding.{led_brought, led_grouped, led_other}
@@ -104,7 +105,8 @@ module _ (room : Room) (tables : Tables) (lease : ℕ) (group : List ℕ) (view 
     reply = says.Group (length (group_files group view.application))
 
     module _ (image : List ℕ) (old : Session) (idle : old.jobs ≡ [])
-        (shows : Shows room tables image old.store) (sound : Sound old.store) where
+        (shows : Shows room tables image old.store) (sound : Sound old.store)
+        (plain : room.half ≡ 0) where
       abbrev led_store : Store
       led_store = grouped view.number group (stand_files room image tables contents group view)
           old.store
@@ -141,16 +143,16 @@ module _ (room : Room) (tables : Tables) (lease : ℕ) (group : List ℕ) (view 
       served : GroupServed lease group (table_shape room tables) a c reply
       served =
           served_of room tables lease group view leased some absent got.wanted got.are a c reply
-          (addresses got.wanted) [] got.fetched.kept is got.fetched.grown
+          (addresses got.wanted) [] got.fetched.kept is plain got.fetched.grown
           (sym (append-nil (addresses got.wanted)))
-          (asks room tables lease group view leased some absent got.wanted got.are is)
+          (asks room tables lease group view leased some absent got.wanted got.are is plain)
 
       step : (now : ℕ) → GroupStep lease group a c now reply old
           (LedBy room tables (change.Group view.number group contents) old.store)
       step now = record {
         new = led;
         step = by_effect room tables lease group now image old reply led idle shows
-            (passes_all room tables lease group view leased some absent got.wanted got.are is)
+            (passes_all room tables lease group view leased some absent got.wanted got.are is plain)
             done;
         served = subst (λ (s : Shape). GroupServed lease group s a c reply)
             (sym (shape_shown old idle shows)) served;
@@ -172,9 +174,10 @@ module _ (room : Room) (tables : Tables) (lease : ℕ) (group : List ℕ) (view 
     ready = record {
       kept = got.fetched.kept;
       still = λ now. refl;
+      downs = counts_none refl;
       of = (refl, few_contents);
       fits = fits;
-      step = λ now image old idle shows sound. step image old idle shows sound now;
+      step = λ plain now image old idle shows sound. step image old idle shows sound plain now;
     }
 
     -- the change and the reply as they are made

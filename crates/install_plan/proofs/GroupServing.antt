@@ -36,6 +36,7 @@ use Rattle.install_plan.specs.GroupReady.{AreLacking, AreUnasked, IsGroupOver, I
 use Rattle.install_plan.specs.Hearing.{WereGiven}
 use Rattle.install_plan.proofs.Aligning.{IsAmong, among, contents_for, given_for}
 use Rattle.install_plan.proofs.Asking.{same_oks}
+use Rattle.install_plan.proofs.Downs.{counts_none, group_counts}
 use Rattle.install_plan.proofs.Extends.{ungiven_end}
 use Rattle.install_plan.proofs.GroupOver.{bad_url_over, by_refusal, full_over, has_group, memory_over, need_is, of_view, over_by, reached}
 use Rattle.install_plan.proofs.LeasedRows.{IsLeased, lease_lives, view_valid}
@@ -85,15 +86,15 @@ module _ (room : Room) (tables : Tables) (lease : ℕ) (group : List ℕ) (view 
         none_refused view.base view.deployment.mapped entries wanted
         (at_addresses ∙ sym (oks_of wanted))
 
-    pub passes_room : IsApplication view.application
+    pub passes_room : IsApplication view.application → room.half ≡ 0
         → PassesAll (room_refusals lease group (table_shape room tables))
-    passes_room is = (
+    passes_room is plain = (
       lease_lives leased,
       (
         has_group room tables lease group view leased some,
         (
           reached room tables lease group view leased some absent each_reached,
-          (no_full, tt),
+          (no_full, ((λ weight coming. coming.3.1.0 plain), tt)),
         ),
       ),
     )
@@ -111,26 +112,30 @@ module _ (room : Room) (tables : Tables) (lease : ℕ) (group : List ℕ) (view 
               of.1,
             )
 
-    pub passes_all : IsApplication view.application
+    pub passes_all : IsApplication view.application → room.half ≡ 0
         → PassesAll (group_refusals lease group (table_shape room tables))
-    passes_all is =
-        let passed = passes_room is in (passed.0, (passed.1.0, (passed.1.1.0, (passed.1.1.1.0, (tt, tt)))))
+    passes_all is plain =
+        let passed = passes_room is plain in (
+          passed.0,
+          (passed.1.0, (passed.1.1.0, (passed.1.1.1.0, (passed.1.1.1.1.0, (tt, tt))))),
+        )
 
     -- ---- what was asked
 
-    pub asks : IsApplication view.application
+    pub asks : IsApplication view.application → room.half ≡ 0
         → AsksGroup lease group (table_shape room tables) (addresses wanted)
-    asks is = inr (inr (passes_room is, (bare_row view, leased.bare, absent, at_addresses)))
+    asks is plain =
+        inr (inr (passes_room is plain, (bare_row view, leased.bare, absent, at_addresses)))
 
-    asks_only : IsApplication view.application → (all : List Target)
+    asks_only : IsApplication view.application → room.half ≡ 0 → (all : List Target)
         → AsksGroup lease group (table_shape room tables) all → all ≡ addresses wanted
-    asks_only is all (inl refused) = absurd (refused.0 (passes_room is))
-    asks_only is all (inr (inl stands)) =
+    asks_only is plain all (inl refused) = absurd (refused.0 (passes_room is plain))
+    asks_only is plain all (inr (inl stands)) =
         let same : stands.0.0 ≡ bare_row view =
         same_Some stands.0.0 (bare_row view) (sym stands.0.1 ∙ leased.bare) in
         absurd (false≢true (sym absent
         ∙ ap (λ (v : BareView). group_stands group v.groups) (sym same) ∙ stands.0.2))
-    asks_only is all (inr (inr asked)) =
+    asks_only is plain all (inr (inr asked)) =
         same_oks all (addresses wanted)
         (sym (of_view room tables lease group view leased some absent
         {P = λ (v : BareView).
@@ -138,15 +143,15 @@ module _ (room : Room) (tables : Tables) (lease : ℕ) (group : List ℕ) (view 
         (group_wanted views group v.application) ≡ map Ok all} asked.1) ∙ at_addresses)
 
     pub served_of : (a c : LinksState) (reply : Reply) (asked rest : List Target) → Kept a c
-        → IsApplication view.application → c.asked ≡ a.asked ++ asked
+        → IsApplication view.application → room.half ≡ 0 → c.asked ≡ a.asked ++ asked
         → addresses wanted ≡ asked ++ rest
         → AccountsGroup lease group (table_shape room tables) a c asked reply
         → GroupServed lease group (table_shape room tables) a c reply
-    served_of a c reply asked rest kept is grown front accounts = record {
+    served_of a c reply asked rest kept is plain grown front accounts = record {
       kept = kept;
       asked = asked;
       grown = grown;
-      front = λ all asks. (rest, asks_only is all asks ∙ front);
+      front = λ all asks. (rest, asks_only is plain all asks ∙ front);
       accounts = accounts;
     }
 
@@ -158,11 +163,11 @@ module _ (room : Room) (tables : Tables) (lease : ℕ) (group : List ℕ) (view 
           → addresses wanted ≡ asked ++ rest
           → IsGroupOver room tables lease group a c says.Memory
       memory_behind asked rest grown front =
-          over_by room tables lease group a c says.Memory kept (λ now. refl)
-          (λ now image old idle shows sound. record {
+          over_by room tables lease group a c says.Memory kept (λ now. refl) (counts_none refl)
+          (λ plain now image old idle shows sound. record {
             answers = inl (inl (refl, refl));
-            served = served_of a c says.Memory asked rest kept (view_valid shows leased sound) grown
-                front tt;
+            served = served_of a c says.Memory asked rest kept (view_valid shows leased sound) plain
+                grown front tt;
           })
 
       -- no link gave a file
@@ -240,9 +245,11 @@ module _ (room : Room) (tables : Tables) (lease : ℕ) (group : List ℕ) (view 
         pub links_over : IsGroupOver room tables lease group a c (says.AllLinks named reasons)
         links_over =
             over_by room tables lease group a c (says.AllLinks named reasons) kept (λ now. refl)
-            (λ now image old idle shows sound. (
+            (group_counts a c kept (table_shape room tables) group asked named reasons (bare_row view)
+            lacks)
+            (λ plain now image old idle shows sound. (
             let is = view_valid shows leased sound in
-            let passed = passes_room is in
+            let passed = passes_room is plain in
             record {
               answers = by_refusal room tables lease group now image old
                   (says.AllLinks named reasons) idle shows
@@ -254,21 +261,24 @@ module _ (room : Room) (tables : Tables) (lease : ℕ) (group : List ℕ) (view 
                         passed.1.1.0,
                         inr (
                           passed.1.1.1.0,
-                          inl (
-                            (
-                              named,
-                              reasons,
-                              (bare_row view, leased.bare, absent, among_wanted),
+                          inr (
+                            passed.1.1.1.1.0,
+                            inl (
+                              (
+                                named,
+                                reasons,
+                                (bare_row view, leased.bare, absent, among_wanted),
+                                refl,
+                              ),
                               refl,
                             ),
-                            refl,
                           ),
                         ),
                       ),
                     ),
                   ));
               served = served_of a c (says.AllLinks named reasons) asked (addresses stop.later) kept
-                  is stop.grown front (bare_row view, leased.bare, absent, lacks);
+                  is plain stop.grown front (bare_row view, leased.bare, absent, lacks);
             }
             ))
 

@@ -29,10 +29,11 @@ use Rattle.machine.proofs.Members.{In, all_in, in_all, in_contains, map_in}
 use Rattle.machine.proofs.Needing.{in_passes, is_same}
 use Rattle.store_state.specs.declared.view.Content.{Content}
 use Rattle.store_state.specs.declared.view.View.{View}
-use Rattle.store_state.specs.Contents.{AreContentsOf, Brings, content_of, is_content_of}
+use Rattle.store_state.specs.Contents.{AreContentsOf, Brings, content_of, held_key, is_content_of}
 use Rattle.store_state.specs.Laws.{ShowsGroup, came_files, stand_files}
 use Rattle.store_state.specs.Shows.{Shows, bytes_in, shown_file, shown_view}
 use Rattle.store_state.specs.Tables.{Tables, bare_row, table_shape}
+use Rattle.store_state.proofs.Keyed.{of_key}
 use Rattle.links.specs.Links.{LinksState}
 use Rattle.install_plan.specs.Brought.{AreContentsFor, IsFileFrom, IsHeldOrCame}
 use Rattle.install_plan.specs.Given.{IsFrom}
@@ -40,7 +41,7 @@ use Rattle.install_plan.specs.GroupAsked.{AreBrought}
 use Rattle.install_plan.specs.GroupReady.{address_in}
 use Rattle.install_plan.specs.Held.{given_bytes}
 use Rattle.install_plan.proofs.Aligning.{for_one}
-use Rattle.install_plan.proofs.Keyed.{content_is, find_right, found, kept_key}
+use Rattle.install_plan.proofs.Keyed.{find_right, found}
 use Rattle.install_plan.proofs.LeasedRows.{IsLeased, row_there, view_shown}
 use Rattle.install_plan.proofs.Showing.{HasBytesIn, files_row, kept_bytes, share_in, whole_after}
 use Rattle.install_plan.proofs.Sufficing.{IsWholeContent}
@@ -91,8 +92,8 @@ module _ (room : Room) (tables : Tables) (image : List ℕ) (lease : ℕ) (group
         (λ (content : Content). Any (λ (file : FileEntry). is_content_of file content ≡ true) held)
         tables.contents first.item are.only first.there in
         in_passes (same_content entry) held of.1 (in_contains held of.1 (of.0, of.2, of.3))
-        (is_same entry of.1 (content_is entry first.item first.passes
-        ∙ sym (content_is of.1 first.item of.4)))
+        (is_same entry of.1 (of_key entry first.item first.passes
+        ∙ sym (of_key of.1 first.item of.4)))
 
     new_one : (entry : FileEntry) → content_of tables.contents entry ≡ None
         → IsSome (content_of after entry) → Any (IsFor entry) wants
@@ -105,13 +106,13 @@ module _ (room : Room) (tables : Tables) (image : List ℕ) (lease : ℕ) (group
         first.there in
         let bytes : (shown_file room image after entry).bytes ≡ given_bytes first.item.held =
         ap (bytes_in room image) (right ∙ first.is) in
-        let key : kept_key first.item ≡ content_key one.entry =
-        ap (λ (n : ℕ). record (kept_key first.item) { size = n }) one.is.size
+        let key : held_key first.item ≡ content_key one.entry =
+        ap (λ (n : ℕ). record (held_key first.item) { size = n }) one.is.size
         ∙ ap (λ (l : List Digest). record (content_key one.entry) { list = l }) one.is.list in
         in_any (IsFor entry) wants one.entry one.there (
           one.target,
           one.named,
-          is_same one.entry entry (sym key ∙ sym (content_is entry first.item first.passes)),
+          is_same one.entry entry (sym key ∙ sym (of_key entry first.item first.passes)),
           subst (λ (bs : List ℕ).
               IsFrom (Matches one.entry.list one.entry.size) one.target a c bs) (sym bytes)
               one.is.from,

@@ -4,10 +4,9 @@ use Rattle.std.specs.Prelude.{find, filter, flat_map}
 use Rattle.std.proofs.lemmas.List.Kept.{AllPairs-cons}
 use Rattle.manifests.specs.declared.facts.FileEntry.{FileEntry}
 use Rattle.machine.specs.Views.{ContentKey, content_key}
-use Rattle.machine.proofs.Contents.{content_decides}
 use Rattle.machine.proofs.Members.{In, all_in, in_all, in_either, in_map, pairs_head, pairs_tail}
 use Rattle.store_state.specs.declared.view.Content.{Content}
-use Rattle.store_state.specs.Contents.{content_of, is_content_of, is_same}
+use Rattle.store_state.specs.Contents.{content_of}
 
 pub not_true : {P : Type 0} → false ≡ true → P
 not_true e = absurd cc
@@ -104,22 +103,6 @@ module _ {X Y : Type 0} (f : X → Y) (R : Y → Y → Type 0) where
       (pairs_before xs (pairs_tail R (f x) (map f xs) pairs))
 
 -- ---- contents
-
--- what the bytes of a content are known by
-abbrev pub kept_key : Content → ContentKey
-kept_key content = record { size = content.size; list = content.list }
-
-abbrev as_entry : Content → FileEntry
-as_entry content = record { name = []; size = content.size; list = content.list; group = None; local = false }
-
-pub content_is : (entry : FileEntry) (content : Content) → is_content_of entry content ≡ true → content_key entry ≡ kept_key content
-content_is entry content e = (content_decides entry (as_entry content)).0 e
-
-pub is_content : (entry : FileEntry) (content : Content) → content_key entry ≡ kept_key content → is_content_of entry content ≡ true
-is_content entry content e = (content_decides entry (as_entry content)).1 e
-
-pub same_kept : (a b : Content) → is_same a b ≡ true → kept_key a ≡ kept_key b
-same_kept a b e = (content_decides (as_entry a) (as_entry b)).0 e
 
 -- files with equal keys have one content
 pub content_by_key : (contents : List Content) (a b : FileEntry) → content_key a ≡ content_key b → content_of contents a ≡ content_of contents b

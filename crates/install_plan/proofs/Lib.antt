@@ -8,6 +8,7 @@ pub mod Coming
 pub mod Course
 pub mod Currents
 pub mod Delivering
+pub mod Downs
 pub mod Ends
 pub mod Entry
 pub mod Exits

@@ -26,6 +26,7 @@ use Rattle.store_state.specs.Tables.{Tables, bare_row, table_shape}
 use Rattle.data_migration.specs.declared.plan.LocalPlan.{LocalPlan}
 use Rattle.data_migration.specs.Migration.{made}
 use Rattle.links.specs.Links.{LinksState}
+use Rattle.fetcher.proofs.Sequence.{kept_then}
 use Rattle.install_plan.specs.declared.plan.Plan.{Plan}
 use Rattle.install_plan.specs.Brought.{AreContentsFor}
 use Rattle.install_plan.specs.Carried.{ArePlansFor, row_locals}
@@ -110,9 +111,10 @@ module _ (room : Room) (tables : Tables) (url : List ℕ) (texts : List (List �
     ready : IsReady room tables url texts a c now (change_of_plan tables plan plans contents now) (installed_of tables plan)
     ready = record {
       hears = planned.hears;
+      kept = kept_then a b c planned.hearing.kept got.kept;
       passes = plan_passes room tables url texts plan planned.is;
       replied = (plan.deployment.identity.key, plan.deployment.identity.version, tables.next_view, refl);
-      served = served_all (table_shape room tables) url texts a b c plan planned got.kept plan.deployment.identity.key plan.deployment.identity.version tables.next_view got.grown;
+      served = λ plain. served_all (table_shape room tables) url texts a b c plan planned got.kept plain plan.deployment.identity.key plan.deployment.identity.version tables.next_view got.grown;
       fits = fits;
       few = (few_programs, few_locals, short);
       step = step;

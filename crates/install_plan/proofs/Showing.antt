@@ -20,8 +20,9 @@ use Rattle.store_state.specs.declared.view.View.{View}
 use Rattle.store_state.specs.Contents.{AreContentsOf, Brings, content_of, is_content_of}
 use Rattle.store_state.specs.Shows.{Shows, bytes_in, shown_file, shown_view}
 use Rattle.store_state.specs.Tables.{Tables, bare_row}
+use Rattle.store_state.proofs.Keyed.{of_key}
 use Rattle.install_plan.specs.Held.{given_bytes}
-use Rattle.install_plan.proofs.Keyed.{content_by_key, content_is, find_left, find_right, flat_map_in, found}
+use Rattle.install_plan.proofs.Keyed.{content_by_key, find_left, find_right, flat_map_in, found}
 use Rattle.install_plan.proofs.Sufficing.{IsWholeContent}
 
 -- ---- the standing files of views and of rows
@@ -106,14 +107,14 @@ module _ (room : Room) (tables : Tables) (image : List ℕ) (store : Store) (new
           let first = found (is_content_of entry) tables.contents old in
           let of = all_in (λ (c : Content). (k : ℕ) × (file : FileEntry) × (k < length held) × (slice_index_or held k file ≡ file) × (is_content_of file c ≡ true)) tables.contents first.item are.only first.there in
           let file : In of.1 held = in_contains held of.1 (of.0, of.2, of.3) in
-          let same : content_key of.1 ≡ content_key entry = content_is of.1 first.item of.4 ∙ sym (content_is entry first.item first.passes) in
+          let same : content_key of.1 ≡ content_key entry = of_key of.1 first.item of.4 ∙ sym (of_key entry first.item first.passes) in
           subst (λ (o : Option Content). Matches entry.list entry.size (bytes_in room image o)) (sym (find_left (is_content_of entry) tables.contents new old))
           (whole_by_key tables.contents of.1 entry same (kept_whole sound of.1 file))
       by (inr fresh) =
           let first = found (is_content_of entry) new fresh.1 in
           let is = all_in IsWholeContent new first.item whole first.there in
           subst (λ (o : Option Content). Matches entry.list entry.size (bytes_in room image o)) (sym (find_right (is_content_of entry) tables.contents new fresh.0 ∙ first.is))
-          (subst (λ (key : ContentKey). Matches key.list key.size (given_bytes first.item.held)) (sym (content_is entry first.item first.passes)) is)
+          (subst (λ (key : ContentKey). Matches key.list key.size (given_bytes first.item.held)) (sym (of_key entry first.item first.passes)) is)
 
   pub fetched : Sound store → All IsWholeContent new → (a : Application) (originals : List ListedFile) → map (λ (file : ListedFile). file.entry) originals ≡ filter (λ (entry : FileEntry). entry.local) a.files → All IsWhole originals
       → Brings tables.contents (standing_entries [] a) new → AreFetched store a (map (shown_file room image after) (standing_entries [] a)) originals

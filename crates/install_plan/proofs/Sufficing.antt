@@ -15,10 +15,11 @@ use Rattle.machine.proofs.Members.{In, all_in, contains_in, filter_in, in_all, i
 use Rattle.machine.proofs.Needing.{in_passes, is_same, passes_in, same_is}
 use Rattle.machine.proofs.Wanting.{are_wanted}
 use Rattle.store_state.specs.declared.view.Content.{Content}
-use Rattle.store_state.specs.Contents.{AreContentsOf, Brings, IsMeasured, content_of, is_content_of}
+use Rattle.store_state.specs.Contents.{AreContentsOf, Brings, IsMeasured, content_of, held_key, is_content_of}
 use Rattle.store_state.specs.Contents.{is_same as same_contents}
+use Rattle.store_state.proofs.Keyed.{key_of, of_key, same_key}
 use Rattle.install_plan.specs.Held.{given_bytes}
-use Rattle.install_plan.proofs.Keyed.{both, content_is, found, is_content, kept_key, pairs_before, same_kept, some_found}
+use Rattle.install_plan.proofs.Keyed.{both, found, pairs_before, some_found}
 
 -- ---- wanted files
 
@@ -55,7 +56,7 @@ wanted_required (e ∷ es) held x there program = by e.local (is_required e && n
 abbrev pub IsWholeContent : Content → Type 0
 IsWholeContent content = Matches content.list content.size (given_bytes content.held)
 
-module _ (views : List BareView) (a : Application) (contents new : List Content) (are : AreContentsOf (standing_files views) contents) (keys : map kept_key new ≡ map content_key (filter is_required (wanted views a))) (whole : All IsWholeContent new) where
+module _ (views : List BareView) (a : Application) (contents new : List Content) (are : AreContentsOf (standing_files views) contents) (keys : map held_key new ≡ map content_key (filter is_required (wanted views a))) (whole : All IsWholeContent new) where
   abbrev held : List FileEntry
   held = standing_files views
 
@@ -69,12 +70,12 @@ module _ (views : List BareView) (a : Application) (contents new : List Content)
   programs = filter is_required (wanted views a)
 
   -- the content that was brought for a wanted file
-  brought : (entry : FileEntry) → In entry programs → (content : Content) × In content new × (kept_key content ≡ content_key entry)
-  brought entry there = map_in kept_key new (content_key entry) (subst (λ (ks : List ContentKey). In (content_key entry) ks) (sym keys) (in_map content_key programs entry there))
+  brought : (entry : FileEntry) → In entry programs → (content : Content) × In content new × (held_key content ≡ content_key entry)
+  brought entry there = map_in held_key new (content_key entry) (subst (λ (ks : List ContentKey). In (content_key entry) ks) (sym keys) (in_map content_key programs entry there))
 
   -- the wanted file that a content was brought for
-  pub brought_for : (content : Content) → In content new → (entry : FileEntry) × In entry programs × (content_key entry ≡ kept_key content)
-  brought_for content there = map_in content_key programs (kept_key content) (subst (λ (ks : List ContentKey). In (kept_key content) ks) keys (in_map kept_key new content there))
+  pub brought_for : (content : Content) → In content new → (entry : FileEntry) × In entry programs × (content_key entry ≡ held_key content)
+  brought_for content there = map_in content_key programs (held_key content) (subst (λ (ks : List ContentKey). In (held_key content) ks) keys (in_map held_key new content there))
 
   has_content : (entry : FileEntry) → In entry entries → IsSome (content_of (contents ++ new) entry)
   has_content entry there =
@@ -84,12 +85,12 @@ module _ (views : List BareView) (a : Application) (contents new : List Content)
       held_by : (file : FileEntry) → In file held → content_key entry ≡ content_key file → IsSome (content_of (contents ++ new) entry)
       held_by file there same =
           let first = found (is_content_of file) contents (all_in (λ (e : FileEntry). IsSome (content_of contents e)) held file are.each there) in
-          some_found (is_content_of entry) (contents ++ new) first.item (in_left contents new first.item first.there) (is_content entry first.item (same ∙ content_is file first.item first.passes))
+          some_found (is_content_of entry) (contents ++ new) first.item (in_left contents new first.item first.there) (key_of entry first.item (same ∙ of_key file first.item first.passes))
 
       brought_by : (file : FileEntry) → In file programs → content_key entry ≡ content_key file → IsSome (content_of (contents ++ new) entry)
       brought_by file there same =
           let from = brought file there in
-          some_found (is_content_of entry) (contents ++ new) from.0 (in_right contents new from.0 from.1) (is_content entry from.0 (same ∙ sym from.2))
+          some_found (is_content_of entry) (contents ++ new) from.0 (in_right contents new from.0 from.1) (key_of entry from.0 (same ∙ sym from.2))
 
       by : (is_held held entry ≡ true) ⊎ (is_held (filter is_required (wanted views a)) entry ≡ true) → IsSome (content_of (contents ++ new) entry)
       by (inl old) = let file = passes_in (same_content entry) held old in held_by file.0 file.1 (same_is entry file.0 file.2)
@@ -102,7 +103,7 @@ module _ (views : List BareView) (a : Application) (contents new : List Content)
       let from = brought_for content there in
       let of = filter_in is_required (wanted views a) from.0 from.1 in
       let within = wanted_within a.files (standing_files views) from.0 of.1 in
-      any_of (λ entry. is_content_of entry content ≡ true) entries from.0 (in_filter is_required a.files from.0 of.0 within) (is_content from.0 content from.2)
+      any_of (λ entry. is_content_of entry content ≡ true) entries from.0 (in_filter is_required a.files from.0 of.0 within) (key_of from.0 content from.2)
 
   is_lacking : (content other : Content) → In content new → In other contents → same_contents other content ≡ false
   is_lacking content other there kept = by (same_contents other content) refl
@@ -112,7 +113,7 @@ module _ (views : List BareView) (a : Application) (contents new : List Content)
           let from = brought_for content there in
           let of = all_in (λ (c : Content). Any (λ entry. is_content_of entry c ≡ true) held) contents other are.only kept in
           let file : In of.1 held = in_contains held of.1 (of.0, of.2, of.3) in
-          let same : content_key from.0 ≡ content_key of.1 = from.2 ∙ sym (same_kept other content e) ∙ sym (content_is of.1 other of.4) in
+          let same : content_key from.0 ≡ content_key of.1 = from.2 ∙ sym (same_key other content e) ∙ sym (of_key of.1 other of.4) in
           let fresh = all_in (λ (entry : FileEntry). is_held held entry ≡ false) (filter is_required (wanted views a)) from.0 suffices.new from.1 in
           both (is_held held from.0) (in_passes (same_content from.0) held of.1 file (is_same from.0 of.1 same)) fresh
       by false e = e
@@ -120,11 +121,11 @@ module _ (views : List BareView) (a : Application) (contents new : List Content)
   are_once : AllPairs (λ (x y : Content). same_contents x y ≡ false) new
   are_once =
       let apart = pairs_map content_key (λ (x y : FileEntry). ◌≢◌ {A = ContentKey} (content_key x) (content_key y)) (λ (x y : ContentKey). x ≢ y) programs (λ x y differ. differ) suffices.once in
-      let kept = pairs_before kept_key (λ (x y : ContentKey). x ≢ y) new (subst (AllPairs (λ (x y : ContentKey). x ≢ y)) (sym keys) apart) in
-      pairs_weaker (λ (x y : Content). ◌≢◌ {A = ContentKey} (kept_key x) (kept_key y)) (λ (x y : Content). same_contents x y ≡ false) new (λ x y differ. other x y differ (same_contents x y) refl) kept
+      let kept = pairs_before held_key (λ (x y : ContentKey). x ≢ y) new (subst (AllPairs (λ (x y : ContentKey). x ≢ y)) (sym keys) apart) in
+      pairs_weaker (λ (x y : Content). ◌≢◌ {A = ContentKey} (held_key x) (held_key y)) (λ (x y : Content). same_contents x y ≡ false) new (λ x y differ. other x y differ (same_contents x y) refl) kept
     where
-      other : (x y : Content) → ◌≢◌ {A = ContentKey} (kept_key x) (kept_key y) → (b : Bool) → same_contents x y ≡ b → same_contents x y ≡ false
-      other x y differ true e = absurd (differ (same_kept x y e))
+      other : (x y : Content) → ◌≢◌ {A = ContentKey} (held_key x) (held_key y) → (b : Bool) → same_contents x y ≡ b → same_contents x y ≡ false
+      other x y differ true e = absurd (differ (same_key x y e))
       other x y differ false e = e
 
   pub brings : Brings contents (standing_entries [] a) new

@@ -22,6 +22,7 @@ use Rattle.fetcher.specs.Fetched.{Kept}
 use Rattle.install_plan.specs.declared.check.Offered.{Offered}
 use Rattle.install_plan.specs.declared.prepared.Prepared.{Prepared}
 use Rattle.install_plan.specs.declared.prepared.Prepared.TheVariants as to
+use Rattle.install_plan.specs.Downs.{CountsDowns}
 use Rattle.install_plan.specs.LeadsIn.{LeadsIn}
 use Rattle.install_plan.specs.Offers.{OfferServed}
 
@@ -107,6 +108,7 @@ pub record IsCheckReady (room : Room) (tables : Tables) (key : Key) (texts : Lis
   pub hears : HearsOffer key (table_shape room tables) texts
   pub kept : Kept before after
   pub still : moment_after now (Some reply) ≡ now
+  pub downs : CountsDowns before after reply
   pub of : IsOfCheck key change
   pub fits : Fits tables change
   pub step : ChecksTo room tables key texts before after now reply (LedBy room tables change)
@@ -117,4 +119,5 @@ pub record IsCheckOver (room : Room) (tables : Tables) (key : Key) (texts : List
   pub hears : HearsOffer key (table_shape room tables) texts
   pub kept : Kept before after
   pub still : moment_after now (Some reply) ≡ now
+  pub downs : CountsDowns before after reply
   pub step : ChecksTo room tables key texts before after now reply (λ old new. new ≡ old)

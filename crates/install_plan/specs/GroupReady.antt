@@ -32,6 +32,7 @@ use Rattle.links.specs.Links.{LinksState}
 use Rattle.fetcher.specs.Fetched.{Kept}
 use Rattle.install_plan.specs.declared.plan.WantedFile.{WantedFile}
 use Rattle.install_plan.specs.Checks.{LedBy}
+use Rattle.install_plan.specs.Downs.{CountsDowns}
 use Rattle.install_plan.specs.FetchedFiles.{HasFetched, IsStopped}
 use Rattle.install_plan.specs.GroupAsked.{AreBrought, GroupServed}
 use Rattle.install_plan.specs.Judges.{Refused, room_checks}
@@ -114,11 +115,12 @@ pub record GroupStep (lease : ℕ) (group : List ℕ) (before after : LinksState
   pub brought : AreBrought lease group (shape_of old) before after new.store
   pub leaves : Leaves new.store
 
--- for each session without jobs over a sound store that the tables show there is one
+-- for each session without jobs over a sound store that the tables show there is one, where the
+-- journal has no halves
 abbrev pub GroupsTo : Room → Tables → ℕ → List ℕ → LinksState → LinksState → Reply
     → (Store → Store → Type 0) → Type 0
 GroupsTo room tables lease group before after reply Leaves =
-    (now : ℕ) (image : List ℕ) (old : Session) → old.jobs ≡ []
+    room.half ≡ 0 → (now : ℕ) (image : List ℕ) (old : Session) → old.jobs ≡ []
     → Shows room tables image old.store → Sound old.store
     → GroupStep lease group before after now reply old (Leaves old.store)
 
@@ -133,6 +135,7 @@ pub record IsGroupReady (room : Room) (tables : Tables) (lease : ℕ) (group : L
     (before after : LinksState) (change : Change) (reply : Reply) : Type 0 where
   pub kept : Kept before after
   pub still : (now : ℕ) → moment_after now (Some reply) ≡ now
+  pub downs : CountsDowns before after reply
   pub of : IsOfGroup group change
   pub fits : Fits tables change
   pub step : GroupsTo room tables lease group before after reply (LedBy room tables change)
@@ -142,4 +145,5 @@ pub record IsGroupOver (room : Room) (tables : Tables) (lease : ℕ) (group : Li
     (before after : LinksState) (reply : Reply) : Type 0 where
   pub kept : Kept before after
   pub still : (now : ℕ) → moment_after now (Some reply) ≡ now
+  pub downs : CountsDowns before after reply
   pub step : GroupsTo room tables lease group before after reply (λ old new. new ≡ old)

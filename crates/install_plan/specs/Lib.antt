@@ -2,6 +2,7 @@ pub mod Brought
 pub mod Carried
 pub mod Changes
 pub mod Checks
+pub mod Downs
 pub mod FetchedFiles
 pub mod Given
 pub mod GroupAsked

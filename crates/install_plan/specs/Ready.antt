@@ -18,6 +18,7 @@ use Rattle.store_state.specs.Change.{Fits}
 use Rattle.store_state.specs.Shows.{Shows}
 use Rattle.store_state.specs.Tables.{Tables, table_shape}
 use Rattle.links.specs.Links.{LinksState}
+use Rattle.fetcher.specs.Fetched.{Kept}
 use Rattle.install_plan.specs.Brought.{IsBrought}
 use Rattle.install_plan.specs.Hearing.{Served}
 use Rattle.install_plan.specs.LeadsIn.{LeadsIn}
@@ -40,14 +41,17 @@ pub record IsStep (room : Room) (tables : Tables) (url : List ℕ) (texts : List
   pub brought : (view : View) → new.store.views ≡ old.store.views ++ view ∷ []
       → IsBrought old before after view
 
+-- A change is to be made, which fits. That nothing refuses the install, and what it asked, is said
+-- where the journal has no halves.
 pub record IsReady (room : Room) (tables : Tables) (url : List ℕ) (texts : List (List ℕ))
     (before after : LinksState) (now : ℕ) (change : Change) (reply : Reply) : Type 0 where
   pub hears : HearsRelease url (table_shape room tables) texts
-  pub passes : PassesAll (install_refusals url texts
+  pub kept : Kept before after
+  pub passes : room.half ≡ 0 → PassesAll (install_refusals url texts
       (table_shape room tables))
   pub replied : (key : Key) × (version : Version) × (view : ℕ)
       × (reply ≡ Installed key version view)
-  pub served : Served (table_shape room tables) url texts before after reply
+  pub served : room.half ≡ 0 → Served (table_shape room tables) url texts before after reply
   pub fits : Fits tables change
   pub few : HasFew change
   pub step : (image : List ℕ) (old : Session) → old.jobs ≡ []

@@ -3,11 +3,11 @@ use Rattle.std.proofs.Common.{◌≡◌, ◌≢◌, ℕ, true, false, List, Resu
 use Rattle.outside.specs.Streams.{Rose}
 use Rattle.publisher.specs.declared.fault.PublishFault.{PublishFault}
 use Rattle.publisher.specs.declared.fault.PublishFault.TheVariants as fault
-use Rattle.publisher.specs.declared.publishing.Published.{Published}
+use Rattle.publisher.specs.declared.published.Published.{Published}
 use Rattle.publisher.specs.Faults.{FaultsCounted}
 use Rattle.publication.specs.declared.publication.End.{End}
 use Rattle.publication.specs.declared.publication.End.TheVariants as ends
-use Rattle.publication.specs.Lines.{end_of, end_of_fault, has_line}
+use Rattle.publication.specs.Lines.{end_of_publish, end_of_fault, has_line}
 use Rattle.publication.specs.Publication.{EndsWith}
 
 pub read_rose : {K : Type 0} → (tells : Type 0) (taken : K → List ℕ) (old new : K) (result : Result Published PublishFault) (end : End) (a b : ℕ)
@@ -19,7 +19,7 @@ read_rose tells taken old new result end a b ended counted is =
     fault_rose fault.ReadFault same h = h refl
     fault_rose e same h = absurd cc
 
-    rose : (r : Result Published PublishFault) → end_of r ≡ ends.ReadFault → FaultsCounted a b r → Rose a b
+    rose : (r : Result Published PublishFault) → end_of_publish r ≡ ends.ReadFault → FaultsCounted a b r → Rose a b
     rose (Ok p) same h = absurd cc
     rose (Err e) same h = fault_rose e same h.read
 
@@ -32,7 +32,7 @@ write_rose tells taken old new result end a b ended counted is =
     fault_rose fault.WriteFault same h = h refl
     fault_rose e same h = absurd cc
 
-    rose : (r : Result Published PublishFault) → end_of r ≡ ends.WriteFault → FaultsCounted a b r → Rose a b
+    rose : (r : Result Published PublishFault) → end_of_publish r ≡ ends.WriteFault → FaultsCounted a b r → Rose a b
     rose (Ok p) same h = absurd cc
     rose (Err e) same h = fault_rose e same h.write
 
@@ -42,7 +42,7 @@ quiet_fault fault.ReadFault a b other _ h = absurd (other refl)
 quiet_fault fault.WriteFault a b _ other h = absurd (other refl)
 quiet_fault e a b _ _ h = h (λ is. absurd cc) (λ is. absurd cc)
 
-quiet_result : (r : Result Published PublishFault) (a b : ℕ) → end_of r ≢ ends.ReadFault → end_of r ≢ ends.WriteFault → FaultsCounted a b r → b ≡ a
+quiet_result : (r : Result Published PublishFault) (a b : ℕ) → end_of_publish r ≢ ends.ReadFault → end_of_publish r ≢ ends.WriteFault → FaultsCounted a b r → b ≡ a
 quiet_result (Ok p) a b read write h = h.quiet
 quiet_result (Err e) a b read write h = quiet_fault e a b read write h.others
 
@@ -55,11 +55,11 @@ lined end other said silent same = absurd (let both : has_line other ≡ true = 
 pub folder_quiet : {K : Type 0} → (tells : Type 0) (taken : K → List ℕ) (old new : K) (result : Result Published PublishFault) (end : End) (a b : ℕ)
     → EndsWith tells taken old new result end → FaultsCounted a b result → end ≢ ends.ReadFault → end ≢ ends.WriteFault → b ≡ a
 folder_quiet tells taken old new result ends.Done a b ended counted read write =
-    quiet_result result a b (other_end (end_of result) ends.Done ends.ReadFault ended.0 (λ same. cc)) (other_end (end_of result) ends.Done ends.WriteFault ended.0 (λ same. cc)) counted
+    quiet_result result a b (other_end (end_of_publish result) ends.Done ends.ReadFault ended.0 (λ same. cc)) (other_end (end_of_publish result) ends.Done ends.WriteFault ended.0 (λ same. cc)) counted
 folder_quiet tells taken old new result ends.Refused a b ended counted read write =
-    quiet_result result a b (other_end (end_of result) ends.Refused ends.ReadFault ended.0 (λ same. cc)) (other_end (end_of result) ends.Refused ends.WriteFault ended.0 (λ same. cc)) counted
+    quiet_result result a b (other_end (end_of_publish result) ends.Refused ends.ReadFault ended.0 (λ same. cc)) (other_end (end_of_publish result) ends.Refused ends.WriteFault ended.0 (λ same. cc)) counted
 folder_quiet tells taken old new result ends.ReadFault a b ended counted read write = absurd (read refl)
 folder_quiet tells taken old new result ends.WriteFault a b ended counted read write = absurd (write refl)
 folder_quiet tells taken old new result ends.SinkFault a b ended counted read write =
-    quiet_result result a b (lined (end_of result) ends.ReadFault ended.0 refl) (lined (end_of result) ends.WriteFault ended.0 refl) counted
+    quiet_result result a b (lined (end_of_publish result) ends.ReadFault ended.0 refl) (lined (end_of_publish result) ends.WriteFault ended.0 refl) counted
 folder_quiet tells taken old new result ends.Memory a b ended counted read write = quiet_result result a b ended.0 ended.1 counted

@@ -6,7 +6,7 @@ use Rattle.identity.specs.Version.{version_text}
 use Rattle.manifest_text.specs.Lines.{line, two}
 use Rattle.publication.specs.declared.publication.End.{End}
 use Rattle.publication.specs.declared.publication.End.TheVariants as ends
-use Rattle.publisher.specs.declared.publishing.Published.{Published}
+use Rattle.publisher.specs.declared.published.Published.{Published}
 use Rattle.publisher.specs.declared.fault.PublishFault.{PublishFault}
 use Rattle.publisher.specs.declared.fault.PublishFault.TheVariants.{BadName, MinimumAbove, ReadFault, VersionExists, EmptyInput, BadInput, TooMany, NoEntryPoint, BadMark, FileTooLong, ManifestTooLong, WriteFault, Changed, Memory}
 
@@ -50,9 +50,9 @@ end_of_fault Memory = ends.Memory
 end_of_fault e = ends.Refused
 
 -- how it ends after a publish with this result, once its line is written, if it has one
-abbrev pub end_of : Result Published PublishFault → End
-end_of (Ok p) = ends.Done
-end_of (Err e) = end_of_fault e
+abbrev pub end_of_publish : Result Published PublishFault → End
+end_of_publish (Ok p) = ends.Done
+end_of_publish (Err e) = end_of_fault e
 
 -- whether an end has a line
 abbrev pub has_line : End → Bool

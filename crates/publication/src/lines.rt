@@ -2,7 +2,7 @@
 ghost use Rattle.std.specs.Prelude.{◌≡◌, IfOk, codes, decimal};
 ghost use Rattle.identity.specs.Key.{word_text};
 ghost use Rattle.manifest_text.specs.Lines as text;
-ghost use Rattle.publication.specs.Lines.{published_line, cause_text, refusal_line, line_of, end_of, end_of_fault};
+ghost use Rattle.publication.specs.Lines.{published_line, cause_text, refusal_line, line_of, end_of_publish, end_of_fault};
 
 use crate::publication::End;
 use itoa::Buffer;
@@ -120,8 +120,8 @@ fn end_of_fault(fault: &PublishFault) -> End
 }
 
 /// How the call ends after a publish with this result, once its line is written, if it has one.
-pub(crate) fn end_of(done: &Result<Published, PublishFault>) -> End
-    ensures { result ≡ end_of done.now }
+pub(crate) fn end_of_publish(done: &Result<Published, PublishFault>) -> End
+    ensures { result ≡ end_of_publish done.now }
 {
     match done {
         Ok(_) => End::Done,

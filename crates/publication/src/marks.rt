@@ -87,7 +87,8 @@ fn read_mark(alloc: Global, word: &[u8]) -> Result<Mark, WordFault>
 pub(crate) fn read_marks(alloc: Global, words: &[&str]) -> Result<List<Mark>, WordFault>
     ensures value { IfOk result (λ marks. marks_of (map (λ s. s.now) words.now) ≡ Some marks) }
     ensures fit { IfOk result (λ marks. All (λ (m : Mark). IsKind m.kind) marks) }
-    ensures none { IfErr result (λ e. e ≡ Unreadable → marks_of (map (λ s. s.now) words.now) ≡ None) }
+    ensures none { IfErr result (λ e. e ≡ Unreadable
+        → marks_of (map (λ s. s.now) words.now) ≡ None) }
 {
     let mut marks = Vec::new(alloc);
     for word in words {

@@ -6,7 +6,7 @@ ghost use Rattle.publication.specs.declared.publication.End.TheVariants as ends;
 ghost use Rattle.publication.specs.Lines.{has_line};
 ghost use Rattle.publication.specs.Publication.{status_of, EndsWith, PublishesOptions};
 
-use crate::lines::{end_of, line_of};
+use crate::lines::{end_of_publish, line_of};
 use folders::Folder;
 use outside::{Sink, write_all};
 use publisher::{Options, PublishFault, Published, publish};
@@ -60,7 +60,7 @@ fn say_done<K: Sink>(alloc: Global, done: &Result<Published, PublishFault>, sink
     ensures sink_cause { result ≡ ends.SinkFault → Rose (K.count sink.old) (K.count sink.new) }
     ensures sink_quiet { result ≢ ends.SinkFault → K.count sink.new ≡ K.count sink.old }
 {
-    let end = end_of(done);
+    let end = end_of_publish(done);
     if !end.has_line() {
         return end;
     }
@@ -84,8 +84,8 @@ pub fn publish_options<F: Folder, K: Sink>(
     sink: &mut K,
 ) -> End
     requires { IsPublishable options.now }
-    ensures done { PublishesOptions F.tells F.held F.count K.tells K.taken
-        options.now folder.old folder.new sink.old sink.new result }
+    ensures done { PublishesOptions F.Folder K.Sink options.now folder.old folder.new
+        sink.old sink.new result }
 
     // The counts of faults never fall. An end says which device failed, and any other end leaves
     // that device's count.

@@ -2,6 +2,7 @@ pub mod ChangeLemmas
 pub mod Counting
 pub mod Entering
 pub mod Giving
+pub mod HonestReadings
 pub mod Known
 pub mod ManifestSteps
 pub mod NewNames
@@ -14,3 +15,4 @@ pub mod Putting
 pub mod ReleaseFacts
 pub mod SecondReads
 pub mod Standing
+pub mod TwoReadings

@@ -29,6 +29,7 @@ use Rattle.publisher.specs.declared.release.ReleaseTexts.{ReleaseTexts}
 use Rattle.publisher.specs.Options.{IsKind, IsPublishable}
 use Rattle.publisher.specs.Publication.{copy_in, published_files}
 use Rattle.publisher.specs.Puts.{AreApart, is_apart}
+use Rattle.publisher.specs.Readings.{IsSourced}
 use Rattle.publisher.proofs.ReleaseFacts.{IsFitFile}
 use Rattle.publisher.proofs.SecondReads.{neither, none_named}
 
@@ -39,6 +40,7 @@ pub record IsGoodPlan (o : Options) (names : List (List ℕ)) (plan : Plan) : Ty
   pub differ : IsDistinct bytes_eq (map file_of plan.files)
   pub fit : All IsFitFile plan.files
   pub apart : AreApart plan.files
+  pub sourced : All (IsSourced o.from) plan.files
   pub count : length plan.files ≡ length (input_names o.from names)
   pub last : plan.deployment ≡ deployment_name o
   pub written : (held : List Held) (release : ReleaseTexts) → distinct (published_files held plan release) ≡ true
@@ -71,6 +73,14 @@ groups_fit o [] publishable = All-nil HasGroup
 groups_fit o (file ∷ files) publishable = All-cons HasGroup (planned o file) (planned_files o files) (planned_group o file publishable) (groups_fit o files publishable)
 
 -- ---- what is read and what is written
+
+planned_sourced : (o : Options) (file : List ℕ) → IsSourced o.from (planned o file)
+unfolding planned
+planned_sourced o file = refl
+
+all_sourced : (o : Options) (inputs : List (List ℕ)) → All (IsSourced o.from) (planned_files o inputs)
+all_sourced o [] = All-nil (IsSourced o.from)
+all_sourced o (file ∷ files) = All-cons (IsSourced o.from) (planned o file) (planned_files o files) (planned_sourced o file) (all_sourced o files)
 
 all_apart : (folder : List ℕ) (files : List PlannedFile) → All (IsApart folder) files → list_all (is_apart folder) files ≡ true
 all_apart folder [] all = refl
@@ -147,6 +157,7 @@ plan_good o names plan publishable ascending facts =
       differ = facts.files_differ differ;
       fit = λ k d below. record { above = (facts.listed k d below).above; short = (facts.listed k d below).short; group = groups k d below; alone = (facts.listed k d below).alone };
       apart = record { folder = version_folder o; apart = all_apart (version_folder o) plan.files facts.apart };
+      sourced = subst (All (IsSourced o.from)) (sym facts.files) (all_sourced o (input_names o.from names));
       count = ap length facts.files ∙ length-map (input_names o.from names) (planned o);
       last = facts.deployment;
       written = λ held release. files_distinct (published_files held plan release) (subst (IsDistinct bytes_eq) (sym (names_written held plan.files _)) (facts.written_differ differ));

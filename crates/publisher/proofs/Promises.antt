@@ -1,6 +1,7 @@
 -- What a publish promises, once it is known how far it came.
 use Rattle.std.proofs.Common.{◌≡◌, ℕ, List, Option, Some, None, Result, Ok, Err, IfOk, IfErr, IsErr, refl, sym, ap, subst, ◌∙◌, ◌⊎◌, inl, inr}
 use Rattle.std.specs.Prelude.{IsErrAnd, true}
+use Rattle.folders.specs.declared.folder.Folder.{Ghosts as FolderGhosts}
 use Rattle.folders.specs.declared.folder.Held.{Held}
 use Rattle.folders.specs.Files.{IsNames, distinct, file_in}
 use Rattle.folders.proofs.Sorting.{has_one_list}
@@ -12,16 +13,18 @@ use Rattle.publish_plan.specs.Outcome as plans
 use Rattle.publish_plan.specs.Places.{deployment_name}
 use Rattle.publisher.specs.declared.fault.PublishFault.{PublishFault}
 use Rattle.publisher.specs.declared.fault.PublishFault.TheVariants.{BadName, MinimumAbove, ReadFault, Changed, Memory}
-use Rattle.publisher.specs.declared.publishing.Published.{Published}
+use Rattle.publisher.specs.declared.published.Published.{Published}
 use Rattle.publisher.specs.Changes.{IsLate, ShowsChange}
 use Rattle.publisher.specs.Faults.{FaultsCounted, IsEarly, IsReading, IsRefused, fault_of}
 use Rattle.publisher.specs.Outcome.{KeepsStanding, Leaves, LeavesInput, Refuses}
 use Rattle.publisher.specs.Publication.{publish_of}
 use Rattle.publisher.specs.Published.{IsAnswer, IsPublish, PublishesFiles}
+use Rattle.publisher.specs.Readings.{ReadsChange}
 use Rattle.publisher.proofs.Counting.{counted_still, plan_quiet}
 use Rattle.publisher.proofs.Giving.{err_then}
 use Rattle.publisher.proofs.PublishSteps.{nothing_left, no_input_left, options_refused, refuses_from}
 use Rattle.publisher.proofs.Standing.{standing_same}
+use Rattle.publisher.proofs.TwoReadings.{plan_reads}
 
 abbrev fails_with : PublishFault → Result Published PublishFault
 fails_with e = Err e
@@ -97,18 +100,19 @@ err_as (Ok p) P e is h = absurd is.1
 err_as (Err f) P e is h = subst (λ (g : PublishFault). P (fails_with g)) (sym is.1) h
 
 -- the options are refused
-pub options_told : {F : Type 0} → (tells : Type 0) (held : F → List Held) (count : F → ℕ) (o : Options) (folder : F) (r : Result Published PublishFault) (f : PlanFault)
-    → IsErr r × IsErrAnd r (λ e. e ≡ fault_of f) → plans.Fails f (plans.unless (early_of o)) → (tells → distinct (held folder) ≡ true) → IsPublish tells held count o folder folder r
-options_told tells held count o folder r f is failed differ = record {
+pub options_told : {F : Type 0} → (folder : FolderGhosts F) (o : Options) (old : F) (r : Result Published PublishFault) (f : PlanFault)
+    → IsErr r × IsErrAnd r (λ e. e ≡ fault_of f) → plans.Fails f (plans.unless (early_of o)) → (folder.tells → distinct (folder.held old) ≡ true) → IsPublish folder o old old r
+options_told folder o old r f is failed differ = record {
   early = λ fault early. (err_as r (λ s. IsRefused s (fault_of fault)) (fault_of f) is (refused_as f fault (early_of o) (the_refusal f (early_of o) failed) early), refl);
   only_early = err_as r (λ s. IfErr s (IsEarly (early_of o))) (fault_of f) is (early_as f (early_of o) failed);
   answer = err_as r (λ s. IfOk s (IsAnswer o)) (fault_of f) is tt;
-  listed = λ told. has_one_list (held folder) (differ told);
+  listed = λ told. has_one_list (folder.held old) (differ told);
   told = λ told names are.
-      untouched o names (held folder) (held folder) r (fault_of f) is
-      (refuses_from (fault_of f) (publish_of o names (held folder)) (options_refused o names (held folder) f failed)) refl;
+      untouched o names (folder.held old) (folder.held old) r (fault_of f) is
+      (refuses_from (fault_of f) (publish_of o names (folder.held old)) (options_refused o names (folder.held old) f failed)) refl;
   change = err_as r (λ s. IfErr s ShowsChange) (fault_of f) is (plan_shows f);
-  counted = counted_still r (count folder) (count folder) (fault_of f) is (plan_quiet f) refl;
+  readings = λ records. err_as r (λ s. IfErr s (ReadsChange o.from (folder.answers old) (folder.answers old))) (fault_of f) is (plan_reads o.from (folder.answers old) (folder.answers old) f);
+  counted = counted_still r (folder.count old) (folder.count old) (fault_of f) is (plan_quiet f) refl;
 }
 
 late_early : (early : Option PlanFault) (e : PublishFault) → IsLate e → IsEarly early e
@@ -121,15 +125,16 @@ late_shows (Changed file difference) late = late
 late_shows e late = tt
 
 -- the options are none of the reasons
-pub fit_told : {F : Type 0} → (tells : Type 0) (held : F → List Held) (count : F → ℕ) (o : Options) (old new : F) (r : Result Published PublishFault)
-    → early_of o ≡ None → (tells → distinct (held old) ≡ true) → (tells → (names : List (List ℕ)) → IsNames (held old) names → PublishesFiles o names (held old) (held new) r)
-    → IfOk r (IsAnswer o) → IfErr r IsLate → FaultsCounted (count old) (count new) r → IsPublish tells held count o old new r
-fit_told tells held count o old new r fit differ told answer late counted = record {
+pub fit_told : {F : Type 0} → (folder : FolderGhosts F) (o : Options) (old new : F) (r : Result Published PublishFault)
+    → early_of o ≡ None → (folder.tells → distinct (folder.held old) ≡ true) → (folder.tells → (names : List (List ℕ)) → IsNames (folder.held old) names → PublishesFiles o names (folder.held old) (folder.held new) r)
+    → IfOk r (IsAnswer o) → IfErr r IsLate → (folder.records → IfErr r (ReadsChange o.from (folder.answers old) (folder.answers new))) → FaultsCounted (folder.count old) (folder.count new) r → IsPublish folder o old new r
+fit_told folder o old new r fit differ told answer late readings counted = record {
   early = λ fault early. absurd (let both : None ≡ Some fault = sym fit ∙ early in cc);
   only_early = err_then r IsLate (IsEarly (early_of o)) (late_early (early_of o)) late;
   answer = answer;
-  listed = λ tells_so. has_one_list (held old) (differ tells_so);
+  listed = λ tells_so. has_one_list (folder.held old) (differ tells_so);
   told = told;
   change = err_then r IsLate ShowsChange late_shows late;
+  readings = readings;
   counted = counted;
 }

@@ -15,15 +15,15 @@ use Rattle.publisher.specs.Publication.{bytes_in, copy_in, published_files}
 use Rattle.publisher.specs.Puts.{PutsEach, PutsInput, PutsSome, is_apart}
 use Rattle.publisher.proofs.Putting.{all_put, distinct_front, kept_each, named_is, none_before, put_more}
 
-left_so : (a b : Bool) → (a && b) ≡ true → a ≡ true
+pub left_so : (a b : Bool) → (a && b) ≡ true → a ≡ true
 left_so true b is = refl
 left_so false b is = is
 
-right_so : (a b : Bool) → (a && b) ≡ true → b ≡ true
+pub right_so : (a b : Bool) → (a && b) ≡ true → b ≡ true
 right_so true b is = is
 right_so false b is = cc
 
-not_so : (a : Bool) → not a ≡ true → a ≡ false
+pub not_so : (a : Bool) → not a ≡ true → a ≡ false
 not_so true is = cc
 not_so false is = refl
 
@@ -31,7 +31,7 @@ pub neither : (a b : Bool) → a ≡ false → b ≡ false → (a || b) ≡ fals
 neither a b first second = grind arith
 
 -- what passes at each place
-all_at : (p : PlannedFile → Bool) (files : List PlannedFile) (i : ℕ) (file : PlannedFile) → i < length files → file ≡ get_or files i file → list_all p files ≡ true → p file ≡ true
+pub all_at : (p : PlannedFile → Bool) (files : List PlannedFile) (i : ℕ) (file : PlannedFile) → i < length files → file ≡ get_or files i file → list_all p files ≡ true → p file ≡ true
 all_at p files i file within is all = by (p file) refl
   where
     by : (b : Bool) → p file ≡ b → p file ≡ true

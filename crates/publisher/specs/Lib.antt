@@ -6,3 +6,4 @@ pub mod Outcome
 pub mod Publication
 pub mod Published
 pub mod Puts
+pub mod Readings

@@ -1,5 +1,6 @@
 -- What a publish makes of a folder, and what it answers.
 use Rattle.std.specs.Prelude.{◌≡◌, ℕ, List, length, Some, Result, IfOk, IfErr, OnOk, OnErr}
+use Rattle.folders.specs.declared.folder.Folder.{Ghosts as FolderGhosts}
 use Rattle.folders.specs.declared.folder.Held.{Held}
 use Rattle.folders.specs.Files.{HasOneList, IsNames, file_in}
 use Rattle.publish_plan.specs.declared.fault.PlanFault.{PlanFault}
@@ -8,11 +9,12 @@ use Rattle.publish_plan.specs.Early.{early_of}
 use Rattle.publish_plan.specs.Places.{deployment_name, input_names}
 use Rattle.publisher.specs.declared.fault.PublishFault.{PublishFault}
 use Rattle.publisher.specs.declared.fault.PublishFault.TheVariants.{ReadFault}
-use Rattle.publisher.specs.declared.publishing.Published.{Published}
+use Rattle.publisher.specs.declared.published.Published.{Published}
 use Rattle.publisher.specs.Changes.{ShowsChange}
 use Rattle.publisher.specs.Faults.{FaultsCounted, IsEarly, IsRefused, fault_of}
 use Rattle.publisher.specs.Outcome.{KeepsStanding, Leaves, LeavesInput, Publishes, Refuses}
 use Rattle.publisher.specs.Publication.{deployment_key, publish_of}
+use Rattle.publisher.specs.Readings.{ReadsChange}
 
 -- an answer has the key and the version of the options
 pub record IsAnswer (o : Options) (p : Published) : Type 0 where
@@ -39,8 +41,8 @@ pub record PublishesFiles (o : Options) (names : List (List ℕ)) (old new : Lis
   pub standing : KeepsStanding (deployment_name o) old new
 
 -- What a publish by these options makes of a folder, and what it answers.
-pub record IsPublish {F : Type 0} (tells : Type 0) (held : F → List Held) (count : F → ℕ)
-    (o : Options) (old new : F) (result : Result Published PublishFault) : Type 0 where
+pub record IsPublish {F : Type 0} (folder : FolderGhosts F) (o : Options) (old new : F)
+    (result : Result Published PublishFault) : Type 0 where
   -- The words and the minimum are judged first, and then the folder is not called.
   pub early : (fault : PlanFault) → early_of o ≡ Some fault
       → IsRefused result (fault_of fault) × (new ≡ old)
@@ -48,10 +50,13 @@ pub record IsPublish {F : Type 0} (tells : Type 0) (held : F → List Held) (cou
   -- An answer has the key and the version of the options.
   pub answer : IfOk result (IsAnswer o)
   -- A folder that tells has one list of names, by which the definitions say what is written.
-  pub listed : tells → HasOneList (held old)
-  pub told : tells → (names : List (List ℕ)) → IsNames (held old) names
-      → PublishesFiles o names (held old) (held new) result
+  pub listed : folder.tells → HasOneList (folder.held old)
+  pub told : folder.tells → (names : List (List ℕ)) → IsNames (folder.held old) names
+      → PublishesFiles o names (folder.held old) (folder.held new) result
   -- A change shows what was read, over any folder.
   pub change : IfErr result ShowsChange
+  -- A folder that records answered the two readings that a change shows, of the file that it names.
+  pub readings : folder.records
+      → IfErr result (ReadsChange o.from (folder.answers old) (folder.answers new))
   -- No fault of the folder is passed over, or told as another error.
-  pub counted : FaultsCounted (count old) (count new) result
+  pub counted : FaultsCounted (folder.count old) (folder.count new) result

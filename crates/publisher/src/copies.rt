@@ -1,6 +1,8 @@
 // The writing of a release. Each input file is read again, and is to be as it was.
-ghost use Rattle.std.specs.Prelude.{◌≡◌, ◌≤◌, IfErr, IfOk, IfSome, OnOk, OnErr, map, Err, None};
+ghost use Rattle.std.specs.Prelude.{◌≡◌, ◌≤◌, ◌++◌, ℕ, List, All, IfErr, IfOk, IfSome, OnOk, OnErr, map, Err, None};
+ghost use Rattle.folders.specs.declared.answer.FolderAnswer.{FolderAnswer};
 ghost use Rattle.folders.specs.Files.{Puts, file_in};
+ghost use Rattle.folders.specs.Told.{told_put};
 ghost use Rattle.digest_list.specs.Matches.{Matches};
 ghost use Rattle.publisher.specs.declared.fault.PublishFault.TheVariants.{Memory};
 ghost use Rattle.publisher.specs.Changes.{IsChangeOf, IsLate};
@@ -8,6 +10,7 @@ ghost use Rattle.publisher.specs.Entries.{AreEntries, IsEntry};
 ghost use Rattle.publisher.specs.Faults.{FaultsCounted, IsDevice, IsWriting};
 ghost use Rattle.publisher.specs.Publication.{bytes_in, copy_in, entry_in};
 ghost use Rattle.publisher.specs.Puts.{AreApart, AreNew, PutsEach, PutsSome};
+ghost use Rattle.publisher.specs.Readings.{CopiesFile, IsSourced, ReadsChange, ReadsEach, ReadsFile, ShowsOther};
 
 use crate::PublishFault;
 use crate::entries::read_file;
@@ -29,6 +32,8 @@ pub(crate) fn put_file<F: Folder>(
     ensures put { F.tells
         → OnOk result (Puts (F.held folder.old) (F.held folder.new) name.now bytes.now) }
     ensures kept { F.tells → OnErr result (F.held folder.new ≡ F.held folder.old) }
+    ensures noted { F.records → F.answers folder.new ≡ F.answers folder.old
+        ++ told_put name.now bytes.now result }
     ensures writing { IfErr result IsWriting }
     ensures counted { FaultsCounted (F.count folder.old) (F.count folder.new) result }
 {
@@ -48,6 +53,8 @@ pub(crate) fn put_new<F: Folder>(
     ensures put { F.tells
         → OnOk result (Puts (F.held folder.old) (F.held folder.new) name.now bytes.now) }
     ensures kept { F.tells → OnErr result (F.held folder.new ≡ F.held folder.old) }
+    ensures noted { F.records → F.answers folder.new ≡ F.answers folder.old
+        ++ told_put name.now bytes.now result }
     ensures writing { IfErr result IsWriting }
     ensures counted { FaultsCounted (F.count folder.old) (F.count folder.new) result }
 {
@@ -82,6 +89,10 @@ fn read_again<F: Folder>(
     ensures same { IfOk result (Matches entry.now.list entry.now.size) }
     ensures bytes { F.tells → IfOk result (λ bytes. bytes ≡ bytes_in (F.held folder.old) file.now) }
     ensures kept { F.tells → F.held folder.new ≡ F.held folder.old }
+    ensures noted { F.records → IfOk result (λ bytes.
+        ReadsFile file.now.source bytes (F.answers folder.old) (F.answers folder.new)) }
+    ensures other { F.records → IfErr result
+        (ShowsOther file.now entry.now (F.answers folder.old) (F.answers folder.new)) }
     ensures device { F.tells → entry.now ≡ entry_in (F.held folder.old) file.now
         → IfErr result IsDevice }
     ensures late { IfErr result IsLate }
@@ -105,6 +116,8 @@ fn put_copy<F: Folder>(
     ensures put { F.tells
         → OnOk result (Puts (F.held folder.old) (F.held folder.new) file.now.target bytes.now) }
     ensures kept { F.tells → OnErr result (F.held folder.new ≡ F.held folder.old) }
+    ensures noted { F.records → F.answers folder.new ≡ F.answers folder.old
+        ++ told_put file.now.target bytes.now result }
     ensures writing { IfErr result IsWriting }
     ensures counted { FaultsCounted (F.count folder.old) (F.count folder.new) result }
 {
@@ -124,6 +137,10 @@ fn copy_file<F: Folder>(
     ensures put { F.tells → OnOk result (Puts (F.held folder.old) (F.held folder.new)
         file.now.target (bytes_in (F.held folder.old) file.now)) }
     ensures kept { F.tells → OnErr result (F.held folder.new ≡ F.held folder.old) }
+    ensures noted { F.records → OnOk result
+        (CopiesFile file.now (F.answers folder.old) (F.answers folder.new)) }
+    ensures other { F.records → IfErr result
+        (ShowsOther file.now entry.now (F.answers folder.old) (F.answers folder.new)) }
     ensures device { F.tells → entry.now ≡ entry_in (F.held folder.old) file.now
         → IfErr result IsDevice }
     ensures late { IfErr result IsLate }
@@ -150,6 +167,10 @@ pub(crate) fn copy_files<F: Folder>(
         (F.held folder.old) (F.held folder.new)) }
     ensures device { F.tells → entries.now ≡ map (entry_in (F.held folder.old)) files.now
         → IfErr result IsDevice }
+    ensures readings { F.records → (from : List ℕ) (start : List FolderAnswer)
+        → All (IsSourced from) files.now
+        → ReadsEach files.now entries.now start (F.answers folder.old)
+        → IfErr result (ReadsChange from start (F.answers folder.new)) }
     ensures late { IfErr result IsLate }
     ensures counted { FaultsCounted (F.count folder.old) (F.count folder.new) result }
 {

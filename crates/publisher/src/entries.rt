@@ -5,10 +5,10 @@ ghost use Rattle.digest_list.specs.Digest.{IsSized};
 ghost use Rattle.manifests.specs.Applications.{size_limit};
 ghost use Rattle.publisher.specs.declared.fault.PublishFault.TheVariants.{Memory};
 ghost use Rattle.publisher.specs.Entries.{AreEntries, IsEntry};
-ghost use Rattle.publisher.specs.Changes.{IsLate};
 ghost use Rattle.publisher.specs.Faults.{FaultsCounted, IsReading};
 ghost use Rattle.publisher.specs.Outcome.{Gives};
 ghost use Rattle.publisher.specs.Publication.{bytes_in, digests_of as digests_in, entry_of as entry_with, read_entries as read_all, read_entry as read_one};
+ghost use Rattle.publisher.specs.Readings.{IsFirstReading, ReadsEach, ReadsEntry, ReadsFile};
 
 use crate::PublishFault;
 use crate::fault::fault_of_reading;
@@ -30,6 +30,8 @@ pub(crate) fn read_file<F: Folder>(
     ensures bytes { F.tells
         → IfOk result (λ bytes. bytes ≡ unwrap_or (file_in name.now (F.held folder.old)) []) }
     ensures kept { F.tells → F.held folder.new ≡ F.held folder.old }
+    ensures noted { F.records → IfOk result (λ bytes.
+        ReadsFile name.now bytes (F.answers folder.old) (F.answers folder.new)) }
     ensures reading { IfErr result IsReading }
     ensures counted { FaultsCounted (F.count folder.old) (F.count folder.new) result }
 {
@@ -91,7 +93,9 @@ fn read_entry<F: Folder>(
     ensures told { F.tells → Gives (λ e. e) result (read_one (F.held folder.old) file.now) }
     ensures entry { IfOk result (IsEntry file.now) }
     ensures kept { F.tells → F.held folder.new ≡ F.held folder.old }
-    ensures late { IfErr result IsLate }
+    ensures noted { F.records → IfOk result (λ entry.
+        ReadsEntry file.now entry (F.answers folder.old) (F.answers folder.new)) }
+    ensures fault { IfErr result IsFirstReading }
     ensures counted { FaultsCounted (F.count folder.old) (F.count folder.new) result }
 {
     let bytes = read_file(alloc, &file.source, folder)?;
@@ -115,7 +119,9 @@ pub(crate) fn read_entries<F: Folder>(
     ensures told { F.tells → Gives (λ es. es) result (read_all (F.held folder.old) files.now) }
     ensures entries { IfOk result (AreEntries files.now) }
     ensures kept { F.tells → F.held folder.new ≡ F.held folder.old }
-    ensures late { IfErr result IsLate }
+    ensures noted { F.records → IfOk result (λ entries.
+        ReadsEach files.now entries (F.answers folder.old) (F.answers folder.new)) }
+    ensures fault { IfErr result IsFirstReading }
     ensures counted { FaultsCounted (F.count folder.old) (F.count folder.new) result }
 {
     let mut entries = Vec::new(alloc);

@@ -4,12 +4,14 @@
 mod copies;
 mod entries;
 mod fault;
+mod laws;
 mod names;
 mod options;
-mod publishing;
+mod published;
 mod release;
 
 pub use fault::PublishFault;
+pub use laws::honest_folders_never_change;
 pub use options::is_publishable;
 pub use publish_plan::{Mark, MarkKind, Options};
-pub use publishing::{Published, publish};
+pub use published::{Published, publish};

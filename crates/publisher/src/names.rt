@@ -1,5 +1,5 @@
 // The names of the files in a folder.
-ghost use Rattle.std.specs.Prelude.{◌≡◌, IfOk, IfErr, IsPermutation};
+ghost use Rattle.std.specs.Prelude.{◌≡◌, IfOk, IfErr, IsPermutation, OnOk};
 ghost use Rattle.std.specs.Cmp.Lexicographic.{slice_cmp};
 ghost use Rattle.std.specs.List.{IsDistinct};
 ghost use Rattle.std.specs.List.Sorted.{IsStrictlySortedBy};
@@ -7,6 +7,7 @@ ghost use Rattle.std.specs.Ordering.{nat_cmp};
 ghost use Rattle.std.specs.Str.{bytes_eq};
 ghost use Rattle.folders.specs.Files.{IsNames};
 ghost use Rattle.publisher.specs.Faults.{FaultsCounted, IsReading};
+ghost use Rattle.publisher.specs.Readings.{AnswersMore};
 
 use crate::PublishFault;
 use crate::fault::fault_of_reading;
@@ -33,6 +34,8 @@ pub(crate) fn list_names<F: Folder>(
     ensures names { F.tells → IfOk result (λ names. IsNames (F.held folder.old) names.items) }
     ensures ascending { IfOk result (λ names. IsStrictlySortedBy (slice_cmp nat_cmp) names.items) }
     ensures kept { F.tells → F.held folder.new ≡ F.held folder.old }
+    ensures noted { F.records
+        → OnOk result (AnswersMore (F.answers folder.old) (F.answers folder.new)) }
     ensures reading { IfErr result IsReading }
     ensures counted { FaultsCounted (F.count folder.old) (F.count folder.new) result }
 {

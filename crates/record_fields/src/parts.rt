@@ -33,7 +33,8 @@ use std::alloc::Global;
 pub fn read_u8(bytes: &[u8], place: usize) -> Result<(u8, usize), CodecFault>
     requires { place ≤ length bytes.now }
     ensures found { IfOk result (λ x. Stands bytes.now place (x.0 ∷ []) x.1) }
-    ensures only { (x next : ℕ) → x < 256 → Stands bytes.now place (x ∷ []) next → Gives result (Ok (x, next)) }
+    ensures only { (x next : ℕ) → x < 256 → Stands bytes.now place (x ∷ []) next
+        → Gives result (Ok (x, next)) }
     ensures exact { Gives result (byte_at bytes.now place) }
     ensures next { IfOk result (λ x. x.1 ≤ length bytes.now) }
     ensures fault { IfErr result (IsFaultWithin (length bytes.now)) }
@@ -47,7 +48,8 @@ pub fn read_u8(bytes: &[u8], place: usize) -> Result<(u8, usize), CodecFault>
 pub fn read_u16(bytes: &[u8], place: usize) -> Result<(u16, usize), CodecFault>
     requires { place ≤ length bytes.now }
     ensures found { IfOk result (λ x. Stands bytes.now place (to_be_bytes w16 x.0) x.1) }
-    ensures only { (x next : ℕ) → x < 2 ^ 16 → Stands bytes.now place (to_be_bytes w16 x) next → Gives result (Ok (x, next)) }
+    ensures only { (x next : ℕ) → x < 2 ^ 16 → Stands bytes.now place (to_be_bytes w16 x) next
+        → Gives result (Ok (x, next)) }
     ensures exact { Gives result (number_at w16 bytes.now place) }
     ensures next { IfOk result (λ x. x.1 ≤ length bytes.now) }
     ensures fault { IfErr result (IsFaultWithin (length bytes.now)) }
@@ -61,7 +63,8 @@ pub fn read_u16(bytes: &[u8], place: usize) -> Result<(u16, usize), CodecFault>
 pub fn read_u32(bytes: &[u8], place: usize) -> Result<(u32, usize), CodecFault>
     requires { place ≤ length bytes.now }
     ensures found { IfOk result (λ x. Stands bytes.now place (to_be_bytes w32 x.0) x.1) }
-    ensures only { (x next : ℕ) → x < 2 ^ 32 → Stands bytes.now place (to_be_bytes w32 x) next → Gives result (Ok (x, next)) }
+    ensures only { (x next : ℕ) → x < 2 ^ 32 → Stands bytes.now place (to_be_bytes w32 x) next
+        → Gives result (Ok (x, next)) }
     ensures exact { Gives result (number_at w32 bytes.now place) }
     ensures next { IfOk result (λ x. x.1 ≤ length bytes.now) }
     ensures fault { IfErr result (IsFaultWithin (length bytes.now)) }
@@ -75,7 +78,8 @@ pub fn read_u32(bytes: &[u8], place: usize) -> Result<(u32, usize), CodecFault>
 pub fn read_u64(bytes: &[u8], place: usize) -> Result<(u64, usize), CodecFault>
     requires { place ≤ length bytes.now }
     ensures found { IfOk result (λ x. Stands bytes.now place (to_be_bytes w64 x.0) x.1) }
-    ensures only { (x next : ℕ) → x < 2 ^ 64 → Stands bytes.now place (to_be_bytes w64 x) next → Gives result (Ok (x, next)) }
+    ensures only { (x next : ℕ) → x < 2 ^ 64 → Stands bytes.now place (to_be_bytes w64 x) next
+        → Gives result (Ok (x, next)) }
     ensures exact { Gives result (number_at w64 bytes.now place) }
     ensures next { IfOk result (λ x. x.1 ≤ length bytes.now) }
     ensures fault { IfErr result (IsFaultWithin (length bytes.now)) }
@@ -88,8 +92,10 @@ pub fn read_u64(bytes: &[u8], place: usize) -> Result<(u64, usize), CodecFault>
 /// The fault is that of the first number that the bytes end before.
 pub fn read_version(bytes: &[u8], place: usize) -> Result<(Version, usize), CodecFault>
     requires { place ≤ length bytes.now }
-    ensures found { IfOk result (λ x. Stands bytes.now place (version_field x.0) x.1 × IsVersion x.0) }
-    ensures only { (x : Version) (next : ℕ) → IsVersion x → Stands bytes.now place (version_field x) next → Gives result (Ok (x, next)) }
+    ensures found { IfOk result (λ x. Stands bytes.now place (version_field x.0) x.1
+        × IsVersion x.0) }
+    ensures only { (x : Version) (next : ℕ) → IsVersion x
+        → Stands bytes.now place (version_field x) next → Gives result (Ok (x, next)) }
     ensures exact { Gives result (version_at bytes.now place) }
     ensures next { IfOk result (λ x. x.1 ≤ length bytes.now) }
     ensures fault { IfErr result (IsFaultWithin (length bytes.now)) }
@@ -155,7 +161,8 @@ pub fn read_bytes(
 pub fn read_name(alloc: Global, bytes: &[u8], place: usize) -> Result<(Name, usize), CodecFault>
     requires { place ≤ length bytes.now }
     ensures found { IfOk result (λ x. Stands bytes.now place (text_field x.0) x.1 × IsName x.0) }
-    ensures only { (x : List ℕ) (next : ℕ) → IsName x → Stands bytes.now place (text_field x) next → Gives result (Ok (x, next)) }
+    ensures only { (x : List ℕ) (next : ℕ) → IsName x → Stands bytes.now place (text_field x) next
+        → Gives result (Ok (x, next)) }
     ensures exact { Gives result (name_at bytes.now place) }
     ensures next { IfOk result (λ x. x.1 ≤ length bytes.now) }
     ensures fault { IfErr result (IsFaultWithin (length bytes.now)) }
@@ -174,8 +181,10 @@ pub fn read_text(
     limit: usize,
 ) -> Result<(Text, usize), CodecFault>
     requires { place ≤ length bytes.now }
-    ensures found { IfOk result (λ x. Stands bytes.now place (text_field x.0) x.1 × (IsShort limit x.0 × (length x.0 < 2 ^ 32))) }
-    ensures only { (x : List ℕ) (next : ℕ) → IsShort limit x × (length x < 2 ^ 32) → Stands bytes.now place (text_field x) next → Gives result (Ok (x, next)) }
+    ensures found { IfOk result (λ x. Stands bytes.now place (text_field x.0) x.1
+        × (IsShort limit x.0 × (length x.0 < 2 ^ 32))) }
+    ensures only { (x : List ℕ) (next : ℕ) → IsShort limit x × (length x < 2 ^ 32)
+        → Stands bytes.now place (text_field x) next → Gives result (Ok (x, next)) }
     ensures exact { Gives result (text_at limit bytes.now place) }
     ensures next { IfOk result (λ x. x.1 ≤ length bytes.now) }
     ensures fault { IfErr result (IsFaultWithin (length bytes.now)) }
@@ -189,7 +198,8 @@ pub fn read_text(
 pub fn read_key(alloc: Global, bytes: &[u8], place: usize) -> Result<(Key, usize), CodecFault>
     requires { place ≤ length bytes.now }
     ensures found { IfOk result (λ x. Stands bytes.now place (key_field x.0) x.1 × IsShortKey x.0) }
-    ensures only { (x : Key) (next : ℕ) → IsShortKey x → Stands bytes.now place (key_field x) next → Gives result (Ok (x, next)) }
+    ensures only { (x : Key) (next : ℕ) → IsShortKey x → Stands bytes.now place (key_field x) next
+        → Gives result (Ok (x, next)) }
     ensures exact { Gives result (key_at bytes.now place) }
     ensures next { IfOk result (λ x. x.1 ≤ length bytes.now) }
     ensures fault { IfErr result (IsFaultWithin (length bytes.now)) }

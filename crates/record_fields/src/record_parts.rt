@@ -102,7 +102,8 @@ pub fn read_list<T: Readable>(
 pub fn read_digest(alloc: Global, bytes: &[u8], place: usize) -> Result<(Digest, usize), CodecFault>
     requires { place ≤ length bytes.now }
     ensures found { IfOk result (λ x. Stands bytes.now place (digest_field x.0) x.1 × IsSized x.0) }
-    ensures only { (x : Digest) (next : ℕ) → IsSized x → Stands bytes.now place (digest_field x) next → Gives result (Ok (x, next)) }
+    ensures only { (x : Digest) (next : ℕ) → IsSized x → Stands bytes.now place (digest_field x) next
+        → Gives result (Ok (x, next)) }
     ensures exact { Gives result (digest_at bytes.now place) }
     ensures next { IfOk result (λ x. x.1 ≤ length bytes.now) }
     ensures fault { IfErr result (IsFaultWithin (length bytes.now)) }

@@ -1,6 +1,7 @@
 -- Entries once they are checked or skipped, and what tables show then.
 use Rattle.std.proofs.Common.{◌≡◌, ◌∙◌, ◌<◌, refl, sym, ap, subst, ℕ, List, IsSome, Option, Some, None, length, get_or}
-use Rattle.std.specs.Prelude.{option_map, slice_get, unwrap_or}
+use Rattle.std.specs.Prelude.{option_map, slice_get}
+use Rattle.std.specs.Option.{option_map_or}
 use Rattle.std.proofs.lemmas.Cmp.{tied_itself}
 use Rattle.std.proofs.lemmas.Option.{get_or_from_slice_get, slice_get-get_or, slice_get_within}
 use Rattle.small_types.specs.declared.room.Room.{Room}
@@ -23,8 +24,8 @@ use Rattle.machine.proofs.Leased.{entry_in}
 use Rattle.machine.proofs.Members.{all_in, contains_in}
 use Rattle.machine.proofs.Places.{found}
 use Rattle.store_state.specs.declared.change.Change.TheVariants.{Heard, Skip, Unheard}
-use Rattle.store_state.specs.declared.noting.Note.{Note}
-use Rattle.store_state.specs.declared.noting.Note.TheVariants as note
+use Rattle.store_state.specs.declared.note.Note.{Note}
+use Rattle.store_state.specs.declared.note.Note.TheVariants as note
 use Rattle.store_state.specs.declared.view.View.{View}
 use Rattle.store_state.specs.Change.{effect}
 use Rattle.store_state.specs.Notes.{noted}
@@ -76,12 +77,19 @@ place_within place apps some =
     slice_get_within apps place app.0 app.1
 
 -- the version of the view that is read
-pub version_read : (key : Key) (tables : Tables) (view : View) (version : Version)
-    → current_row key tables ≡ Some view
-    → unwrap_or (current_version key tables) version ≡ view.deployment.identity.version
-version_read key tables view version is =
-    ap (λ (o : Option View). unwrap_or (option_map (λ (v : View). v.deployment.identity.version) o)
-    version) is
+pub version_read : (key : Key) (tables : Tables) (view : View) → current_row key tables ≡ Some view
+    → current_version key tables ≡ Some view.deployment.identity.version
+version_read key tables view is = ap (option_map (λ (v : View). v.deployment.identity.version)) is
+
+-- the effect of what was heard, where a version is current for the key
+pub heard_at : (key : Key) (tables : Tables) (have version : Version) (minimum : Option Version)
+    (now : ℕ) → current_version key tables ≡ Some have
+    → record tables { apps = with_entry key (heard_app have version minimum now) tables.apps }
+    ≡ effect (Heard key version minimum now) tables
+heard_at key tables have version minimum now is =
+    ap (λ (current : Option Version). option_map_or (λ (v : Version). record tables {
+      apps = with_entry key (heard_app v version minimum now) tables.apps;
+    }) current tables) (sym is)
 
 -- ---- stores with the entry of a known key changed
 
@@ -142,18 +150,16 @@ pub shows_heard : (room : Room) (tables : Tables) (key : Key) (have version : Ve
     (record store { apps = with_entry key (heard_app have version minimum now) store.apps })
 shows_heard room tables key have version minimum now image later store first same current =
     let shows = shows_same later same first in
+    let heard = with_entry key (heard_app have version minimum now) in
+    let made : Shows room (record tables { apps = heard tables.apps }) later
+    (record store { apps = heard store.apps }) =
     record {
-      is =
-          ap (λ (s : Store). record s {
-            apps = with_entry key (heard_app have version minimum now) s.apps;
-          }) shows.is
-          ∙ ap (λ (v : Version). store_with room later tables
-          (with_entry key (heard_app v version minimum now) tables.apps))
-          (sym (ap (λ (o : Option Version). unwrap_or o version)
-          (version_shown room tables key ∙ current)));
+      is = ap (λ (s : Store). record s { apps = heard s.apps }) shows.is;
       held = shows.held;
       measured = shows.measured;
-    }
+    } in
+    subst (λ (t : Tables). Shows room t later (record store { apps = heard store.apps }))
+    (heard_at key tables have version minimum now (version_shown room tables key ∙ current)) made
 
 pub shows_unheard : (room : Room) (tables : Tables) (key : Key) (image later : List ℕ)
     (store : Store) → Shows room tables image store → SameFiles room tables image later

@@ -19,21 +19,21 @@ use Rattle.machine.specs.declared.app.AppState.{AppState}
 use Rattle.machine.specs.declared.lease.Lease.{Lease}
 use Rattle.machine.specs.Blocks.{standing_files}
 use Rattle.machine.specs.Entries.{AreInOrder, IsBelowAll, key_cmp}
+use Rattle.machine.specs.Views.{ContentKey, content_key}
 use Rattle.machine.proofs.Members.{all_in, contains_in, in_all, in_contains, in_map, map_in, pairs_head, pairs_map, pairs_tail, pairs_weaker}
 use Rattle.machine.proofs.Places.{rising}
-use Rattle.store_state.specs.declared.sign.Sign.{Sign}
 use Rattle.store_state.specs.declared.view.Content.{Content}
 use Rattle.store_state.specs.declared.view.View.{View}
 use Rattle.store_state.specs.declared.state.StateFault.{StateFault}
 use Rattle.store_state.specs.Change.{IsRow}
-use Rattle.store_state.specs.Contents.{AreContentsOf, content_of, is_content_of, is_same}
+use Rattle.store_state.specs.ContentKeys.{Agree, IsIndex, content_key_cmp}
+use Rattle.store_state.specs.Contents.{AreContentsOf, content_of, held_key, is_content_of, is_same}
 use Rattle.store_state.specs.Kept.{AreTables}
 use Rattle.store_state.specs.Places.{ArePlaces, AreSorted}
 use Rattle.store_state.specs.Rows.{listed_files}
-use Rattle.store_state.specs.Signs.{Agree, IsIndex, content_sign, entry_sign, sign_cmp}
 use Rattle.store_state.specs.Tables.{Tables, bare_row}
-use Rattle.store_state.proofs.Indexed.{differ_moved, in_index, indexed, is_sign, pairs_of_map, same_sign, sign_is, sign_same}
-use Rattle.store_state.proofs.Keyed.{any_in, find_in, in_any, in_find}
+use Rattle.store_state.proofs.Indexed.{differ_moved, in_index, indexed, pairs_of_map}
+use Rattle.store_state.proofs.Keyed.{any_in, find_in, in_any, in_find, key_of, key_same, of_key, same_key}
 
 -- ---- numbers in order
 
@@ -117,75 +117,75 @@ apart e = absurd cc
 nowhere : {X : Type 0} (x : X) → Contains [] x → ⊥
 nowhere x there = let within = there.1 in omega arith
 
-module _ (contents : List Content) (entries : List FileEntry) (standing there : List Sign)
-    (stand : IsIndex (map entry_sign entries) standing)
-    (held : IsIndex (map content_sign contents) there) where
-  has_content : (entry : FileEntry) → Contains [] (entry_sign entry)
-      ⊎ Contains there (entry_sign entry) → IsSome (content_of contents entry)
-  has_content entry (inl before) = absurd (nowhere (entry_sign entry) before)
+module _ (contents : List Content) (entries : List FileEntry) (standing there : List ContentKey)
+    (stand : IsIndex (map content_key entries) standing)
+    (held : IsIndex (map held_key contents) there) where
+  has_content : (entry : FileEntry) → Contains [] (content_key entry)
+      ⊎ Contains there (content_key entry) → IsSome (content_of contents entry)
+  has_content entry (inl before) = absurd (nowhere (content_key entry) before)
   has_content entry (inr at) =
-      let one = indexed content_sign contents there held.same (entry_sign entry) at in
-      find_in (is_content_of entry) contents one.0 one.1 (is_sign entry one.0 (sym one.2))
+      let one = indexed held_key contents there held.same (content_key entry) at in
+      find_in (is_content_of entry) contents one.0 one.1 (key_of entry one.0 (sym one.2))
 
   agree_are : Agree [] standing there → AreContentsOf entries contents
   agree_are agree = record {
     each =
         in_all (λ (entry : FileEntry). IsSome (content_of contents entry)) entries
         (λ entry at. has_content entry
-        (all_in (λ sign. Contains [] sign ⊎ Contains there sign) standing
-        (entry_sign entry) agree.each
-        (in_contains standing (entry_sign entry)
-        (in_index entry_sign entries standing stand.same entry at))));
+        (all_in (λ key. Contains [] key ⊎ Contains there key) standing
+        (content_key entry) agree.each
+        (in_contains standing (content_key entry)
+        (in_index content_key entries standing stand.same entry at))));
     only =
         in_all (λ (content : Content). Any
         (λ (entry : FileEntry). is_content_of entry content ≡ true) entries) contents
         (λ content at. (
-        let among = all_in (λ sign. Contains standing sign) there (content_sign content)
+        let among = all_in (λ key. Contains standing key) there (held_key content)
         agree.only
-        (in_contains there (content_sign content)
-        (in_index content_sign contents there held.same content at)) in
-        let one = indexed entry_sign entries standing stand.same (content_sign content) among in
+        (in_contains there (held_key content)
+        (in_index held_key contents there held.same content at)) in
+        let one = indexed content_key entries standing stand.same (held_key content) among in
         in_any (λ (entry : FileEntry). is_content_of entry content ≡ true) entries one.0 one.1
-        (is_sign one.0 content one.2)
+        (key_of one.0 content one.2)
         ));
     once =
-        pairs_weaker (λ (a b : Content). content_sign a ≢ content_sign b)
+        pairs_weaker (λ (a b : Content). held_key a ≢ held_key b)
         (λ (a b : Content). is_same a b ≡ false) contents
-        (λ a b unlike. false_from_ne_true (is_same a b) (λ same. unlike (same_sign a b same)))
-        (pairs_of_map content_sign (λ (a b : Sign). a ≢ b) contents
-        (differ_moved there (map content_sign contents)
-        (IsPermutation-sym (map content_sign contents) there held.same) agree.once));
+        (λ a b unlike. false_from_ne_true (is_same a b) (λ same. unlike (same_key a b same)))
+        (pairs_of_map held_key (λ (a b : ContentKey). a ≢ b) contents
+        (differ_moved there (map held_key contents)
+        (IsPermutation-sym (map held_key contents) there held.same) agree.once));
   }
 
   are_agree : AreContentsOf entries contents → Agree [] standing there
   are_agree are = record {
     once =
-        differ_moved (map content_sign contents) there held.same
-        (pairs_map content_sign (λ (a b : Content). is_same a b ≡ false) (λ (a b : Sign). a ≢ b)
-        contents (λ a b unlike equal. apart (sym (sign_same a b equal) ∙ unlike)) are.once);
+        differ_moved (map held_key contents) there held.same
+        (pairs_map held_key (λ (a b : Content). is_same a b ≡ false)
+        (λ (a b : ContentKey). a ≢ b) contents (λ a b unlike equal. apart (sym (key_same a b equal) ∙ unlike)) are.once);
     each =
-        in_all (λ sign. Contains [] sign ⊎ Contains there sign) standing
-        (λ sign at. (
-        let one = indexed entry_sign entries standing stand.same sign
-        (contains_in standing sign at) in
+        in_all (λ key. Contains [] key ⊎ Contains there key) standing
+        (λ key at. (
+        let one = indexed content_key entries standing stand.same key
+        (contains_in standing key at) in
         let content = in_find (is_content_of one.0) contents
         (all_in (λ (entry : FileEntry). IsSome (content_of contents entry)) entries one.0
         are.each one.1) in
-        subst (λ (s : Sign). Contains [] s ⊎ Contains there s) one.2
-        (inr (subst (λ (s : Sign). Contains there s) (sym (sign_is one.0 content.0 content.2))
-        (in_index content_sign contents there held.same content.0 content.1)))
+        subst (λ (k : ContentKey). Contains [] k ⊎ Contains there k) one.2
+        (inr (subst (λ (k : ContentKey). Contains there k) (sym (of_key one.0 content.0 content.2))
+        (in_index held_key contents there held.same content.0 content.1)))
         ));
-    only = in_all (λ sign. Contains standing sign) there (λ sign at. (
-        let one = indexed content_sign contents there held.same sign (contains_in there sign at)
+    only = in_all (λ key. Contains standing key) there (λ key at. (
+        let one = indexed held_key contents there held.same key (contains_in there key at)
         in
         let entry = any_in (λ (entry : FileEntry). is_content_of entry one.0 ≡ true) entries
         (all_in (λ (content : Content). Any
         (λ (entry : FileEntry). is_content_of entry content ≡ true) entries) contents one.0
         are.only one.1) in
-        subst (λ (s : Sign). Contains standing s) (sign_is entry.0 one.0 entry.2 ∙ one.2)
-        (in_index entry_sign entries standing stand.same entry.0 entry.1)
+        subst (λ (k : ContentKey). Contains standing k) (of_key entry.0 one.0 entry.2 ∙ one.2)
+        (in_index content_key entries standing stand.same entry.0 entry.1)
         ));
-    lacking = in_all (λ sign. ¬ Contains [] sign) there (λ sign at before. nowhere sign before);
+    lacking = in_all (λ key. ¬ Contains [] key) there (λ key at before. nowhere key before);
   }
 
   contents_are : (result : Bool) → IsTrue result ↔ Agree [] standing there
@@ -201,12 +201,12 @@ module _ (contents : List Content) (entries : List FileEntry) (standing there : 
 
 -- the index of contents, among none at first
 pub first_places : (contents : List Content) (places : List ℕ)
-    → AreSorted sign_cmp (map content_sign contents) places
+    → AreSorted content_key_cmp (map held_key contents) places
     → IsPermutation ([] ++ range_with_len 0 (length contents - 0)) places
-    → ArePlaces sign_cmp (map content_sign contents) places
+    → ArePlaces content_key_cmp (map held_key contents) places
 first_places contents places sorted moved =
-    let long : length contents - 0 ≡ length (map content_sign contents) =
-    omega (arith, length-map contents content_sign) in
+    let long : length contents - 0 ≡ length (map held_key contents) =
+    omega (arith, length-map contents held_key) in
     record {
       sorted = sorted;
       same = subst (λ (n : ℕ). IsPermutation (range_with_len 0 n) places) long moved;

@@ -1,4 +1,4 @@
--- Contents and the indexes of their signs.
+-- Contents and the indexes of their keys.
 use Rattle.std.proofs.Common.{◌≡◌, ◌≢◌, ◌∙◌, ◌⊎◌, ◌↔◌, ◌+◌, ◌-◌, ◌<◌, ◌++◌, length, inl, inr, refl, sym, ap, subst, true, false, List, map, All, AllPairs, Contains, IsSome, IsTrue, Bool, ℕ, Some, None, get_or, arith}
 use Rattle.std.specs.Prelude.{Any, option_map, slice_get}
 use Rattle.std.specs.List.{list_any, range_with_len}
@@ -16,59 +16,32 @@ use Rattle.std.proofs.lemmas.List.Sorted.{Contains-permutation, IsPermutation-re
 use Rattle.std.proofs.lemmas.Option.{same_Some, slice_get-map, slice_get_read}
 use Rattle.digest_list.specs.declared.digest.Digest.{Digest}
 use Rattle.manifests.specs.declared.facts.FileEntry.{FileEntry}
-use Rattle.machine.specs.Views.{ContentKey}
+use Rattle.machine.specs.Views.{ContentKey, content_key}
 use Rattle.machine.proofs.Finding.{find_none}
 use Rattle.machine.proofs.Members.{In, all_in, contains_in, in_all, in_contains, in_either, in_left, in_map, in_right, map_in, pairs_map, pairs_weaker}
 use Rattle.machine.proofs.Needing.{in_passes, passes_in}
-use Rattle.store_state.specs.declared.sign.Sign.{Sign}
 use Rattle.store_state.specs.declared.view.Content.{Content}
-use Rattle.store_state.specs.Contents.{Brings, IsMeasured, content_of, is_content_of, is_same}
+use Rattle.store_state.specs.ContentKeys.{Agree, IsIndex, content_key_cmp}
+use Rattle.store_state.specs.Contents.{Brings, IsMeasured, content_of, held_key, is_content_of, is_same}
 use Rattle.store_state.specs.Places.{ArePlaces, AreSorted}
-use Rattle.store_state.specs.Signs.{Agree, IsIndex, content_sign, entry_sign, sign_cmp}
 use Rattle.store_state.proofs.Firsts.{PassesOnce, find_place, none_pass}
 use Rattle.store_state.proofs.Inserted.{sorted_still}
 use Rattle.store_state.proofs.Places.{more_places}
-use Rattle.store_state.proofs.SignOrder.{one_sign, sign_total}
+use Rattle.store_state.proofs.KeyOrder.{one_key, content_key_total}
 use Rattle.store_state.proofs.Keyed.{alike, any_in, find_in, in_any, in_find, key_of, key_same, of_key, same_key}
 
 apart : {P : Type 0} → true ≡ false → P
 apart e = absurd cc
 
--- ---- signs and content keys
-
-sign_key : Sign → ContentKey
-sign_key sign = record { size = sign.size; list = sign.list }
-
-key_sign : ContentKey → Sign
-key_sign k = record { size = k.size; list = k.list }
-
-pub sign_is : (entry : FileEntry) (content : Content) → is_content_of entry content ≡ true
-    → entry_sign entry ≡ content_sign content
-unfolding key_sign
-sign_is entry content e = ap key_sign (of_key entry content e)
-
-pub is_sign : (entry : FileEntry) (content : Content) → entry_sign entry ≡ content_sign content
-    → is_content_of entry content ≡ true
-unfolding sign_key
-is_sign entry content e = key_of entry content (ap sign_key e)
-
-pub same_sign : (a b : Content) → is_same a b ≡ true → content_sign a ≡ content_sign b
-unfolding key_sign
-same_sign a b e = ap key_sign (same_key a b e)
-
-pub sign_same : (a b : Content) → content_sign a ≡ content_sign b → is_same a b ≡ true
-unfolding sign_key
-sign_same a b e = key_same a b (ap sign_key e)
-
 -- ---- an index holds what it was made of
 
-module _ {X : Type 0} (f : X → Sign) (xs : List X) (index : List Sign)
+module _ {X : Type 0} (f : X → ContentKey) (xs : List X) (index : List ContentKey)
     (moved : IsPermutation (map f xs) index) where
-  pub indexed : (sign : Sign) → Contains index sign → (x : X) × In x xs × (f x ≡ sign)
-  indexed sign there =
-      map_in f xs sign
-      (in_contains (map f xs) sign
-      (Contains-permutation index (map f xs) sign (IsPermutation-sym (map f xs) index moved) there))
+  pub indexed : (key : ContentKey) → Contains index key → (x : X) × In x xs × (f x ≡ key)
+  indexed key there =
+      map_in f xs key
+      (in_contains (map f xs) key
+      (Contains-permutation index (map f xs) key (IsPermutation-sym (map f xs) index moved) there))
 
   pub in_index : (x : X) → In x xs → Contains index (f x)
   in_index x there =
@@ -78,20 +51,20 @@ module _ {X : Type 0} (f : X → Sign) (xs : List X) (index : List Sign)
 -- ---- the content of a file
 
 module _ (contents : List Content) where
-  -- whether a content has the sign of the file is whether one is its content
+  -- whether a content has the key of the file is whether one is its content
   pub is_there : (entry : FileEntry) (result : Bool)
-      → IsTrue result ↔ Contains (map content_sign contents) (entry_sign entry)
+      → IsTrue result ↔ Contains (map held_key contents) (content_key entry)
       → result ≡ list_any (is_content_of entry) contents
   is_there entry result answers = alike result (list_any (is_content_of entry) contents)
-      (λ found. (let one = map_in content_sign contents (entry_sign entry)
-      (in_contains (map content_sign contents) (entry_sign entry) (answers.0 found))
+      (λ found. (let one = map_in held_key contents (content_key entry)
+      (in_contains (map held_key contents) (content_key entry) (answers.0 found))
       in in_passes (is_content_of entry) contents one.0 one.1
-      (is_sign entry one.0 (sym one.2))))
+      (key_of entry one.0 (sym one.2))))
       (λ found. (let one = passes_in (is_content_of entry) contents found in answers.1
-      (subst (λ (sign : Sign). Contains (map content_sign contents) sign)
-      (sym (sign_is entry one.0 one.2))
-      (contains_in (map content_sign contents) (content_sign one.0)
-      (in_map content_sign contents one.0 one.1)))))
+      (subst (λ (key : ContentKey). Contains (map held_key contents) key)
+      (sym (of_key entry one.0 one.2))
+      (contains_in (map held_key contents) (held_key one.0)
+      (in_map held_key contents one.0 one.1)))))
 
   -- a file has one content at most
   pub one_content : (entry : FileEntry) → AllPairs (λ (a b : Content). is_same a b ≡ false) contents
@@ -100,60 +73,60 @@ module _ (contents : List Content) where
       pairs_weaker (λ (a b : Content). is_same a b ≡ false)
       (λ (a b : Content). is_content_of entry a ≡ true → is_content_of entry b ≡ true → ⊥) contents
       (λ a b unlike first second. apart
-      (sym (sign_same a b (sym (sign_is entry a first) ∙ sign_is entry b second)) ∙ unlike)) once
+      (sym (key_same a b (sym (of_key entry a first) ∙ of_key entry b second)) ∙ unlike)) once
 
-  -- the content at the place of the sign is that of the file
+  -- the content at the place of the key is that of the file
   pub content_at : (entry : FileEntry) (place : ℕ) (content : Content)
       → AllPairs (λ (a b : Content). is_same a b ≡ false) contents
-      → slice_get (map content_sign contents) place ≡ Some (entry_sign entry)
+      → slice_get (map held_key contents) place ≡ Some (content_key entry)
       → slice_get contents place ≡ Some content → content_of contents entry ≡ Some content
-  content_at entry place content once signed stands =
-      let sign : entry_sign entry ≡ content_sign content = same_Some (entry_sign entry)
-      (content_sign content) (sym signed ∙ slice_get-map content_sign contents place
-      ∙ ap (option_map content_sign) stands) in
+  content_at entry place content once keyed stands =
+      let key : content_key entry ≡ held_key content = same_Some (content_key entry)
+      (held_key content) (sym keyed ∙ slice_get-map held_key contents place
+      ∙ ap (option_map held_key) stands) in
       find_place (is_content_of entry) contents place content (one_content entry once) stands
-      (is_sign entry content sign)
+      (key_of entry content key)
 
   -- as it is read at the place that a search ends at
   pub content_read : (read : List Content) (list : List Digest) (entry : FileEntry) (place : ℕ)
       (content : Content) → read ≡ contents → list ≡ entry.list
       → AllPairs (λ (a b : Content). is_same a b ≡ false) contents
-      → slice_get (map content_sign contents) place ≡ Some
+      → slice_get (map held_key contents) place ≡ Some
       (record { size = entry.size; list = list }) → place < length contents
       → content ≡ get_or read place content → Some content ≡ content_of contents entry
-  content_read read list entry place content same_contents same_list once signed within is =
+  content_read read list entry place content same_contents same_list once keyed within is =
       sym (content_at entry place content once
-      (signed ∙ ap (λ (l : List Digest). Some (record { size = entry.size; list = l })) same_list)
+      (keyed ∙ ap (λ (l : List Digest). Some (record { size = entry.size; list = l })) same_list)
       (slice_get_read contents (length contents) place content refl within
       (is ∙ ap (λ (cs : List Content). get_or cs place content) same_contents)))
 
-  pub no_content : (entry : FileEntry) → ¬ Contains (map content_sign contents) (entry_sign entry)
+  pub no_content : (entry : FileEntry) → ¬ Contains (map held_key contents) (content_key entry)
       → content_of contents entry ≡ None
   no_content entry nowhere =
       find_none (is_content_of entry) contents
-      (none_pass content_sign (entry_sign entry) (is_content_of entry)
-      (λ content passes. sym (sign_is entry content passes)) contents nowhere)
+      (none_pass held_key (content_key entry) (is_content_of entry)
+      (λ content passes. sym (of_key entry content passes)) contents nowhere)
 
   pub none_read : (list : List Digest) (entry : FileEntry) → list ≡ entry.list
-      → ¬ Contains (map content_sign contents) (record { size = entry.size; list = list })
+      → ¬ Contains (map held_key contents) (record { size = entry.size; list = list })
       → None ≡ content_of contents entry
   none_read list entry same nowhere =
       sym (no_content entry
-      (subst (λ (l : List Digest). ¬ Contains (map content_sign contents)
+      (subst (λ (l : List Digest). ¬ Contains (map held_key contents)
       (record { size = entry.size; list = l })) same nowhere))
 
--- ---- signs that differ
+-- ---- content keys that differ
 
--- the test that signs are equal
-same : Sign → Sign → Bool
-same a b = eq_by_cmp sign_cmp a b
+-- the test that content keys are equal
+same : ContentKey → ContentKey → Bool
+same a b = eq_by_cmp content_key_cmp a b
 
-same_decides : (a b : Sign) → Decides (same a b) (a ≡ b)
+same_decides : (a b : ContentKey) → Decides (same a b) (a ≡ b)
 unfolding same
 same_decides a b = (
-  λ e. one_sign a b (is_equal (sign_cmp a b) e),
+  λ e. one_key a b (is_equal (content_key_cmp a b) e),
   λ e. ap is_eq
-      (ap (λ (s : Sign). sign_cmp a s) (sym e) ∙ tied_itself sign_total a),
+      (ap (λ (k : ContentKey). content_key_cmp a k) (sym e) ∙ tied_itself content_key_total a),
 )
   where
     is_equal : (o : Ordering) → is_eq o ≡ true → o ≡ Equal
@@ -161,14 +134,15 @@ same_decides a b = (
     is_equal Equal e = refl
     is_equal Greater e = absurd cc
 
-pub differ_moved : (xs ys : List Sign) → IsPermutation xs ys → AllPairs (λ (a b : Sign). a ≢ b) xs
-    → AllPairs (λ (a b : Sign). a ≢ b) ys
+pub differ_moved : (xs ys : List ContentKey) → IsPermutation xs ys
+    → AllPairs (λ (a b : ContentKey). a ≢ b) xs
+    → AllPairs (λ (a b : ContentKey). a ≢ b) ys
 differ_moved xs ys moved differ =
     AllPairs-from_IsDistinct same_decides ys
     (IsDistinct-IsPermutation same flips xs ys moved
     (IsDistinct-from_AllPairs same_decides xs differ))
   where
-    flips : (a b : Sign) → same a b ≡ same b a
+    flips : (a b : ContentKey) → same a b ≡ same b a
     flips a b =
         alike (same a b) (same b a) (λ e. (same_decides b a).1 (sym ((same_decides a b).0 e)))
         (λ e. (same_decides a b).1 (sym ((same_decides b a).0 e)))
@@ -185,119 +159,119 @@ pairs_of_map f Q xs pairs = λ i j d less within. (
 
 -- ---- what a view brings
 
-module _ (old new : List Content) (entries : List FileEntry) (standing brought : List Sign)
-    (stand : IsIndex (map entry_sign entries) standing)
-    (news : IsIndex (map content_sign new) brought) where
-  has_content : (entry : FileEntry) → Contains (map content_sign old) (entry_sign entry)
-      ⊎ Contains brought (entry_sign entry) → IsSome (content_of (old ++ new) entry)
+module _ (old new : List Content) (entries : List FileEntry) (standing brought : List ContentKey)
+    (stand : IsIndex (map content_key entries) standing)
+    (news : IsIndex (map held_key new) brought) where
+  has_content : (entry : FileEntry) → Contains (map held_key old) (content_key entry)
+      ⊎ Contains brought (content_key entry) → IsSome (content_of (old ++ new) entry)
   has_content entry (inl there) =
-      let one = indexed content_sign old (map content_sign old)
-      (IsPermutation-refl (map content_sign old)) (entry_sign entry) there in find_in
+      let one = indexed held_key old (map held_key old)
+      (IsPermutation-refl (map held_key old)) (content_key entry) there in find_in
       (is_content_of entry) (old ++ new) one.0 (in_left old new one.0 one.1)
-      (is_sign entry one.0 (sym one.2))
+      (key_of entry one.0 (sym one.2))
   has_content entry (inr there) =
-      let one = indexed content_sign new brought news.same (entry_sign entry) there in find_in
+      let one = indexed held_key new brought news.same (content_key entry) there in find_in
       (is_content_of entry) (old ++ new) one.0 (in_right old new one.0 one.1)
-      (is_sign entry one.0 (sym one.2))
+      (key_of entry one.0 (sym one.2))
 
   content_has : (entry : FileEntry) (content : Content) → is_content_of entry content ≡ true
-      → In content old ⊎ In content new → Contains (map content_sign old) (entry_sign entry)
-      ⊎ Contains brought (entry_sign entry)
+      → In content old ⊎ In content new → Contains (map held_key old) (content_key entry)
+      ⊎ Contains brought (content_key entry)
   content_has entry content of (inl there) =
-      inl (subst (λ (sign : Sign). Contains (map content_sign old) sign)
-      (sym (sign_is entry content of))
-      (in_index content_sign old (map content_sign old) (IsPermutation-refl (map content_sign old))
+      inl (subst (λ (key : ContentKey). Contains (map held_key old) key)
+      (sym (of_key entry content of))
+      (in_index held_key old (map held_key old) (IsPermutation-refl (map held_key old))
       content there))
   content_has entry content of (inr there) =
-      inr (subst (λ (sign : Sign). Contains brought sign) (sym (sign_is entry content of))
-      (in_index content_sign new brought news.same content there))
+      inr (subst (λ (key : ContentKey). Contains brought key) (sym (of_key entry content of))
+      (in_index held_key new brought news.same content there))
 
-  agree_brings : All IsMeasured new → Agree (map content_sign old) standing brought
+  agree_brings : All IsMeasured new → Agree (map held_key old) standing brought
       → Brings old entries new
   agree_brings measured agree = record {
     each =
         in_all (λ (entry : FileEntry). IsSome (content_of (old ++ new) entry)) entries
         (λ entry there. has_content entry
-        (all_in (λ sign. Contains (map content_sign old) sign ⊎ Contains brought sign) standing
-        (entry_sign entry) agree.each
-        (in_contains standing (entry_sign entry)
-        (in_index entry_sign entries standing stand.same entry there))));
+        (all_in (λ key. Contains (map held_key old) key ⊎ Contains brought key) standing
+        (content_key entry) agree.each
+        (in_contains standing (content_key entry)
+        (in_index content_key entries standing stand.same entry there))));
     only =
         in_all (λ (content : Content). Any
         (λ (entry : FileEntry). is_content_of entry content ≡ true) entries) new (λ content there. (
-        let among = all_in (λ sign. Contains standing sign) brought (content_sign content)
+        let among = all_in (λ key. Contains standing key) brought (held_key content)
         agree.only
-        (in_contains brought (content_sign content)
-        (in_index content_sign new brought news.same content there)) in
-        let one = indexed entry_sign entries standing stand.same (content_sign content) among in
+        (in_contains brought (held_key content)
+        (in_index held_key new brought news.same content there)) in
+        let one = indexed content_key entries standing stand.same (held_key content) among in
         in_any (λ (entry : FileEntry). is_content_of entry content ≡ true) entries one.0 one.1
-        (is_sign one.0 content one.2)
+        (key_of one.0 content one.2)
         ));
     lacking =
         in_all (λ (content : Content). All (λ (other : Content). is_same other content ≡ false) old)
         new (λ content there. in_all (λ (other : Content). is_same other content ≡ false) old
         (λ other held_there. false_from_ne_true (is_same other content) (λ same. (
-        let none = all_in (λ sign. ¬ Contains (map content_sign old) sign) brought
-        (content_sign content) agree.lacking
-        (in_contains brought (content_sign content)
-        (in_index content_sign new brought news.same content there)) in
-        none (subst (λ (sign : Sign). Contains (map content_sign old) sign)
-        (same_sign other content same)
-        (in_index content_sign old (map content_sign old)
-        (IsPermutation-refl (map content_sign old)) other held_there))
+        let none = all_in (λ key. ¬ Contains (map held_key old) key) brought
+        (held_key content) agree.lacking
+        (in_contains brought (held_key content)
+        (in_index held_key new brought news.same content there)) in
+        none (subst (λ (key : ContentKey). Contains (map held_key old) key)
+        (same_key other content same)
+        (in_index held_key old (map held_key old)
+        (IsPermutation-refl (map held_key old)) other held_there))
         ))));
     once =
-        pairs_weaker (λ (a b : Content). content_sign a ≢ content_sign b)
+        pairs_weaker (λ (a b : Content). held_key a ≢ held_key b)
         (λ (a b : Content). is_same a b ≡ false) new
-        (λ a b unlike. false_from_ne_true (is_same a b) (λ same. unlike (same_sign a b same)))
-        (pairs_of_map content_sign (λ (a b : Sign). a ≢ b) new
-        (differ_moved brought (map content_sign new)
-        (IsPermutation-sym (map content_sign new) brought news.same) agree.once));
+        (λ a b unlike. false_from_ne_true (is_same a b) (λ same. unlike (same_key a b same)))
+        (pairs_of_map held_key (λ (a b : ContentKey). a ≢ b) new
+        (differ_moved brought (map held_key new)
+        (IsPermutation-sym (map held_key new) brought news.same) agree.once));
     measured = measured;
   }
 
-  brings_agree : Brings old entries new → Agree (map content_sign old) standing brought
+  brings_agree : Brings old entries new → Agree (map held_key old) standing brought
   brings_agree brings = record {
     once =
-        differ_moved (map content_sign new) brought news.same
-        (pairs_map content_sign (λ (a b : Content). is_same a b ≡ false) (λ (a b : Sign). a ≢ b) new
-        (λ a b unlike equal. apart (sym (sign_same a b equal) ∙ unlike)) brings.once);
+        differ_moved (map held_key new) brought news.same
+        (pairs_map held_key (λ (a b : Content). is_same a b ≡ false)
+        (λ (a b : ContentKey). a ≢ b) new (λ a b unlike equal. apart (sym (key_same a b equal) ∙ unlike)) brings.once);
     each =
-        in_all (λ sign. Contains (map content_sign old) sign ⊎ Contains brought sign) standing
-        (λ sign there. (
-        let one = indexed entry_sign entries standing stand.same sign
-        (contains_in standing sign there) in
+        in_all (λ key. Contains (map held_key old) key ⊎ Contains brought key) standing
+        (λ key there. (
+        let one = indexed content_key entries standing stand.same key
+        (contains_in standing key there) in
         let content = in_find (is_content_of one.0) (old ++ new)
         (all_in (λ (entry : FileEntry). IsSome (content_of (old ++ new) entry)) entries one.0
         brings.each one.1) in
-        subst (λ (s : Sign). Contains (map content_sign old) s ⊎ Contains brought s) one.2
+        subst (λ (k : ContentKey). Contains (map held_key old) k ⊎ Contains brought k) one.2
         (content_has one.0 content.0 content.2 (in_either old new content.0 content.1))
         ));
-    only = in_all (λ sign. Contains standing sign) brought (λ sign there. (
-        let one = indexed content_sign new brought news.same sign (contains_in brought sign there)
+    only = in_all (λ key. Contains standing key) brought (λ key there. (
+        let one = indexed held_key new brought news.same key (contains_in brought key there)
         in
         let entry = any_in (λ (entry : FileEntry). is_content_of entry one.0 ≡ true) entries
         (all_in (λ (content : Content). Any
         (λ (entry : FileEntry). is_content_of entry content ≡ true) entries) new one.0
         brings.only one.1) in
-        subst (λ (s : Sign). Contains standing s) (sign_is entry.0 one.0 entry.2 ∙ one.2)
-        (in_index entry_sign entries standing stand.same entry.0 entry.1)
+        subst (λ (k : ContentKey). Contains standing k) (of_key entry.0 one.0 entry.2 ∙ one.2)
+        (in_index content_key entries standing stand.same entry.0 entry.1)
         ));
     lacking =
-        in_all (λ sign. ¬ Contains (map content_sign old) sign) brought (λ sign there held_there. (
-        let one = indexed content_sign new brought news.same sign (contains_in brought sign there)
+        in_all (λ key. ¬ Contains (map held_key old) key) brought (λ key there held_there. (
+        let one = indexed held_key new brought news.same key (contains_in brought key there)
         in
-        let other = indexed content_sign old (map content_sign old)
-        (IsPermutation-refl (map content_sign old)) sign held_there in
+        let other = indexed held_key old (map held_key old)
+        (IsPermutation-refl (map held_key old)) key held_there in
         let unlike = all_in (λ (o : Content). is_same o one.0 ≡ false) old other.0
         (all_in (λ (content : Content). All (λ (o : Content). is_same o content ≡ false) old)
         new one.0 brings.lacking one.1) other.1 in
-        apart (sym (sign_same other.0 one.0 (other.2 ∙ sym one.2)) ∙ unlike)
+        apart (sym (key_same other.0 one.0 (other.2 ∙ sym one.2)) ∙ unlike)
         ));
   }
 
   pub brings_is : (result : Bool) → All IsMeasured new
-      → IsTrue result ↔ Agree (map content_sign old) standing brought
+      → IsTrue result ↔ Agree (map held_key old) standing brought
       → IsTrue result ↔ Brings old entries new
   brings_is result measured answers =
       (λ found. agree_brings measured (answers.0 found), λ brings. answers.1 (brings_agree brings))
@@ -305,41 +279,41 @@ module _ (old new : List Content) (entries : List FileEntry) (standing brought :
 -- ---- the index of contents, once there are more
 
 pub same_places : (contents left : List Content) (index kept : List ℕ)
-    → ArePlaces sign_cmp (map content_sign contents) index → left ≡ contents → kept ≡ index
-    → ArePlaces sign_cmp (map content_sign left) kept
+    → ArePlaces content_key_cmp (map held_key contents) index → left ≡ contents → kept ≡ index
+    → ArePlaces content_key_cmp (map held_key left) kept
 same_places contents left index kept are same_contents same_index =
     rw (same_contents, same_index) are
 
 -- the index of the first contents is in order among all
 pub placed_still : (old new all read : List Content) (index kept : List ℕ)
-    → ArePlaces sign_cmp (map content_sign old) index → all ≡ old ++ new → read ≡ all
-    → kept ≡ index → AreSorted sign_cmp (map content_sign read) kept
+    → ArePlaces content_key_cmp (map held_key old) index → all ≡ old ++ new → read ≡ all
+    → kept ≡ index → AreSorted content_key_cmp (map held_key read) kept
 placed_still old new all read index kept are more same_all same_index =
-    rw (same_index, same_all, more, map-append content_sign old new)
-    (sorted_still sign_cmp (map content_sign old) (map content_sign new) index are)
+    rw (same_index, same_all, more, map-append held_key old new)
+    (sorted_still content_key_cmp (map held_key old) (map held_key new) index are)
 
 module _ (old new all read held : List Content) (index kept larger : List ℕ)
-    (are : ArePlaces sign_cmp (map content_sign old) index) (more : all ≡ old ++ new)
+    (are : ArePlaces content_key_cmp (map held_key old) index) (more : all ≡ old ++ new)
     (same_all : read ≡ all) (same_old : held ≡ old) (same_index : kept ≡ index) where
-  pub placed_more : AreSorted sign_cmp (map content_sign read) larger
+  pub placed_more : AreSorted content_key_cmp (map held_key read) larger
       → IsPermutation (kept ++ range_with_len (length held) (length read - length held)) larger
-      → ArePlaces sign_cmp (map content_sign all) larger
+      → ArePlaces content_key_cmp (map held_key all) larger
   placed_more sorted moved =
       let count = length read - length held in
-      let start : length held ≡ length (map content_sign old) = ap length same_old
-      ∙ sym (length-map old content_sign) in
-      let long : length (map content_sign all) ≡ length (map content_sign old) + count =
+      let start : length held ≡ length (map held_key old) = ap length same_old
+      ∙ sym (length-map old held_key) in
+      let long : length (map held_key all) ≡ length (map held_key old) + count =
       omega (
         arith,
-        length-map all content_sign,
-        length-map old content_sign,
+        length-map all held_key,
+        length-map old held_key,
         ap length more,
         length-append old new,
         ap length same_all,
         ap length same_old,
       ) in
-      more_places sign_cmp (map content_sign old) (map content_sign all) count index larger are long
-      (subst (λ (cs : List Content). AreSorted sign_cmp (map content_sign cs) larger) same_all
+      more_places content_key_cmp (map held_key old) (map held_key all) count index larger are long
+      (subst (λ (cs : List Content). AreSorted content_key_cmp (map held_key cs) larger) same_all
       sorted)
       (subst (λ (n : ℕ). IsPermutation (index ++ range_with_len n count) larger) start
       (subst (λ (ps : List ℕ). IsPermutation (ps ++ range_with_len (length held) count) larger)

@@ -14,25 +14,22 @@ use Rattle.machine.proofs.Contents.{content_decides}
 use Rattle.machine.proofs.Members.{In, all_in, any_left, contains_in, in_all, in_contains, in_map, in_right, map_in, pairs_head, pairs_map, pairs_tail, sum_map, sum_within}
 use Rattle.machine.proofs.Needing.{Apart, distinct_apart, distinct_in, each_stands, in_passes, passes_in}
 use Rattle.store_state.specs.declared.view.Content.{Content}
-use Rattle.store_state.specs.Contents.{AreContentsOf, Brings, content_of, is_content_of, is_same}
+use Rattle.store_state.specs.Contents.{AreContentsOf, Brings, content_of, held_key, is_content_of, is_same}
 
 -- a file of that content
 abbrev pub as_entry : Content → FileEntry
 as_entry content = record { name = []; size = content.size; list = content.list; group = None; local = false }
 
-abbrev pub key : Content → ContentKey
-key content = content_key (as_entry content)
-
-pub of_key : (entry : FileEntry) (content : Content) → is_content_of entry content ≡ true → content_key entry ≡ key content
+pub of_key : (entry : FileEntry) (content : Content) → is_content_of entry content ≡ true → content_key entry ≡ held_key content
 of_key entry content e = (content_decides entry (as_entry content)).0 e
 
-pub key_of : (entry : FileEntry) (content : Content) → content_key entry ≡ key content → is_content_of entry content ≡ true
+pub key_of : (entry : FileEntry) (content : Content) → content_key entry ≡ held_key content → is_content_of entry content ≡ true
 key_of entry content e = (content_decides entry (as_entry content)).1 e
 
-pub same_key : (a b : Content) → is_same a b ≡ true → key a ≡ key b
+pub same_key : (a b : Content) → is_same a b ≡ true → held_key a ≡ held_key b
 same_key a b e = (content_decides (as_entry a) (as_entry b)).0 e
 
-pub key_same : (a b : Content) → key a ≡ key b → is_same a b ≡ true
+pub key_same : (a b : Content) → held_key a ≡ held_key b → is_same a b ≡ true
 key_same a b e = (content_decides (as_entry a) (as_entry b)).1 e
 
 apart : {P : Type 0} → true ≡ false → P
@@ -94,25 +91,25 @@ module _ (entries : List FileEntry) (contents : List Content) (are : AreContents
   pub held_by : (entry : FileEntry) → list_any (is_content_of entry) contents ≡ is_held entries entry
   held_by entry = alike (list_any (is_content_of entry) contents) (is_held entries entry) (held_there entry) (there_held entry)
 
-  pub differ : AllPairs (λ (a b : ContentKey). a ≢ b) (map key contents)
-  differ = pairs_map key (λ (a b : Content). is_same a b ≡ false) (λ (a b : ContentKey). a ≢ b) contents (λ a b unlike same. apart (sym (key_same a b same) ∙ unlike)) are.once
+  pub differ : AllPairs (λ (a b : ContentKey). a ≢ b) (map held_key contents)
+  differ = pairs_map held_key (λ (a b : Content). is_same a b ≡ false) (λ (a b : ContentKey). a ≢ b) contents (λ a b unlike same. apart (sym (key_same a b same) ∙ unlike)) are.once
 
   differ_distinct : AllPairs (λ (a b : ContentKey). a ≢ b) (map content_key (distinct entries))
   unfolding Apart
   differ_distinct = pairs_map content_key Apart (λ (a b : ContentKey). a ≢ b) (distinct entries) (λ a b unlike. unlike) (distinct_apart entries)
 
-  key_stands : (k : ContentKey) → In k (map key contents) → In k (map content_key (distinct entries))
+  key_stands : (k : ContentKey) → In k (map held_key contents) → In k (map content_key (distinct entries))
   key_stands k there =
-      let content = map_in key contents k there in
+      let content = map_in held_key contents k there in
       let one = any_in (λ (other : FileEntry). is_content_of other content.0 ≡ true) entries (all_in (λ (c : Content). Any (λ (other : FileEntry). is_content_of other c ≡ true) entries) contents content.0 are.only content.1) in
       let stands = each_stands entries one.0 one.1 in
       subst (λ (x : ContentKey). In x (map content_key (distinct entries))) (stands.is ∙ of_key one.0 content.0 one.2 ∙ content.2) (in_map content_key (distinct entries) stands.entry stands.there)
 
-  stands_key : (k : ContentKey) → In k (map content_key (distinct entries)) → In k (map key contents)
+  stands_key : (k : ContentKey) → In k (map content_key (distinct entries)) → In k (map held_key contents)
   stands_key k there =
       let entry = map_in content_key (distinct entries) k there in
       let one = in_find (is_content_of entry.0) contents (all_in (λ (other : FileEntry). IsSome (content_of contents other)) entries entry.0 are.each (distinct_in entries entry.0 entry.1)) in
-      subst (λ (x : ContentKey). In x (map key contents)) (sym (of_key entry.0 one.0 one.2) ∙ entry.2) (in_map key contents one.0 one.1)
+      subst (λ (x : ContentKey). In x (map held_key contents)) (sym (of_key entry.0 one.0 one.2) ∙ entry.2) (in_map held_key contents one.0 one.1)
 
   -- their blocks are those of the contents
   pub blocks_by : sum_by (λ (content : Content). blocks_of content.size) contents ≡ sum_by (λ (entry : FileEntry). blocks_of entry.size) (distinct entries)
@@ -120,9 +117,9 @@ module _ (entries : List FileEntry) (contents : List Content) (are : AreContents
       let weigh = λ (k : ContentKey). blocks_of k.size in
       omega (
         arith,
-        sum_within weigh (map key contents) (map content_key (distinct entries)) differ key_stands,
-        sum_within weigh (map content_key (distinct entries)) (map key contents) differ_distinct stands_key,
-        sum_map key weigh contents,
+        sum_within weigh (map held_key contents) (map content_key (distinct entries)) differ key_stands,
+        sum_within weigh (map content_key (distinct entries)) (map held_key contents) differ_distinct stands_key,
+        sum_map held_key weigh contents,
         sum_map content_key weigh (distinct entries),
       )
 

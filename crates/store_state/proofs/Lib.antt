@@ -13,6 +13,7 @@ pub mod Holding
 pub mod Images
 pub mod Indexed
 pub mod Inserted
+pub mod KeyOrder
 pub mod Keyed
 pub mod LocalsOrdered
 pub mod LocalsShown
@@ -30,7 +31,6 @@ pub mod RollingBack
 pub mod Searching
 pub mod Showing
 pub mod ShownFiles
-pub mod SignOrder
 pub mod Sums
 pub mod Used
 pub mod Validity

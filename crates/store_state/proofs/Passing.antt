@@ -3,8 +3,8 @@ use Rattle.std.proofs.Common.{◌≡◌, ◌∙◌, ◌<◌, ◌≤◌, ◌+◌,
 use Rattle.std.specs.Prelude.{◌≢◌}
 use Rattle.std.proofs.lemmas.Bool.{cases_lt}
 use Rattle.std.proofs.lemmas.List.{get_or-take, get_or_default, length-take}
-use Rattle.store_state.specs.declared.sign.Sign.{Sign}
-use Rattle.store_state.specs.Signs.{Agree}
+use Rattle.machine.specs.Views.{ContentKey}
+use Rattle.store_state.specs.ContentKeys.{Agree}
 
 module _ {X : Type 0} (P : X → Type 0) (xs : List X) (i : ℕ) where
   module _ (x : X) (is : x ≡ get_or xs i x) (within : i < length xs) where
@@ -36,11 +36,11 @@ from_both true true s t = refl
 from_both true false s t = absurd cc
 from_both false b s t = absurd cc
 
-pub agree_is : (held standing brought : List Sign) (once each only lacking : Bool)
-    → IsTrue once ↔ AllPairs (λ (a b : Sign). a ≢ b) brought
-    → IsTrue each ↔ All (λ sign. Contains held sign ⊎ Contains brought sign) standing
-    → IsTrue only ↔ All (λ sign. Contains standing sign) brought
-    → IsTrue lacking ↔ All (λ sign. ¬ Contains held sign) brought
+pub agree_is : (held standing brought : List ContentKey) (once each only lacking : Bool)
+    → IsTrue once ↔ AllPairs (λ (a b : ContentKey). a ≢ b) brought
+    → IsTrue each ↔ All (λ key. Contains held key ⊎ Contains brought key) standing
+    → IsTrue only ↔ All (λ key. Contains standing key) brought
+    → IsTrue lacking ↔ All (λ key. ¬ Contains held key) brought
     → IsTrue (once && each && only && lacking) ↔ Agree held standing brought
 agree_is held standing brought once each only lacking a b c d = (
   λ all.

@@ -1,6 +1,7 @@
 -- An application once it goes back to its previous view.
 use Rattle.std.proofs.Common.{◌≡◌, ◌∙◌, ◌<◌, ◌==◌, refl, sym, ap, subst, length, ℕ, List, All, IsSome, Option, Some}
-use Rattle.std.specs.Prelude.{option_and_then, option_map, slice_get, unwrap_or}
+use Rattle.std.specs.Prelude.{option_and_then, option_map, slice_get}
+use Rattle.std.specs.Option.{option_map_or}
 use Rattle.std.proofs.lemmas.Option.{same_Some, slice_get_within}
 use Rattle.small_types.specs.declared.room.Room.{Room}
 use Rattle.identity.specs.declared.key.Key.{Key}
@@ -36,10 +37,9 @@ pub back_at : (place : ℕ) (tables : Tables) (have : Version) → version_at pl
     → record tables { apps = with_app place (rolled_back_app have) tables.apps }
     ≡ effect (Rollback place) tables
 back_at place tables have is =
-    ap (λ (version : Option Version). record tables {
-      apps = unwrap_or (option_map (λ (v : Version). with_app place (rolled_back_app v) tables.apps)
-          version) tables.apps;
-    }) (sym is)
+    ap (λ (version : Option Version). option_map_or (λ (v : Version). record tables {
+      apps = with_app place (rolled_back_app v) tables.apps;
+    }) version tables) (sym is)
 
 -- as it is read
 pub version_read_at : (place : ℕ) (tables : Tables) (view : View)
@@ -85,16 +85,19 @@ shows_rolled_back room tables key place have image later store first same order 
     let app = current_by key tables.apps number.0 number.1 in
     let at : version_at place tables ≡ Some have =
     version_placed key place tables stands ∙ version in
+    let apps = with_app place (rolled_back_app have) tables.apps in
+    let made : Shows room (record tables { apps = apps }) later (rolled_back key have store) =
     record {
       is =
           ap (rolled_back key have) shows.is
           ∙ ap (store_with room later tables)
           (placed_entry key (rolled_back_app have) tables.apps place app.0 order (stands ∙ app.1)
-          (entry_in key tables.apps app.0 app.1).1
-          ∙ ap (λ (t : Tables). t.apps) (back_at place tables have at));
+          (entry_in key tables.apps app.0 app.1).1);
       held = shows.held;
       measured = shows.measured;
-    }
+    } in
+    subst (λ (t : Tables). Shows room t later (rolled_back key have store))
+    (back_at place tables have at) made
 
 -- ---- a rollback that fits
 

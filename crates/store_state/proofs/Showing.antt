@@ -1,7 +1,7 @@
 -- What tables show, before a change and after it.
-use Rattle.std.proofs.Common.{◌≡◌, ◌∙◌, ◌++◌, ◌+◌, ℕ, List, [], ◌∷◌, All, IsSome, Option, Some, None, map, length, refl, sym, ap}
-use Rattle.std.specs.Prelude.{option_and_then, slice_get, unwrap_or}
-use Rattle.std.specs.Option.{option_or}
+use Rattle.std.proofs.Common.{◌≡◌, ◌∙◌, ◌++◌, ◌+◌, ℕ, List, [], ◌∷◌, All, IsSome, Option, Some, None, map, length, refl, sym, ap, subst}
+use Rattle.std.specs.Prelude.{option_and_then, slice_get}
+use Rattle.std.specs.Option.{option_map_or, option_or}
 use Rattle.std.proofs.lemmas.List.{map-append}
 use Rattle.std.proofs.lemmas.List.Elements.{All-head, All-nil, All-push, All-tail, All-weaker}
 use Rattle.std.proofs.lemmas.List.Folds.{find-append}
@@ -137,16 +137,24 @@ shows_required after key version same first =
 
 -- ---- a launch and a finish
 
+-- the effect of a launch, where a view is current for the application at the place
+pub launched_at : (place view : ℕ) (tables : Tables) → current_at place tables.apps ≡ Some view
+    → record (leased view tables) { apps = with_app place started_app tables.apps }
+    ≡ effect (Launch place) tables
+launched_at place view tables is =
+    ap (λ (o : Option ℕ). option_map_or (λ (number : ℕ). record (leased number tables) {
+      apps = with_app place started_app tables.apps;
+    }) o tables) (sym is)
+
 module _ (room : Room) (tables : Tables) (key : Key) (place view : ℕ) (image later : List ℕ)
     (store : Store) (first : Shows room tables image store)
     (same : SameFiles room tables image later) (order : AreInOrder tables.apps)
     (stands : slice_get tables.apps place ≡ entry_of key tables.apps)
     (current : current_of key tables.apps ≡ Some view) where
-  leased_view_is : view ≡ unwrap_or (current_at place tables.apps) 0
-  leased_view_is =
-      sym (ap (λ (o : Option ℕ). unwrap_or o 0)
-      (ap (λ (o : Option AppState). option_and_then (λ (app : AppState). app.current) o) stands
-      ∙ current))
+  current_is : current_at place tables.apps ≡ Some view
+  current_is =
+      ap (λ (o : Option AppState). option_and_then (λ (app : AppState). app.current) o) stands
+      ∙ current
 
   started_is : with_entry key started_app tables.apps ≡ with_app place started_app tables.apps
   started_is =
@@ -154,23 +162,25 @@ module _ (room : Room) (tables : Tables) (key : Key) (place view : ℕ) (image l
       placed_entry key started_app tables.apps place app.0 order (stands ∙ app.1)
       (entry_in key tables.apps app.0 app.1).1
 
-  abbrev store_with : ℕ → List AppState → Store
-  store_with number apps = record (shown_store room later (leased number tables)) { apps = apps }
+  abbrev store_with : List AppState → Store
+  store_with apps = record (shown_store room later (leased view tables)) { apps = apps }
 
   shows : Shows room tables later store
   shows = shows_same later same first
 
-  pub shows_launched : Shows room (effect (Launch place) tables) later (launched key view store)
-  shows_launched = record {
-    is =
-        ap (launched key view) shows.is
-        ∙ ap (λ (number : ℕ). store_with number (with_entry key started_app tables.apps))
-        leased_view_is
-        ∙ ap (λ (apps : List AppState). store_with (unwrap_or (current_at place tables.apps) 0)
-        apps) started_is;
+  shows_leased : Shows room
+      (record (leased view tables) { apps = with_app place started_app tables.apps }) later
+      (launched key view store)
+  shows_leased = record {
+    is = ap (launched key view) shows.is ∙ ap store_with started_is;
     held = shows.held;
     measured = shows.measured;
   }
+
+  pub shows_launched : Shows room (effect (Launch place) tables) later (launched key view store)
+  shows_launched =
+      subst (λ (t : Tables). Shows room t later (launched key view store))
+      (launched_at place view tables current_is) shows_leased
 
 pub shows_finished : {room : Room} {tables : Tables} {before : List ℕ} {store : Store}
     (after : List ℕ) (lease : ℕ) → SameFiles room tables before after

@@ -27,19 +27,19 @@ use Rattle.machine.proofs.Needing.{in_passes, passes_in}
 use Rattle.store_state.specs.declared.view.Content.{Content}
 use Rattle.store_state.specs.declared.view.View.{View}
 use Rattle.store_state.specs.Change.{IsRow}
-use Rattle.store_state.specs.Contents.{AreContentsOf, content_of, is_content_of, is_same}
+use Rattle.store_state.specs.ContentKeys.{content_key_cmp}
+use Rattle.store_state.specs.Contents.{AreContentsOf, content_of, held_key, is_content_of, is_same}
 use Rattle.store_state.specs.Dropped.{dropped, is_among, is_needed, needed, without_rows}
 use Rattle.store_state.specs.Kept.{AreTables}
 use Rattle.store_state.specs.Marks.{kept_by}
 use Rattle.store_state.specs.Named.{AreNameIndexes}
 use Rattle.store_state.specs.Places.{ArePlaces, AreSorted}
 use Rattle.store_state.specs.Rows.{listed_files}
-use Rattle.store_state.specs.Signs.{content_sign, entry_sign, sign_cmp}
 use Rattle.store_state.specs.Tables.{Tables, bare_row}
 use Rattle.store_state.proofs.Firsts.{PassesOnce, none_pass}
 use Rattle.store_state.proofs.Growing.{files_row, of_view, row_files}
-use Rattle.store_state.proofs.Indexed.{is_sign, one_content, pairs_of_map, sign_is}
-use Rattle.store_state.proofs.Keyed.{any_in, differ, find_in, in_any, in_find, key, of_key}
+use Rattle.store_state.proofs.Indexed.{one_content, pairs_of_map}
+use Rattle.store_state.proofs.Keyed.{any_in, differ, find_in, in_any, in_find, key_of, of_key}
 use Rattle.store_state.proofs.Marking.{kept_filter, kept_indexes, marked_at, marked_nowhere, some_item}
 use Rattle.store_state.proofs.Naming.{is_standing, same_indexes}
 use Rattle.store_state.proofs.Numbered.{no_number, number_at}
@@ -77,10 +77,10 @@ count_of (x ∷ xs) = omega (arith, sum_by-cons (λ y. 1) x xs, count_of xs)
 pub contents_few : (entries : List FileEntry) (contents : List Content)
     → AreContentsOf entries contents → length contents ≤ length entries
 contents_few entries contents are =
-    let within = sum_within (λ (k : ContentKey). 1) (map key contents) (map content_key entries)
+    let within = sum_within (λ (k : ContentKey). 1) (map held_key contents) (map content_key entries)
     (differ entries contents are)
     (λ k there. (
-    let content = map_in key contents k there in
+    let content = map_in held_key contents k there in
     let one = any_in (λ (e : FileEntry). is_content_of e content.0 ≡ true) entries
     (all_in (λ (c : Content). Any (λ (e : FileEntry). is_content_of e c ≡ true) entries) contents
     content.0 are.only content.1) in
@@ -90,9 +90,9 @@ contents_few entries contents are =
     omega (
       arith,
       within,
-      count_of (map key contents),
+      count_of (map held_key contents),
       count_of (map content_key entries),
-      length-map contents key,
+      length-map contents held_key,
       length-map entries content_key,
     )
 
@@ -210,32 +210,32 @@ module _ (contents : List Content) (entry : FileEntry) (list : List Digest)
 
   -- the content of one file more is marked
   pub file_marked : (marks new : List Bool) (place : ℕ)
-      → slice_get (map content_sign contents) place
+      → slice_get (map held_key contents) place
       ≡ Some (record { size = entry.size; list = list })
       → new ≡ set marks place true → marks ≡ map (is_needed entries) contents
       → new ≡ map (is_needed (entries ++ entry ∷ [])) contents
-  file_marked marks new place signed is was =
-      let one = map_value content_sign (slice_get contents place)
+  file_marked marks new place keyed is was =
+      let one = map_value held_key (slice_get contents place)
       (record { size = entry.size; list = list })
-      (sym (slice_get-map content_sign contents place) ∙ signed) in
+      (sym (slice_get-map held_key contents place) ∙ keyed) in
       is ∙ ap (λ (ms : List Bool). set ms place true) was
       ∙ marked_at (is_content_of entry) (is_needed entries) (is_needed (entries ++ entry ∷ []))
       true needs needs_no_more contents place one.0 (one_content contents entry once) one.1
-      (is_sign entry one.0
+      (key_of entry one.0
       (ap (λ (l : List Digest). record { size = entry.size; list = l }) (sym same) ∙ sym one.2))
 
   -- or it has none
   pub file_unmarked : (marks new : List Bool)
-      → ¬ Contains (map content_sign contents) (record { size = entry.size; list = list })
+      → ¬ Contains (map held_key contents) (record { size = entry.size; list = list })
       → new ≡ marks → marks ≡ map (is_needed entries) contents
       → new ≡ map (is_needed (entries ++ entry ∷ [])) contents
   file_unmarked marks new nowhere is was =
       is ∙ was
       ∙ marked_nowhere (is_content_of entry) (is_needed entries) (is_needed (entries ++ entry ∷ []))
       true needs needs_no_more contents
-      (none_pass content_sign (entry_sign entry) (is_content_of entry)
-      (λ content passes. sym (sign_is entry content passes)) contents
-      (subst (λ (l : List Digest). ¬ Contains (map content_sign contents)
+      (none_pass held_key (content_key entry) (is_content_of entry)
+      (λ content passes. sym (of_key entry content passes)) contents
+      (subst (λ (l : List Digest). ¬ Contains (map held_key contents)
       (record { size = entry.size; list = l })) same nowhere))
 
 -- ---- the marks of views
@@ -372,23 +372,23 @@ needed_fewer views contents =
 
 -- an index has as many places as there are contents
 pub index_long : (contents : List Content) (index : List ℕ)
-    → ArePlaces sign_cmp (map content_sign contents) index → length index ≡ length contents
+    → ArePlaces content_key_cmp (map held_key contents) index → length index ≡ length contents
 index_long contents index are =
-    length_permutation (range_with_len 0 (length (map content_sign contents))) index are.same
-    ∙ length-range_with_len 0 (length (map content_sign contents))
-    ∙ length-map contents content_sign
+    length_permutation (range_with_len 0 (length (map held_key contents))) index are.same
+    ∙ length-range_with_len 0 (length (map held_key contents))
+    ∙ length-map contents held_key
 
 -- the index of the contents that are left is made anew
 pub placed_anew : (contents read : List Content) (none index : List ℕ) → read ≡ contents
-    → none ≡ [] → AreSorted sign_cmp (map content_sign read) index
+    → none ≡ [] → AreSorted content_key_cmp (map held_key read) index
     → IsPermutation (none ++ range_with_len 0 (length read - 0)) index
-    → ArePlaces sign_cmp (map content_sign contents) index
+    → ArePlaces content_key_cmp (map held_key contents) index
 placed_anew contents read none index same empty sorted moved = record {
   sorted =
-      subst (λ (cs : List Content). AreSorted sign_cmp (map content_sign cs) index) same sorted;
+      subst (λ (cs : List Content). AreSorted content_key_cmp (map held_key cs) index) same sorted;
   same =
-      let long : length read - 0 ≡ length (map content_sign contents) =
-      omega (arith, ap length same, length-map contents content_sign) in
+      let long : length read - 0 ≡ length (map held_key contents) =
+      omega (arith, ap length same, length-map contents held_key) in
       subst (λ (n : ℕ). IsPermutation (range_with_len 0 n) index) long
       (subst (λ (ns : List ℕ). IsPermutation (ns ++ range_with_len 0 (length read - 0)) index)
       empty moved);

@@ -1,5 +1,6 @@
 -- Changes of tables: which fit, and what they do.
-use Rattle.std.specs.Prelude.{◌≡◌, ◌≢◌, ◌+◌, ◌<◌, ◌≤◌, ◌==◌, if◌then◌else◌, ℕ, false, List, [], ◌∷◌, ◌++◌, All, AllPairs, IfSome, IsSome, IsSomeAnd, Option, length, None, option_map, unwrap_or}
+use Rattle.std.specs.Prelude.{◌≡◌, ◌≢◌, ◌+◌, ◌<◌, ◌≤◌, ◌==◌, if◌then◌else◌, ℕ, false, List, [], ◌∷◌, ◌++◌, All, AllPairs, IfSome, IsSome, IsSomeAnd, Option, length, None}
+use Rattle.std.specs.Option.{option_map_or}
 use Rattle.std.specs.declared.cmp.Ordering.TheVariants.{Less}
 use Rattle.small_types.specs.declared.limits.TheConstants.{APPLICATION_LIMIT, FILE_COUNT_LIMIT, LEASE_LIMIT, LOCAL_COUNT_LIMIT, LOCAL_NAME_LIMIT, NUMBER_LIMIT, VIEW_LIMIT}
 use Rattle.small_types.specs.declared.target.Target.{Target}
@@ -200,8 +201,8 @@ grown group view = record view { groups = view.groups ++ group ∷ [] }
 
 -- What it leaves. Another boot number ends all leases. What was heard is compared with the version
 -- that is current for the key, a rollback excludes the version that is current for the application
--- at the place, and a launch leases the view that is current for it: a change that fits has one. A
--- clean takes the views that are not in use.
+-- at the place, and a launch leases the view that is current for it. A clean takes the views that
+-- are not in use. A change that does not fit leaves the tables as they were where it names nothing.
 abbrev pub effect : Change → Tables → Tables
 effect (Boot boot) old =
     record old { boot = boot; leases = if old.boot == boot then old.leases else [] }
@@ -213,20 +214,17 @@ effect (Install view contents provider now) old = record old {
       (installed_app view.number view.deployment provider now) old.apps;
   contents = old.contents ++ contents;
 }
-effect (Heard key version minimum now) old = record old {
-  apps = with_entry key
-      (heard_app (unwrap_or (current_version key old) version) version minimum now) old.apps;
-}
+effect (Heard key version minimum now) old = option_map_or
+    (λ have. record old { apps = with_entry key (heard_app have version minimum now) old.apps })
+    (current_version key old) old
 effect (Unheard key) old = record old { apps = with_entry key unheard_app old.apps }
 effect (Skip app) old = record old { apps = with_app app skipped_app old.apps }
-effect (Rollback app) old = record old {
-  apps = unwrap_or (option_map (λ have. with_app app (rolled_back_app have) old.apps)
-      (version_at app old)) old.apps;
-}
-effect (Launch app) old =
-    record (leased (unwrap_or (current_at app old.apps) 0) old) {
-      apps = with_app app started_app old.apps;
-    }
+effect (Rollback app) old = option_map_or
+    (λ have. record old { apps = with_app app (rolled_back_app have) old.apps })
+    (version_at app old) old
+effect (Launch app) old = option_map_or
+    (λ view. record (leased view old) { apps = with_app app started_app old.apps })
+    (current_at app old.apps) old
 effect (Finish lease) old = record old { leases = without_lease lease old.leases }
 effect (Group view group contents) old = record old {
   views = with_row view (grown group) old.views;

@@ -1,4 +1,5 @@
 pub mod Change
+pub mod ContentKeys
 pub mod Contents
 pub mod Dropped
 pub mod Kept
@@ -11,6 +12,5 @@ pub mod Parts
 pub mod Places
 pub mod Rows
 pub mod Shows
-pub mod Signs
 pub mod Stored
 pub mod Tables

@@ -4,8 +4,8 @@ use Rattle.machine.specs.CheckRow.{heard_app, unheard_app}
 use Rattle.machine.specs.LaunchRow.{started_app}
 use Rattle.machine.specs.RollbackRow.{rolled_back_app}
 use Rattle.machine.specs.SkipRow.{skipped_app}
-use Rattle.store_state.specs.declared.noting.Note.{Note}
-use Rattle.store_state.specs.declared.noting.Note.TheVariants.{Started, Heard, Unheard, Skipped, RolledBack}
+use Rattle.store_state.specs.declared.note.Note.{Note}
+use Rattle.store_state.specs.declared.note.Note.TheVariants.{Started, Heard, Unheard, Skipped, RolledBack}
 
 abbrev pub noted : Note → AppState → AppState
 noted Started = started_app

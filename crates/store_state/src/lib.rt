@@ -2,26 +2,26 @@
 //! they show.
 #![tactic(auto)]
 
-mod bringing;
+mod brought_contents;
 mod change;
+mod change_rules;
+mod content_key;
+mod content_lookups;
 mod contents;
-mod dropping;
+mod dropped_views;
 mod entries;
 mod fields;
-mod finding;
-mod fitting;
-mod grouping;
-mod installing;
+mod group_change;
+mod install_change;
 mod laws;
+mod lease_change;
 mod lease_list;
-mod leasing;
 mod local_files;
+mod lookups;
 mod marks;
 mod names;
-mod noting;
+mod note;
 mod numbers;
-mod reading;
-mod sign;
 mod state;
 mod table_parts;
 mod view;

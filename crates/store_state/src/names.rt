@@ -6,7 +6,7 @@ ghost use Rattle.identity.specs.Printed.{text_cmp};
 ghost use Rattle.store_state.specs.Named.{IsNameIndex, named_in, names_of};
 ghost use Rattle.store_state.specs.Places.{AreSorted, IsPlaceOf};
 
-use crate::bringing::stands;
+use crate::brought_contents::stands;
 use crate::numbers::first_numbers;
 use crate::{StateFault, View};
 use manifests::FileEntry;

@@ -10,11 +10,11 @@ ghost use Rattle.store_state.specs.Change.{Fits, IsPlain, TakesMemory, effect};
 ghost use Rattle.store_state.specs.Named.{IsNameIndex};
 ghost use Rattle.store_state.specs.Tables.{empty};
 
+use crate::content_key::add_places;
 use crate::entries::{insert_both, new_entry, place_of, raise_at};
-use crate::installing::add_installed;
+use crate::install_change::add_installed;
 use crate::marks::MarkList;
 use crate::names::index_names;
-use crate::sign::add_places;
 use crate::{Change, Content, LeaseList, View};
 use identity::{Key, Version};
 use machine::AppState;
@@ -72,7 +72,7 @@ pub struct StoreState {
     pub contents: List<Content>,
     // The printed keys of the applications, by which one is found.
     pub(crate) keys: List<Text>,
-    // The places of the contents in the order of their signs, by which one is found.
+    // The places of the contents in the order of their content keys, by which one is found.
     pub(crate) index: Vec<usize>,
     // Of each view the places of its files in the order of their names.
     pub(crate) names: List<List<usize>>,
@@ -83,10 +83,11 @@ pub struct StoreState {
 impl Model for StoreState {
     ghost use Rattle.std.specs.Prelude.{◌≡◌, map};
     ghost use Rattle.identity.specs.Key.{key_text};
+    ghost use Rattle.store_state.specs.ContentKeys.{content_key_cmp};
+    ghost use Rattle.store_state.specs.Contents.{held_key};
     ghost use Rattle.store_state.specs.Kept.{AreTables};
     ghost use Rattle.store_state.specs.Named.{AreNameIndexes};
     ghost use Rattle.store_state.specs.Places.{ArePlaces};
-    ghost use Rattle.store_state.specs.Signs.{content_sign, sign_cmp};
     ghost use Rattle.store_state.specs.Tables.{Tables};
 
     ghost Value = { Tables };
@@ -109,7 +110,7 @@ impl Model for StoreState {
       views = s.views;
       apps = s.apps;
       contents = s.contents;
-    }) × ArePlaces sign_cmp (map content_sign s.contents) s.index.items
+    }) × ArePlaces content_key_cmp (map held_key s.contents) s.index.items
         × AreNameIndexes s.views s.names };
 }
 

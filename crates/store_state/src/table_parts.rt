@@ -10,22 +10,23 @@ ghost use Rattle.machine.specs.Blocks.{standing_files};
 ghost use Rattle.machine.specs.Entries.{AreInOrder};
 ghost use Rattle.machine.specs.declared.app.AppState.{AppState};
 ghost use Rattle.machine.specs.declared.lease.Lease.{Lease};
+ghost use Rattle.machine.specs.Views.{content_key};
 ghost use Rattle.store_state.specs.declared.view.View.{View};
 ghost use Rattle.store_state.specs.Change.{IsRow};
-ghost use Rattle.store_state.specs.Contents.{AreContentsOf};
+ghost use Rattle.store_state.specs.ContentKeys.{Agree, content_key_cmp};
+ghost use Rattle.store_state.specs.Contents.{AreContentsOf, held_key};
 ghost use Rattle.store_state.specs.Kept.{AreTables};
 ghost use Rattle.store_state.specs.Named.{AreNameIndexes};
 ghost use Rattle.store_state.specs.Parts.{AreIndexes};
 ghost use Rattle.store_state.specs.Places.{ArePlaces};
 ghost use Rattle.store_state.specs.Rows.{listed_files};
-ghost use Rattle.store_state.specs.Signs.{Agree, content_sign, entry_sign, sign_cmp};
 ghost use Rattle.store_state.specs.Tables.{bare_row};
 
-use crate::bringing::{agree, standing_signs};
+use crate::brought_contents::{agree, standing_keys};
+use crate::content_key::{ContentKey, add_places, keys_of, sort_keys};
 use crate::fields::is_row;
 use crate::marks::MarkList;
 use crate::names::index_names;
-use crate::sign::{Sign, add_places, signs_of, sort_signs};
 use crate::{Content, LeaseList, StateFault, StoreState, View};
 use machine::{AppState, Lease};
 use small_types::limits::{
@@ -216,23 +217,27 @@ fn are_rows(alloc: Global, views: &[View]) -> Result<bool, CopyFault>
     Ok(true)
 }
 
-// The signs of the program files that stand in the views.
-fn all_standing_signs(alloc: Global, views: &[View]) -> Result<Vec<Sign>, StateFault>
-    ensures { IfOk result (λ signs. signs.items
-        ≡ map entry_sign (standing_files (map bare_row views.now))) }
+// The content keys of the program files that stand in the views.
+fn all_standing_keys(alloc: Global, views: &[View]) -> Result<Vec<ContentKey>, StateFault>
+    ensures { IfOk result (λ keys. keys.items
+        ≡ map content_key (standing_files (map bare_row views.now))) }
 {
-    let mut signs = Vec::new(alloc);
+    let mut keys = Vec::new(alloc);
     for view in views {
-        let mut more = standing_signs(alloc, view)?;
-        signs.append(&mut more)?;
+        let mut more = standing_keys(alloc, view)?;
+        keys.append(&mut more)?;
     }
-    Ok(signs)
+    Ok(keys)
 }
 
-// Whether exactly the signs are there that stand, each once.
-fn agree_alone(alloc: Global, standing: &[Sign], there: &[Sign]) -> Result<bool, StateFault>
-    requires standing { IsSorted sign_cmp standing.now }
-    requires there { IsSorted sign_cmp there.now }
+// Whether exactly the keys are there that stand, each once.
+fn agree_alone(
+    alloc: Global,
+    standing: &[ContentKey],
+    there: &[ContentKey],
+) -> Result<bool, StateFault>
+    requires standing { IsSorted content_key_cmp standing.now }
+    requires there { IsSorted content_key_cmp there.now }
     ensures { IfOk result (λ answer. IsTrue answer ↔ Agree [] standing.now there.now) }
 {
     let none = StoreState::empty(alloc)?;
@@ -246,10 +251,10 @@ fn are_contents(alloc: Global, views: &[View], contents: &[Content]) -> Result<b
     ensures { IfOk result (λ answer. IsTrue answer
         ↔ AreContentsOf (standing_files (map bare_row views.now)) contents.now) }
 {
-    let mut standing = all_standing_signs(alloc, views)?;
-    sort_signs(&mut standing);
-    let mut there = signs_of(alloc, contents)?;
-    sort_signs(&mut there);
+    let mut standing = all_standing_keys(alloc, views)?;
+    sort_keys(&mut standing);
+    let mut there = keys_of(alloc, contents)?;
+    sort_keys(&mut there);
     agree_alone(alloc, standing.as_slice(), there.as_slice())
 }
 
@@ -294,9 +299,9 @@ fn lease_list(alloc: Global, leases: &[Lease]) -> Result<LeaseList, AllocError>
     Ok(list)
 }
 
-// The places of the contents in the order of their signs.
+// The places of the contents in the order of their content keys.
 fn content_index(alloc: Global, contents: &[Content]) -> Result<Vec<usize>, AllocError>
-    ensures { IfOk result (λ index. ArePlaces sign_cmp (map content_sign contents.now)
+    ensures { IfOk result (λ index. ArePlaces content_key_cmp (map held_key contents.now)
         index.items) }
 {
     let mut index = Vec::with_capacity(alloc, contents.len())?;

@@ -18,6 +18,7 @@ use Rattle.machine.specs.declared.app.AppState.{AppState}
 use Rattle.machine.specs.Blocks.{standing_files}
 use Rattle.machine.specs.Shape.{BareView}
 use Rattle.machine.specs.Views.{ContentKey, standing_entries, stands_by}
+use Rattle.machine.specs.Weight.{app_weight, application_bytes, counted, deployment_bytes, file_weight, group_weight, identity_bytes, key_bytes, target_bytes}
 use Rattle.machine.proofs.Mapping.{flat_map_in}
 use Rattle.machine.proofs.Members.{all_in, filter_in, map_in}
 use Rattle.store_state.specs.declared.view.Content.{Content}
@@ -33,7 +34,7 @@ use Rattle.record_fields.specs.Values.{IsEncodableApplication, IsEncodableDeploy
 use Rattle.record_fields.proofs.Sizes.{name_le}
 use Rattle.record_codec.specs.Values.{IsEncodableContent, IsEncodableLocal, IsEncodableView}
 use Rattle.table_codec.specs.Values.{IsEncodableApp, IsEncodableState}
-use Rattle.table_codec.specs.Weight.{app_weight, application_bytes, block_cost, content_weight, counted, deployment_bytes, file_weight, group_weight, identity_bytes, key_bytes, local_weight, target_bytes, view_weight, weight_of, weight_with}
+use Rattle.table_codec.specs.Weight.{block_cost, content_weight, local_weight, tables_weight, view_weight, weight_with}
 
 sum_few : {A : Type 0} (w : A → ℕ) (P : A → Type 0) (most n : ℕ) (xs : List A)
     → ((x : A) → P x → w x ≤ most) → length xs ≤ n → All P xs → sum_by w xs ≤ n * most
@@ -161,7 +162,7 @@ module _ (t : Tables) (are : AreTables t) where
   content_light content is =
       omega (arith, is.0.list.count.within, content_small content is.1)
 
-  pub state_light : IsEncodableState t → weight_of t < 2 ^ 63
+  pub state_light : IsEncodableState t → tables_weight t < 2 ^ 63
   unfolding weight_with
   state_light is =
       omega (

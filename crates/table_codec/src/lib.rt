@@ -10,7 +10,6 @@ mod table_reading;
 mod table_weight;
 mod table_writing;
 mod view_field;
-mod weights;
 
 pub use app_field::AppField;
 pub use laws::{encodings_are_within_weights, tables_are_spelled_once};
@@ -20,7 +19,3 @@ pub use table_reading::{decode_state, decode_tables};
 pub use table_weight::weight;
 pub use table_writing::{encode_state, encoded_length_of_state};
 pub use view_field::ViewField;
-pub use weights::{
-    APP_WEIGHT, BLOCK_WEIGHT, CONTENT_WEIGHT, DIGEST_WEIGHT, FILE_WEIGHT, GROUP_WEIGHT,
-    LOCAL_WEIGHT, STATE_WEIGHT, VIEW_WEIGHT, weights_are,
-};

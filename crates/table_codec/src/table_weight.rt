@@ -1,16 +1,16 @@
 // How much tables weigh.
 ghost use Rattle.std.specs.Prelude.{◌≡◌, ◌+◌, ◌<◌, ◌^◌, ℕ, length, sum_by};
 ghost use Rattle.machine.specs.Blocks.{blocks_of};
+ghost use Rattle.machine.specs.Weight.{app_weight, application_bytes, counted, deployment_bytes, digests_weight, file_weight, group_weight, identity_bytes, key_bytes, target_bytes};
 ghost use Rattle.table_codec.specs.Values.{IsEncodableState};
-ghost use Rattle.table_codec.specs.Weight.{app_weight, application_bytes, block_cost, content_weight, counted, deployment_bytes, digests_weight, file_weight, group_weight, identity_bytes, key_bytes, local_weight, target_bytes, view_weight, weight_of};
+ghost use Rattle.table_codec.specs.Weight.{block_cost, content_weight, local_weight, tables_weight, view_weight};
 
-use crate::weights::{
-    APP_WEIGHT, BLOCK_WEIGHT, CONTENT_WEIGHT, DIGEST_WEIGHT, FILE_WEIGHT, GROUP_WEIGHT,
-    LOCAL_WEIGHT, STATE_WEIGHT, VIEW_WEIGHT,
-};
 use digest_list::DigestList;
 use identity::{Identity, Key};
-use machine::AppState;
+use machine::{
+    APP_WEIGHT, AppState, BLOCK_WEIGHT, CONTENT_WEIGHT, DIGEST_WEIGHT, FILE_WEIGHT, GROUP_WEIGHT,
+    LOCAL_WEIGHT, STATE_WEIGHT, VIEW_WEIGHT,
+};
 use manifests::{Application, Deployment, FileEntry};
 use small_types::limits::BLOCK_SIZE;
 use small_types::{Target, Text};
@@ -43,7 +43,7 @@ fn sum_weights<T: Weighs>(items: &[T::Value]) -> u64
 
 // ---- the bytes of texts
 
-#[tactic(auto, unfolding(crate::specs::Weight::key_bytes))]
+#[tactic(auto, unfolding(machine::specs::Weight::key_bytes))]
 fn count_key(key: &Key) -> u64
     requires { key_bytes key.now < 2 ^ 63 }
     ensures { result ≡ key_bytes key.now }
@@ -69,7 +69,7 @@ fn count_some_text(text: &Option<Text>) -> u64
     }
 }
 
-#[tactic(auto, unfolding(crate::specs::Weight::target_bytes))]
+#[tactic(auto, unfolding(machine::specs::Weight::target_bytes))]
 fn count_target(target: &Target) -> u64
     requires { target_bytes target.now < 2 ^ 63 }
     ensures { result ≡ target_bytes target.now }
@@ -87,7 +87,7 @@ fn count_some_target(target: &Option<Target>) -> u64
     }
 }
 
-#[tactic(auto, unfolding(crate::specs::Weight::identity_bytes))]
+#[tactic(auto, unfolding(machine::specs::Weight::identity_bytes))]
 fn count_identity(identity: &Identity) -> u64
     requires { identity_bytes identity.now < 2 ^ 63 }
     ensures { result ≡ identity_bytes identity.now }
@@ -95,7 +95,7 @@ fn count_identity(identity: &Identity) -> u64
     count_key(&identity.key) + count_text(&identity.kind)
 }
 
-#[tactic(auto, unfolding(crate::specs::Weight::deployment_bytes))]
+#[tactic(auto, unfolding(machine::specs::Weight::deployment_bytes))]
 fn count_deployment(d: &Deployment) -> u64
     requires { deployment_bytes d.now < 2 ^ 63 }
     ensures { result ≡ deployment_bytes d.now }
@@ -106,7 +106,7 @@ fn count_deployment(d: &Deployment) -> u64
         + count_identity(&d.app)
 }
 
-#[tactic(auto, unfolding(crate::specs::Weight::application_bytes))]
+#[tactic(auto, unfolding(machine::specs::Weight::application_bytes))]
 fn count_application(a: &Application) -> u64
     requires { application_bytes a.now < 2 ^ 63 }
     ensures { result ≡ application_bytes a.now }
@@ -125,7 +125,7 @@ fn weigh_digests(list: &DigestList) -> u64
 
 struct Apps;
 
-#[tactic(auto, unfolding(crate::specs::Weight::app_weight))]
+#[tactic(auto, unfolding(machine::specs::Weight::app_weight))]
 impl Weighs for Apps {
     type Value = AppState;
 
@@ -150,7 +150,7 @@ impl Weighs for Groups {
 
 struct Files;
 
-#[tactic(auto, unfolding(crate::specs::Weight::file_weight))]
+#[tactic(auto, unfolding(machine::specs::Weight::file_weight))]
 impl Weighs for Files {
     type Value = FileEntry;
 
@@ -225,8 +225,8 @@ impl Weighs for Views {
 // How much the tables weigh, where the sums fit.
 #[tactic(auto, unfolding(crate::specs::Weight::weight_with))]
 fn sum_tables(state: &StoreState) -> u64
-    requires { weight_of state.now < 2 ^ 63 }
-    ensures { result ≡ weight_of state.now }
+    requires { tables_weight state.now < 2 ^ 63 }
+    ensures { result ≡ tables_weight state.now }
 {
     STATE_WEIGHT
         + sum_weights::<Apps>(state.apps.as_slice())
@@ -242,7 +242,7 @@ fn sum_tables(state: &StoreState) -> u64
 /// and 4 a block. It takes no memory.
 pub fn weight(state: &StoreState) -> u64
     requires { IsEncodableState state.now }
-    ensures { result ≡ weight_of state.now }
+    ensures { result ≡ tables_weight state.now }
 {
     // A field is read, so that it is known what all tables keep: it bounds the sums.
     let _views = state.views.as_slice();

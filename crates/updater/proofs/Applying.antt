@@ -15,6 +15,7 @@ use Rattle.machine.specs.Machine.{Hears}
 use Rattle.machine.specs.Shape.{Shape}
 use Rattle.machine.specs.Store.{Session}
 use Rattle.machine.specs.Valid.{Ordered}
+use Rattle.install_plan.proofs.Downs.{counts_none}
 use Rattle.install_plan.proofs.LeasedRows.{still_brought}
 use Rattle.updater.specs.declared.updater.Updater.{Updater}
 use Rattle.updater.specs.Commanded.{Commanded, LinksServe}
@@ -67,7 +68,7 @@ pub memory_at_once : {D L : Type 0} (on : Ghosts D) (net : LinksGhosts L) (now :
     → Commanded on net now [] command updater disk links (Ok says.Memory) updater disk links
 memory_at_once on net now command updater disk links seen_left moment =
     rested on net now [] command updater disk links links seen_left moment
-    (unlinked net command updater links) says.Memory moment (λ old s. record {
+    (unlinked net command updater links) says.Memory moment (counts_none refl) (λ old s. record {
       new = old;
       step = inl (inl (refl, refl));
       same = refl;

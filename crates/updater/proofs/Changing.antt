@@ -58,13 +58,13 @@ room_is : (key : Key) (apps : List AppState) → (entry_of key apps ≡ None →
 room_is key apps room = λ full. (let few = room full.0 in let many = full.1 in absurd (omega arith))
 
 -- so does a requirement that fits
-pub required_leads : (room : Room) (tables : Tables) (image : List ℕ) (store : Store) (key : Key) (version : Version) → Shows room tables image store → Fits tables (Require key version) → Valid store → LeadsBetween (Require key version) tables store (record store { apps = required key version store.apps })
-required_leads room tables image store key version shows fits valid =
+pub required_leads : (room : Room) (tables : Tables) (image : List ℕ) (store : Store) (key : Key) (version : Version) → Shows room tables image store → room.half ≡ 0 → Fits tables (Require key version) → Valid store → LeadsBetween (Require key version) tables store (record store { apps = required key version store.apps })
+required_leads room tables image store key version shows plain fits valid =
     let room = subst (λ (apps : List AppState). entry_of key apps ≡ None → length apps < APPLICATION_LIMIT) (sym (apps_shown shows)) fits.2 in
     record {
       shows = subst (λ (n : Room). LeadsIn n (Require key version) tables store (record store { apps = required key version store.apps })) (sym (blocks_shown shows))
           (leads_over image (λ first after had same there. shows_required after key version same had));
-      valid = required_valid key version store fits.0 fits.1 (room_is key store.apps room) valid;
+      valid = required_valid key version store fits.0 fits.1 (room_is key store.apps room) (λ weight over. over.2.0 (ap (λ (n : Room). n.half) (blocks_shown shows) ∙ plain)) valid;
     }
 
 -- the tables that a journal's changes lead to show a store

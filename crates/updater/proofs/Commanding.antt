@@ -1,5 +1,5 @@
 -- How commands end.
-use Rattle.std.proofs.Common.{◌≡◌, ◌≢◌, ◌+◌, ◌≤◌, ◌++◌, ◌∙◌, ℕ, List, [], length, append-nil, Some, Result, Ok, Err, inl, inr, refl, sym, subst, arith}
+use Rattle.std.proofs.Common.{◌≡◌, ◌≢◌, ◌+◌, ◌≤◌, ◌++◌, ◌∙◌, ℕ, List, [], length, append-nil, Some, Result, Ok, Err, inl, inr, refl, sym, ap, subst, arith}
 use Rattle.small_types.specs.declared.room.Room.{Room}
 use Rattle.small_types.specs.declared.limits.TheConstants.{NUMBER_LIMIT}
 use Rattle.outside.specs.declared.failed.Failed.{Failed}
@@ -27,6 +27,8 @@ use Rattle.store_state.specs.declared.change.Change.{Change}
 use Rattle.store_state.specs.Shows.{Shows}
 use Rattle.store_state.specs.Tables.{Tables, table_shape}
 use Rattle.store_state.proofs.Showing.{shape_shown}
+use Rattle.install_plan.specs.Downs.{CountsDowns}
+use Rattle.install_plan.proofs.Downs.{counts_none}
 use Rattle.updater.specs.declared.fault.StepFault.{StepFault}
 use Rattle.updater.specs.declared.fault.StepFault.TheVariants.{Memory, DiskFault}
 use Rattle.updater.specs.declared.updater.Updater.{Updater}
@@ -100,6 +102,7 @@ pub record Shown (image : List ℕ) (command : Command) (updater : Updater) (old
   pub shape : shape_of old ≡ table_shape (room_of updater) (tables_of updater)
   pub shows : Shows (room_of updater) (tables_of updater) image old.store
   pub room : room_of updater ≡ old.store.room
+  pub half : (room_of updater).half ≡ 0
   pub valid : Valid old.store
   pub sound : SoundFor command old.store
 
@@ -122,7 +125,7 @@ module _ {D L : Type 0} (on : Ghosts D) (net : LinksGhosts L) (now : ℕ) (heard
   shown : (old : Session) → Holds on updater disk old → SoundFor command old.store → Shown (on.seen disk) command updater old
   shown old holds sound =
       let shows = subst (λ (n : Room). Shows n (tables_of updater) (on.seen disk) old.store) (sym holds.room) (holds.shows (on.seen disk) seen_left) in
-      record { jobs = holds.jobs; shape = shape_shown old holds.jobs shows; shows = shows; room = holds.room; valid = holds.valid; sound = sound }
+      record { jobs = holds.jobs; shape = shape_shown old holds.jobs shows; shows = shows; room = holds.room; half = ap (λ (n : Room). n.half) holds.room ∙ holds.log.half; valid = holds.valid; sound = sound }
 
   heard_by : (old : Session) → Shown (on.seen disk) command updater old → Hears (shape_of old) command heard
   heard_by old s = subst (λ (shape : Shape). Hears shape command heard) (sym s.shape) linked.hears
@@ -134,9 +137,9 @@ module _ {D L : Type 0} (on : Ghosts D) (net : LinksGhosts L) (now : ℕ) (heard
       (record { moment = refl; hears = heard_by old s; answer = reply; replied = refl; answers = step }) ∙ s.jobs
 
   -- the disk is not touched
-  pub rested : (reply : Reply) → moment_after now (Some reply) ≤ NUMBER_LIMIT → ((old : Session) → Shown (on.seen disk) command updater old → LeavesStore now heard command (net.links links_old) (net.links links_new) old reply)
+  pub rested : (reply : Reply) → moment_after now (Some reply) ≤ NUMBER_LIMIT → CountsDowns (net.links links_old) (net.links links_new) reply → ((old : Session) → Shown (on.seen disk) command updater old → LeavesStore now heard command (net.links links_old) (net.links links_new) old reply)
       → Commanded on net now heard command updater disk links_old (Ok reply) updater disk links_new
-  rested reply few rests = record {
+  rested reply few downs rests = record {
     answered = λ told old holds sound. let s = shown old holds sound in let r = rests old s in record {
       new = r.new;
       hears = heard_by old s;
@@ -158,9 +161,10 @@ module _ {D L : Type 0} (on : Ghosts D) (net : LinksGhosts L) (now : ℕ) (heard
     left = linked.left;
     hears = linked.hears;
     few = few;
+    downs = downs;
   }
 
-  module _ (change : Change) (reply : Reply) (few : moment_after now (Some reply) ≤ NUMBER_LIMIT)
+  module _ (change : Change) (reply : Reply) (few : moment_after now (Some reply) ≤ NUMBER_LIMIT) (downs : CountsDowns (net.links links_old) (net.links links_new) reply)
       (does : (old : Session) → Shown (on.seen disk) command updater old → Does now heard command (net.links links_old) (net.links links_new) change (tables_of updater) old reply)
       (missed : Commanded on net now heard command updater disk links_old (Ok says.Memory) updater disk links_new) (updater_new : Updater) (disk_new : D) where
     -- what the step may write
@@ -203,6 +207,7 @@ module _ {D L : Type 0} (on : Ghosts D) (net : LinksGhosts L) (now : ℕ) (heard
       left = linked.left;
       hears = linked.hears;
       few = few;
+      downs = downs;
     })
     kept (Err Memory) result keeps is = let same = keeps.memory refl in rw (is, same.0, same.1) missed
     kept (Err DiskFault) result keeps is = subst (λ (r : Result Reply Failed). Commanded on net now heard command updater disk links_old r updater_new disk_new links_new) (sym is) (record {
@@ -225,6 +230,7 @@ module _ {D L : Type 0} (on : Ghosts D) (net : LinksGhosts L) (now : ℕ) (heard
       left = linked.left;
       hears = linked.hears;
       few = tt;
+      downs = tt;
     })
 
 -- ---- where nothing was asked
@@ -238,11 +244,11 @@ module _ {D L : Type 0} (on : Ghosts D) (net : LinksGhosts L) (now : ℕ) (comma
   served_none old reply new = nothing_served command [] (net.links links) (net.links links) old reply new plain
 
   -- the tables give a refusal, which changes nothing
-  pub refused : (reply : Reply) → moment_after now (Some reply) ≤ NUMBER_LIMIT
+  pub refused : (reply : Reply) → moment_after now (Some reply) ≤ NUMBER_LIMIT → CountsDowns (net.links links) (net.links links) reply
       → ((old : Session) → Shown (on.seen disk) command updater old
       → Refuses (refusals now [] (table_shape (room_of updater) (tables_of updater)) command) old reply old)
       → Commanded on net now [] command updater disk links (Ok reply) updater disk links
-  refused reply few refuses = rested on net now [] command updater disk links links seen_left moment asked_none reply few (λ old s. record {
+  refused reply few downs refuses = rested on net now [] command updater disk links links seen_left moment asked_none reply few downs (λ old s. record {
     new = old;
     step = refused_answers now [] (room_of updater) (tables_of updater) old s.shape command reply old (refuses old s);
     same = refl;
@@ -251,7 +257,7 @@ module _ {D L : Type 0} (on : Ghosts D) (net : LinksGhosts L) (now : ℕ) (comma
 
   -- no memory was found, at any place
   pub memory_missed : Commanded on net now [] command updater disk links (Ok says.Memory) updater disk links
-  memory_missed = rested on net now [] command updater disk links links seen_left moment asked_none says.Memory moment (λ old s. record {
+  memory_missed = rested on net now [] command updater disk links links seen_left moment asked_none says.Memory moment (counts_none refl) (λ old s. record {
     new = old;
     step = inl (inl (refl, refl));
     same = refl;
@@ -263,7 +269,7 @@ moment_shown : {D L : Type 0} (on : Ghosts D) (net : LinksGhosts L) (now next : 
     → on.left_at disk (on.moment disk) (on.seen disk) → now ≤ NUMBER_LIMIT → next ≤ NUMBER_LIMIT
     → Commanded on net now [] (At next) updater disk links (Ok (says.At next)) updater disk links
 moment_shown on net now next updater disk links seen_left moment few =
-    rested on net now [] (At next) updater disk links links seen_left moment (unlinked net (At next) updater links) (says.At next) few (λ old s. record {
+    rested on net now [] (At next) updater disk links links seen_left moment (unlinked net (At next) updater links) (says.At next) few (counts_none refl) (λ old s. record {
       new = old;
       step = inr ((tt, tt), (refl, refl));
       same = refl;

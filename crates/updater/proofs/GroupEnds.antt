@@ -19,6 +19,7 @@ use Rattle.store_state.specs.Change.{effect}
 use Rattle.store_state.specs.Shows.{Shows}
 use Rattle.install_plan.specs.Checks.{LedBy}
 use Rattle.install_plan.specs.GroupReady.{GroupStep, IsGroupOver, IsGroupReady}
+use Rattle.install_plan.proofs.Downs.{counts_none}
 use Rattle.install_plan.proofs.LeasedRows.{still_brought}
 use Rattle.install_plan.specs.LeadsIn.{LeadsIn}
 use Rattle.updater.specs.declared.fault.StepFault.{StepFault}
@@ -37,7 +38,7 @@ module _ (now lease : ℕ) (group : List ℕ) (before after : LinksState) (updat
       → (old : Session) → Shown image (Group lease group) updater old
       → LeavesStore now [] (Group lease group) before after old reply
   over_rests reply over old s =
-      let step = over.step now image old s.jobs s.shows s.sound in
+      let step = over.step s.half now image old s.jobs s.shows s.sound in
       record {
         new = step.new;
         step = step.step;
@@ -51,7 +52,7 @@ module _ (now lease : ℕ) (group : List ℕ) (before after : LinksState) (updat
     step_of : (old : Session) → Shown image (Group lease group) updater old
         → GroupStep lease group before after now reply old
         (LedBy (room_of updater) (tables_of updater) change old.store)
-    step_of old s = ready.step now image old s.jobs s.shows s.sound
+    step_of old s = ready.step s.half now image old s.jobs s.shows s.sound
 
     leads_by : (old : Session) (s : Shown image (Group lease group) updater old)
         → LeadsBetween change (tables_of updater) old.store (step_of old s).new.store
@@ -117,7 +118,7 @@ module _ {D L : Type 0} (on : Ghosts D) (net : LinksGhosts L) (now lease : ℕ) 
   group_over reply over =
       rested on net now [] (Group lease group) updater disk links_old links_new seen_left moment
       (record { kept = over.kept; left = tt; hears = refl }) reply
-      (subst (λ (n : ℕ). n ≤ NUMBER_LIMIT) (sym (over.still now)) moment)
+      (subst (λ (n : ℕ). n ≤ NUMBER_LIMIT) (sym (over.still now)) moment) over.downs
       (over_rests now lease group before after updater (on.seen disk) words moment reply over)
 
   -- the files were fetched, and the change was tried
@@ -133,11 +134,11 @@ module _ {D L : Type 0} (on : Ghosts D) (net : LinksGhosts L) (now lease : ℕ) 
       record { kept = ready.kept; left = tt; hears = refl } in
       kept on net now [] (Group lease group) updater disk links_old links_new seen_left moment
       linked change reply
-      (subst (λ (n : ℕ). n ≤ NUMBER_LIMIT) (sym (ready.still now)) moment)
+      (subst (λ (n : ℕ). n ≤ NUMBER_LIMIT) (sym (ready.still now)) moment) ready.downs
       (ready_does now lease group before after updater (on.seen disk) words moment change reply
       ready)
       (rested on net now [] (Group lease group) updater disk links_old links_new seen_left moment
-      linked says.Memory moment
+      linked says.Memory moment (counts_none refl)
       (missed_rests now lease group before after updater (on.seen disk) words moment change reply
       ready))
       updater_new disk_new tried result keeps is

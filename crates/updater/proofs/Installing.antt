@@ -13,19 +13,19 @@ use Rattle.machine.specs.InstallRow.{InstallEffect, install_refusals}
 use Rattle.machine.specs.Machine.{Answers, moment_after}
 use Rattle.machine.specs.Rows.{PassesAll, Refuses}
 use Rattle.machine.specs.Shape.{Shape, shape_of}
-use Rattle.machine.specs.Store as stores
-use Rattle.machine.specs.Store.{Session, Store, session_over}
+use Rattle.machine.specs.Store.{Session, Store}
 use Rattle.machine.proofs.InstallSteps.{left_valid}
-use Rattle.machine.proofs.Moments.{refusal_moment}
 use Rattle.store_state.specs.declared.change.Change.{Change}
 use Rattle.store_state.specs.Change.{effect}
 use Rattle.store_state.specs.Shows.{Shows}
 use Rattle.store_state.specs.Tables.{table_shape}
 use Rattle.install_plan.specs.Brought.{IsBrought}
+use Rattle.install_plan.specs.Downs.{CountsDowns}
 use Rattle.install_plan.specs.Hearing.{Served}
 use Rattle.install_plan.specs.Plans.{IsRefused}
 use Rattle.install_plan.specs.Ready.{IsReady, IsStep}
 use Rattle.install_plan.specs.LeadsIn.{LeadsIn}
+use Rattle.install_plan.proofs.Downs.{counts_none}
 use Rattle.updater.specs.declared.fault.StepFault.{StepFault}
 use Rattle.updater.specs.declared.updater.Updater.{Updater}
 use Rattle.updater.specs.Answer.{IsAnswer}
@@ -43,14 +43,6 @@ serves_same : (url : List ℕ) (heard : List (List ℕ)) (before after : LinksSt
 serves_same url heard before after shape old reply same served =
     (subst (λ (s : Shape). Served s url heard before after reply) (sym same) served, λ view more. absurd (one_more old.store.views view more))
 
--- no refusal sets the moment
-refused_moment : (now : ℕ) (url : List ℕ) (heard : List (List ℕ)) (shape : Shape) (reply : Reply) → now ≤ NUMBER_LIMIT
-    → (reply ≡ says.Memory) ⊎ ((old : Session) → Refuses (install_refusals url heard shape) old reply old) → moment_after now (Some reply) ≤ NUMBER_LIMIT
-refused_moment now url heard shape reply few (inl memory) = subst (λ (r : Reply). moment_after now (Some r) ≤ NUMBER_LIMIT) (sym memory) few
-refused_moment now url heard shape reply few (inr refuses) =
-    let old = session_over (stores.empty (stores.plain_room 1)) in
-    subst (λ (n : ℕ). n ≤ NUMBER_LIMIT) (sym (refusal_moment now url heard shape old reply old (refuses old))) few
-
 -- an install raises the number of the next view
 other_store : (now : ℕ) (heard : List (List ℕ)) (url : List ℕ) (old : Session) (reply : Reply) (new : Session) → InstallEffect url heard now old reply new → new.store ≢ old.store
 other_store now heard url old reply new done same =
@@ -63,9 +55,9 @@ module _ (now : ℕ) (url : List ℕ) (heard : List (List ℕ)) (before after : 
   pub refused_rests : (reply : Reply) → IsRefused (table_shape (room_of updater) (tables_of updater)) url heard before after reply → (old : Session) → Shown image (Install url) updater old → LeavesStore now heard (Install url) before after old reply
   refused_rests reply refused old s = record {
     new = old;
-    step = by refused.refused;
+    step = by (refused.refused s.half);
     same = refl;
-    served = serves_same url heard before after (table_shape (room_of updater) (tables_of updater)) old reply s.shape refused.served;
+    served = serves_same url heard before after (table_shape (room_of updater) (tables_of updater)) old reply s.shape (refused.served s.half);
   }
     where
       by : (reply ≡ says.Memory) ⊎ ((old : Session) → Refuses (install_refusals url heard (table_shape (room_of updater) (tables_of updater))) old reply old) → Answers now heard old (Install url) reply old
@@ -73,12 +65,12 @@ module _ (now : ℕ) (url : List ℕ) (heard : List (List ℕ)) (before after : 
       by (inr refuses) = refused_answers now heard (room_of updater) (tables_of updater) old s.shape (Install url) reply old (refuses old)
 
   -- and one that found no memory at its end
-  pub missed_rests : Served (table_shape (room_of updater) (tables_of updater)) url heard before after says.Memory → (old : Session) → Shown image (Install url) updater old → LeavesStore now heard (Install url) before after old says.Memory
+  pub missed_rests : ((room_of updater).half ≡ 0 → Served (table_shape (room_of updater) (tables_of updater)) url heard before after says.Memory) → (old : Session) → Shown image (Install url) updater old → LeavesStore now heard (Install url) before after old says.Memory
   missed_rests served old s = record {
     new = old;
     step = inl (inl (refl, refl));
     same = refl;
-    served = serves_same url heard before after (table_shape (room_of updater) (tables_of updater)) old says.Memory s.shape served;
+    served = serves_same url heard before after (table_shape (room_of updater) (tables_of updater)) old says.Memory s.shape (served s.half);
   }
 
   module _ (change : Change) (reply : Reply) (ready : IsReady (room_of updater) (tables_of updater) url heard before after now change reply) where
@@ -87,7 +79,7 @@ module _ (now : ℕ) (url : List ℕ) (heard : List (List ℕ)) (before after : 
     step_of old s = ready.step image old s.jobs s.shows s.sound
 
     passes_by : (old : Session) → Shown image (Install url) updater old → PassesAll (install_refusals url heard (shape_of old))
-    passes_by old s = subst (λ (shape : Shape). PassesAll (install_refusals url heard shape)) (sym s.shape) ready.passes
+    passes_by old s = subst (λ (shape : Shape). PassesAll (install_refusals url heard shape)) (sym s.shape) (ready.passes s.half)
 
     leads_by : (old : Session) (s : Shown image (Install url) updater old) → LeadsBetween change (tables_of updater) old.store (step_of old s).new.store
     leads_by old s = let step = step_of old s in record {
@@ -98,11 +90,11 @@ module _ (now : ℕ) (url : List ℕ) (heard : List (List ℕ)) (before after : 
     pub ready_does : (old : Session) → Shown image (Install url) updater old → Does now heard (Install url) before after change (tables_of updater) old reply
     ready_does old s = let step = step_of old s in record {
       new = step.new;
-      step = effect_answers now heard (room_of updater) (tables_of updater) old s.shape (Install url) reply step.new ready.passes step.installs;
+      step = effect_answers now heard (room_of updater) (tables_of updater) old s.shape (Install url) reply step.new (ready.passes s.half) step.installs;
       leads = leads_by old s;
       other = other_store now heard url old reply step.new step.installs;
       served = (
-        subst (λ (shape : Shape). Served shape url heard before after reply) (sym s.shape) ready.served,
+        subst (λ (shape : Shape). Served shape url heard before after reply) (sym s.shape) (ready.served s.half),
         step.brought,
       );
     }
@@ -112,8 +104,8 @@ module _ (now : ℕ) (url : List ℕ) (heard : List (List ℕ)) (before after : 
     ready_moment = subst (λ (r : Reply). moment_after now (Some r) ≤ NUMBER_LIMIT) (sym ready.replied.3) moment
 
     -- want of memory tells nothing of what was asked
-    pub ready_served : Served (table_shape (room_of updater) (tables_of updater)) url heard before after says.Memory
-    ready_served = record { hearing = ready.served.hearing; accounts = tt }
+    pub ready_served : (room_of updater).half ≡ 0 → Served (table_shape (room_of updater) (tables_of updater)) url heard before after says.Memory
+    ready_served plain = record { hearing = (ready.served plain).hearing; accounts = tt }
 
 module _ {D L : Type 0} (on : Ghosts D) (net : LinksGhosts L) (now : ℕ) (url : List ℕ) (heard : List (List ℕ)) (updater : Updater) (disk : D) (links_old links_new : L)
     (seen_left : on.left_at disk (on.moment disk) (on.seen disk)) (moment : now ≤ NUMBER_LIMIT) where
@@ -122,8 +114,9 @@ module _ {D L : Type 0} (on : Ghosts D) (net : LinksGhosts L) (now : ℕ) (url :
       → Commanded on net now heard (Install url) updater disk links_old (Ok reply) updater disk links_new
   install_refused reply refused =
       rested on net now heard (Install url) updater disk links_old links_new seen_left moment
-      (record { kept = refused.served.hearing.kept; left = tt; hears = refused.hears }) reply
-      (refused_moment now url heard (table_shape (room_of updater) (tables_of updater)) reply moment refused.refused)
+      (record { kept = refused.kept; left = tt; hears = refused.hears }) reply
+      (subst (λ (n : ℕ). n ≤ NUMBER_LIMIT) (sym (refused.still now)) moment)
+      refused.downs
       (refused_rests now url heard (net.links links_old) (net.links links_new) updater (on.seen disk) moment reply refused)
 
   -- all was fetched, and the change was tried
@@ -131,12 +124,13 @@ module _ {D L : Type 0} (on : Ghosts D) (net : LinksGhosts L) (now : ℕ) (url :
       → (updater_new : Updater) (disk_new : D) (tried : Result T StepFault) (result : Result Reply Failed) → MakesDurable on change updater disk tried updater_new disk_new → IsAnswer reply tried result
       → Commanded on net now heard (Install url) updater disk links_old result updater_new disk_new links_new
   install_kept change reply ready updater_new disk_new tried result keeps is =
-      let linked : Linked net heard (Install url) updater links_old links_new = record { kept = ready.served.hearing.kept; left = tt; hears = ready.hears } in
+      let linked : Linked net heard (Install url) updater links_old links_new = record { kept = ready.kept; left = tt; hears = ready.hears } in
       let before = net.links links_old in
       let after = net.links links_new in
       kept on net now heard (Install url) updater disk links_old links_new seen_left moment linked change reply
       (ready_moment now url heard before after updater (on.seen disk) moment change reply ready)
+      (subst (CountsDowns before after) (sym ready.replied.3) (counts_none refl))
       (ready_does now url heard before after updater (on.seen disk) moment change reply ready)
-      (rested on net now heard (Install url) updater disk links_old links_new seen_left moment linked says.Memory moment
+      (rested on net now heard (Install url) updater disk links_old links_new seen_left moment linked says.Memory moment (counts_none refl)
       (missed_rests now url heard before after updater (on.seen disk) moment (ready_served now url heard before after updater (on.seen disk) moment change reply ready)))
       updater_new disk_new tried result keeps is

@@ -111,7 +111,7 @@ module _ {D : Type 0} (on : Ghosts D) (boot : ℕ) (few : boot ≤ NUMBER_LIMIT)
     spent = record {
       seen = λ other. loaded.seen;
       within = λ other. loaded.spends.within;
-      unwritten = λ e. no_bytes on 1 disk_old mid _ loaded.spends;
+      unwritten = λ other. no_bytes on 1 disk_old mid _ loaded.spends;
       synced = tt;
       quiet = tt;
       marked = tt;
@@ -170,7 +170,7 @@ module _ {D : Type 0} (on : Ghosts D) (boot : ℕ) (few : boot ≤ NUMBER_LIMIT)
       spent = record {
         seen = tt;
         within = tt;
-        unwritten = λ e. absurd (ok_none (updater, false) e);
+        unwritten = tt;
         synced = loaded.synced fine;
         quiet = λ answer. (loaded.spends.within, no_bytes on 1 disk_old mid _ loaded.spends);
         marked = λ answer. absurd (false_true answer);
@@ -199,7 +199,7 @@ module _ {D : Type 0} (on : Ghosts D) (boot : ℕ) (few : boot ≤ NUMBER_LIMIT)
       spent = record {
         seen = λ other. loaded.seen;
         within = λ other. loaded.spends.within;
-        unwritten = λ e. absurd (memory_none e);
+        unwritten = λ other. no_bytes on 1 disk_old mid _ loaded.spends;
         synced = tt;
         quiet = tt;
         marked = tt;
@@ -251,7 +251,7 @@ module _ {D : Type 0} (on : Ghosts D) (boot : ℕ) (few : boot ≤ NUMBER_LIMIT)
             spent = record {
               seen = tt;
               within = tt;
-              unwritten = λ e. absurd (ok_none (updater_new, true) e);
+              unwritten = tt;
               synced = omega (arith, marks, loaded.synced fine);
               quiet = λ answer. absurd (true_false answer);
               marked = λ answer. omega (arith, marks, loaded.synced fine);
@@ -284,7 +284,7 @@ module _ {D : Type 0} (on : Ghosts D) (boot : ℕ) (few : boot ≤ NUMBER_LIMIT)
         spent = record {
           seen = λ other. absurd (other refl);
           within = λ other. absurd (other refl);
-          unwritten = λ e. absurd (fault_none e);
+          unwritten = λ other. absurd (other refl);
           synced = tt;
           quiet = tt;
           marked = tt;

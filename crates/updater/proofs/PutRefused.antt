@@ -8,7 +8,7 @@ use Rattle.small_types.specs.declared.limits.TheConstants.{LOCAL_COUNT_LIMIT}
 use Rattle.manifests.specs.Applications.{is_below_pre}
 use Rattle.machine.specs.declared.reply.Reply.TheVariants as says
 use Rattle.machine.specs.Blocks.{blocks_of, free_blocks}
-use Rattle.machine.specs.PutRow.{IsBadName, IsOneTooMany, outside_count, put_refusals}
+use Rattle.machine.specs.PutRow.{IsBadName, IsOneTooMany, outside_count, place_refusals, put_refusals}
 use Rattle.machine.specs.Rows.{PassesAll, Refuses}
 use Rattle.machine.specs.Shape.{BareData, BareView}
 use Rattle.machine.specs.Store.{Session}
@@ -98,7 +98,7 @@ module _ (lease : ℕ) (room : Room) (name bytes : List ℕ) (tables : Tables) (
 
       pub put_passes : (need free : ℕ) → need ≡ blocks_of (length bytes)
           → free ≡ free_blocks (table_shape room tables) → ¬ (free < need)
-          → PassesAll (put_refusals lease name bytes (table_shape room tables))
+          → PassesAll (place_refusals lease name bytes (table_shape room tables))
       put_passes need free is left enough = (
         lives lease name room tables row leased,
         (

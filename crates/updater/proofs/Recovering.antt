@@ -9,6 +9,8 @@ use Rattle.disks.specs.Spends.{Spends}
 use Rattle.disks.proofs.Books.{spends_as}
 use Rattle.machine.specs.Blocks.{used_blocks}
 use Rattle.machine.specs.Shape.{bare_view}
+use Rattle.machine.specs.Weight.{weight_of}
+use Rattle.machine.proofs.Lightness.{no_halves}
 use Rattle.store_log.specs.declared.fault.LogFault.{LogFault}
 use Rattle.store_log.specs.declared.fault.LogFault.TheVariants as log
 use Rattle.store_log.specs.declared.log.Log.{Log}
@@ -42,6 +44,7 @@ pub record Reads {D : Type 0} (on : Ghosts D) (disk_old disk_new : D) : Type 0 w
 pub found_holds : {D : Type 0} (on : Ghosts D) (disk_old : D) (updater : Updater) (disk_new : D) (changes : List (List ℕ)) → IsJournal (room_of updater) changes (on.seen disk_old) → Loads empty changes (tables_of updater) → IsOpen on updater.log (head_of (room_of updater).blocks) changes disk_new → used_blocks (map bare_row (tables_of updater).views) ≤ (room_of updater).blocks → IsLoaded on disk_old updater disk_new
 found_holds on disk_old updater disk_new changes journal loads opened within =
     let shown = journal_shown (room_of updater) (on.seen disk_old) (tables_of updater) changes journal.store.some journal.store.limit loads in
+    let light = no_halves (room_of updater) (weight_of (map bare_row (tables_of updater).views) (tables_of updater).apps) journal.half in
     let same : shown.store.room ≡ room_of updater = blocks_shown shown.shows in
     let shows = subst (λ (n : Room). Shows n (tables_of updater) (on.seen disk_old) shown.store) (sym same) shown.shows in
     record {
@@ -54,7 +57,7 @@ found_holds on disk_old updater disk_new changes journal loads opened within =
           loads = loads;
         };
         shows = shows;
-        valid = shown.valid within;
+        valid = shown.valid within light;
       };
       holds = record {
         log = record {
@@ -65,7 +68,7 @@ found_holds on disk_old updater disk_new changes journal loads opened within =
         };
         room = sym same;
         shows = λ image left. shows_same image (images_have shown.store.room (tables_of updater) (on.seen disk_old) image) shows;
-        valid = shown.valid within;
+        valid = shown.valid within light;
         jobs = refl;
       };
     }

@@ -89,8 +89,8 @@ room_from key apps passes new = by (cases_lt (length apps) APPLICATION_LIMIT)
     by (inr full) = absurd (passes (new, full))
 
 -- it fits where the row's refusals are passed
-pub required_fits : (now : ℕ) (tables : Tables) (key : Key) (version : Version) → IsKey key → IsVersion version → ((room : Room) → PassesAll (refusals now [] (table_shape room tables) (command.Require key version))) → Fits tables (change.Require key version)
-required_fits now tables key version is_key is_version passes = (short_key is_key, is_version, room_from key tables.apps (passes (plain_room 0)).0)
+pub required_fits : (now : ℕ) (tables : Tables) (key : Key) (version : Version) → IsKey key → IsVersion version → ((room : Room) → room.half ≡ 0 → PassesAll (refusals now [] (table_shape room tables) (command.Require key version))) → Fits tables (change.Require key version)
+required_fits now tables key version is_key is_version passes = (short_key is_key, is_version, room_from key tables.apps (passes (plain_room 0) refl).0)
 
 -- ---- the effect of the row
 
@@ -108,11 +108,11 @@ module _ (now : ℕ) (key : Key) (version : Version) (room : Room) (tables : Tab
     served = tt;
   }
 
-  pub required_does : Fits tables (change.Require key version) → Valid old.store → Raises key version tables.apps → Does now [] (command.Require key version) before after (change.Require key version) tables old (says.Minimum version)
-  required_does fits valid raises = record {
+  pub required_does : room.half ≡ 0 → Fits tables (change.Require key version) → Valid old.store → Raises key version tables.apps → Does now [] (command.Require key version) before after (change.Require key version) tables old (says.Minimum version)
+  required_does plain fits valid raises = record {
     new = record old { store = record old.store { apps = required key version old.store.apps } };
     step = answers_with version raises.minimum;
-    leads = required_leads room tables image old.store key version shows fits valid;
+    leads = required_leads room tables image old.store key version shows plain fits valid;
     other = λ same. raises.other (subst (λ (apps : List AppState). required key version apps ≡ apps) (apps_shown shows) (ap (λ (s : Store). s.apps) same));
     served = tt;
   }

@@ -7,7 +7,9 @@ use Rattle.disks.proofs.MomentLemmas.{started}
 use Rattle.machine.specs.Store as stores
 use Rattle.machine.specs.Store.{Session, Store}
 use Rattle.machine.specs.Valid.{Valid}
+use Rattle.machine.specs.Weight.{weight_of}
 use Rattle.machine.proofs.Keeping.{empty_valid}
+use Rattle.machine.proofs.Lightness.{no_halves}
 use Rattle.store_log.proofs.Store.{unique}
 use Rattle.store_state.specs.Shows.{Shows}
 use Rattle.store_state.specs.Tables.{Tables, empty}
@@ -73,5 +75,5 @@ new_stands image room journal = record {
   tables = empty;
   reads = record { changes = []; journal = journal; loads = refl };
   shows = shows_empty room image;
-  valid = empty_valid room journal.store.some journal.store.limit;
+  valid = empty_valid room journal.store.some journal.store.limit (no_halves room (weight_of [] []) journal.half);
 }

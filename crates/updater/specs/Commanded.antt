@@ -9,6 +9,7 @@ use Rattle.links.specs.declared.links.Links.{Ghosts as LinksGhosts}
 use Rattle.links.specs.Links.{LinksState}
 use Rattle.fetcher.specs.Fetched.{Kept}
 use Rattle.install_plan.specs.Brought.{IsBrought}
+use Rattle.install_plan.specs.Downs.{CountsDowns}
 use Rattle.install_plan.specs.GroupAsked.{AreBrought, GroupServed}
 use Rattle.install_plan.specs.Hearing.{Served}
 use Rattle.install_plan.specs.Offers.{OfferServed}
@@ -97,7 +98,8 @@ pub record Faulted {D L : Type 0} (on : Ghosts D) (net : LinksGhosts L) (now : �
 -- What a command does, for each session that is held, and whose store is sound where the command
 -- asks it, where the disk tells afterwards. What it tells then it told before. The count of faults
 -- rises exactly where the disk failed. The links and their sites stay. What it heard, its tables
--- let it hear; and the moment of the next command is within its limit.
+-- let it hear; and the moment of the next command is within its limit. Whatever session is held or
+-- none, where the reply says of a link that it failed, the number of failures rose.
 pub record Commanded {D L : Type 0} (on : Ghosts D) (net : LinksGhosts L) (now : ℕ)
     (heard : List (List ℕ)) (command : Command) (updater_old : Updater) (disk_old : D)
     (links_old : L) (result : Result Reply Failed) (updater_new : Updater) (disk_new : D)
@@ -116,6 +118,7 @@ pub record Commanded {D L : Type 0} (on : Ghosts D) (net : LinksGhosts L) (now :
   pub left : LeavesLinks command links_old links_new
   pub hears : Hears (table_shape (room_of updater_old) (tables_of updater_old)) command heard
   pub few : IfOk result (λ reply. moment_after now (Some reply) ≤ NUMBER_LIMIT)
+  pub downs : IfOk result (CountsDowns (net.links links_old) (net.links links_new))
 
 -- The same of the manifest texts that it heard, which stand then behind those that stood there.
 pub record CommandedBehind {D L : Type 0} (on : Ghosts D) (net : LinksGhosts L) (now : ℕ)

@@ -44,7 +44,7 @@ pub record OpeningSpends {D : Type 0} (on : Ghosts D) (boot : ℕ) (disk_old : D
   pub seen : IfErr result (λ fault. fault ≢ DiskFault → on.seen disk_new ≡ on.seen disk_old)
   pub within : IfErr result (λ fault. fault ≢ DiskFault
       → on.moment disk_new ≤ on.moment disk_old + 1)
-  pub unwritten : result ≡ Err NotAStore → on.total disk_new ≡ on.total disk_old
+  pub unwritten : IfErr result (λ fault. fault ≢ DiskFault → on.total disk_new ≡ on.total disk_old)
   -- It makes one call that may change the disk where the boot number is the kept one, and writes
   -- nothing. It makes more of them where it is another, and writes at most what that boot costs.
   pub synced : OnOk result (on.moment disk_old + 1 ≤ on.moment disk_new)

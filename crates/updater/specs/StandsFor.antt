@@ -36,7 +36,7 @@ pub record ReadsAs (room : Room) (image : List ℕ) (tables : Tables) : Type 0 w
   pub loads : Loads empty changes tables
 
 -- The bytes read as tables that show the store, which is within its order and its limits, and whose
--- files have room.
+-- files and tables have room.
 pub record StandsFor (image : List ℕ) (store : Store) : Type 0 where
   pub tables : Tables
   pub reads : ReadsAs store.room image tables

@@ -1,11 +1,12 @@
 // The data files of a leased view.
-ghost use Rattle.std.specs.Prelude.{◌≡◌, ℕ, Some, IfErr, IfOk};
+ghost use Rattle.std.specs.Prelude.{◌≡◌, ℕ, Some, IfErr, IfOk, false};
 ghost use Rattle.small_types.specs.declared.room.Room.{Room};
 ghost use Rattle.machine.specs.LocalRow.{local_refusals};
 ghost use Rattle.machine.specs.Machine.{moment_after};
 ghost use Rattle.machine.specs.Rows.{Refuses};
 ghost use Rattle.machine.specs.Store.{Session};
 ghost use Rattle.store_state.specs.Tables.{table_shape};
+ghost use Rattle.install_plan.specs.Checks.{is_missing};
 ghost use Rattle.updater.specs.DataFiles.{IsLocalOf, IsRemoval};
 ghost use Rattle.updater.specs.Leased.{KeepsView};
 
@@ -25,6 +26,7 @@ pub(crate) fn local_of<'a>(
         → IfErr result (λ reply. Refuses
         (local_refusals lease name.now (table_shape room state.now)) old reply old) }
     ensures still { (now : ℕ) → IfErr result (λ reply. moment_after now (Some reply) ≡ now) }
+    ensures no_target { IfErr result (λ reply. is_missing reply ≡ false) }
 {
     let Some(view) = state.leased(lease) else {
         return Err(Reply::NoLease);
@@ -43,6 +45,7 @@ pub(crate) fn removal_of(state: &StoreState, lease: u64, name: &Name) -> Result<
         → IfErr result (λ reply. Refuses
         (local_refusals lease name.now (table_shape room state.now)) old reply old) }
     ensures still { (now : ℕ) → IfErr result (λ reply. moment_after now (Some reply) ≡ now) }
+    ensures no_target { IfErr result (λ reply. is_missing reply ≡ false) }
 {
     let Some(view) = state.leased(lease) else {
         return Err(Reply::NoLease);

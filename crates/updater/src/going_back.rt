@@ -1,5 +1,5 @@
 // What going back to the previous view of an application comes to.
-ghost use Rattle.std.specs.Prelude.{◌≡◌, ℕ, List, [], Some, None, IfErr, IfOk, IfSome};
+ghost use Rattle.std.specs.Prelude.{◌≡◌, ℕ, List, [], Some, None, IfErr, IfOk, IfSome, false};
 ghost use Rattle.small_types.specs.declared.room.Room.{Room};
 ghost use Rattle.identity.specs.declared.version.Version.{Version};
 ghost use Rattle.identity.specs.Version.{IsBelow};
@@ -9,6 +9,7 @@ ghost use Rattle.machine.specs.Minimums.{minimum_of};
 ghost use Rattle.machine.specs.Rows.{Refuses};
 ghost use Rattle.machine.specs.Store.{Session};
 ghost use Rattle.store_state.specs.Tables.{table_shape};
+ghost use Rattle.install_plan.specs.Checks.{is_missing};
 ghost use Rattle.updater.specs.GoingBack.{IsGoingBack, KeepsPrevious};
 ghost use Rattle.updater.specs.Start.{KeepsCurrent};
 
@@ -52,6 +53,7 @@ pub(crate) fn going_back_of(state: &StoreState, key: &Key) -> Result<GoingBack, 
         → (now : ℕ) (room : Room) (old : Session) → IfErr result (λ reply. Refuses (refusals now []
         (table_shape room state.now) (command.Rollback key.now)) old reply old) }
     ensures still { (now : ℕ) → IfErr result (λ reply. moment_after now (Some reply) ≡ now) }
+    ensures no_target { IfErr result (λ reply. is_missing reply ≡ false) }
 {
     let Some(_) = state.current(key) else {
         return Err(Reply::NotInstalled);

@@ -1,5 +1,5 @@
 // What is read of a leased view.
-ghost use Rattle.std.specs.Prelude.{◌≡◌, ℕ, List, [], Some, IfErr, IfOk};
+ghost use Rattle.std.specs.Prelude.{◌≡◌, ℕ, List, [], Some, IfErr, IfOk, false};
 ghost use Rattle.small_types.specs.declared.room.Room.{Room};
 ghost use Rattle.machine.specs.declared.command.Command.TheVariants as command;
 ghost use Rattle.machine.specs.Machine.{moment_after, refusals};
@@ -7,6 +7,7 @@ ghost use Rattle.machine.specs.ReadRow.{part};
 ghost use Rattle.machine.specs.Rows.{Refuses};
 ghost use Rattle.machine.specs.Store.{Session};
 ghost use Rattle.store_state.specs.Tables.{table_shape};
+ghost use Rattle.install_plan.specs.Checks.{is_missing};
 ghost use Rattle.updater.specs.Leased.{IsLeasedFile, KeepsView};
 
 use machine::Reply;
@@ -27,6 +28,7 @@ pub(crate) fn leased_file<'a>(
         → IfErr result (λ reply. Refuses (refusals now [] (table_shape room state.now)
         (command.Read lease name.now from count)) old reply old) }
     ensures still { (now : ℕ) → IfErr result (λ reply. moment_after now (Some reply) ≡ now) }
+    ensures no_target { IfErr result (λ reply. is_missing reply ≡ false) }
 {
     state.are_tables();
     let Some(lease) = state.lease(lease) else {

@@ -1,5 +1,5 @@
 // What putting a data file comes to.
-ghost use Rattle.std.specs.Prelude.{◌≡◌, ◌≤◌, ◌↔◌, ℕ, List, length, None, Some, IfErr, IfOk, IsTrue};
+ghost use Rattle.std.specs.Prelude.{◌≡◌, ◌≤◌, ◌↔◌, ℕ, List, length, None, Some, IfErr, IfOk, IsTrue, false};
 ghost use Rattle.small_types.specs.declared.room.Room.{Room};
 ghost use Rattle.small_types.specs.declared.limits.TheConstants as limits;
 ghost use Rattle.machine.specs.Blocks.{blocks_of};
@@ -9,6 +9,7 @@ ghost use Rattle.machine.specs.Rows.{Refuses};
 ghost use Rattle.machine.specs.Store.{Session};
 ghost use Rattle.store_state.specs.Locals.{local_named, outside_locals};
 ghost use Rattle.store_state.specs.Tables.{table_shape};
+ghost use Rattle.install_plan.specs.Checks.{is_missing};
 ghost use Rattle.updater.specs.DataFiles.{bytes_named};
 ghost use Rattle.updater.specs.Leased.{KeepsView};
 ghost use Rattle.updater.specs.Putting.{IsPutting, file_of};
@@ -82,6 +83,7 @@ pub(crate) fn putting_of(
         → IfErr result (λ reply. Refuses
         (put_refusals lease name.now bytes.now (table_shape room state.now)) old reply old) }
     ensures still { (now : ℕ) → IfErr result (λ reply. moment_after now (Some reply) ≡ now) }
+    ensures no_target { IfErr result (λ reply. is_missing reply ≡ false) }
 {
     let Some(view) = state.leased(lease) else {
         return Err(Reply::NoLease);

@@ -1,5 +1,5 @@
 // The refusals of commands, as the tables give them.
-ghost use Rattle.std.specs.Prelude.{◌≡◌, ℕ, List, [], None, Some, IfSome};
+ghost use Rattle.std.specs.Prelude.{◌≡◌, ℕ, List, [], None, Some, IfSome, false};
 ghost use Rattle.small_types.specs.declared.room.Room.{Room};
 ghost use Rattle.identity.specs.declared.version.Version.{Version};
 ghost use Rattle.machine.specs.declared.command.Command.TheVariants as command;
@@ -7,6 +7,7 @@ ghost use Rattle.machine.specs.Machine.{moment_after, refusals};
 ghost use Rattle.machine.specs.Rows.{PassesAll, Refuses};
 ghost use Rattle.machine.specs.Store.{Session};
 ghost use Rattle.store_state.specs.Tables.{table_shape};
+ghost use Rattle.install_plan.specs.Checks.{is_missing};
 
 use identity::Key;
 use machine::Reply;
@@ -14,15 +15,17 @@ use small_types::Limit;
 use small_types::limits::APPLICATION_LIMIT;
 use store_state::StoreState;
 
-/// The refusal of `require` that the tables give, whatever their number of blocks.
+/// The refusal of `require` that the tables give, whatever their number of blocks, where the journal
+/// has no halves.
 pub(crate) fn require_refusal(state: &StoreState, key: &Key) -> Option<Reply>
     ensures none { result ≡ None → (now : ℕ) (room : Room) (version : Version)
-        → PassesAll (refusals now [] (table_shape room state.now)
+        → room.half ≡ 0 → PassesAll (refusals now [] (table_shape room state.now)
         (command.Require key.now version)) }
     ensures some { (now : ℕ) (room : Room) (version : Version) (old : Session)
         → IfSome result (λ reply. Refuses (refusals now [] (table_shape room state.now)
         (command.Require key.now version)) old reply old) }
     ensures still { (now : ℕ) → IfSome result (λ reply. moment_after now (Some reply) ≡ now) }
+    ensures no_target { IfSome result (λ reply. is_missing reply ≡ false) }
 {
     let count = state.count();
     if count >= APPLICATION_LIMIT && state.entry(key).is_none() {
@@ -43,6 +46,7 @@ pub(crate) fn finish_refusal(state: &StoreState, lease: u64) -> Option<Reply>
         → IfSome result (λ reply. Refuses (refusals now [] (table_shape room state.now)
         (command.Finish lease)) old reply old) }
     ensures still { (now : ℕ) → IfSome result (λ reply. moment_after now (Some reply) ≡ now) }
+    ensures no_target { IfSome result (λ reply. is_missing reply ≡ false) }
 {
     match state.lease(lease) {
         Some(_) => None,

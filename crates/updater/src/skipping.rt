@@ -1,11 +1,12 @@
 // What skipping the offer of an application comes to.
-ghost use Rattle.std.specs.Prelude.{◌≡◌, ◌↔◌, ℕ, List, [], Some, IfErr, IfOk, IsTrue};
+ghost use Rattle.std.specs.Prelude.{◌≡◌, ◌↔◌, ℕ, List, [], Some, IfErr, IfOk, IsTrue, false};
 ghost use Rattle.small_types.specs.declared.room.Room.{Room};
 ghost use Rattle.machine.specs.declared.command.Command.TheVariants as command;
 ghost use Rattle.machine.specs.Machine.{moment_after, refusals};
 ghost use Rattle.machine.specs.Rows.{Refuses};
 ghost use Rattle.machine.specs.Store.{Session};
 ghost use Rattle.store_state.specs.Tables.{table_shape};
+ghost use Rattle.install_plan.specs.Checks.{is_missing};
 ghost use Rattle.updater.specs.Skipping.{IsSkipping, minimum_in};
 ghost use Rattle.updater.specs.Start.{KeepsCurrent};
 
@@ -50,6 +51,7 @@ pub(crate) fn skipping_of(state: &StoreState, key: &Key, now: u64) -> Result<Ski
         → IfErr result (λ reply. Refuses (refusals now [] (table_shape room state.now)
         (command.Skip key.now)) old reply old) }
     ensures still { IfErr result (λ reply. moment_after now (Some reply) ≡ now) }
+    ensures no_target { IfErr result (λ reply. is_missing reply ≡ false) }
 {
     let Some(_) = state.current(key) else {
         return Err(Reply::NotInstalled);

@@ -1,11 +1,12 @@
 // What launching an application comes to.
-ghost use Rattle.std.specs.Prelude.{◌≡◌, ℕ, List, [], Some, IfErr, IfOk};
+ghost use Rattle.std.specs.Prelude.{◌≡◌, ℕ, List, [], Some, IfErr, IfOk, false};
 ghost use Rattle.small_types.specs.declared.room.Room.{Room};
 ghost use Rattle.machine.specs.declared.command.Command.TheVariants as command;
 ghost use Rattle.machine.specs.Machine.{moment_after, refusals};
 ghost use Rattle.machine.specs.Rows.{Refuses};
 ghost use Rattle.machine.specs.Store.{Session};
 ghost use Rattle.store_state.specs.Tables.{table_shape};
+ghost use Rattle.install_plan.specs.Checks.{is_missing};
 ghost use Rattle.updater.specs.Start.{IsStart, KeepsCurrent, cleared, lease_reply};
 
 use identity::{Key, Version};
@@ -58,6 +59,7 @@ pub(crate) fn start_of(state: &StoreState, key: &Key, now: u64) -> Result<Start,
         → IfErr result (λ reply. Refuses (refusals now [] (table_shape room state.now)
         (command.Launch key.now)) old reply old) }
     ensures still { IfErr result (λ reply. moment_after now (Some reply) ≡ now) }
+    ensures no_target { IfErr result (λ reply. is_missing reply ≡ false) }
 {
     let Some(view) = state.current(key) else {
         return Err(Reply::NotInstalled);

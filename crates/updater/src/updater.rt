@@ -290,7 +290,7 @@ impl Updater {
     ) -> Result<Reply, Failed>
         requires words { IsKey key.now × IsVersion version }
         requires moment { _now ≤ NUMBER_LIMIT }
-        requires passed { (room : Room) → PassesAll (refusals _now []
+        requires passed { (room : Room) → room.half ≡ 0 → PassesAll (refusals _now []
             (table_shape room (tables_of self.old)) (command.Require key.now version)) }
         requires raises { Raises key.now version (tables_of self.old).apps }
         ensures { Commanded D.Disk L.Links _now [] (command.Require key.now version)

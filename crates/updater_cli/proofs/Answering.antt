@@ -1,5 +1,6 @@
 -- What answering a line does, by how it ends.
 use Rattle.std.proofs.Common.{◌≡◌, ◌≢◌, ℕ, ◌≤◌, List, [], ◌∷◌, ◌++◌, Option, Some, Ok, Err, refl, sym, ◌∙◌, ap, subst, arith}
+use Rattle.std.specs.Prelude.{IsSomeAnd}
 use Rattle.std.proofs.lemmas.List.{append-nil}
 use Rattle.outside.specs.Streams.{Appends, AppendsPart, Rose}
 use Rattle.outside.specs.declared.sink.Sink.{Ghosts as SinkGhosts}
@@ -13,6 +14,7 @@ use Rattle.machine.specs.declared.report.ReportLine.{ReportLine}
 use Rattle.machine.specs.Machine.{moment_after}
 use Rattle.small_types.specs.declared.limits.TheConstants.{NUMBER_LIMIT}
 use Rattle.command_text.specs.Lines.{reply_text, texts_of}
+use Rattle.install_plan.specs.Downs.{SaysDown}
 use Rattle.updater_cli.specs.declared.course.Course.{Course}
 use Rattle.updater_cli.specs.declared.status.Status.TheVariants.{SinkFault, DiskFault, Memory}
 use Rattle.updater_cli.specs.Lines.{IsReady, LineAnswered, LineRun, Trace, place_of, stage_of}
@@ -74,6 +76,10 @@ module _ {K D L : Type 0} (to : SinkGhosts K) (on : Ghosts D) (net : LinksGhosts
     failed : failures_of (net.links links) ≤ l.failures
     failed = omega (arith, is_failures, failures_later (net.links links) (net.links links_new) run.kept)
 
+    downs : IsSomeAnd l.reply SaysDown → Rose (failures_of (net.links links)) l.failures
+    downs down = subst (λ (n : ℕ). Rose (failures_of (net.links links)) n) (sym is_failures)
+        (run.downs.rose (subst (λ (r : Option Reply). IsSomeAnd r SaysDown) is_reply down))
+
     -- and its reply was written
     pub written : (to.tells → Appends (to.taken sink) (to.taken sink_new) (reply_text reply)) → to.count sink_new ≡ to.count sink
         → LineAnswered to on net line (place_of sink disk links course) (Ok tt) (place_of sink_new disk_new links_new next)
@@ -88,7 +94,7 @@ module _ {K D L : Type 0} (to : SinkGhosts K) (on : Ghosts D) (net : LinksGhosts
       ends = tt;
       trace =
           rw (same_begun, ready.begun) (trace_line to.tells line (stage_of to on net (place_of sink disk links course)) (stage_of to on net (place_of sink_new disk_new links_new next)) l grown run.event run.at moment
-          later (omega (arith, is_mark)) failed (omega (arith, is_failures)) (λ told. appends told ∙ ap (λ (x : List ℕ). to.taken sink ++ x) (sym text)));
+          later (omega (arith, is_mark)) failed (omega (arith, is_failures)) downs (λ told. appends told ∙ ap (λ (x : List ℕ). to.taken sink ++ x) (sym text)));
     }
 
     -- and its reply was cut off
@@ -107,5 +113,5 @@ module _ {K D L : Type 0} (to : SinkGhosts K) (on : Ghosts D) (net : LinksGhosts
       ends = same_begun ∙ ready.begun;
       trace =
           rw (same_begun, ready.begun) (trace_cut to.tells line (stage_of to on net (place_of sink disk links course)) (stage_of to on net (place_of sink_new disk_new links_new next)) l grown run.event run.at moment
-          later (omega (arith, is_mark)) failed (omega (arith, is_failures)) (λ told. subst (λ (x : List ℕ). AppendsPart (to.taken sink) (to.taken sink_new) x) (sym text) (part told)));
+          later (omega (arith, is_mark)) failed (omega (arith, is_failures)) downs (λ told. subst (λ (x : List ℕ). AppendsPart (to.taken sink) (to.taken sink_new) x) (sym text) (part told)));
     }

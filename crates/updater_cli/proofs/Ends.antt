@@ -1,7 +1,7 @@
 -- What a whole session leaves in its report.
 use Rattle.std.proofs.Common.{◌≡◌, ◌≢◌, ◌⊎◌, inl, inr, ℕ, ◌+◌, ◌≤◌, List, [], ◌∷◌, ◌++◌, length, take, Option, Some, None, Ok, Err, refl, sym, ◌∙◌, ap, subst, arith, length-append}
 use Rattle.std.proofs.lemmas.List.{append-nil, take_all, take-append-le}
-use Rattle.std.specs.Prelude.{option_to_list, IfSome, IfErr, OnOk}
+use Rattle.std.specs.Prelude.{option_to_list, IfSome, IfErr, IsSomeAnd, OnOk}
 use Rattle.std.specs.Str.Lines.{lines}
 use Rattle.small_types.specs.declared.limits.TheConstants.{NUMBER_LIMIT}
 use Rattle.outside.specs.declared.source.Source.{Ghosts as SourceGhosts}
@@ -18,16 +18,19 @@ use Rattle.machine.specs.declared.report.ReportLine.{ReportLine}
 use Rattle.machine.specs.Store.{Store, booted, session_over}
 use Rattle.command_text.specs.Lines.{AreEvents, IsEvent, texts_of}
 use Rattle.command_text.proofs.InputLemmas.{length_events}
+use Rattle.install_plan.specs.Downs.{SaysDown}
 use Rattle.updater.specs.StandsFor.{StandsFor, StandsForNone}
 use Rattle.updater_cli.specs.declared.status.Status.{Status}
 use Rattle.updater_cli.specs.declared.status.Status.TheVariants.{Done, Words, SourceFault, SinkFault, DiskFault, NotAStore, Memory, TooMuchInput}
 use Rattle.updater_cli.specs.Devices.{devices_of}
+use Rattle.updater_cli.specs.Downs.{DownsAreCounted}
 use Rattle.updater_cli.specs.Headline.{after_boot, ReadsLines, BeginsOnFault, MadeCalls, HeadlineLines, HeadlineRun}
 use Rattle.updater_cli.specs.Lines.{IsReady, Place, AreInputs, InputAnswered}
 use Rattle.updater_cli.specs.Opening.{BeginsAt, IsNoBoot, IsNoBootFirst, IsLineOrNone, BootsFirst, HasBootLine, IsOpeningEnd, begun_by}
 use Rattle.updater_cli.specs.Report.{report_of, events_of, replies_of, moment_behind, CostsBegun, IsRunAt, AreRunFrom, KeepsMoments, MarksRise, FailuresRise, IsBegunServed, WritesReplies}
 use Rattle.updater_cli.specs.Status.{PartOutcome, code_of, end_status, IsSessionEnd}
 use Rattle.updater_cli.proofs.Begin.{boot_served, settled_first}
+use Rattle.updater_cli.proofs.Downs.{downs_on}
 use Rattle.updater_cli.proofs.Runs.{rise_on, failures_on, run_from_append, moment-append}
 use Rattle.updater_cli.proofs.Traces.{writes_on}
 
@@ -89,6 +92,11 @@ module _ (boot failures from mid : ℕ) where
   first_failures [] has = omega arith
   first_failures (l ∷ []) has = (omega (arith, has.2), omega (arith, has.2))
   first_failures (l ∷ m ∷ lines) has = absurd has
+
+  first_downs : (first : List ReportLine) → HasBootLine boot failures from mid first → DownsAreCounted failures first
+  first_downs [] has = tt
+  first_downs (l ∷ []) has = ((λ down. absurd (subst (λ (r : Option Reply). IsSomeAnd r SaysDown) has.1 down)), tt)
+  first_downs (l ∷ m ∷ lines) has = absurd has
 
   -- the moment is the first one
   first_moment : (now : ℕ) (first : List ReportLine) → HasBootLine boot failures from mid first → moment_behind now first ≡ now
@@ -232,6 +240,11 @@ module _ {S K D L : Type 0} (source : SourceGhosts S) (to : SinkGhosts K) (on : 
         subst (λ (ls : List ReportLine). FailuresRise (failures_of (net.links old.links)) ls (failures_of (net.links new.links))) (sym answered.trace.grown)
         (failures_on (failures_of (net.links old.links)) (failures_of (net.links old.links)) (failures_of (net.links new.links)) old.course.lines.items answered.trace.more
         (first_failures boot (failures_of (net.links old.links)) (on.moment disk) (on.moment old.disk) old.course.lines.items begun.lines) answered.trace.failures);
+    downs =
+        subst (λ (ls : List ReportLine). DownsAreCounted (failures_of (net.links old.links)) ls) (sym answered.trace.grown)
+        (downs_on (failures_of (net.links old.links)) (failures_of (net.links old.links)) (failures_of (net.links new.links)) old.course.lines.items answered.trace.more
+        (first_failures boot (failures_of (net.links old.links)) (on.moment disk) (on.moment old.disk) old.course.lines.items begun.lines)
+        (first_downs boot (failures_of (net.links old.links)) (on.moment disk) (on.moment old.disk) old.course.lines.items begun.lines) answered.trace.failures answered.trace.downs);
     links = answered.keeps.kept;
     opening = inr (record {
       store = not_five (end_status outcome) new.course.begun ending;
@@ -271,6 +284,7 @@ module _ {S K D L : Type 0} (source : SourceGhosts S) (on : Ghosts D) (net : Lin
     begun = fault;
     marks = le;
     failures = omega arith;
+    downs = tt;
     links = kept_same (net.links l);
     opening = inl (record { lines = refl; begun = ends; unread = refl; unwritten = refl; unasked = refl });
   }
@@ -296,15 +310,10 @@ module _ {S K D L : Type 0} (source : SourceGhosts S) (on : Ghosts D) (net : Lin
   unopened_lines SinkFault end = absurd end
   unopened_lines TooMuchInput end = absurd end
 
--- what it wrote
-abbrev Spent : {D : Type 0} → Ghosts D → ℕ → ℕ → D → D → Store → Status → Type 0
-Spent on boot now old new store status = (more : ℕ) × CostsBegun now (session_over store) (begun_by boot status) more
-    × ((on.total new ≤ on.total old + 0 + more) ⊎ ((code_of status ≡ 6) × (◌≡◌ {A = List ReportLine} [] [])))
-
 -- and its run
 pub unopened_run : {S K D L : Type 0} (to : SinkGhosts K) (on : Ghosts D) (net : LinksGhosts L) (boot now : ℕ) (s : S) (k : K) (l : L) (old new : D) (status : Status) → IsOpeningEnd status
     → (on.tells new → status ≡ NotAStore → StandsForNone (on.seen old)) → (status ≢ DiskFault → on.moment new ≤ on.moment old + 1) → (status ≢ DiskFault → on.seen new ≡ on.seen old)
-    → (on.tells new → (store : Store) → StandsFor (on.seen old) store → status ≢ Memory → (more : ℕ) × CostsBegun now (session_over store) (begun_by boot status) more × (on.total new ≤ on.total old + more))
+    → (on.tells new → (store : Store) → StandsFor (on.seen old) store → (more : ℕ) × CostsBegun now (session_over store) (begun_by boot status) more × (on.total new ≤ on.total old + more))
     → HeadlineRun to on net now (code_of status) (devices_of s k old l) (devices_of s k new l) (report_of [] (begun_by boot status))
 unopened_run to on net boot now s k l old new status end no_store within reads costs = record {
   leads = λ told store stands. record {
@@ -314,30 +323,16 @@ unopened_run to on net boot now s k l old new status end no_store within reads c
     last = on.moment old + 1;
     bytes = 0;
     walk = (refl, refl, refl, refl);
-    more = (spent store status end (costs told store stands.stands)).0;
-    begins = (spent store status end (costs told store stands.stands)).1;
-    written = (spent store status end (costs told store stands.stands)).2;
+    more = (costs told store stands.stands).0;
+    begins = (costs told store stands.stands).1;
+    written = omega (arith, (costs told store stands.stands).2);
     calls = made status end (λ is. no_store told is store stands.stands) within;
     behind = l;
-    downs = tt;
     begun = begun status end store;
   };
   output = λ told. record { whole = λ other. sym (append-nil (to.taken k)); part = λ three. absurd (not_three status end three) };
 }
   where
-    by : (store : Store) (status : Status) → (status ≡ Memory → ⊥) → (status ≢ Memory → (more : ℕ) × CostsBegun now (session_over store) (begun_by boot status) more × (on.total new ≤ on.total old + more)) → Spent on boot now old new store status
-    by store status other costs = let c = costs other in (c.0, c.1, inl (omega (arith, c.2)))
-
-    spent : (store : Store) (status : Status) → IsOpeningEnd status → (status ≢ Memory → (more : ℕ) × CostsBegun now (session_over store) (begun_by boot status) more × (on.total new ≤ on.total old + more)) → Spent on boot now old new store status
-    spent store Memory end costs = (0, refl, inr (refl, refl))
-    spent store NotAStore end costs = by store NotAStore (λ is. cc (is)) costs
-    spent store DiskFault end costs = by store DiskFault (λ is. cc (is)) costs
-    spent store Done end costs = absurd end
-    spent store Words end costs = absurd end
-    spent store SourceFault end costs = absurd end
-    spent store SinkFault end costs = absurd end
-    spent store TooMuchInput end costs = absurd end
-
     not_three : (status : Status) → IsOpeningEnd status → code_of status ≡ 3 → ⊥
     not_three Memory end three = omega arith
     not_three NotAStore end three = omega arith

@@ -40,7 +40,7 @@ module _ {D L : Type 0} (on : Ghosts D) (net : LinksGhosts L) (boot now : ℕ) (
       since = λ t image first to left. absurd (omega (arith, first, to));
       synced = inr (refl, inr refl);
     };
-    written = λ told store stands other. absurd (other refl);
+    written = λ told store stands. (0, refl, omega arith);
     not_a_store = λ told is. absurd (cc (is));
     reads = λ _. refl;
     within = λ _. omega arith;
@@ -58,11 +58,11 @@ module _ {D L : Type 0} (on : Ghosts D) (net : LinksGhosts L) (boot now : ℕ) (
       a_store = λ told. tt;
       ends = tt;
       survives = λ told store stands. absurd (opened.holds.not_a_store told refl store stands);
-      written = λ told store stands other. absurd (opened.holds.not_a_store told refl store stands);
+      written = λ told store stands. absurd (opened.holds.not_a_store told refl store stands);
       not_a_store = λ told _. opened.holds.not_a_store told refl;
       reads = λ _. opened.spent.seen (λ is. cc (is));
       within = λ _. opened.spent.within (λ is. cc (is));
-      unwritten = λ _. opened.spent.unwritten refl;
+      unwritten = λ _. opened.spent.unwritten (λ is. cc (is));
       asks = record { told = opened.spent.spends.told; later = opened.spent.spends.later; count = rises_none _ (on.count old) (on.count new) (λ is. cc (is)) (opened.spent.spends.quiet (λ is. cc (is))) };
     }
     refused faults.DiskFault opened = record {
@@ -72,7 +72,7 @@ module _ {D L : Type 0} (on : Ghosts D) (net : LinksGhosts L) (boot now : ℕ) (
       a_store = λ told. tt;
       ends = tt;
       survives = λ told store stands. survives_fault on old new boot now store opened.leaves.past (opened.leaves.stop_fault told store stands);
-      written = λ told store stands other. (
+      written = λ told store stands. (
         opened.spent.bytes,
         (session_over (booted boot store), None, (refl, refl), opened.spent.costs told store stands),
         opened.spent.spends.total_within,
@@ -90,7 +90,7 @@ module _ {D L : Type 0} (on : Ghosts D) (net : LinksGhosts L) (boot now : ℕ) (
       a_store = λ told. tt;
       ends = tt;
       survives = λ told store stands. survives_memory on old new boot now store opened.leaves.past (opened.leaves.stop_memory store stands refl);
-      written = λ told store stands other. absurd (other refl);
+      written = λ told store stands. (0, refl, omega (arith, opened.spent.unwritten (λ is. cc (is))));
       not_a_store = λ told is. absurd (cc (is));
       reads = λ _. opened.spent.seen (λ is. cc (is));
       within = λ _. opened.spent.within (λ is. cc (is));

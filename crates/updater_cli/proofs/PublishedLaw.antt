@@ -129,7 +129,7 @@ others url heard shape = (
                                   (λ r g. ap is_installed g.1),
                                   (
                                     (λ r g. ap is_installed g.2),
-                                    ((λ r g. ap is_installed g.3), tt),
+                                    ((λ r g. ap is_installed g.2), ((λ r g. ap is_installed g.3), tt)),
                                   ),
                                 ),
                               ),

@@ -89,9 +89,9 @@ Same s = uses_itself s.store
 
 refusals_leave : (now : ℕ) (heard : List (List ℕ)) (shape : Shape) (command : Command) → LeavesUses (refusals now heard shape command)
 refusals_leave now heard shape (At next) = tt
-refusals_leave now heard shape (Require key version) = (Same, tt)
+refusals_leave now heard shape (Require key version) = (Same, (Same, tt))
 refusals_leave now heard shape (Install url) =
-    (Same, (Same, (Same, (Same, (Same, (Same, (Same, (Same, (Same, (Same, (Same, (Same, (Same, (Same, (Same, (Same, (Same, (Same, (Same, tt)))))))))))))))))))
+    (Same, (Same, (Same, (Same, (Same, (Same, (Same, (Same, (Same, (Same, (Same, (Same, (Same, (Same, (Same, (Same, (Same, (Same, (Same, (Same, tt))))))))))))))))))))
 refusals_leave now heard shape (Check key) =
     (Same, ((λ s. same_uses s.store _ refl refl), (Same, (Same, tt))))
 refusals_leave now heard shape (Skip key) = (Same, (Same, (Same, tt)))
@@ -99,9 +99,9 @@ refusals_leave now heard shape (Rollback key) = (Same, (Same, (Same, tt)))
 refusals_leave now heard shape (Launch key) = (Same, (Same, (Same, (Same, (Same, (Same, tt))))))
 refusals_leave now heard shape (Read lease name from count) = (Same, (Same, tt))
 refusals_leave now heard shape (Local lease name from count) = (Same, (Same, tt))
-refusals_leave now heard shape (Put lease name bytes) = (Same, (Same, (Same, (Same, tt))))
+refusals_leave now heard shape (Put lease name bytes) = (Same, (Same, (Same, (Same, (Same, tt)))))
 refusals_leave now heard shape (Remove lease name) = (Same, (Same, tt))
-refusals_leave now heard shape (Group lease group) = (Same, (Same, (Same, (Same, (Same, tt)))))
+refusals_leave now heard shape (Group lease group) = (Same, (Same, (Same, (Same, (Same, (Same, tt))))))
 refusals_leave now heard shape (Finish lease) = (Same, tt)
 refusals_leave now heard shape Clean = tt
 refusals_leave now heard shape asks.List = tt

@@ -35,7 +35,7 @@ codes Memory = inr (inr (inr (inr refl)))
 
 module _ {F K : Type 0} (folder : FolderGhosts F) (to : SinkGhosts K) (options : Options) (folder_old folder_new : F) (sink_old sink : K) where
   -- the options were read
-  pub publishes : (end : End) → PublishesOptions folder.tells folder.held folder.count to.tells to.taken options folder_old folder_new sink_old sink end
+  pub publishes : (end : End) → PublishesOptions folder to options folder_old folder_new sink_old sink end
       → (end ≡ ReadFault → Rose (folder.count folder_old) (folder.count folder_new)) → (end ≡ WriteFault → Rose (folder.count folder_old) (folder.count folder_new)) → (end ≡ SinkFault → Rose (to.count sink_old) (to.count sink))
       → (status : ℕ) → status ≡ status_of end → PublishesBy folder to options status folder_old folder_new sink_old sink
   publishes end done read write sunk status is = rw is (record {

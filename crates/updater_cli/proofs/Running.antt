@@ -19,6 +19,7 @@ use Rattle.machine.specs.Store.{Store}
 use Rattle.command_text.specs.Lines.{Gives, command_of}
 use Rattle.command_text.proofs.InputLemmas.{command_event, unread_event}
 use Rattle.store_state.specs.Tables.{table_shape}
+use Rattle.install_plan.proofs.Downs.{counts_none}
 use Rattle.updater.specs.declared.updater.Updater.{Updater}
 use Rattle.updater.specs.Commanded.{Answered, Commanded, CommandedBehind, Faulted, SoundFor}
 use Rattle.updater.specs.Updater.{room_of, tables_of}
@@ -55,6 +56,7 @@ module _ {D L : Type 0} (on : Ghosts D) (net : LinksGhosts L) (now : ℕ) (few :
     fault = λ told old settled holds. tt;
     asks = asks_none on _ disk (λ is. cc (is));
     kept = kept_same (net.links links);
+    downs = counts_none refl;
   }
 
   module _ (command : Command) (before : List (List ℕ)) (heard : Heard) (none : before ≡ []) (gives : Gives (Ok command) (command_of line)) (is : IsCommand command) (updater_new : Updater) (disk_new : D) (links_new : L) where
@@ -89,6 +91,7 @@ module _ {D L : Type 0} (on : Ghosts D) (net : LinksGhosts L) (now : ℕ) (few :
       fault = λ told old settled holds. tt;
       asks = asks_call on disk disk_new _ commanded.told commanded.later commanded.cause;
       kept = commanded.kept;
+      downs = commanded.downs;
     }
 
     -- the command was answered
@@ -118,6 +121,7 @@ module _ {D L : Type 0} (on : Ghosts D) (net : LinksGhosts L) (now : ℕ) (few :
           };
       asks = asks_call on disk disk_new _ commanded.told commanded.later commanded.cause;
       kept = commanded.kept;
+      downs = tt;
     }
 
     -- the disk failed in it

@@ -2,10 +2,10 @@
 use Rattle.std.proofs.Common.{◌≡◌, ◌≢◌, ◌==◌, ℕ, ◌+◌, ◌≤◌, Bool, true, false, List, [], ◌∷◌, ◌++◌, length, map, Option, Some, None, Ok, Err, refl, sym, ◌∙◌, ap, subst, arith, append_assoc, if◌then◌else◌}
 use Rattle.std.proofs.lemmas.List.{append-nil, map-append, take_all}
 use Rattle.std.proofs.lemmas.List.Elements.{All-append, All-nil}
-use Rattle.std.specs.Prelude.{option_to_list}
+use Rattle.std.specs.Prelude.{option_to_list, IsSomeAnd}
 use Rattle.std.specs.Str.Lines.{strip_carriage_return}
 use Rattle.small_types.specs.declared.limits.TheConstants.{LINE_LIMIT}
-use Rattle.outside.specs.Streams.{AppendsPart}
+use Rattle.outside.specs.Streams.{AppendsPart, Rose}
 use Rattle.machine.specs.declared.event.Event.{Event}
 use Rattle.machine.specs.declared.report.ReportLine.{ReportLine}
 use Rattle.machine.specs.Machine.{moment_after}
@@ -14,10 +14,12 @@ use Rattle.command_text.specs.Input.{Cut, HasNoFeed, kept_of}
 use Rattle.command_text.proofs.InputLemmas.{events_append, texts_of-append, cut_feed}
 use Rattle.command_text.proofs.LongLines.{event_as, read_part, same_ended, same_last, some_kept}
 use Rattle.command_text.proofs.ReadingOn.{AreKeptAlike, events_alike, reads_on, stops_on}
+use Rattle.install_plan.specs.Downs.{SaysDown}
 use Rattle.updater_cli.specs.declared.status.Status.TheVariants.{Done, Words, SourceFault, SinkFault, DiskFault, NotAStore, Memory, TooMuchInput}
 use Rattle.updater_cli.specs.Lines.{Stage, Trace, IsPending, Progress, Stopped, outcome_code, taken_of}
 use Rattle.updater_cli.specs.Report.{events_of, replies_of, moment_behind, IsRunAt, AreRunFrom, WritesReplies, CutsLast}
 use Rattle.updater_cli.specs.Status.{PartOutcome}
+use Rattle.updater_cli.proofs.Downs.{downs_on}
 use Rattle.updater_cli.proofs.Runs.{rise_on, failures_on, moment-append, run_from_append}
 
 -- ---- what was written
@@ -65,6 +67,7 @@ traces_on told status first second old mid new begun one two = record {
   moment = two.moment ∙ ap (λ (now : ℕ). moment_behind now two.more) one.moment ∙ sym (moment-append old.now one.more two.more);
   marks = rise_on old.calls mid.calls new.calls one.more two.more one.marks two.marks;
   failures = failures_on old.failures mid.failures new.failures one.more two.more one.failures two.failures;
+  downs = downs_on old.failures mid.failures new.failures one.more two.more one.failures one.downs two.failures two.downs;
   output = λ is_told. writes_on status old.taken mid.taken new.taken one.more two.more ((one.output is_told).whole zero_three) (two.output is_told);
 }
 
@@ -79,6 +82,7 @@ trace_none told status stage other = record {
   moment = refl;
   marks = omega arith;
   failures = omega arith;
+  downs = tt;
   output = λ is_told. record { whole = λ not_three. sym (append-nil stage.taken); part = λ three. absurd (other three) };
 }
 
@@ -91,7 +95,8 @@ trace_as told status inputs old new other trace =
 -- a line was run
 module _ (told : Type 0) (input : List ℕ) (old new : Stage) (l : ReportLine) (grown : new.lines ≡ old.lines ++ l ∷ [])
     (event : IsEvent input l.event) (at : IsRunAt old.now l.event) (moment : new.now ≡ moment_after old.now l.reply)
-    (from : old.calls ≤ l.mark) (to : l.mark ≤ new.calls) (risen : old.failures ≤ l.failures) (within : l.failures ≤ new.failures) where
+    (from : old.calls ≤ l.mark) (to : l.mark ≤ new.calls) (risen : old.failures ≤ l.failures) (within : l.failures ≤ new.failures)
+    (down : IsSomeAnd l.reply SaysDown → Rose old.failures l.failures) where
   -- and its reply was written
   pub trace_line : (told → new.taken ≡ old.taken ++ texts_of (l.reply ∷ [])) → Trace told 0 (input ∷ []) old new None
   trace_line output = record {
@@ -103,6 +108,7 @@ module _ (told : Type 0) (input : List ℕ) (old new : Stage) (l : ReportLine) (
     moment = moment;
     marks = (from, to);
     failures = (risen, within);
+    downs = (down, tt);
     output = λ is_told. record { whole = λ not_three. output is_told; part = λ three. absurd (zero_three three) };
   }
 
@@ -117,6 +123,7 @@ module _ (told : Type 0) (input : List ℕ) (old new : Stage) (l : ReportLine) (
     moment = moment;
     marks = (from, to);
     failures = (risen, within);
+    downs = (down, tt);
     output = λ is_told. record {
       whole = λ not_three. absurd (not_three refl);
       part = λ three. record { before = []; last = l; split = refl; part = subst (λ (x : List ℕ). AppendsPart x new.taken (texts_of (l.reply ∷ []))) (sym (append-nil old.taken)) (output is_told) };
@@ -135,6 +142,7 @@ trace_begun told input old new e same_lines same_taken same_now le fails event a
   moment = same_now;
   marks = le;
   failures = fails;
+  downs = tt;
   output = λ is_told. record { whole = λ not_three. same_taken ∙ sym (append-nil old.taken); part = λ three. absurd (four_three three) };
 }
   where
@@ -153,6 +161,7 @@ trace_read told status inputs others old new begun same trace = record {
   moment = trace.moment;
   marks = trace.marks;
   failures = trace.failures;
+  downs = trace.downs;
   output = trace.output;
 }
 

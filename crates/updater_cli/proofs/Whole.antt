@@ -20,11 +20,9 @@ use Rattle.updater_cli.specs.Report.{StandsSound, origin_over, report_of}
 use Rattle.updater_cli.specs.Session.{Between, Ended, Start, start_over}
 use Rattle.updater_cli.specs.Status.{PartOutcome, code_of, end_status, IsSessionEnd}
 use Rattle.updater_cli.proofs.Asking.{asks_as, asks_then, rises_as}
-use Rattle.updater_cli.proofs.Downs.{downs_are_counted}
 use Rattle.updater_cli.proofs.Ends.{opened_lines, opened_output, unopened_lines, unopened_run}
 use Rattle.updater_cli.proofs.Leased.{launches_hold, leased_holds, views_hold}
 use Rattle.updater_cli.proofs.Prefix.{ended_at}
-use Rattle.updater_cli.proofs.Walks.{walk_served}
 
 zero_three : ◌≢◌ {A = ℕ} 0 3
 zero_three same = omega arith
@@ -130,10 +128,7 @@ module _ {S K D L : Type 0} (from : SourceGhosts S) (to : SinkGhosts K) (on : Gh
           calls = λ other. inl (end.calls other);
           more = end.more;
           begins = end.begins;
-          written = inl end.written;
-          downs =
-              downs_are_counted net old.links (origin_over now store) new.course.lines.items end.session end.behind
-              (walk_served net (net.links old.links) (origin_over now store) (on.moment disk + 1) old.links new.course.lines.items end.session end.last end.bytes end.behind end.walk);
+          written = end.written;
           begun = end.begun;
         }
 

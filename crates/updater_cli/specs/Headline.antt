@@ -85,7 +85,8 @@ pub record IsOpened {S K D L : Type 0} (on : Ghosts D) (boot status : ℕ)
 
 -- The report's lines are those of the input, one event after another, each at the moment that the
 -- session has by then. Their marks never fall, nor do their numbers of failures, which lie between
--- those of the links before and after. The links and their sites stay.
+-- those of the links before and after. Where a reply says of a link that it failed, the number of
+-- failures rose with the line. The links and their sites stay.
 pub record HeadlineLines {S K D L : Type 0} (source : SourceGhosts S) (on : Ghosts D)
     (net : LinksGhosts L) (boot now status : ℕ) (old new : Devices S K D L)
     (report : Report) : Type 0 where
@@ -97,6 +98,7 @@ pub record HeadlineLines {S K D L : Type 0} (source : SourceGhosts S) (on : Ghos
   pub marks : MarksRise (on.moment old.disk) report.lines (on.moment new.disk)
   pub failures : FailuresRise (failures_of (net.links old.links)) report.lines
       (failures_of (net.links new.links))
+  pub downs : DownsAreCounted (failures_of (net.links old.links)) report.lines
   pub links : Kept (net.links old.links) (net.links new.links)
   pub opening : IsNotOpened boot status old new report ⊎ IsOpened on boot status old new report
 
@@ -112,9 +114,7 @@ MadeCalls status old new lines last =
 -- The report's lines are one walk from a new session over the store to this session, which is
 -- sound; each line holds what is said of it. Unless the disk failed, which is status 4, the reads
 -- then stand for its store. No more bytes are written than the changes of the lines take in the
--- journal, and that of the event that was begun; where there was no memory before a line was run,
--- nothing is said of it. Where a reply says of a link that it failed, the number of failures rose
--- with the line.
+-- journal, and that of the event that was begun.
 pub record LeadsTo {S K D L : Type 0} (on : Ghosts D) (net : LinksGhosts L) (now status : ℕ)
     (old new : Devices S K D L) (report : Report) (store : Store) : Type 0 where
   pub session : Session
@@ -128,9 +128,7 @@ pub record LeadsTo {S K D L : Type 0} (on : Ghosts D) (net : LinksGhosts L) (now
   pub calls : MadeCalls status (on.moment old.disk) (on.moment new.disk) report.lines last
   pub more : ℕ
   pub begins : CostsBegun (moment_behind now report.lines) session report.begun more
-  pub written : (on.total new.disk ≤ on.total old.disk + bytes + more)
-      ⊎ ((status ≡ code_of Memory) × (report.lines ≡ []))
-  pub downs : DownsAreCounted (failures_of (net.links old.links)) report.lines
+  pub written : on.total new.disk ≤ on.total old.disk + bytes + more
   pub begun : IsBegunServed net (moment_behind now report.lines) session behind
       report.begun new.links
 

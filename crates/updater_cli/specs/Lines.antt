@@ -16,6 +16,7 @@ use Rattle.machine.specs.Machine.{Step, moment_after}
 use Rattle.machine.specs.Store.{Session}
 use Rattle.command_text.specs.Input.{Cut, HasNoFeed, IsRead}
 use Rattle.command_text.specs.Lines.{AreEvents, IsEvent}
+use Rattle.install_plan.specs.Downs.{CountsDowns}
 use Rattle.updater.specs.declared.updater.Updater.{Updater}
 use Rattle.updater.specs.StandsFor.{StandsForEither}
 use Rattle.updater.specs.Costs.{Costs}
@@ -24,6 +25,7 @@ use Rattle.updater_cli.specs.declared.course.Course.{Course}
 use Rattle.updater_cli.specs.declared.limits.TheConstants.{INPUT_LIMIT}
 use Rattle.updater_cli.specs.declared.status.Status.TheVariants.{Done, SourceFault, SinkFault, DiskFault, Memory, TooMuchInput}
 use Rattle.updater_cli.specs.Devices.{RisesWith, Asks}
+use Rattle.updater_cli.specs.Downs.{DownsAreCounted}
 use Rattle.updater_cli.specs.Report.{events_of, report_of, moment_behind, IsRunAt, AreRunFrom, IsCounted, IsLineServed, IsSettled, MarksRise, FailuresRise, WritesReplies}
 use Rattle.updater_cli.specs.Session.{Start, Between, Ended}
 use Rattle.updater_cli.specs.Status.{PartOutcome, code_of, end_status, IsBegun, IsLineEnd, IsSessionEnd}
@@ -71,6 +73,7 @@ pub record LineRun {D L : Type 0} (on : Ghosts D) (net : LinksGhosts L) (now : �
       → IfErr result (λ event. Broke on net now disk_old links_old old event disk links)
   pub asks : Asks on (IsErr result) disk_old disk
   pub kept : Kept (net.links links_old) (net.links links)
+  pub downs : IfOk result (λ r. CountsDowns (net.links links_old) (net.links links) r.1)
 
 -- ---- what is seen of a session
 
@@ -94,6 +97,7 @@ pub record Trace (told : Type 0) (status : ℕ) (inputs : List (List ℕ)) (old 
   pub moment : new.now ≡ moment_behind old.now more
   pub marks : MarksRise old.calls more new.calls
   pub failures : FailuresRise old.failures more new.failures
+  pub downs : DownsAreCounted old.failures more
   pub output : told → WritesReplies status old.taken new.taken more
 
 -- What is pending of a line that no line feed has ended: as much of it as is kept.

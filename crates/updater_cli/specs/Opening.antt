@@ -130,7 +130,7 @@ pub record OpensSession {D L : Type 0} (on : Ghosts D) (net : LinksGhosts L) (bo
       → IfErr result (λ status. Survives on disk_old disk (origin_over now store) (code_of status)
       (report_of [] (begun_by boot status)))
   pub written : on.tells disk → (store : Store) → StandsFor (on.seen disk_old) store
-      → IfErr result (λ status. status ≢ Memory → (more : ℕ)
+      → IfErr result (λ status. (more : ℕ)
       × CostsBegun now (session_over store) (begun_by boot status) more
       × (on.total disk ≤ on.total disk_old + more))
   pub not_a_store : on.tells disk → result ≡ Err NotAStore → StandsForNone (on.seen disk_old)

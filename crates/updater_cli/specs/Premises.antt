@@ -13,7 +13,7 @@ use Rattle.identity.specs.Version.{IsVersion}
 use Rattle.links.specs.Links.{LinksState}
 use Rattle.fetcher.specs.Fetched.{AreQuietTo}
 use Rattle.publish_plan.specs.Places.{deployment_name}
-use Rattle.publisher.specs.declared.publishing.Published.{Published}
+use Rattle.publisher.specs.declared.published.Published.{Published}
 use Rattle.publisher.specs.Options.{IsPublishable}
 use Rattle.publisher.specs.Published.{PublishesFiles}
 use Rattle.published_paths.specs.Reached.{Reaches}

@@ -41,8 +41,7 @@ pub record PublishesBy {F K : Type 0} (folder : FolderGhosts F) (to : SinkGhosts
     (options : Options) (status : ℕ) (folder_old folder_new : F) (sink_old sink : K) : Type 0 where
   pub end : End
   pub code : status ≡ status_of end
-  pub done : PublishesOptions folder.tells folder.held folder.count to.tells to.taken options
-      folder_old folder_new sink_old sink end
+  pub done : PublishesOptions folder to options folder_old folder_new sink_old sink end
       ⊎ ((end ≡ ends.Memory) × (folder_new ≡ folder_old) × (sink ≡ sink_old))
   pub sink_fault : end ≡ ends.SinkFault → Rose (to.count sink_old) (to.count sink)
   pub read_fault : status ≡ status_of ends.ReadFault

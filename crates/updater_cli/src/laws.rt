@@ -1,5 +1,4 @@
 // What holds from a publish to a read, with no code.
-ghost use Rattle.updater_cli.specs.Downs.{ServedDownsAreCounted};
 ghost use Rattle.updater_cli.specs.NoOthers.{NoOthersCome};
 ghost use Rattle.updater_cli.specs.Premises.{OneSiteIsGiven, PublishesWrite, ServedIsGiven};
 ghost use Rattle.updater_cli.specs.Published.{PublishedDataIsRead, PublishedIsGiven, PublishedIsRead};
@@ -61,12 +60,6 @@ pub fn served_is_given<L: Links>(before: &L, after: &L)
 /// that holds what was published.
 pub fn one_site_is_given<L: Links>(links: &L)
     ensures { OneSiteIsGiven (L.links links.now) }
-{}
-
-/// A line whose reply says of a link that it failed shows more failures than the line before it. At
-/// its type's end the number stands still and counts as risen.
-pub fn downs_are_counted<L: Links>(links: &L)
-    ensures { ServedDownsAreCounted L.Links links.now }
 {}
 
 /// A walk over lines is a run of the machine, and the links did what is said of each line. Where the

@@ -6,17 +6,17 @@ mod demo_end;
 mod laws;
 mod limits;
 mod line;
-mod opening;
 mod session;
 mod status;
 mod top;
+mod whole_session;
 mod words;
 
 pub use demo::DemoFault;
 pub use laws::{
-    downs_are_counted, no_others_come, one_site_is_given, pages_have_releases,
-    published_data_is_read, published_is_given, published_is_read, publishes_write,
-    releases_are_offered, served_is_given, walks_tell,
+    no_others_come, one_site_is_given, pages_have_releases, published_data_is_read,
+    published_is_given, published_is_read, publishes_write, releases_are_offered, served_is_given,
+    walks_tell,
 };
 pub use limits::{INPUT_LIMIT, input_limit_is};
 pub use machine::{Report, ReportLine};

@@ -18,8 +18,8 @@ ghost use Rattle.updater_cli.specs.Status.{code_of};
 ghost use Rattle.updater_cli.specs.Words.{AsksForDemo, AsksForSession, AsksToPublish, IsUntaken, is_publish, request_of};
 
 use crate::demo_end::demonstrate;
-use crate::opening::session;
 use crate::status::Status;
+use crate::whole_session::session;
 use crate::words::{Request, read_words};
 use demo::DemoFault;
 use disks::Disk;

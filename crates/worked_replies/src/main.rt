@@ -51,6 +51,13 @@ fn plain(rt: &HostRuntime) -> io::Result<()> {
     say(rt, Reply::BelowMinimum { minimum: version })?;
     say(rt, Reply::Spent { next: now })?;
     say(rt, Reply::Full { need: 11, free: 10 })?;
+    say(
+        rt,
+        Reply::TableFull {
+            weight: 1_002_845,
+            room: 983_040,
+        },
+    )?;
     say(rt, Reply::BadUrl)?;
     say(rt, Reply::NotHttp)?;
     say(rt, Reply::Memory)

@@ -4,6 +4,7 @@ use Rattle.publisher.specs.declared.fault.PublishFault.TheVariants.{FileTooLong}
 use Rattle.publisher.specs.Publication.{bytes_in, entry_of, read_entry}
 use Rattle.publisher.proofs.Entering.{read_long, read_short}
 use Rattle.publisher.proofs.Giving.{gives_last, last_ok}
+use Rattle.publisher.proofs.TwoReadings.{entry_read_so}
 use Rattle.publisher.proofs.entries.read_entry.Goals as goal
 
 pub returns-then-length-limit-clause-told : goal.returns-then-length-limit-clause-told
@@ -24,3 +25,7 @@ returns-clause-told g c = λ told.
     gives_last c.entry_of.result (read_entry held file)
     (last_ok c.entry_of.result (read_entry held file) (entry_of file c.as_slice-2.result.now) c.entry_of.ensures.entry (read_short held file c.as_slice-2.result.now bytes short))
     c.entry_of.ensures.memory
+
+pub returns-clause-noted : goal.returns-clause-noted
+returns-clause-noted g c = λ records.
+    entry_read_so c.args.file.now c.in_ok-bytes.bytes c.as_slice-2.result.now (g.F.Folder.answers c.args.folder.now) (g.F.Folder.answers c.read_file.new.folder) c.entry_of.result c.as_slice-2.ensures (c.in_ok-bytes.ensures.noted records) c.entry_of.ensures.entry

@@ -1,5 +1,6 @@
 use Rattle.std.proofs.Common.{ap, arith, length, map}
-use Rattle.store_state.specs.Signs.{content_sign, sign_cmp}
+use Rattle.store_state.specs.ContentKeys.{content_key_cmp}
+use Rattle.store_state.specs.Contents.{held_key}
 use Rattle.store_state.proofs.Inserted.{none_sorted}
 use Rattle.store_state.proofs.WithoutRows.{few_contents, index_long, kept_contents, kept_rows, left_indexes, left_is, left_tables, needed_fewer, placed_anew}
 use Rattle.store_state.proofs.state.StoreState.drop_views.Goals as goal
@@ -30,7 +31,7 @@ add_places-requires-clause-room c =
 -- an index of no places is in order
 pub add_places-requires-clause-sorted : goal.add_places-requires-clause-sorted
 add_places-requires-clause-sorted c =
-    none_sorted sign_cmp (map content_sign c.as_slice-9.result.now) c.clear.new.self.items
+    none_sorted content_key_cmp (map held_key c.as_slice-9.result.now) c.clear.new.self.items
     c.clear.ensures.items
 
 pub invariant_of-self : goal.invariant_of-self

@@ -1,8 +1,9 @@
-use Rattle.std.proofs.Common.{◌≡◌, ◌∙◌, [], ◌≤◌, ℕ, length, ap, subst, sym}
+use Rattle.std.proofs.Common.{◌≡◌, ◌∙◌, [], ◌≤◌, ℕ, length, ap, subst, sym, refl}
 use Rattle.small_types.specs.declared.limits.TheConstants.{NUMBER_LIMIT}
 use Rattle.machine.specs.declared.command.Command.TheVariants as command
 use Rattle.machine.specs.declared.reply.Reply.TheVariants as says
 use Rattle.store_state.specs.declared.change.Change.TheVariants as change
+use Rattle.install_plan.proofs.Downs.{counts_none}
 use Rattle.updater.proofs.Cleanings.{cleaned_does, cleaned_rests}
 use Rattle.updater.proofs.Commanding.{kept, memory_missed, rested, unlinked}
 use Rattle.updater.proofs.updater.Updater.clean.Goals as goal
@@ -14,6 +15,7 @@ returns-then-views-eq0 g c =
     (g.met.D.Disk.seen_left c.args.disk.now) c.requires
     (unlinked g.L.Links command.Clean c.args.self.now c.args._links.now)
     (says.Cleaned (length c.as_slice.result.now)) c.requires
+    (counts_none refl)
     (λ old s. cleaned_rests c.args.now c.args.self.now.room c.args.self.now.state
     _ _ _ old s.jobs s.shows s.valid c.requires (length c.as_slice.result.now)
     (ap length (c.as_slice.ensures ∙ c.in-Ok.ensures c.args.self.now.room)) c.if-views-eq0.true)
@@ -25,6 +27,7 @@ returns g c =
     (g.met.D.Disk.seen_left c.args.disk.now) c.requires
     (unlinked g.L.Links command.Clean c.args.self.now c.args._links.now)
     change.Clean (says.Cleaned (length c.as_slice.result.now)) c.requires
+    (counts_none refl)
     (λ old s. cleaned_does c.args.now c.args.self.now.room c.args.self.now.state
     _ _ _ old s.jobs s.shows s.valid c.requires (length c.as_slice.result.now)
     (ap length (c.as_slice.ensures ∙ c.in-Ok.ensures c.args.self.now.room)) c.if-views-eq0.false)

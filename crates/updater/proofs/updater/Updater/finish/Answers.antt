@@ -3,6 +3,7 @@ use Rattle.small_types.specs.declared.limits.TheConstants.{NUMBER_LIMIT}
 use Rattle.machine.specs.declared.command.Command.TheVariants as command
 use Rattle.machine.specs.declared.reply.Reply.TheVariants as says
 use Rattle.store_state.specs.declared.change.Change.TheVariants as change
+use Rattle.install_plan.proofs.Downs.{counts_none}
 use Rattle.updater.proofs.Commanding.{kept, memory_missed, refused, unlinked}
 use Rattle.updater.proofs.Finishing.{finished_does, finished_fits}
 use Rattle.updater.proofs.updater.Updater.finish.Goals as goal
@@ -14,6 +15,7 @@ returns-in-Some g c =
     (g.met.D.Disk.seen_left c.args.disk.now) c.requires.moment tt c.in-Some.reply
     (subst (λ (n : ℕ). n ≤ NUMBER_LIMIT) (sym (c.in-Some.ensures.still c.args.now))
     c.requires.moment)
+    (counts_none c.in-Some.ensures.no_target)
     (λ old s. c.in-Some.ensures.some c.args.now c.args.self.now.room old)
 
 pub keep-requires : goal.keep-requires
@@ -30,6 +32,7 @@ returns g c =
     (g.met.D.Disk.seen_left c.args.disk.now) c.requires.moment
     (unlinked g.L.Links command c.args.self.now c.args._links.now)
     (change.Finish c.args.lease) (says.Finished c.args.lease) c.requires.moment
+    (counts_none refl)
     (λ old s. finished_does c.args.now c.args.lease c.args.self.now.room c.args.self.now.state
     _ _ _ old s.jobs s.shows s.valid c.requires.words c.requires.moment
     (c.in_default.ensures.none refl c.args.now c.args.self.now.room))

@@ -1,8 +1,9 @@
-use Rattle.std.proofs.Common.{[], ◌≤◌, ℕ, subst, sym}
+use Rattle.std.proofs.Common.{[], ◌≤◌, ℕ, subst, sym, refl}
 use Rattle.small_types.specs.declared.limits.TheConstants.{NUMBER_LIMIT}
 use Rattle.machine.specs.declared.command.Command.TheVariants as command
 use Rattle.machine.specs.declared.reply.Reply.TheVariants as says
 use Rattle.store_state.specs.declared.change.Change.TheVariants as change
+use Rattle.install_plan.proofs.Downs.{counts_none}
 use Rattle.updater.proofs.Commanding.{kept, memory_missed, refused, unlinked}
 use Rattle.updater.proofs.Launching.{launched_does}
 use Rattle.updater.proofs.ShownViews.{keeps_current}
@@ -14,6 +15,7 @@ returns-in-Err g c =
     c.args.self.now c.args.disk.now c.args._links.now
     (g.met.D.Disk.seen_left c.args.disk.now) c.requires.moment tt c.in-Err.reply
     (subst (λ (n : ℕ). n ≤ NUMBER_LIMIT) (sym c.in-Err.ensures.still) c.requires.moment)
+    (counts_none c.in-Err.ensures.no_target)
     (λ old s. c.in-Err.ensures.refused (keeps_current s.shows c.args.key.now s.valid.ordered)
     c.args.self.now.room old)
 
@@ -26,6 +28,7 @@ returns g c =
     (unlinked g.L.Links command c.args.self.now c.args._links.now)
     (change.Launch c.in-Ok.start.app)
     (says.Lease c.in-Ok.start.lease c.in-Ok.start.version c.in-Ok.start.check_due) c.requires.moment
+    (counts_none refl)
     (λ old s. launched_does c.args.now c.args.key.now c.args.self.now.room c.args.self.now.state
     _ _ _ old s.jobs s.shows s.valid c.requires.words c.requires.moment
     c.in-Ok.start c.in-Ok.ensures.start)

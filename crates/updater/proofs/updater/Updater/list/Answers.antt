@@ -1,6 +1,7 @@
-use Rattle.std.proofs.Common.{[]}
+use Rattle.std.proofs.Common.{[], refl}
 use Rattle.machine.specs.declared.command.Command.TheVariants as command
 use Rattle.machine.specs.declared.reply.Reply.TheVariants as says
+use Rattle.install_plan.proofs.Downs.{counts_none}
 use Rattle.updater.proofs.Commanding.{rested, unlinked}
 use Rattle.updater.proofs.Lists.{listed_rests}
 use Rattle.updater.proofs.updater.Updater.list.Goals as goal
@@ -12,5 +13,6 @@ returns-in-Ok g c =
     (g.met.D.Disk.seen_left c.args._disk.now) c.requires
     (unlinked g.L.Links command.List c.args.self.now c.args._links.now)
     (says.Listed c.in-Ok.rows) c.requires
+    (counts_none refl)
     (λ old s. listed_rests c.args.now c.args.self.now.room c.args.self.now.state
     _ _ _ old s.jobs s.shows c.in-Ok.rows c.in-Ok.ensures)

@@ -1,8 +1,9 @@
-use Rattle.std.proofs.Common.{[], ◌≤◌, ℕ, rules, subst, sym}
+use Rattle.std.proofs.Common.{[], ◌≤◌, ℕ, rules, subst, sym, refl}
 use Rattle.small_types.specs.declared.limits.TheConstants.{NUMBER_LIMIT}
 use Rattle.machine.specs.declared.command.Command.TheVariants as command
 use Rattle.machine.specs.declared.reply.Reply.TheVariants as says
 use Rattle.store_state.specs.declared.change.Change.TheVariants as change
+use Rattle.install_plan.proofs.Downs.{counts_none}
 use Rattle.updater.proofs.Commanding.{kept, memory_missed, refused, rested, unlinked}
 use Rattle.updater.proofs.DataPut.{file_encodes, put_does, put_rests}
 use Rattle.updater.proofs.PutFits.{put_fits}
@@ -17,6 +18,7 @@ returns-in-Err g c =
     (g.met.D.Disk.seen_left c.args.disk.now) c.requires.moment tt c.in-Err.reply
     (subst (λ (n : ℕ). n ≤ NUMBER_LIMIT) (sym (c.in-Err.ensures.still c.args.now))
     c.requires.moment)
+    (counts_none c.in-Err.ensures.no_target)
     (λ old s. c.in-Err.ensures.refused (keeps_view s.shows c.args.lease s.valid.ordered) old)
 
 pub returns-then-putting : goal.returns-then-putting
@@ -26,9 +28,10 @@ returns-then-putting g c =
     c.args.self.now c.args.disk.now c.args._links.now c.args._links.now
     (g.met.D.Disk.seen_left c.args.disk.now) c.requires.moment
     (unlinked g.L.Links command c.args.self.now c.args._links.now) says.Put c.requires.moment
+    (counts_none refl)
     (λ old s. put_rests c.args.now c.args.lease c.args.self.now.room c.args.name.now
     c.args.bytes.now c.args.self.now.state _ _ _ old s.jobs s.shows s.valid c.requires.words
-    c.requires.moment c.in-Ok.putting (c.in-Ok.ensures.putting _) c.if-putting.true)
+    c.requires.moment c.in-Ok.putting (c.in-Ok.ensures.putting _) s.half c.if-putting.true)
 
 pub keep-requires : goal.keep-requires
 keep-requires g c = (
@@ -50,9 +53,10 @@ returns g c =
     (g.met.D.Disk.seen_left c.args.disk.now) c.requires.moment
     (unlinked g.L.Links command c.args.self.now c.args._links.now)
     (change.Put c.in-Ok.putting.view c.in-Ok-local_file.file) says.Put c.requires.moment
+    (counts_none refl)
     (λ old s. put_does c.args.now c.args.lease c.args.self.now.room c.args.name.now
     c.args.bytes.now c.args.self.now.state _ _ _ old s.jobs s.shows s.valid c.requires.words
-    c.requires.moment c.in-Ok.putting (c.in-Ok.ensures.putting _) c.in-Ok-local_file.file
+    c.requires.moment c.in-Ok.putting (c.in-Ok.ensures.putting _) s.half c.in-Ok-local_file.file
     c.in-Ok-local_file.ensures c.puts_show_the_file.ensures
     c.one_data_file_is_changed.ensures.put c.if-putting.false)
     (memory_missed g.D.Disk g.L.Links c.args.now command

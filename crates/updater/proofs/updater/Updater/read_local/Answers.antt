@@ -1,8 +1,9 @@
-use Rattle.std.proofs.Common.{[], ◌≤◌, ℕ, length, ap, subst, sym, ◌∙◌}
+use Rattle.std.proofs.Common.{[], ◌≤◌, ℕ, length, ap, subst, sym, ◌∙◌, refl}
 use Rattle.small_types.specs.declared.limits.TheConstants.{NUMBER_LIMIT}
 use Rattle.machine.specs.declared.command.Command.TheVariants as command
 use Rattle.machine.specs.declared.reply.Reply.TheVariants as says
 use Rattle.machine.specs.ReadRow.{part}
+use Rattle.install_plan.proofs.Downs.{counts_none}
 use Rattle.updater.proofs.Commanding.{refused, rested, unlinked}
 use Rattle.updater.proofs.LeasedData.{data_rests}
 use Rattle.updater.proofs.ShownViews.{keeps_view}
@@ -15,6 +16,7 @@ returns-in-Err g c =
     c.args.self.now c.args._disk.now c.args._links.now
     (g.met.D.Disk.seen_left c.args._disk.now) c.requires tt c.in-Err.reply
     (subst (λ (n : ℕ). n ≤ NUMBER_LIMIT) (sym (c.in-Err.ensures.still c.args.now)) c.requires)
+    (counts_none c.in-Err.ensures.no_target)
     (λ old s. c.in-Err.ensures.refused (keeps_view s.shows c.args.lease s.valid.ordered)
     c.args.self.now.room old)
 
@@ -26,6 +28,7 @@ returns-in-Ok-part_of g c =
     (g.met.D.Disk.seen_left c.args._disk.now) c.requires
     (unlinked g.L.Links command c.args.self.now c.args._links.now)
     (says.Read (length c.as_slice-held.result.now) c.in-Ok-part_of.bytes) c.requires
+    (counts_none refl)
     (λ old s. data_rests c.args.lease c.args.name.now c.args.self.now.room c.args.self.now.state
     c.args.now c.args.from c.args.count _ _ _ old s.jobs s.shows
     c.in-Ok.file.now c.in-Ok.ensures.file (length c.as_slice-held.result.now) c.in-Ok-part_of.bytes

@@ -1,10 +1,11 @@
-use Rattle.std.proofs.Common.{[], ◌≤◌, ℕ, List, rules, subst, sym}
+use Rattle.std.proofs.Common.{[], ◌≤◌, ℕ, List, rules, subst, sym, refl}
 use Rattle.small_types.specs.declared.limits.TheConstants.{NUMBER_LIMIT}
 use Rattle.machine.specs.declared.command.Command.TheVariants as command
 use Rattle.machine.specs.declared.reply.Reply.TheVariants as says
 use Rattle.small_types.specs.Name.{IsName}
 use Rattle.store_state.specs.declared.change.Change.TheVariants as change
 use Rattle.store_state.specs.Change.{Fits}
+use Rattle.install_plan.proofs.Downs.{counts_none}
 use Rattle.updater.proofs.Commanding.{Does, kept, memory_missed, refused, unlinked}
 use Rattle.updater.proofs.DataRemoved.{removal_does, removal_fits}
 use Rattle.updater.proofs.ShownViews.{keeps_view}
@@ -17,6 +18,7 @@ returns-in-Err g c =
     (g.met.D.Disk.seen_left c.args.disk.now) c.requires.moment tt c.in-Err.reply
     (subst (λ (n : ℕ). n ≤ NUMBER_LIMIT) (sym (c.in-Err.ensures.still c.args.now))
     c.requires.moment)
+    (counts_none c.in-Err.ensures.no_target)
     (λ old s. c.in-Err.ensures.refused (keeps_view s.shows c.args.lease s.valid.ordered)
     c.args.self.now.room old)
 
@@ -41,6 +43,7 @@ returns g c =
     (g.met.D.Disk.seen_left c.args.disk.now) c.requires.moment
     (unlinked g.L.Links command c.args.self.now c.args._links.now)
     (change.Remove c.in-Ok.view c.in-Ok-copy.name) says.Removed c.requires.moment
+    (counts_none refl)
     (λ old s. subst
     (λ (name : List ℕ). Does c.args.now [] command (g.L.Links.links c.args._links.now)
     (g.L.Links.links c.args._links.now) (change.Remove c.in-Ok.view name) c.args.self.now.state old

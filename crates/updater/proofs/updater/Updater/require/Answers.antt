@@ -2,6 +2,7 @@ use Rattle.std.proofs.Common.{[], ◌≤◌, ℕ, refl, subst, sym}
 use Rattle.small_types.specs.declared.limits.TheConstants.{NUMBER_LIMIT}
 use Rattle.machine.specs.declared.command.Command.TheVariants as command
 use Rattle.machine.specs.declared.reply.Reply.TheVariants as says
+use Rattle.install_plan.proofs.Downs.{counts_none}
 use Rattle.updater.proofs.Commanding.{refused, rested, unlinked}
 use Rattle.updater.proofs.Requiring.{required_rests}
 use Rattle.updater.proofs.updater.Updater.require.Goals as goal
@@ -10,6 +11,7 @@ pub returns-in-Some : goal.returns-in-Some
 returns-in-Some g c =
     refused g.D.Disk g.L.Links c.args.now (command.Require c.args.key.now c.args.version) c.args.self.now c.args.disk.now c.args.links.now (g.met.D.Disk.seen_left c.args.disk.now) c.requires.moment tt c.in-Some.reply
     (subst (λ (n : ℕ). n ≤ NUMBER_LIMIT) (sym (c.in-Some.ensures.still c.args.now)) c.requires.moment)
+    (counts_none c.in-Some.ensures.no_target)
     (λ old s. c.in-Some.ensures.some c.args.now c.args.self.now.room c.args.version old)
 
 pub returns-in-Some-minimum_that_stays : goal.returns-in-Some-minimum_that_stays
@@ -17,7 +19,8 @@ returns-in-Some-minimum_that_stays g c =
     let command = command.Require c.args.key.now c.args.version in
     rested g.D.Disk g.L.Links c.args.now [] command c.args.self.now c.args.disk.now c.args.links.now c.args.links.now (g.met.D.Disk.seen_left c.args.disk.now) c.requires.moment
     (unlinked g.L.Links command c.args.self.now c.args.links.now) (says.Minimum c.in-Some-minimum_that_stays.minimum) c.requires.moment
-    (λ old s. required_rests c.args.now c.args.key.now c.args.version _ c.args.self.now.state _ _ _ old s.jobs s.shows (c.in_default.ensures.none refl c.args.now c.args.self.now.room c.args.version) c.in-Some-minimum_that_stays.minimum c.in-Some-minimum_that_stays.ensures.some)
+    (counts_none refl)
+    (λ old s. required_rests c.args.now c.args.key.now c.args.version _ c.args.self.now.state _ _ _ old s.jobs s.shows (c.in_default.ensures.none refl c.args.now c.args.self.now.room c.args.version s.half) c.in-Some-minimum_that_stays.minimum c.in-Some-minimum_that_stays.ensures.some)
 
 pub raise-requires-clause-passed : goal.raise-requires-clause-passed
-raise-requires-clause-passed g c = λ room. c.in_default.ensures.none refl c.args.now room c.args.version
+raise-requires-clause-passed g c = λ room plain. c.in_default.ensures.none refl c.args.now room c.args.version plain

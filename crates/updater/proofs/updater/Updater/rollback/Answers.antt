@@ -1,8 +1,9 @@
-use Rattle.std.proofs.Common.{[], ◌≤◌, ℕ, subst, sym}
+use Rattle.std.proofs.Common.{[], ◌≤◌, ℕ, subst, sym, refl}
 use Rattle.small_types.specs.declared.limits.TheConstants.{NUMBER_LIMIT}
 use Rattle.machine.specs.declared.command.Command.TheVariants as command
 use Rattle.machine.specs.declared.reply.Reply.TheVariants as says
 use Rattle.store_state.specs.declared.change.Change.TheVariants as change
+use Rattle.install_plan.proofs.Downs.{counts_none}
 use Rattle.updater.proofs.Commanding.{kept, memory_missed, refused, unlinked}
 use Rattle.updater.proofs.GoingBack.{rolled_back_does}
 use Rattle.updater.proofs.ShownViews.{keeps_current, keeps_previous}
@@ -15,6 +16,7 @@ returns-in-Err g c =
     (g.met.D.Disk.seen_left c.args.disk.now) c.requires.moment tt c.in-Err.reply
     (subst (λ (n : ℕ). n ≤ NUMBER_LIMIT) (sym (c.in-Err.ensures.still c.args.now))
     c.requires.moment)
+    (counts_none c.in-Err.ensures.no_target)
     (λ old s. c.in-Err.ensures.refused (keeps_current s.shows c.args.key.now s.valid.ordered)
     (keeps_previous s.shows c.args.key.now s.valid.ordered) c.args.now
     c.args.self.now.room old)
@@ -27,6 +29,7 @@ returns g c =
     (g.met.D.Disk.seen_left c.args.disk.now) c.requires.moment
     (unlinked g.L.Links command c.args.self.now c.args._links.now)
     (change.Rollback c.in-Ok.going.app) (says.Current c.in-Ok.going.version) c.requires.moment
+    (counts_none refl)
     (λ old s. rolled_back_does c.args.now c.args.key.now c.args.self.now.room
     c.args.self.now.state _ _ _ old s.jobs s.shows s.valid c.requires.words c.requires.moment
     c.in-Ok.going c.in-Ok.ensures.going)

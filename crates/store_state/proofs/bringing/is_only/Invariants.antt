@@ -1,6 +1,0 @@
-use Rattle.std.proofs.Common.{All, Contains, take}
-use Rattle.store_state.specs.declared.sign.Sign.{Sign}
-use Rattle.store_state.proofs.bringing.is_only.Given as goal
-
-abbrev pub invariant-loop-sign : goal.invariant-loop-sign
-invariant-loop-sign l = All (λ (sign : Sign). Contains l.standing sign) (take l.sign-index l.brought)

@@ -1,9 +1,0 @@
-use Rattle.std.proofs.Common.{◌≡◌, ◌++◌, ◌&&◌, not, drop, map}
-use Rattle.std.specs.Prelude.{filter}
-use Rattle.manifests.specs.declared.facts.FileEntry.{FileEntry}
-use Rattle.machine.specs.Views.{stands_by}
-use Rattle.store_state.specs.Signs.{entry_sign}
-use Rattle.store_state.proofs.bringing.standing_signs.Given as goal
-
-abbrev pub invariant-loop-entry : goal.invariant-loop-entry
-invariant-loop-entry l = l.signs.items ++ map entry_sign (filter (λ (e : FileEntry). not e.local && stands_by l.view.groups e.group) (drop l.entry-index l.view.application.files)) ≡ map entry_sign (filter (λ (e : FileEntry). not e.local && stands_by l.view.groups e.group) l.view.application.files)

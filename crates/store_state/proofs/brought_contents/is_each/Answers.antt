@@ -1,0 +1,30 @@
+use Rattle.std.proofs.Common.{◌⊎◌, Contains, arith, map, refl}
+use Rattle.machine.specs.Views.{ContentKey}
+use Rattle.store_state.specs.Contents.{held_key}
+use Rattle.store_state.proofs.Passing.{all_ended, all_more, all_refuted}
+use Rattle.store_state.proofs.brought_contents.is_each.Goals as goal
+
+pub returns-then-not-is_held_or_brought : goal.returns-then-not-is_held_or_brought
+returns-then-not-is_held_or_brought c = (
+  λ no. absurd cc,
+  λ all. absurd
+      (all_refuted (λ (key : ContentKey). Contains (map held_key c.args.state.now.contents) key
+      ⊎ Contains c.args.brought.now key) c.args.standing.now c.loop-key.key-index
+      c.key-item.result c.key-item.is c.loop-key-test.true
+      (λ there. absurd (grind (arith, c.is_held_or_brought.ensures.1 there))) all),
+)
+
+pub loop-key-preserved : goal.loop-key-preserved
+loop-key-preserved c =
+    all_more (λ (key : ContentKey). Contains (map held_key c.args.state.now.contents) key
+    ⊎ Contains c.args.brought.now key) c.args.standing.now c.loop-key.key-index
+    c.key-item.result c.key-item.is c.loop-key-test.true
+    (c.is_held_or_brought.ensures.0 c.if-not-is_held_or_brought.false) c.loop-key.invariant
+
+pub returns : goal.returns
+returns c = (
+  λ ended. all_ended (λ (key : ContentKey). Contains (map held_key c.args.state.now.contents) key
+      ⊎ Contains c.args.brought.now key) c.args.standing.now c.loop-key.key-index
+      c.loop-key-test.false c.loop-key.invariant,
+  λ all. refl,
+)

@@ -1,0 +1,9 @@
+use Rattle.std.proofs.Common.{◌⊎◌, All, Contains, map, take}
+use Rattle.machine.specs.Views.{ContentKey}
+use Rattle.store_state.specs.Contents.{held_key}
+use Rattle.store_state.proofs.brought_contents.is_each.Given as goal
+
+abbrev pub invariant-loop-key : goal.invariant-loop-key
+invariant-loop-key l =
+    All (λ (key : ContentKey). Contains (map held_key l.state.contents) key
+    ⊎ Contains l.brought key) (take l.key-index l.standing)

@@ -1,7 +1,0 @@
-use Rattle.std.proofs.Common.{◌∙◌, sym, arith}
-use Rattle.store_state.specs.Signs.{digest_cmp}
-use Rattle.store_state.proofs.SignOrder.{ended}
-use Rattle.store_state.proofs.sign.digests_order.Goals as goal
-
-pub returns : goal.returns
-returns c = c.cmp.ensures ∙ sym (ended digest_cmp c.args.a.now c.args.b.now c.loop-place.place (omega arith)) ∙ c.loop-place.invariant
