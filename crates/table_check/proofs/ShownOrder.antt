@@ -1,5 +1,5 @@
 -- Ordered tables, and the store that they show.
-use Rattle.std.proofs.Common.{◌≡◌, ◌↔◌, ◌≤◌, ◌<◌, ℕ, Bool, refl, sym, ap, subst, List, All, AllPairs, Contains, IsSome, IsTrue, map}
+use Rattle.std.proofs.Common.{◌≡◌, ◌↔◌, ◌≤◌, ◌<◌, ℕ, Bool, refl, sym, subst, List, All, AllPairs, Contains, IsSome, IsTrue, map}
 use Rattle.std.proofs.lemmas.List.{length-map}
 use Rattle.std.proofs.lemmas.List.Elements.{All-map, All-weaker}
 use Rattle.small_types.specs.declared.room.Room.{Room}
