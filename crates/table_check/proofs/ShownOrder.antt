@@ -1,5 +1,5 @@
 -- Ordered tables, and the store that they show.
-use Rattle.std.proofs.Common.{◌≡◌, ◌↔◌, ◌≤◌, ◌<◌, ℕ, Bool, refl, sym, ap, subst, List, All, AllPairs, Contains, IsSome, IsTrue, map, arith}
+use Rattle.std.proofs.Common.{◌≡◌, ◌↔◌, ◌≤◌, ◌<◌, ℕ, Bool, refl, sym, subst, List, All, AllPairs, Contains, IsSome, IsTrue, map}
 use Rattle.std.proofs.lemmas.List.{length-map}
 use Rattle.std.proofs.lemmas.List.Elements.{All-map, All-weaker}
 use Rattle.small_types.specs.declared.room.Room.{Room}
@@ -7,11 +7,12 @@ use Rattle.small_types.specs.declared.limits.TheConstants.{BLOCK_LIMIT, FILE_COU
 use Rattle.manifests.specs.declared.facts.FileEntry.{FileEntry}
 use Rattle.machine.specs.declared.lease.Lease.{Lease}
 use Rattle.machine.specs.Blocks.{standing_files, used_blocks}
-use Rattle.machine.specs.Shape.{Shape, bare_view, shape_of}
+use Rattle.machine.specs.Shape.{Shape, shape_of}
 use Rattle.machine.specs.Store.{Store, session_over}
-use Rattle.machine.specs.Valid.{IsApp, IsInstalled, IsView, Ordered}
+use Rattle.machine.specs.Valid.{IsApp, IsInstalled, IsView, Ordered, Valid}
 use Rattle.machine.specs.Views.{key_of, standing_entries}
 use Rattle.machine.specs.Views.{View as KeptView}
+use Rattle.machine.specs.Weight.{IsLight, weight_of}
 use Rattle.machine.proofs.Members.{all_in, in_all, in_map}
 use Rattle.store_state.specs.declared.view.View.{View}
 use Rattle.store_state.specs.Change.{IsRow}
@@ -131,16 +132,18 @@ module _ (room : Room) (image : List ℕ) (tables : Tables) (are : AreTables tab
     measured = measured;
   }
 
-  blocks_shown : (store : Store) → Shows room tables image store
+  valid_shown : (store : Store) → Shows room tables image store → Ordered store
       → used_blocks (map bare_row views) ≤ room.blocks
-      → used_blocks (map bare_view store.views) ≤ store.room.blocks
-  blocks_shown store shows few =
+      → IsLight room (weight_of (map bare_row views) tables.apps) → Valid store
+  valid_shown store shows ordered few light =
       let shape : shape_of (session_over store) ≡ table_shape room tables =
       shape_shown (session_over store) refl shows in
-      let used : used_blocks (map bare_view store.views) ≡ used_blocks (map bare_row views) =
-      ap (λ (s : Shape). used_blocks s.views) shape in
-      let same : store.room.blocks ≡ room.blocks = ap (λ (s : Shape). s.room.blocks) shape in
-      omega (arith, few, used, same)
+      record {
+        ordered = ordered;
+        room =
+            subst (λ (s : Shape). used_blocks s.views ≤ s.room.blocks) (sym shape) few;
+        light = subst (λ (s : Shape). IsLight s.room (weight_of s.views s.apps)) (sym shape) light;
+      }
 
   pub ordered_shown : AreOrderedTables tables → 1 ≤ room.blocks → room.blocks ≤ BLOCK_LIMIT
       → All (λ (view : View). HasLocals room image view.locals) views
@@ -150,10 +153,8 @@ module _ (room : Room) (image : List ℕ) (tables : Tables) (are : AreTables tab
     shows = shows_store measured;
     ordered = ordered_store ordered some few;
     valid =
-        λ fits. record {
-          ordered = ordered_store ordered some few;
-          room = blocks_shown (shown_store room image tables) (shows_store measured) fits;
-        };
+        λ few_blocks light. valid_shown (shown_store room image tables) (shows_store measured)
+        (ordered_store ordered some few) few_blocks light;
   }
 
   pub exactly_ordered : (store : Store) → 1 ≤ room.blocks → room.blocks ≤ BLOCK_LIMIT
