@@ -6,7 +6,7 @@ use small_types::{is_name, read_decimal};
 use std::alloc::Global;
 
 const FILE: &str =
-    "at most 240 bytes, parts between '/', none of them empty, '.' or '..', and no ':'";
+    "a path as a/b.txt, at most 240 bytes, without ':' and parts that are empty, '.' or '..'";
 
 // A form.
 #[derive(Clone, Copy)]

@@ -7,11 +7,13 @@ mod forms;
 mod help;
 mod other_words;
 mod publish_words;
+mod reasons;
 mod shipped;
 
 use crate::folder_site::FolderSite;
 use crate::help::{Page, begins_help, page_of, write_page};
-use crate::other_words::{Misread, what_is_wrong};
+use crate::other_words::what_is_wrong;
+use crate::reasons::Misread;
 use crate::shipped::run_over_file;
 use disks::{Start, Unknown};
 use http_link::HttpLink;

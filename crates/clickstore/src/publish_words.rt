@@ -1,7 +1,7 @@
 // What is wrong with the words behind `publish`, as far as it can be told by looking at them again.
 use crate::commands::Command;
 use crate::forms::{Form, data_mark, group_mark};
-use crate::other_words::{Misread, Why, text_of};
+use crate::reasons::{Misread, Why, text_of};
 use small_types::Word;
 use std::alloc::Global;
 
