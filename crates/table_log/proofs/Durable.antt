@@ -10,7 +10,6 @@ use Rattle.record_codec.specs.Codec.{change_text}
 use Rattle.store_state.specs.declared.change.Change.{Change}
 use Rattle.store_state.specs.Change.{effect}
 use Rattle.store_state.specs.Tables.{Tables}
-use Rattle.table_codec.specs.Spelling.{state_text}
 use Rattle.table_log.specs.declared.fault.StepFault.{StepFault}
 use Rattle.table_log.specs.declared.fault.StepFault.TheVariants.{DiskFault, Memory}
 use Rattle.table_log.specs.MakesDurable.{MakesDurable, Stores, change_size, tables_size}
@@ -50,7 +49,7 @@ module _ {D : Type 0} (on : Ghosts D) (change : Change) (tables : Tables) (log :
   }
 
   -- the other half was begun with the tables, and the entry was added there
-  pub made_by_turn : {T : Type 0} (result : Result T StepFault) (log_new : Log) (tables_new : Tables) (disk_new : D) (base piece : List ℕ) → HasTables (state_text tables) base → HasEntry (change_text change) piece → ¬ FitsHalf log (change_size change)
+  pub made_by_turn : {T : Type 0} (result : Result T StepFault) (log_new : Log) (tables_new : Tables) (disk_new : D) (base piece : List ℕ) → HasTables tables base → HasEntry (change_text change) piece → ¬ FitsHalf log (change_size change)
       → Stores on change tables log disk result log_new disk_new → tables_new ≡ effect change tables → IfErr result (λ e. e ≡ DiskFault) → Spends on 10 (length base + 1 + length piece) disk disk_new (result ≡ Err DiskFault)
       → MakesDurable on change log tables disk result log_new tables_new disk_new
   made_by_turn result log_new tables_new disk_new base piece has_tables has none stores same fault spends = record {

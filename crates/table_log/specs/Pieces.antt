@@ -8,6 +8,7 @@ use Rattle.store_state.specs.declared.change.Change.{Change}
 use Rattle.store_state.specs.Tables.{Tables}
 use Rattle.table_codec.specs.Spelling.{state_text}
 use Rattle.table_log.specs.declared.piece.Pieces.{Pieces}
+use Rattle.table_log.specs.Texts.{Spells}
 
 -- the piece has that text as an entry, which is not empty
 pub record HasEntry (text piece : List ℕ) : Type 0 where
@@ -15,20 +16,20 @@ pub record HasEntry (text piece : List ℕ) : Type 0 where
   pub some : AROUND < length piece
   pub is : entry_in piece ≡ text
 
--- the piece has that text as the tables of a checkpoint
-pub record HasTables (text piece : List ℕ) : Type 0 where
-  pub size : length piece ≡ AROUND_TABLES + length text
-  pub is : tables_in piece ≡ text
+-- the piece spells the tables, as a checkpoint takes them
+pub record HasTables (tables : Tables) (piece : List ℕ) : Type 0 where
+  pub size : length piece ≡ AROUND_TABLES + length (state_text tables)
+  pub spells : Spells tables (tables_in piece)
 
 -- there is a piece for a checkpoint exactly where an entry of that many bytes does not fit the
 -- current half
-abbrev pub TurnsFor : Log → ℕ → List ℕ → Option (List ℕ) → Type 0
-TurnsFor log n text None = FitsHalf log n
-TurnsFor log n text (Some piece) = ¬ FitsHalf log n × HasTables text piece
+abbrev pub TurnsFor : Log → ℕ → Tables → Option (List ℕ) → Type 0
+TurnsFor log n tables None = FitsHalf log n
+TurnsFor log n tables (Some piece) = ¬ FitsHalf log n × HasTables tables piece
 
 -- what a step of the change writes, where the tables are these before it
 pub record ArePieces (log : Log) (tables : Tables) (change : Change) (pieces : Pieces)
     : Type 0 where
   pub entry : HasEntry (change_text change) pieces.entry.items
-  pub turns : TurnsFor log (length (change_text change)) (state_text tables)
+  pub turns : TurnsFor log (length (change_text change)) tables
       (option_map (λ piece. piece.items) pieces.tables)

@@ -55,9 +55,11 @@ fn entry_of(alloc: Global, change: &Change) -> Result<Vec<u8>, StepFault>
 // The tables' encoding with the log's bytes around it.
 fn tables_of(alloc: Global, state: &StoreState) -> Result<Vec<u8>, StepFault>
     requires { IsEncodableState state.now }
-    ensures tables { IfOk result (λ piece. HasTables (state_text state.now) piece.items) }
+    ensures tables { IfOk result (λ piece. HasTables state.now piece.items) }
     ensures fault { IfErr result (λ e. e ≡ Memory) }
 {
+    // A field is read, so that it is known what all tables keep.
+    let _views = state.views.as_slice();
     let size = encoded_length_of_state(state) as usize;
     let mut piece = vec![in alloc; 0u8; AROUND_TABLES + size]?;
     write_tables(state, &mut piece);
