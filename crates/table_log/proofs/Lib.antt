@@ -1,0 +1,9 @@
+pub mod Booking
+pub mod Durable
+pub mod Empty
+pub mod Images
+pub mod Loading
+pub mod Outside
+pub mod Recovering
+pub mod Sizes
+pub mod Storage
