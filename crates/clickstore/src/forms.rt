@@ -78,7 +78,8 @@ pub(crate) fn group_mark(word: &str) -> Option<(&str, &str)> {
 }
 
 impl Form {
-    // Whether the word surely does not have the form. Where there is no memory to tell, it may have it.
+    // Whether the word surely does not have the form. Where there is no memory to tell, it may have
+    // it.
     pub(crate) fn is_missed(self, alloc: Global, word: &str) -> bool {
         match self {
             Form::Blocks => !is_number(word, 1, BLOCK_LIMIT),

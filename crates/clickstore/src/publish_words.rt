@@ -146,7 +146,8 @@ fn read_mark<'a>(alloc: Global, word: &'a str) -> Result<(), Misread<'a>> {
     read_form(alloc, None, Form::Mark, word)
 }
 
-// The value of an option. A name has no form of its own here, but is the publisher where none is given.
+// The value of an option. Each name is taken where a publisher is given; else it is the publisher
+// too.
 fn read_value<'a>(
     alloc: Global,
     words: &'a [Word],
