@@ -6,6 +6,7 @@ use Rattle.addresses.specs.declared.fault.UrlFault.TheVariants.{BadUrl}
 use Rattle.addresses.specs.Join.{file_target_of}
 use Rattle.machine.specs.declared.reply.Reply.{Reply}
 use Rattle.machine.specs.declared.reply.Reply.TheVariants as says
+use Rattle.machine.specs.BareViews.{with_bare_at, with_bare_group}
 use Rattle.machine.specs.Blocks.{free_blocks}
 use Rattle.machine.specs.Grouped.{Grouped}
 use Rattle.machine.specs.Groups.{group_files, group_need, group_stands, group_wanted}
@@ -15,6 +16,7 @@ use Rattle.machine.specs.Shape.{BareView, Shape}
 use Rattle.machine.specs.Store.{Session, Store}
 use Rattle.machine.specs.Unheard.{may_be_unheard}
 use Rattle.machine.specs.Views.{View}
+use Rattle.machine.specs.Weight.{IsTooHeavy, table_room, weight_of}
 
 -- ---- conditions
 
@@ -37,10 +39,15 @@ OfMissing lease group shape holds =
     Any (λ entry. holds (file_target_of view.base view.deployment.mapped entry.name))
     (group_wanted shape.views group view.application))
 
+-- what the tables weigh once the group stands in the view of the number
+abbrev pub weight_grown : ℕ → List ℕ → Shape → ℕ
+weight_grown number group shape =
+    weight_of (with_bare_at number (with_bare_group group) shape.views) shape.apps
+
 -- ---- refusals
 
 -- No lease has the number, or no file the group. Where the group does not stand yet: a wanted file
--- has no address, or there are not as many blocks.
+-- has no address, there are not as many blocks, or the tables would have no room.
 abbrev pub room_refusals : ℕ → List ℕ → Shape → List (Refusal Reply Session)
 room_refusals lease group shape =
     exactly (lease_of lease shape.leases ≡ None) says.NoLease
@@ -50,6 +57,10 @@ room_refusals lease group shape =
     (λ need. OfComing lease group shape (λ view.
     (need ≡ group_need shape.views group view.application) × (free_blocks shape < need)))
     (λ need. says.Full need (free_blocks shape))
+    ∷ exactly_with
+    (λ weight. OfComing lease group shape (λ view.
+    (weight ≡ weight_grown view.number group shape) × IsTooHeavy shape.room weight))
+    (λ weight. says.TableFull weight (table_room shape.room))
     ∷ []
 
 -- no link gives a wanted file, which is a free choice

@@ -22,12 +22,14 @@ use Rattle.manifests.specs.declared.releases.ReleaseFault.TheVariants as unlike
 use Rattle.manifests.specs.Applications.{application_of, is_below_pre}
 use Rattle.manifests.specs.Deployments.{deployment_of}
 use Rattle.manifests.specs.Releases.{RefusesIdentity}
+use Rattle.machine.specs.declared.app.AppState.{AppState}
 use Rattle.machine.specs.declared.reply.Reply.{Reply}
 use Rattle.machine.specs.declared.reply.Reply.TheVariants as says
+use Rattle.machine.specs.BareViews.{new_bare}
 use Rattle.machine.specs.Blocks.{free_blocks}
 use Rattle.machine.specs.Current.{bare_data_of, bare_listed_by, current_bare, current_version}
-use Rattle.machine.specs.Entries.{entry_of}
-use Rattle.machine.specs.Installed.{AreFetched, Installed}
+use Rattle.machine.specs.Entries.{entry_of, with_entry}
+use Rattle.machine.specs.Installed.{AreFetched, Installed, IsProvidedBy}
 use Rattle.machine.specs.Migrated.{migrated_names}
 use Rattle.machine.specs.Minimums.{minimum_of}
 use Rattle.machine.specs.Rows.{Refusal, PassesAll, exactly, exactly_with}
@@ -36,6 +38,7 @@ use Rattle.machine.specs.Store.{Session, Store}
 use Rattle.machine.specs.Unheard.{may_be_unheard, unheard}
 use Rattle.machine.specs.Views.{ListedFile}
 use Rattle.machine.specs.Wanted.{install_need, wanted}
+use Rattle.machine.specs.Weight.{IsTooHeavy, table_room, weight_of}
 
 -- ---- what was heard
 
@@ -97,6 +100,27 @@ OfWanted url shape d a holds =
     (base : Target) × (base_of url d ≡ Ok base)
     × Any (λ entry. holds (file_target_of base d.mapped entry.name)) (wanted shape.views a)
 
+-- an application with the provider; of what an install changes in it, that alone weighs
+abbrev pub with_provider : Target → AppState → AppState
+with_provider provider app = record app { provider = Some provider }
+
+-- what the tables weigh once the release is installed, with its application manifest at the base
+abbrev pub weight_installed : Target → Target → Deployment → Application → Shape → ℕ
+weight_installed provider base d a shape =
+    weight_of (shape.views ++ new_bare base d a shape ∷ [])
+    (with_entry d.identity.key (with_provider provider) shape.apps)
+
+-- the weight is that of the release at the address
+pub record IsWeightOf (url : List ℕ) (shape : Shape) (d : Deployment) (a : Application) (weight : ℕ)
+    : Type 0 where
+  pub target : Target
+  pub read : target_of_text url ≡ Ok target
+  pub base : Target
+  pub joined : app_target_of target d.codebase ≡ Ok base
+  pub provider : Target
+  pub provided : IsProvidedBy target d.provider provider
+  pub is : weight ≡ weight_installed provider base d a shape
+
 -- ---- refusals
 
 -- the address is none
@@ -124,7 +148,7 @@ deployment_refusals url heard shape =
     ∷ []
 
 -- The application manifest is not heard, cannot be read or is not the listed one, or its files have
--- no place. A view has at most so many data files outside `.pre`.
+-- no place, or the tables would have no room. A view has at most so many data files outside `.pre`.
 abbrev pub release_refusals : List ℕ → List (List ℕ) → Shape → List (Refusal Reply Session)
 release_refusals url heard shape =
     unheard
@@ -142,6 +166,10 @@ release_refusals url heard shape =
     ∷ exactly_with
     (λ need. OfRelease heard (λ d a. (need ≡ install_need shape d a) × (free_blocks shape < need)))
     (λ need. says.Full need (free_blocks shape))
+    ∷ exactly_with
+    (λ weight. OfRelease heard (λ d a.
+    IsWeightOf url shape d a weight × IsTooHeavy shape.room weight))
+    (λ weight. says.TableFull weight (table_room shape.room))
     ∷ []
 
 -- no link gives a wanted file, which is a free choice

@@ -2,7 +2,7 @@
 use Rattle.std.specs.Prelude.{◌≡◌, ◌≢◌, ◌⊎◌, ◌↔◌, ◌<◌, ◌≤◌, ◌+◌, ◌-◌, ◌*◌, ℕ, true, List, [], ◌∷◌, All, AllPairs, Any, Contains, length, Option, Some, Ok, IsSome, IsSomeAnd, count_by, map, not}
 use Rattle.std.specs.declared.cmp.Ordering.TheVariants.{Equal}
 use Rattle.small_types.specs.declared.room.Room.{Room}
-use Rattle.small_types.specs.declared.limits.TheConstants.{BLOCK_LIMIT, BLOCK_SIZE, NUMBER_LIMIT, URL_LIMIT}
+use Rattle.small_types.specs.declared.limits.TheConstants.{BLOCK_LIMIT, BLOCK_SIZE, HALF_LEAST, NUMBER_LIMIT, URL_LIMIT}
 use Rattle.small_types.specs.declared.target.Target.{Target}
 use Rattle.small_types.specs.Name.{IsBelowPre}
 use Rattle.causes.specs.declared.cause.Cause.{Cause}
@@ -125,9 +125,14 @@ JoinedAddressesMayBeHeld = (base : Target) (codebase : List ℕ) (target : Targe
 
 -- ---- stores
 
--- the empty store of a room with a possible number of blocks is sound
+-- the halves of the journal have the least length of one, where there are any
+abbrev pub HasLeastHalves : Room → Type 0
+HasLeastHalves room = ◌≢◌ {A = ℕ} room.half 0 → HALF_LEAST ≤ room.half
+
+-- the empty store of a room with a possible number of blocks and a possible half is sound
 abbrev pub EmptyStoresAreSound : Type 0
-EmptyStoresAreSound = (room : Room) → 1 ≤ room.blocks → room.blocks ≤ BLOCK_LIMIT → Sound (empty room)
+EmptyStoresAreSound = (room : Room) → 1 ≤ room.blocks → room.blocks ≤ BLOCK_LIMIT
+    → HasLeastHalves room → Sound (empty room)
 
 -- how many program files an application has
 abbrev pub program_count : Application → ℕ

@@ -1,5 +1,6 @@
 pub mod Asked
 pub mod AtRow
+pub mod BareViews
 pub mod Blocks
 pub mod CheckLaws
 pub mod CheckRow
@@ -46,4 +47,6 @@ pub mod Unheard
 pub mod Valid
 pub mod Views
 pub mod Wanted
+pub mod Weight
+pub mod WeightLaws
 pub mod Words

@@ -40,7 +40,7 @@ Hears shape _ heard = heard ≡ []
 -- session
 abbrev pub refusals : ℕ → List (List ℕ) → Shape → Command → List (Refusal Reply Session)
 refusals now heard shape (At next) = at_refusals
-refusals now heard shape (Require key version) = require_refusals key shape
+refusals now heard shape (Require key version) = require_refusals key version shape
 refusals now heard shape (Install url) = install_refusals url heard shape
 refusals now heard shape (Check key) = check_refusals key heard shape
 refusals now heard shape (Skip key) = skip_refusals key now shape

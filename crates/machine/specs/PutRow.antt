@@ -6,6 +6,7 @@ use Rattle.small_types.specs.Name.{IsBelowPre}
 use Rattle.manifests.specs.Applications.{is_below_pre}
 use Rattle.machine.specs.declared.reply.Reply.{Reply}
 use Rattle.machine.specs.declared.reply.Reply.TheVariants as says
+use Rattle.machine.specs.BareViews.{with_bare_at, with_bare_data}
 use Rattle.machine.specs.Blocks.{blocks_of, free_blocks}
 use Rattle.machine.specs.DataFiles.{bare_data_named, put_in}
 use Rattle.machine.specs.Leases.{lease_of, leased_bare, leased_view}
@@ -13,6 +14,7 @@ use Rattle.machine.specs.Rows.{Refusal, exactly, exactly_with}
 use Rattle.machine.specs.Shape.{BareData, BareView, Shape}
 use Rattle.machine.specs.Store.{Session}
 use Rattle.machine.specs.Views.{View}
+use Rattle.machine.specs.Weight.{IsTooHeavy, table_room, weight_of}
 
 -- ---- conditions
 
@@ -31,10 +33,16 @@ IsOneTooMany lease name shape =
     × (bare_data_named name view.data_files ≡ None)
     × (LOCAL_COUNT_LIMIT ≤ outside_count view.data_files)
 
+-- what the tables weigh once the view of the number has the data file
+abbrev pub weight_put : ℕ → BareData → Shape → ℕ
+weight_put number file shape =
+    weight_of (with_bare_at number (with_bare_data file) shape.views) shape.apps
+
 -- ---- refusals
 
--- No lease has the number; the name is a bad one; it is a new one too many; or there are not as
--- many blocks. The new bytes have their blocks beside those of the old ones.
+-- No lease has the number; the name is a bad one; it is a new one too many; there are not as many
+-- blocks; or the tables would have no room. The new bytes have their blocks beside those of the old
+-- ones.
 abbrev pub put_refusals : ℕ → List ℕ → List ℕ → Shape → List (Refusal Reply Session)
 put_refusals lease name bytes shape =
     exactly (lease_of lease shape.leases ≡ None) says.NoLease
@@ -43,6 +51,11 @@ put_refusals lease name bytes shape =
     ∷ exactly_with
     (λ need. (need ≡ blocks_of (length bytes)) × (free_blocks shape < need))
     (λ need. says.Full need (free_blocks shape))
+    ∷ exactly_with
+    (λ weight. (view : BareView) × (leased_bare lease shape ≡ Some view)
+    × (weight ≡ weight_put view.number (record { name = name; length = length bytes }) shape)
+    × IsTooHeavy shape.room weight)
+    (λ weight. says.TableFull weight (table_room shape.room))
     ∷ []
 
 -- ---- the effect

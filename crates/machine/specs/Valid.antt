@@ -1,4 +1,4 @@
--- A store within its order and its limits, and whose files have room.
+-- A store within its order and its limits, whose files and whose tables have room.
 use Rattle.std.specs.Prelude.{◌≡◌, ◌≢◌, ◌<◌, ◌≤◌, ℕ, List, All, AllPairs, Any, Contains, length, map, sum_by, count_by, not, Some, IfSome, IsSome, IsSomeAnd}
 use Rattle.std.specs.declared.cmp.Ordering.TheVariants.{Less}
 use Rattle.small_types.specs.declared.limits.TheConstants.{APPLICATION_LIMIT, BLOCK_LIMIT, FILE_COUNT_LIMIT, LEASE_LIMIT, LOCAL_COUNT_LIMIT, LOCAL_NAME_LIMIT, NAME_LIMIT, NUMBER_LIMIT, VIEW_LIMIT}
@@ -14,6 +14,7 @@ use Rattle.machine.specs.Fields.{IsApplication, IsDeployment, IsShort, IsShortKe
 use Rattle.machine.specs.Shape.{bare_view}
 use Rattle.machine.specs.Store.{Store}
 use Rattle.machine.specs.Views.{DataFile, View, key_of, standing_entries}
+use Rattle.machine.specs.Weight.{IsLight, weight_of}
 
 -- ---- views
 
@@ -92,7 +93,8 @@ pub record Ordered (store : Store) : Type 0 where
   pub few_apps : length store.apps ≤ APPLICATION_LIMIT
   pub apps : All (IsApp store.views) store.apps
 
--- and its files have room
+-- and its files have room, and so have its tables
 pub record Valid (store : Store) : Type 0 where
   pub ordered : Ordered store
   pub room : used_blocks (map bare_view store.views) ≤ store.room.blocks
+  pub light : IsLight store.room (weight_of (map bare_view store.views) store.apps)

@@ -49,7 +49,8 @@ pub fn read_addresses_may_be_held()
     ensures joined { JoinedAddressesMayBeHeld }
 {}
 
-/// The empty store is sound, for each room with as many blocks as a store may have; and so is one with files in use.
+/// The empty store is sound, for each room with as many blocks as a store may have, and with halves of no less than the
+/// least length or none; and so is one with files in use.
 pub fn some_stores_are_sound()
     ensures empty { EmptyStoresAreSound }
     ensures used { StoresMayBeUsed }

@@ -17,6 +17,8 @@ mod life_laws;
 mod reply;
 mod report;
 mod rows;
+mod weight_laws;
+mod weights;
 
 pub use app::AppState;
 pub use check_laws::{checks_count, skipped_offers_are_not_due};
@@ -49,3 +51,8 @@ pub use life_laws::{
 pub use reply::Reply;
 pub use report::{Report, ReportLine};
 pub use rows::{ListRow, ShowRow};
+pub use weight_laws::new_tables_are_weighed;
+pub use weights::{
+    APP_WEIGHT, BLOCK_WEIGHT, CHANGE_ROOM, CONTENT_WEIGHT, DIGEST_WEIGHT, FILE_WEIGHT,
+    GROUP_WEIGHT, LOCAL_WEIGHT, STATE_WEIGHT, VIEW_WEIGHT, weights_are,
+};

@@ -120,6 +120,11 @@ pub enum Reply {
         need: u64,
         free: u64,
     },
+    /// What the tables would weigh after the line, and what they may weigh, which is less.
+    TableFull {
+        weight: u64,
+        room: u64,
+    },
     /// No link gave the target: one cause for each link, in their order.
     AllLinks {
         target: Target,

@@ -29,9 +29,13 @@ pub const CONTENT_WEIGHT: u64 = 24;
 /// The weight of a block.
 pub const BLOCK_WEIGHT: u64 = 4;
 
+/// The bytes of a half of the journal that tables leave to the changes behind them.
+pub const CHANGE_ROOM: u64 = 65_536;
+
 /// The numbers of the weights.
 pub fn weights_are()
     ensures tables { (STATE_WEIGHT ≡ 131_072) × (APP_WEIGHT ≡ 256) × (VIEW_WEIGHT ≡ 1_024) }
     ensures files { (FILE_WEIGHT ≡ 64) × (LOCAL_WEIGHT ≡ 24) × (CONTENT_WEIGHT ≡ 24) }
     ensures parts { (DIGEST_WEIGHT ≡ 72) × (GROUP_WEIGHT ≡ 16) × (BLOCK_WEIGHT ≡ 4) }
+    ensures room { CHANGE_ROOM ≡ 65_536 }
 {}
