@@ -19,6 +19,7 @@ use Rattle.manifests.specs.declared.facts.Deployment.{Deployment}
 use Rattle.manifests.specs.declared.facts.FileEntry.{FileEntry}
 use Rattle.machine.specs.declared.app.AppState.{AppState}
 use Rattle.machine.specs.declared.lease.Lease.{Lease}
+use Rattle.machine.specs.Weight.{app_weight, application_bytes, counted, deployment_bytes, file_weight, group_weight, identity_bytes, key_bytes, target_bytes}
 use Rattle.store_state.specs.declared.view.Content.{Content}
 use Rattle.store_state.specs.declared.view.LocalFile.{LocalFile}
 use Rattle.store_state.specs.declared.view.View.{View}
@@ -32,7 +33,7 @@ use Rattle.record_codec.specs.Spelling.{content_field, local_field, view_field}
 use Rattle.record_codec.specs.Values.{IsEncodableContent, IsEncodableLocal, IsEncodableView}
 use Rattle.table_codec.specs.Spelling.{app_field, lease_field, lists_field, number_field, rest_field, state_text}
 use Rattle.table_codec.specs.Values.{IsEncodableApp, IsEncodableLease, IsEncodableState, IsWide}
-use Rattle.table_codec.specs.Weight.{app_weight, application_bytes, content_weight, counted, deployment_bytes, file_weight, group_weight, identity_bytes, key_bytes, local_weight, spelled_cost, target_bytes, view_weight, weight_with}
+use Rattle.table_weight.specs.Weight.{content_weight, local_weight, spelled_cost, view_weight, weight_with}
 
 -- ---- lists and options
 
