@@ -27,7 +27,7 @@ pub(crate) fn count_some_text(text: &Option<Text>) -> u64
     }
 }
 
-#[tactic(auto, unfolding(Rattle.machine.specs.Weight.key_bytes))]
+#[tactic(auto, unfolding(machine::specs::Weight::key_bytes))]
 pub(crate) fn count_key(key: &Key) -> u64
     ensures { result ≡ min (key_bytes key.now) (2 ^ 64 - 1) }
 {
@@ -37,7 +37,7 @@ pub(crate) fn count_key(key: &Key) -> u64
         .saturating_add(count_text(&key.architecture))
 }
 
-#[tactic(auto, unfolding(Rattle.machine.specs.Weight.target_bytes))]
+#[tactic(auto, unfolding(machine::specs::Weight::target_bytes))]
 pub(crate) fn count_target(target: &Target) -> u64
     ensures { result ≡ min (target_bytes target.now) (2 ^ 64 - 1) }
 {
@@ -53,14 +53,14 @@ pub(crate) fn count_some_target(target: &Option<Target>) -> u64
     }
 }
 
-#[tactic(auto, unfolding(Rattle.machine.specs.Weight.identity_bytes))]
+#[tactic(auto, unfolding(machine::specs::Weight::identity_bytes))]
 fn count_identity(identity: &Identity) -> u64
     ensures { result ≡ min (identity_bytes identity.now) (2 ^ 64 - 1) }
 {
     count_key(&identity.key).saturating_add(count_text(&identity.kind))
 }
 
-#[tactic(auto, unfolding(Rattle.machine.specs.Weight.deployment_bytes))]
+#[tactic(auto, unfolding(machine::specs::Weight::deployment_bytes))]
 pub(crate) fn count_deployment(d: &Deployment) -> u64
     ensures { result ≡ min (deployment_bytes d.now) (2 ^ 64 - 1) }
 {
@@ -70,7 +70,7 @@ pub(crate) fn count_deployment(d: &Deployment) -> u64
         .saturating_add(count_identity(&d.app))
 }
 
-#[tactic(auto, unfolding(Rattle.machine.specs.Weight.application_bytes))]
+#[tactic(auto, unfolding(machine::specs::Weight::application_bytes))]
 pub(crate) fn count_application(a: &Application) -> u64
     ensures { result ≡ min (application_bytes a.now) (2 ^ 64 - 1) }
 {

@@ -3,7 +3,9 @@
 #![tactic(auto)]
 
 mod counting;
+mod entries;
 mod laws;
+mod probe;
 mod summing;
 mod tables;
 

@@ -1,6 +1,7 @@
 // How much lists of things weigh, as far as a number goes.
 ghost use Rattle.std.specs.Prelude.{◌≡◌, ◌-◌, ◌^◌, ℕ, min, sum_by};
-ghost use Rattle.machine.specs.Weight.{app_weight, file_weight, group_weight};
+ghost use Rattle.machine.specs.Weight.{app_weight, data_weight, file_weight, group_weight};
+ghost use Rattle.table_weight.specs.Releases.{release_weight};
 ghost use Rattle.table_weight.specs.Weight.{block_cost, content_weight, local_weight, view_weight};
 
 use crate::counting::{
@@ -10,8 +11,8 @@ use crate::counting::{
 use machine::{
     APP_WEIGHT, AppState, CONTENT_WEIGHT, FILE_WEIGHT, GROUP_WEIGHT, LOCAL_WEIGHT, VIEW_WEIGHT,
 };
-use manifests::FileEntry;
-use small_types::Text;
+use manifests::{Application, Deployment, FileEntry};
+use small_types::{Name, Target, Text};
 use store_state::{Content, LocalFile, View};
 
 // What weighs something in a list.
@@ -39,7 +40,7 @@ pub(crate) fn sum_weights<T: Weighs>(items: &[T::Value]) -> u64
 
 pub(crate) struct Apps;
 
-#[tactic(auto, unfolding(Rattle.machine.specs.Weight.app_weight))]
+#[tactic(auto, unfolding(machine::specs::Weight::app_weight))]
 impl Weighs for Apps {
     type Value = AppState;
 
@@ -52,7 +53,7 @@ impl Weighs for Apps {
     }
 }
 
-struct Groups;
+pub(crate) struct Groups;
 
 impl Weighs for Groups {
     type Value = Text;
@@ -64,9 +65,9 @@ impl Weighs for Groups {
     }
 }
 
-pub(crate) struct Files;
+struct Files;
 
-#[tactic(auto, unfolding(Rattle.machine.specs.Weight.file_weight))]
+#[tactic(auto, unfolding(machine::specs::Weight::file_weight))]
 impl Weighs for Files {
     type Value = FileEntry;
 
@@ -80,18 +81,27 @@ impl Weighs for Files {
     }
 }
 
-pub(crate) struct Locals;
+// What a data file of that name with so many bytes weighs.
+#[tactic(auto, unfolding(machine::specs::Weight::data_weight))]
+pub(crate) fn weigh_data(name: &Name, length: u64) -> u64
+    ensures { result
+        ≡ min (data_weight (record { name = name.now; length = length })) (2 ^ 64 - 1) }
+{
+    LOCAL_WEIGHT
+        .saturating_add(name.as_bytes().len() as u64)
+        .saturating_add(weigh_blocks(length))
+}
 
-#[tactic(auto, unfolding(crate::specs::Weight::local_weight))]
+struct Locals;
+
+#[tactic(auto, unfolding(machine::specs::Weight::data_weight, crate::specs::Weight::local_weight))]
 impl Weighs for Locals {
     type Value = LocalFile;
 
     ghost weight = { local_weight block_cost };
 
     fn weigh(file: &LocalFile) -> u64 {
-        LOCAL_WEIGHT
-            .saturating_add(file.name.as_bytes().len() as u64)
-            .saturating_add(weigh_blocks(file.length))
+        weigh_data(&file.name, file.length)
     }
 }
 
@@ -110,6 +120,18 @@ impl Weighs for Contents {
     }
 }
 
+// What a view weighs by its manifests and the address of the second one alone.
+pub(crate) fn weigh_release(d: &Deployment, a: &Application, base: &Target) -> u64
+    ensures { result ≡ min (release_weight d.now a.now base.now) (2 ^ 64 - 1) }
+{
+    VIEW_WEIGHT
+        .saturating_add(count_deployment(d))
+        .saturating_add(count_application(a))
+        .saturating_add(count_target(base))
+        .saturating_add(weigh_digests(&d.app_list))
+        .saturating_add(sum_weights::<Files>(a.files.as_slice()))
+}
+
 pub(crate) struct Views;
 
 #[tactic(auto, unfolding(crate::specs::Weight::view_weight))]
@@ -119,13 +141,8 @@ impl Weighs for Views {
     ghost weight = { view_weight block_cost };
 
     fn weigh(view: &View) -> u64 {
-        VIEW_WEIGHT
-            .saturating_add(count_deployment(&view.deployment))
-            .saturating_add(count_application(&view.application))
-            .saturating_add(count_target(&view.base))
-            .saturating_add(weigh_digests(&view.deployment.app_list))
+        weigh_release(&view.deployment, &view.application, &view.base)
             .saturating_add(sum_weights::<Groups>(view.groups.as_slice()))
-            .saturating_add(sum_weights::<Files>(view.application.files.as_slice()))
             .saturating_add(sum_weights::<Locals>(view.locals.as_slice()))
     }
 }
