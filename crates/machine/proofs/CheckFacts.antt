@@ -29,6 +29,8 @@ use Rattle.machine.specs.Shape.{Shape, shape_of}
 use Rattle.machine.specs.Store.{Session}
 use Rattle.machine.specs.Valid.{IsApp, Ordered, Valid}
 use Rattle.machine.specs.Views.{View}
+use Rattle.machine.specs.Weight.{app_weight}
+use Rattle.machine.proofs.AppWeights.{KeepsWeight}
 use Rattle.machine.proofs.Changing.{same_part}
 use Rattle.machine.proofs.Choosing.{AllGive, exactly-exact, exactly_with-exact, leaving-exact, unheard_exact}
 use Rattle.machine.proofs.Finding.{some_there, value_of}
@@ -134,6 +136,10 @@ past_current key heard old reply new (inr rest) = inr rest.0
 pub unheard_keys : KeepsKeys unheard_app
 unheard_keys app = refl
 
+unheard_weight : KeepsWeight unheard_app
+unfolding app_weight
+unheard_weight app = refl
+
 unheard_minimum : (key : Key) (apps : List AppState) (other : Key)
     → minimum_of other (with_entry key unheard_app apps) ≡ minimum_of other apps
 unheard_minimum key apps other =
@@ -170,7 +176,8 @@ unheard_kept key old target causes installed = record {
   views = refl;
   next_view = refl;
   valid = λ is valid. known_valid key unheard_app unheard_keys (λ app current. current) old.store
-      (short_key is) (known_app key old.store.apps installed) (unheard_is_app old.store.views) valid;
+      (short_key is) (known_app key old.store.apps installed) (unheard_is_app old.store.views)
+      unheard_weight valid;
 }
 
 -- ---- what a heard one leaves
@@ -181,6 +188,10 @@ module _ (key : Key) (have version : Version) (minimum : Option Version) (now : 
 
   pub heard_keys : KeepsKeys (heard_app have version minimum now)
   heard_keys app = refl
+
+  pub heard_weight : KeepsWeight (heard_app have version minimum now)
+  unfolding app_weight
+  heard_weight app = refl
 
   pub heard_is_app : (views : List View) → IsVersion version → IfSome minimum IsVersion
       → now ≤ NUMBER_LIMIT → (app : AppState) → IsApp views app
@@ -232,7 +243,8 @@ module _ (now : ℕ) (heard : List (List ℕ)) (key : Key) where
       (heard_keys key done.have d.identity.version d.minimum now) (λ app current. current) old.store
       (short_key is) (known_app key old.store.apps passes.0)
       (heard_is_app key done.have d.identity.version d.minimum now old.store.views
-      may.identity.version may.minimum few) valid)
+      may.identity.version may.minimum few)
+      (heard_weight key done.have d.identity.version d.minimum now) valid)
 
   refused : (old : Session) (reply : Reply) (new : Session)
       → Refuses (check_refusals key heard (shape_of old)) old reply new

@@ -17,11 +17,14 @@ use Rattle.machine.specs.Sound.{IsSoundView, Sound, program_files_of}
 use Rattle.machine.specs.Store.{Store, session_over}
 use Rattle.machine.specs.Valid.{AreNumbers, IsApp, IsInstalled, IsView, IsViewOf, Ordered, Valid}
 use Rattle.machine.specs.Views.{ListedFile, View, key_of, standing_entries}
-use Rattle.machine.proofs.DataViews.{data_sum, weight_of}
+use Rattle.machine.specs.Weight.{weight_of}
+use Rattle.machine.proofs.DataViews.{data_sum, view_blocks}
 use Rattle.machine.proofs.Finding.{find-kept, value_of}
 use Rattle.machine.proofs.Grouping.{blocks_among}
 use Rattle.machine.proofs.Leased.{lease_in, view_in}
 use Rattle.machine.proofs.LeasesKept.{KeepsLeases, keeps_by}
+use Rattle.machine.proofs.Lightness.{lighter}
+use Rattle.machine.proofs.LowerWeights.{lower_kept}
 use Rattle.machine.proofs.Mapping.{flat_map_in}
 use Rattle.machine.proofs.Members.{In, all_in, contains_in, filter_in, filter_map_is, in_all, in_contains, in_filter, in_flat_map, in_map, map_in}
 use Rattle.machine.proofs.OtherViews.{over_views}
@@ -120,9 +123,9 @@ module _ (old : Store) where
   abbrev is_gone : View → Bool
   is_gone view = not (is_in_use view.number old.apps old.leases)
 
-  no_more_data : sum_by weight_of views ≤ sum_by weight_of old.views
+  no_more_data : sum_by view_blocks views ≤ sum_by view_blocks old.views
   no_more_data =
-      omega (arith, sum_by-filter_both is_kept is_gone (λ v. refl) weight_of old.views)
+      omega (arith, sum_by-filter_both is_kept is_gone (λ v. refl) view_blocks old.views)
 
   pub cleaned_takes : TakesMore 0 old (cleaned old)
   cleaned_takes = record {
@@ -236,6 +239,9 @@ module _ (old : Store) where
   cleaned_valid valid = record {
     ordered = cleaned_ordered valid.ordered;
     room = (let was = valid.room in omega (arith, was, room));
+    light = lighter old.room (weight_of (map bare_view views) old.apps)
+        (weight_of (map bare_view old.views) old.apps)
+        (lower_kept is_kept old.views old.apps among_standing) valid.light;
   }
 
   pub cleaned_sound : Sound old → Sound (cleaned old)

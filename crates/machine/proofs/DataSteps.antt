@@ -98,6 +98,9 @@ many_no_put what limit e = cc
 full_no_put : (need free : ℕ) → says.Full need free ≡ says.Put → ⊥
 full_no_put need free e = cc
 
+table_no_put : (weight room : ℕ) → says.TableFull weight room ≡ says.Put → ⊥
+table_no_put weight room e = cc
+
 memory_no_removal : says.Memory ≡ says.Removed → ⊥
 memory_no_removal e = cc
 
@@ -133,7 +136,10 @@ no_put lease name bytes shape = (
     (λ r given e. name_no_put (sym given.1 ∙ e)),
     (
       (λ r given e. many_no_put _ _ (sym given.1 ∙ e)),
-      ((λ r given e. full_no_put _ _ (sym given.2 ∙ e)), tt),
+      (
+        (λ r given e. full_no_put _ _ (sym given.2 ∙ e)),
+        ((λ r given e. table_no_put _ _ (sym given.2 ∙ e)), tt),
+      ),
     ),
   ),
 )

@@ -23,16 +23,16 @@ use Rattle.machine.proofs.NamedItems.{not_equal}
 use Rattle.machine.proofs.OneView.{Leaves, by_number, changed_at, left_of, same_bare_lists, with_one_ordered}
 
 -- the blocks of a data file
-abbrev pub weight : DataFile → ℕ
-weight file = blocks_of (length file.bytes)
+abbrev pub file_blocks : DataFile → ℕ
+file_blocks file = blocks_of (length file.bytes)
 
-abbrev pub weight_of : View → ℕ
-weight_of view = sum_by weight view.data_files
+abbrev pub view_blocks : View → ℕ
+view_blocks view = sum_by file_blocks view.data_files
 
 pub data_sum : (views : List View)
     → sum_by (λ (file : BareData). blocks_of file.length)
     (flat_map (λ (view : BareView). view.data_files) (map bare_view views))
-    ≡ sum_by weight_of views
+    ≡ sum_by view_blocks views
 data_sum [] = refl
 data_sum (v ∷ vs) =
     omega (
@@ -40,7 +40,7 @@ data_sum (v ∷ vs) =
       sum_by-append (λ (file : BareData). blocks_of file.length) (map bare_data v.data_files)
           (flat_map (λ (view : BareView). view.data_files) (map bare_view vs)),
       sum_map bare_data (λ (file : BareData). blocks_of file.length) v.data_files,
-      sum_by-cons weight_of v vs,
+      sum_by-cons view_blocks v vs,
       data_sum vs,
     )
 
@@ -83,28 +83,28 @@ module _ (number : ℕ) (g : List DataFile → List DataFile) (old : Store) wher
 
   -- ---- room
 
-  no_more_at : (b : Bool) (v : View) (vs : List View) → weight_of (redone g v) ≤ weight_of v
-      → sum_by weight_of (map change vs) ≤ sum_by weight_of vs
-      → sum_by weight_of (cond b (redone g v) v ∷ map change vs) ≤ sum_by weight_of (v ∷ vs)
+  no_more_at : (b : Bool) (v : View) (vs : List View) → view_blocks (redone g v) ≤ view_blocks v
+      → sum_by view_blocks (map change vs) ≤ sum_by view_blocks vs
+      → sum_by view_blocks (cond b (redone g v) v ∷ map change vs) ≤ sum_by view_blocks (v ∷ vs)
   no_more_at true v vs less rest =
       omega (
         arith,
         less,
         rest,
-        sum_by-cons weight_of (redone g v) (map change vs),
-        sum_by-cons weight_of v vs,
+        sum_by-cons view_blocks (redone g v) (map change vs),
+        sum_by-cons view_blocks v vs,
       )
   no_more_at false v vs less rest =
-      omega (arith, rest, sum_by-cons weight_of v (map change vs), sum_by-cons weight_of v vs)
+      omega (arith, rest, sum_by-cons view_blocks v (map change vs), sum_by-cons view_blocks v vs)
 
-  no_more_sum : ((files : List DataFile) → sum_by weight (g files) ≤ sum_by weight files)
-      → (vs : List View) → sum_by weight_of (map change vs) ≤ sum_by weight_of vs
+  no_more_sum : ((files : List DataFile) → sum_by file_blocks (g files) ≤ sum_by file_blocks files)
+      → (vs : List View) → sum_by view_blocks (map change vs) ≤ sum_by view_blocks vs
   no_more_sum less [] = omega arith
   no_more_sum less (v ∷ vs) =
       no_more_at (eqb v.number number) v vs (less v.data_files) (no_more_sum less vs)
 
   -- where g takes no more
-  pub no_more : ((files : List DataFile) → sum_by weight (g files) ≤ sum_by weight files)
+  pub no_more : ((files : List DataFile) → sum_by file_blocks (g files) ≤ sum_by file_blocks files)
       → sum_by (λ (file : BareData). blocks_of file.length)
       (flat_map (λ (view : BareView). view.data_files)
       (map bare_view (with_view_at number (redone g) old.views)))
@@ -113,14 +113,14 @@ module _ (number : ℕ) (g : List DataFile → List DataFile) (old : Store) wher
   no_more less = omega (arith, data_sum views, data_sum old.views, no_more_sum less old.views)
 
   untouched_at : (b : Bool) (v : View) (vs : List View) → eqb v.number number ≡ b
-      → v.number ≢ number → sum_by weight_of (map change vs) ≡ sum_by weight_of vs
-      → sum_by weight_of (cond b (redone g v) v ∷ map change vs) ≡ sum_by weight_of (v ∷ vs)
+      → v.number ≢ number → sum_by view_blocks (map change vs) ≡ sum_by view_blocks vs
+      → sum_by view_blocks (cond b (redone g v) v ∷ map change vs) ≡ sum_by view_blocks (v ∷ vs)
   untouched_at true v vs is apart rest = absurd (apart (eqb-true v.number number is))
   untouched_at false v vs is apart rest =
-      omega (arith, rest, sum_by-cons weight_of v (map change vs), sum_by-cons weight_of v vs)
+      omega (arith, rest, sum_by-cons view_blocks v (map change vs), sum_by-cons view_blocks v vs)
 
   untouched : (vs : List View) → All (λ (v : View). v.number ≢ number) vs
-      → sum_by weight_of (map change vs) ≡ sum_by weight_of vs
+      → sum_by view_blocks (map change vs) ≡ sum_by view_blocks vs
   untouched [] apart = refl
   untouched (v ∷ vs) apart =
       untouched_at (eqb v.number number) v vs refl
@@ -128,12 +128,12 @@ module _ (number : ℕ) (g : List DataFile → List DataFile) (old : Store) wher
       (untouched vs (All-tail (λ (w : View). w.number ≢ number) v vs apart))
 
   module _ (extra : ℕ)
-      (more : (files : List DataFile) → sum_by weight (g files) ≤ extra + sum_by weight files) where
+      (more : (files : List DataFile) → sum_by file_blocks (g files) ≤ extra + sum_by file_blocks files) where
     more_at : (b : Bool) (v : View) (vs : List View) → eqb v.number number ≡ b
         → All (λ (w : View). v.number ≢ w.number) vs
-        → sum_by weight_of (map change vs) ≤ extra + sum_by weight_of vs
-        → sum_by weight_of (cond b (redone g v) v ∷ map change vs)
-        ≤ extra + sum_by weight_of (v ∷ vs)
+        → sum_by view_blocks (map change vs) ≤ extra + sum_by view_blocks vs
+        → sum_by view_blocks (cond b (redone g v) v ∷ map change vs)
+        ≤ extra + sum_by view_blocks (v ∷ vs)
     more_at true v vs is apart rest =
         let same = untouched vs (All-weaker (λ (w : View). v.number ≢ w.number)
         (λ (w : View). w.number ≢ number)
@@ -143,14 +143,14 @@ module _ (number : ℕ) (g : List DataFile → List DataFile) (old : Store) wher
           arith,
           same,
           own,
-          sum_by-cons weight_of (redone g v) (map change vs),
-          sum_by-cons weight_of v vs,
+          sum_by-cons view_blocks (redone g v) (map change vs),
+          sum_by-cons view_blocks v vs,
         )
     more_at false v vs is apart rest =
-        omega (arith, rest, sum_by-cons weight_of v (map change vs), sum_by-cons weight_of v vs)
+        omega (arith, rest, sum_by-cons view_blocks v (map change vs), sum_by-cons view_blocks v vs)
 
     more_sum : (vs : List View) → AllPairs (λ (v w : View). v.number ≢ w.number) vs
-        → sum_by weight_of (map change vs) ≤ extra + sum_by weight_of vs
+        → sum_by view_blocks (map change vs) ≤ extra + sum_by view_blocks vs
     more_sum [] apart = omega arith
     more_sum (v ∷ vs) apart =
         more_at (eqb v.number number) v vs refl
@@ -188,7 +188,7 @@ module _ (number : ℕ) (g : List DataFile → List DataFile) (old : Store) wher
         omega (arith, files, data_with was)
 
   -- less room does as well
-  pub room_within : ((files : List DataFile) → sum_by weight (g files) ≤ sum_by weight files)
+  pub room_within : ((files : List DataFile) → sum_by file_blocks (g files) ≤ sum_by file_blocks files)
       → used_blocks (map bare_view (with_view_at number (redone g) old.views))
       ≤ used_blocks (map bare_view old.views)
   room_within less =

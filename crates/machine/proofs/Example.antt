@@ -38,9 +38,11 @@ use Rattle.machine.specs.Sound.{IsSoundView, IsWhole, ShareBytes, Sound, program
 use Rattle.machine.specs.Store.{Store}
 use Rattle.machine.specs.Valid.{IsApp, IsDataFile, IsInstalled, IsView, Ordered, Valid}
 use Rattle.machine.specs.Views.{ContentKey, DataFile, ListedFile, View, content_key, key_of, same_content}
+use Rattle.machine.specs.Weight.{weight_of}
 use Rattle.machine.proofs.Contents.{content_decides}
 use Rattle.machine.proofs.Entering.{order}
 use Rattle.machine.proofs.FoundTexts.{ascii_text}
+use Rattle.machine.proofs.Lightness.{no_halves}
 use Rattle.machine.proofs.Shortness.{short_key}
 
 -- ---- short lists
@@ -453,7 +455,7 @@ pub counted : used_blocks (map bare_view views) ≡ 5
 counted = ap (λ (es : List FileEntry). sum_by (λ entry. blocks_of entry.size) es + 3) distinct_files
 
 pub store_is_valid : Valid store
-store_is_valid = record { ordered = store_is_ordered; room = omega (arith, counted) }
+store_is_valid = record { ordered = store_is_ordered; room = omega (arith, counted); light = no_halves store.room (weight_of (map bare_view store.views) store.apps) refl }
 
 -- ---- it is sound
 

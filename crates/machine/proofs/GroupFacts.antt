@@ -13,7 +13,7 @@ use Rattle.machine.specs.declared.lease.Lease.{Lease}
 use Rattle.machine.specs.declared.reply.Reply.{Reply}
 use Rattle.machine.specs.declared.reply.Reply.TheVariants as says
 use Rattle.machine.specs.Blocks.{free_blocks, standing_files}
-use Rattle.machine.specs.GroupRow.{Comes, GroupEffect, LacksGroup, OfComing, OfMissing, group_refusals, room_refusals}
+use Rattle.machine.specs.GroupRow.{Comes, GroupEffect, LacksGroup, OfComing, OfMissing, group_refusals, room_refusals, weight_grown}
 use Rattle.machine.specs.Grouped.{grouped}
 use Rattle.machine.specs.Groups.{group_files, group_need, group_stands, group_wanted}
 use Rattle.machine.specs.Laws.{IsAnswered}
@@ -25,7 +25,8 @@ use Rattle.machine.specs.Shape.{BareView, Shape, bare_view, shape_of}
 use Rattle.machine.specs.Sound.{Sound}
 use Rattle.machine.specs.Store.{Session, Store}
 use Rattle.machine.specs.Valid.{Valid}
-use Rattle.machine.specs.Views.{View}
+use Rattle.machine.specs.Views.{ListedFile, View}
+use Rattle.machine.specs.Weight.{IsLight, IsTooHeavy, table_room, weight_of}
 use Rattle.machine.specs.Words.{IsGroup}
 use Rattle.machine.proofs.Choosing.{AllGive, exactly-exact, exactly_with-exact}
 use Rattle.machine.proofs.CountedBlocks.{counted_more}
@@ -37,10 +38,12 @@ use Rattle.machine.proofs.GroupStands.{leased_number}
 use Rattle.machine.proofs.Grouping.{grouped_ordered, grouped_sound, room_after}
 use Rattle.machine.proofs.Leased.{leased_bare_kept, leased_shape, leased_valid}
 use Rattle.machine.proofs.LeasesKept.{KeepsLeases}
+use Rattle.machine.proofs.Lightness.{heavy_or_light, is_light}
 use Rattle.machine.proofs.Missing.{none_missing}
 use Rattle.machine.proofs.Moments.{SetsNone}
-use Rattle.machine.proofs.OtherReplies.{all_links_is_other, bad_url_is_other, full_is_other, no_lease_is_other}
+use Rattle.machine.proofs.OtherReplies.{all_links_is_other, bad_url_is_other, full_is_other, no_lease_is_other, table_full_is_other}
 use Rattle.machine.proofs.RowFacts.{Acts, RowFacts, acts_not, acts_on, kept_unchanged, rises_as}
+use Rattle.machine.proofs.ViewWeights.{bare_grown}
 use Rattle.machine.proofs.Weaving.{stand_among}
 
 -- ---- replies
@@ -67,14 +70,21 @@ module _ (lease : ℕ) (group : List ℕ) (shape : Shape) where
               ap (λ (n : ℕ). says.Full n (free_blocks shape))
               (a.3.0 ∙ ap (λ (v : BareView). group_need shape.views group v.application)
               (same_Some a.0 b.0 (sym a.1 ∙ b.1)) ∙ sym b.3.0)),
-          tt,
+          (
+            exactly_with-exact _ _ (λ x y a b.
+                ap (λ (n : ℕ). says.TableFull n (table_room shape.room))
+                (a.3.0 ∙ ap (λ (v : BareView). weight_grown v.number group shape)
+                (same_Some a.0 b.0 (sym a.1 ∙ b.1)) ∙ sym b.3.0)),
+            tt,
+          ),
         ),
       ),
     ),
   )
 
   pub group_unchanged : ChangeNothing (group_refusals lease group shape)
-  group_unchanged = ((λ s. refl), ((λ s. refl), ((λ s. refl), ((λ s. refl), ((λ s. refl), tt)))))
+  group_unchanged =
+      ((λ s. refl), ((λ s. refl), ((λ s. refl), ((λ s. refl), ((λ s. refl), ((λ s. refl), tt))))))
 
   abbrev set : Reply → Option ℕ
   set reply = moment_set (Some reply)
@@ -86,7 +96,10 @@ module _ (lease : ℕ) (group : List ℕ) (shape : Shape) where
       (λ r given. ap set given.1),
       (
         (λ r given. ap set given.1),
-        ((λ r given. ap set given.2), ((λ r given. ap set given.3), tt)),
+        (
+          (λ r given. ap set given.2),
+          ((λ r given. ap set given.2), ((λ r given. ap set given.3), tt)),
+        ),
       ),
     ),
   )
@@ -144,6 +157,18 @@ module _ (lease : ℕ) (group : List ℕ) where
             (bare_view view, leased_too, absent, (refl, less)))
         by (inr le) = le
 
+    -- so have the tables
+    has_weight : group_stands group view.groups ≡ false → (program_files : List ListedFile)
+        → IsLight old.store.room
+        (weight_of (map bare_view (grouped view.number group program_files old.store).views)
+        old.store.apps)
+    has_weight absent program_files =
+        subst (λ (vs : List BareView). IsLight old.store.room (weight_of vs old.store.apps))
+        (sym (bare_grown view.number group program_files old.store.views))
+        (is_light old.store.room (weight_grown view.number group (shape_of old))
+        (λ heavy. passes.1.1.1.1.0 (weight_grown view.number group (shape_of old))
+        (bare_view view, leased_too, absent, (refl, heavy))))
+
     comes_valid : Valid old.store → Comes group view old.store done.store → Valid done.store
     comes_valid valid (inl same) = subst Valid (sym same.1) valid
     comes_valid valid (inr comes) =
@@ -156,6 +181,7 @@ module _ (lease : ℕ) (group : List ℕ) where
               grown.among.order is.short valid.ordered;
           room = (let counted = counted_more (shape_of old).views (shape_of old).jobs in
               omega (arith, used, has_room comes.0, valid.room, counted));
+          light = has_weight comes.0 grown.program_files;
         })
 
     left_valid : Valid old.store → Valid new.store
@@ -236,8 +262,16 @@ module _ (now : ℕ) (heard : List (List ℕ)) (lease : ℕ) (group : List ℕ) 
 
       standing : group_stands group view.groups ≡ true → IsAnswered now heard old (Group lease group)
       standing stands =
-          answered_by old.store (inl (stands, refl))
-          (lives, (has, (no_coming stands _, ((λ need. no_coming stands _), (tt, tt)))))
+          answered_by old.store (inl (stands, refl)) (
+            lives,
+            (
+              has,
+              (
+                no_coming stands _,
+                ((λ need. no_coming stands _), ((λ weight. no_coming stands _), (tt, tt))),
+              ),
+            ),
+          )
 
       module _ (absent : group_stands group view.groups ≡ false) where
         abbrev stored : List BareView
@@ -299,10 +333,13 @@ module _ (now : ℕ) (heard : List (List ℕ)) (lease : ℕ) (group : List ℕ) 
                 let less = own.1 in
                 omega (arith, room, same, less)
 
-            links : (entry : FileEntry) (rest : List FileEntry) → wanted ≡ entry ∷ rest
-                → (t : Target) → target entry ≡ Ok t → IsAnswered now heard old (Group lease group)
-            links entry rest is t gives = record {
-              reply = says.AllLinks t [];
+            abbrev new_weight : ℕ
+            new_weight = weight_grown view.number group shape
+
+            too_heavy : IsTooHeavy shape.room new_weight
+                → IsAnswered now heard old (Group lease group)
+            too_heavy heavy = record {
+              reply = says.TableFull new_weight (table_room shape.room);
               new = old;
               answers = inl (inr (
                 tt,
@@ -315,19 +352,57 @@ module _ (now : ℕ) (heard : List (List ℕ)) (lease : ℕ) (group : List ℕ) 
                       inr (
                         fits,
                         inl (
-                          (
-                            t,
-                            [],
+                          (new_weight, (bare_view view, bare, absent, (refl, heavy)), refl),
+                          refl,
+                        ),
+                      ),
+                    ),
+                  ),
+                ),
+              ));
+              other = table_full_is_other new_weight (table_room shape.room);
+            }
+
+            weighs : (IsTooHeavy shape.room new_weight → ⊥) → (n : ℕ)
+                → OfComing lease group shape (λ v.
+                (n ≡ weight_grown v.number group shape) × IsTooHeavy shape.room n) → ⊥
+            weighs light n coming =
+                let own = of_view coming in
+                light (subst (IsTooHeavy shape.room) own.0 own.1)
+
+            links : (IsTooHeavy shape.room new_weight → ⊥)
+                → (entry : FileEntry) (rest : List FileEntry) → wanted ≡ entry ∷ rest
+                → (t : Target) → target entry ≡ Ok t → IsAnswered now heard old (Group lease group)
+            links light entry rest is t gives = record {
+              reply = says.AllLinks t [];
+              new = old;
+              answers = inl (inr (
+                tt,
+                inr (
+                  lives,
+                  inr (
+                    has,
+                    inr (
+                      reached,
+                      inr (
+                        fits,
+                        inr (
+                          weighs light,
+                          inl (
                             (
-                              bare_view view,
-                              bare,
-                              absent,
-                              subst (λ (es : List FileEntry). Any (λ e. target e ≡ Ok t) es) (sym is)
-                                  (0, entry, omega arith, refl, gives),
+                              t,
+                              [],
+                              (
+                                bare_view view,
+                                bare,
+                                absent,
+                                subst (λ (es : List FileEntry). Any (λ e. target e ≡ Ok t) es) (sym is)
+                                    (0, entry, omega arith, refl, gives),
+                              ),
+                              refl,
                             ),
                             refl,
                           ),
-                          refl,
                         ),
                       ),
                     ),
@@ -337,8 +412,9 @@ module _ (now : ℕ) (heard : List (List ℕ)) (lease : ℕ) (group : List ℕ) 
               other = all_links_is_other t [];
             }
 
-            comes : wanted ≡ [] → IsAnswered now heard old (Group lease group)
-            comes none =
+            comes : (IsTooHeavy shape.room new_weight → ⊥) → wanted ≡ []
+                → IsAnswered now heard old (Group lease group)
+            comes light none =
                 let held = none_missing (group_files group view.application) (standing_files stored)
                 none in
                 let files = taken_group old.store sound group view held in
@@ -355,12 +431,13 @@ module _ (now : ℕ) (heard : List (List ℕ)) (lease : ℕ) (group : List ℕ) 
                     is = refl;
                   },
                 ))
-                (lives, (has, (reached, (fits, (tt, tt)))))
+                (lives, (has, (reached, (fits, (weighs light, (tt, tt))))))
 
-            by_reached : (entry : FileEntry) (rest : List FileEntry) → wanted ≡ entry ∷ rest
+            by_reached : (IsTooHeavy shape.room new_weight → ⊥)
+                → (entry : FileEntry) (rest : List FileEntry) → wanted ≡ entry ∷ rest
                 → IsReached (target entry) → IsAnswered now heard old (Group lease group)
-            by_reached entry rest is (inl gives) = links entry rest is gives.0 gives.1
-            by_reached entry rest is (inr bad) =
+            by_reached light entry rest is (inl gives) = links light entry rest is gives.0 gives.1
+            by_reached light entry rest is (inr bad) =
                 absurd (reached (
                   bare_view view,
                   bare,
@@ -369,18 +446,25 @@ module _ (now : ℕ) (heard : List (List ℕ)) (lease : ℕ) (group : List ℕ) 
                       (0, entry, omega arith, refl, bad),
                 ))
 
-            by_wanted : (es : List FileEntry) → wanted ≡ es
-                → IsAnswered now heard old (Group lease group)
-            by_wanted [] is = comes is
-            by_wanted (entry ∷ rest) is =
-                by_reached entry rest is
+            by_wanted : (IsTooHeavy shape.room new_weight → ⊥) → (es : List FileEntry)
+                → wanted ≡ es → IsAnswered now heard old (Group lease group)
+            by_wanted light [] is = comes light is
+            by_wanted light (entry ∷ rest) is =
+                by_reached light entry rest is
                 (file_reached view.base view.deployment.mapped entry.name)
+
+            by_weight : IsTooHeavy shape.room new_weight ⊎ (IsTooHeavy shape.room new_weight → ⊥)
+                → IsAnswered now heard old (Group lease group)
+            by_weight (inl heavy) = too_heavy heavy
+            by_weight (inr light) = by_wanted light wanted refl
 
           by_room : (free_blocks shape < group_need stored group view.application)
               ⊎ (group_need stored group view.application ≤ free_blocks shape)
               → IsAnswered now heard old (Group lease group)
           by_room (inl less) = full less
-          by_room (inr room) = by_wanted room wanted refl
+          by_room (inr room) =
+              by_weight room
+              (heavy_or_light shape.room (weight_grown view.number group shape))
 
         by_bad : Any (λ entry. target entry ≡ Err BadUrl) wanted
             ⊎ (Any (λ entry. target entry ≡ Err BadUrl) wanted → ⊥)

@@ -114,6 +114,9 @@ module _ (files : ℕ) where
   full_apart : (need free : ℕ) → says.Full need free ≡ says.Group files → ⊥
   full_apart need free e = cc
 
+  table_full_apart : (weight room : ℕ) → says.TableFull weight room ≡ says.Group files → ⊥
+  table_full_apart weight room e = cc
+
   links_apart : (target : Target) (causes : List Cause)
       → says.AllLinks target causes ≡ says.Group files → ⊥
   links_apart target causes e = cc
@@ -128,7 +131,10 @@ no_group lease group shape = (
       (λ r given files e. bad_url_apart files (sym given.1 ∙ e)),
       (
         (λ r given files e. full_apart files _ _ (sym given.2 ∙ e)),
-        ((λ r given files e. links_apart files _ _ (sym given.3 ∙ e)), tt),
+        (
+          (λ r given files e. table_full_apart files _ _ (sym given.2 ∙ e)),
+          ((λ r given files e. links_apart files _ _ (sym given.3 ∙ e)), tt),
+        ),
       ),
     ),
   ),

@@ -60,14 +60,15 @@ standing_more groups group a entry there =
         inr (in_filter (is_in group) a.files entry
         (and_from (not entry.local) (is_group group entry.group) program own) listed)
 
--- ---- blocks of files of which each is among others
+-- ---- contents of files of which each is among others
 
-pub blocks_among : (xs ys : List FileEntry) → ((x : FileEntry) → In x xs → In x ys)
-    → sum_by (λ (entry : FileEntry). blocks_of entry.size) (distinct xs)
-    ≤ sum_by (λ (entry : FileEntry). blocks_of entry.size) (distinct ys)
+-- a sum over contents, by their keys
+pub sum_among : (weigh : ContentKey → ℕ) (xs ys : List FileEntry)
+    → ((x : FileEntry) → In x xs → In x ys)
+    → sum_by (λ (entry : FileEntry). weigh (content_key entry)) (distinct xs)
+    ≤ sum_by (λ (entry : FileEntry). weigh (content_key entry)) (distinct ys)
 unfolding Apart
-blocks_among xs ys among =
-    let weigh = λ (key : ContentKey). blocks_of key.size in
+sum_among weigh xs ys among =
     let within = sum_within weigh (map content_key (distinct xs)) (map content_key (distinct ys))
     (pairs_map content_key Apart (λ (a b : ContentKey). a ≢ b) (distinct xs) (λ a b apart. apart)
     (distinct_apart xs))
@@ -81,6 +82,12 @@ blocks_among xs ys among =
       sum_map content_key weigh (distinct xs),
       sum_map content_key weigh (distinct ys),
     )
+
+-- their blocks
+pub blocks_among : (xs ys : List FileEntry) → ((x : FileEntry) → In x xs → In x ys)
+    → sum_by (λ (entry : FileEntry). blocks_of entry.size) (distinct xs)
+    ≤ sum_by (λ (entry : FileEntry). blocks_of entry.size) (distinct ys)
+blocks_among xs ys among = sum_among (λ (key : ContentKey). blocks_of key.size) xs ys among
 
 -- ---- the store
 

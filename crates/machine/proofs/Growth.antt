@@ -1,5 +1,5 @@
 -- A group comes to stand in the store of the example, with a file that no kept view has.
-use Rattle.std.proofs.Common.{◌≡◌, ◌++◌, ◌∙◌, ℕ, List, [], ◌∷◌, refl, sym, ap, arith}
+use Rattle.std.proofs.Common.{◌≡◌, ◌++◌, ◌∙◌, ℕ, List, [], ◌∷◌, map, refl, sym, ap, arith}
 use Rattle.std.proofs.lemmas.List.Kept.{AllPairs-cons}
 use Rattle.small_types.specs.declared.limits.TheConstants.{NAME_LIMIT}
 use Rattle.digest_list.specs.Matches.{IsDigestOf}
@@ -7,13 +7,16 @@ use Rattle.manifests.specs.declared.facts.FileEntry.{FileEntry}
 use Rattle.machine.specs.Fields.{IsShort}
 use Rattle.machine.specs.GroupLaws.{GroupsMayCome}
 use Rattle.machine.specs.Grouped.{AreOfGroup, StandAmong, grouped}
+use Rattle.machine.specs.Shape.{bare_view}
 use Rattle.machine.specs.Sound.{IsWhole, ShareBytes, program_files_of}
 use Rattle.machine.specs.Store.{Store}
 use Rattle.machine.specs.Valid.{Valid}
 use Rattle.machine.specs.Views.{ContentKey, ListedFile, content_key}
+use Rattle.machine.specs.Weight.{weight_of}
 use Rattle.machine.proofs.Example as old
 use Rattle.machine.proofs.FoundTexts.{ascii_text}
 use Rattle.machine.proofs.Grouping.{grouped_ordered, grouped_sound, room_after}
+use Rattle.machine.proofs.Lightness.{no_halves}
 
 abbrev group : List ℕ
 group = old.named 104
@@ -80,6 +83,7 @@ new_is_valid = record {
       old.store_is_ordered;
   room = (let used = room_after 2 group program_files old.store old.second refl among.order
       old.store_is_ordered in omega (arith, used, old.counted));
+  light = no_halves new.room (weight_of (map bare_view new.views) new.apps) refl;
 }
 
 pub growth : GroupsMayCome

@@ -1,6 +1,10 @@
 -- The refusals of an install are no free choices.
-use Rattle.std.proofs.Common.{◌≡◌, ◌≢◌, ◌∙◌, refl, sym, ap, subst, ℕ, List, ◌∷◌, Option, Some, None, Ok}
+use Rattle.std.proofs.Common.{◌≡◌, ◌≢◌, ◌∙◌, refl, sym, ap, subst, ℕ, List, ◌∷◌, Option, Some, None, Result, Ok}
 use Rattle.std.specs.Prelude.{slice_get}
+use Rattle.small_types.specs.declared.target.Target.{Target}
+use Rattle.addresses.specs.declared.fault.UrlFault.{UrlFault}
+use Rattle.addresses.specs.Address.{target_of_text}
+use Rattle.addresses.specs.Join.{app_target_of}
 use Rattle.manifest_tree.specs.Tree.{Tree}
 use Rattle.manifest_parts.specs.declared.fault.ManifestFault.{ManifestFault}
 use Rattle.manifest_parts.specs.Elements.{Read}
@@ -16,10 +20,12 @@ use Rattle.manifests.specs.Releases.{RefusesIdentity}
 use Rattle.machine.specs.declared.reply.Reply.{Reply}
 use Rattle.machine.specs.declared.reply.Reply.TheVariants as says
 use Rattle.machine.specs.Blocks.{free_blocks}
-use Rattle.machine.specs.InstallRow.{InstallEffect, IsRefused, OfDeployment, OfRelease, OfText, address_refusals, deployment_refusals, release_refusals}
+use Rattle.machine.specs.Installed.{IsProvidedBy}
+use Rattle.machine.specs.InstallRow.{InstallEffect, IsRefused, IsWeightOf, OfDeployment, OfRelease, OfText, address_refusals, deployment_refusals, release_refusals, weight_installed}
 use Rattle.machine.specs.Rows.{AreExact}
 use Rattle.machine.specs.Shape.{Shape}
 use Rattle.machine.specs.Store.{Session}
+use Rattle.machine.specs.Weight.{table_room}
 use Rattle.machine.proofs.Choosing.{exactly-exact, exactly_with-exact, unheard_exact}
 use Rattle.machine.proofs.Told.{refused_one, same_text, told_one}
 
@@ -31,6 +37,12 @@ alike x y e = cc
 
 some_one : {X : Type 0} (found : Option X) (a b : X) → found ≡ Some a → found ≡ Some b → a ≡ b
 some_one found a b first second = alike a b (sym first ∙ second)
+
+target_alike : (a b : Target) → ◌≡◌ {A = Result Target UrlFault} (Ok a) (Ok b) → a ≡ b
+target_alike a b e = cc
+
+ok_one : (found : Result Target UrlFault) (a b : Target) → found ≡ Ok a → found ≡ Ok b → a ≡ b
+ok_one found a b first second = target_alike a b (sym first ∙ second)
 
 -- ---- one text, one value
 
@@ -68,6 +80,20 @@ one_fault d a (IdentityDiffers k l) (VersionDiffers m n) first other second anot
 one_fault d a (VersionDiffers k l) (IdentityDiffers m n) first other second another = absurd (second.other (second.listed_is ∙ sym first.key ∙ sym second.found_is))
 one_fault d a (VersionDiffers k l) (VersionDiffers m n) first other second another =
     ap (λ (x : _). VersionDiffers x l) (first.listed_is ∙ sym second.listed_is) ∙ ap (λ (x : _). VersionDiffers m x) (first.found_is ∙ sym second.found_is)
+
+-- ---- one weight
+
+module _ (url : List ℕ) (shape : Shape) (d : Deployment) (a : Application) where
+  provider_one : (target one other : Target) (text : Option (List ℕ)) → IsProvidedBy target text one → IsProvidedBy target text other → one ≡ other
+  provider_one target one other None first second = first ∙ sym second
+  provider_one target one other (Some text) first second = ok_one (target_of_text text) one other first second
+
+  one_weight : (x y : ℕ) → IsWeightOf url shape d a x → IsWeightOf url shape d a y → x ≡ y
+  one_weight x y first second =
+      let target = ok_one (target_of_text url) first.target second.target first.read second.read in
+      let base = ok_one (app_target_of second.target d.codebase) first.base second.base (subst (λ (t : Target). app_target_of t d.codebase ≡ Ok first.base) target first.joined) second.joined in
+      let provider = provider_one second.target first.provider second.provider d.provider (subst (λ (t : Target). IsProvidedBy t d.provider first.provider) target first.provided) second.provided in
+      first.is ∙ ap (λ (p : Target). weight_installed p first.base d a shape) provider ∙ ap (λ (b : Target). weight_installed second.provider b d a shape) base ∙ sym second.is
 
 -- ---- the refusals
 
@@ -114,7 +140,13 @@ release_exact url text other texts shape = (
           exactly-exact _ _,
           (
             exactly-exact _ _,
-            (exactly_with-exact _ _ (λ x y first second. (let both = both_release (text ∷ other ∷ texts) first second in ap (λ (n : ℕ). says.Full n (free_blocks shape)) (both.2.0 ∙ sym both.3.0))), tt),
+            (
+              exactly_with-exact _ _ (λ x y first second. (let both = both_release (text ∷ other ∷ texts) first second in ap (λ (n : ℕ). says.Full n (free_blocks shape)) (both.2.0 ∙ sym both.3.0))),
+              (
+                exactly_with-exact _ _ (λ x y first second. (let both = both_release (text ∷ other ∷ texts) first second in ap (λ (n : ℕ). says.TableFull n (table_room shape.room)) (one_weight url shape both.0 both.1 x y both.2.0 both.3.0))),
+                tt,
+              ),
+            ),
           ),
         ),
       ),

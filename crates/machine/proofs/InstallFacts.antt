@@ -46,7 +46,7 @@ module _ (url : List ℕ) (heard : List (List ℕ))
       (same, (same, (same, (same, (same, (same, (same, (same, (same, tt)))))))))
 
   release_unchanged : ChangeNothing (release_refusals url heard shape)
-  release_unchanged = (same, (same, (same, (same, (same, (same, (same, tt)))))))
+  release_unchanged = (same, (same, (same, (same, (same, (same, (same, (same, tt))))))))
 
   file_unchanged : ChangeNothing (file_refusals url heard shape)
   file_unchanged = (same, tt)

@@ -6,6 +6,7 @@ use Rattle.std.proofs.lemmas.List.{length-map}
 use Rattle.std.proofs.lemmas.List.Elements.{All-head, All-nil, All-tail}
 use Rattle.std.proofs.lemmas.Slice.Eq.{bytes_eq-Decides}
 use Rattle.small_types.specs.declared.limits.TheConstants.{FILE_COUNT_LIMIT, LOCAL_COUNT_LIMIT, NUMBER_LIMIT, VIEW_LIMIT}
+use Rattle.small_types.specs.declared.room.Room.{Room}
 use Rattle.small_types.specs.declared.target.Target.{Target}
 use Rattle.identity.specs.declared.key.Key.{Key}
 use Rattle.identity.specs.declared.version.Version.{Version}
@@ -21,7 +22,7 @@ use Rattle.machine.specs.Current.{bare_listed_by, current_bare, current_of, curr
 use Rattle.machine.specs.Fields.{IsApplication, IsDeployment, IsTarget}
 use Rattle.machine.specs.Installed.{IsProvidedBy}
 use Rattle.machine.specs.InstallLaws.{IsInstall}
-use Rattle.machine.specs.InstallRow.{LacksEntry, OfDeployment, OfRelease, address_refusals, deployment_refusals, file_refusals, locals_after, release_refusals}
+use Rattle.machine.specs.InstallRow.{IsWeightOf, LacksEntry, OfDeployment, OfRelease, address_refusals, deployment_refusals, file_refusals, locals_after, release_refusals, weight_installed}
 use Rattle.machine.specs.Migrated.{migrated_names}
 use Rattle.machine.specs.Rows.{PassesAll, Refusal}
 use Rattle.machine.specs.Shape.{BareData, BareView, Shape, bare_data, bare_view, shape_of}
@@ -30,10 +31,13 @@ use Rattle.machine.specs.Store.{Session, Store, session_over}
 use Rattle.machine.specs.Valid.{IsDataFile, IsView, Ordered, Valid}
 use Rattle.machine.specs.Views.{DataFile, View}
 use Rattle.machine.specs.Wanted.{install_need}
+use Rattle.machine.specs.Weight.{IsLight, IsTooHeavy, weight_of}
 use Rattle.machine.proofs.Addresses.{codebase_is_held, text_is_held}
 use Rattle.machine.proofs.Bringing.{bare_data_current, bare_listed_current, installed_sound, used_after}
 use Rattle.machine.proofs.CountedBlocks.{counted_more}
+use Rattle.machine.proofs.InstallWeights.{installed_weight}
 use Rattle.machine.proofs.Installing.{Fitting, installed_ordered}
+use Rattle.machine.proofs.Lightness.{is_light}
 use Rattle.machine.proofs.Members.{sum_map}
 use Rattle.machine.proofs.Moving.{are_data, few_named}
 use Rattle.machine.proofs.ReadApplications.{application_read}
@@ -253,8 +257,45 @@ module _ {url : List ℕ} {heard : List (List ℕ)} {now : ℕ} {old : Session} 
       let room = was.room in
       subst (λ (store : Store). used_blocks (map bare_view store.views) ≤ store.room.blocks) (sym is.effect.installed.is) (omega (arith, used, room, has_room, counted_more shape.views shape.jobs))
 
+  -- the tables have room for it
+  abbrev new_weight : ℕ
+  new_weight = weight_installed is.effect.installed.provider is.effect.base d a shape
+
+  is_weight : IsWeightOf url shape d a new_weight
+  is_weight = record {
+    target = is.effect.target;
+    read = is.effect.read;
+    base = is.effect.base;
+    joined = is.effect.joined;
+    provider = is.effect.installed.provider;
+    provided = is.effect.installed.provided;
+    is = refl;
+  }
+
+  fits : IsTooHeavy shape.room new_weight → ⊥
+  fits heavy = release_passes.1.1.1.1.1.1.1.0 new_weight (of_release {P = λ x y. IsWeightOf url shape x y new_weight × IsTooHeavy shape.room new_weight} (is_weight, heavy))
+
+  pub left_weight : Ordered old.store → weight_of (map bare_view is.effect.store.views) is.effect.store.apps ≡ new_weight
+  left_weight was =
+      ap (λ (store : Store). weight_of (map bare_view store.views) store.apps) is.effect.installed.is
+      ∙ installed_weight is.effect.installed.provider is.effect.base d a is.effect.files is.effect.originals is.effect.installed.data_files now old.store is.effect.fetched is.effect.installed.migrated was held_application.facts
+
+  left_light : Ordered old.store → IsLight is.effect.store.room (weight_of (map bare_view is.effect.store.views) is.effect.store.apps)
+  left_light was =
+      let same_room : is.effect.store.room ≡ old.store.room = ap (λ (store : Store). store.room) is.effect.installed.is in
+      subst (λ (room : Room). IsLight room (weight_of (map bare_view is.effect.store.views) is.effect.store.apps)) (sym same_room)
+      (subst (IsLight old.store.room) (sym (left_weight was)) (is_light old.store.room new_weight fits))
+
   pub left_valid : Valid old.store → Valid new.store
-  left_valid was = subst (λ (s : Session). Valid s.store) (sym is.effect.is) (record { ordered = left_ordered was.ordered; room = left_room was })
+  left_valid was = subst (λ (s : Session). Valid s.store) (sym is.effect.is) (record { ordered = left_ordered was.ordered; room = left_room was; light = left_light was.ordered })
+
+  -- what was weighed is what the new tables weigh
+  pub weighed : Ordered old.store → OfRelease heard (λ x y. IsWeightOf url shape x y (weight_of (shape_of new).views (shape_of new).apps))
+  weighed was =
+      let same : weight_of (shape_of new).views (shape_of new).apps ≡ new_weight =
+      ap (λ (s : Session). weight_of (shape_of s).views (shape_of s).apps) is.effect.is ∙ left_weight was in
+      of_release {P = λ x y. IsWeightOf url shape x y (weight_of (shape_of new).views (shape_of new).apps)}
+      (subst (λ (n : ℕ). IsWeightOf url shape d a n) (sym same) is_weight)
 
   pub left_sound : Sound old.store → Sound new.store
   left_sound was =

@@ -1,5 +1,5 @@
 -- Steps keep what holds of a store.
-use Rattle.std.proofs.Common.{◌≡◌, ◌∙◌, ◌⊎◌, ◌<◌, ◌≤◌, inl, inr, refl, sym, ap, subst, ℕ, Bool, true, false, cond, ◌==◌, List, [], length, All, Option, Some, None, IsSome, arith}
+use Rattle.std.proofs.Common.{◌≡◌, ◌∙◌, ◌⊎◌, ◌<◌, ◌≤◌, inl, inr, refl, sym, ap, subst, ℕ, Bool, true, false, cond, ◌==◌, List, [], length, map, All, Option, Some, None, IsSome, arith}
 use Rattle.std.specs.Prelude.{unwrap_or, IsSomeAnd, IfSome}
 use Rattle.std.specs.declared.cmp.Ordering.{Ordering}
 use Rattle.std.specs.declared.cmp.Ordering.TheVariants.{Less, Equal, Greater}
@@ -17,10 +17,14 @@ use Rattle.machine.specs.Fields.{IsShortKey}
 use Rattle.machine.specs.Minimums.{raised, raised_app}
 use Rattle.machine.specs.RequireRow.{required}
 use Rattle.machine.specs.Sound.{IsSoundView, ShareBytes, Sound, program_files_of}
+use Rattle.machine.specs.Shape.{bare_view}
 use Rattle.machine.specs.Store.{Store, booted, empty}
 use Rattle.machine.specs.Valid.{IsApp, IsInstalled, Ordered, Valid}
 use Rattle.machine.specs.Views.{View, key_of}
+use Rattle.machine.specs.Weight.{IsLight, IsTooHeavy, app_weight, weight_of}
+use Rattle.machine.proofs.AppWeights.{KeepsWeight, known_light}
 use Rattle.machine.proofs.Entering.{All-with_entry, entry_of-other, entry_of-with_entry, length-with_known, length-with_new, order-with_entry}
+use Rattle.machine.proofs.Lightness.{is_light}
 use Rattle.machine.proofs.Raising.{entry_of-alike, keeps}
 
 -- ---- the empty store
@@ -43,12 +47,12 @@ empty_ordered room some few = record {
   apps = All-nil _;
 }
 
-pub empty_valid : (room : Room) → 1 ≤ room.blocks → room.blocks ≤ BLOCK_LIMIT → Valid (empty room)
-empty_valid room some few = record { ordered = empty_ordered room some few; room = omega arith }
+pub empty_valid : (room : Room) → 1 ≤ room.blocks → room.blocks ≤ BLOCK_LIMIT → IsLight room (weight_of [] []) → Valid (empty room)
+empty_valid room some few light = record { ordered = empty_ordered room some few; room = omega arith; light = light }
 
-pub empty_sound : (room : Room) → 1 ≤ room.blocks → room.blocks ≤ BLOCK_LIMIT → Sound (empty room)
-empty_sound room some few = record {
-  valid = empty_valid room some few;
+pub empty_sound : (room : Room) → 1 ≤ room.blocks → room.blocks ≤ BLOCK_LIMIT → IsLight room (weight_of [] []) → Sound (empty room)
+empty_sound room some few light = record {
+  valid = empty_valid room some few light;
   views = All-nil _;
   shared = λ i j d lt within. absurd (omega arith);
 }
@@ -101,7 +105,7 @@ pub booted_ordered : (boot : ℕ) (old : Store) → boot ≤ NUMBER_LIMIT → Or
 booted_ordered boot old few ordered = booted_by (old.boot == boot) boot old few ordered
 
 pub booted_valid : (boot : ℕ) (old : Store) → boot ≤ NUMBER_LIMIT → Valid old → Valid (booted boot old)
-booted_valid boot old few valid = record { ordered = booted_ordered boot old few valid.ordered; room = valid.room }
+booted_valid boot old few valid = record { ordered = booted_ordered boot old few valid.ordered; room = valid.room; light = valid.light }
 
 -- ---- other applications
 
@@ -209,8 +213,21 @@ required_ordered key version old is_key is_version room was =
     (apps-required old.views key version is_key is_version old.apps was.apps)
     (installed-with_entry key (raised_app version) (keeps version) (λ app current. current) old.apps old.views was.installed)
 
-pub required_valid : (key : Key) (version : Version) (old : Store) → IsShortKey key → IsVersion version → ¬ ((entry_of key old.apps ≡ None) × (APPLICATION_LIMIT ≤ length old.apps)) → Valid old → Valid (record old { apps = required key version old.apps })
-required_valid key version old is_key is_version room valid = record {
+keeps_weight : (version : Version) → KeepsWeight (raised_app version)
+unfolding app_weight
+keeps_weight version app = refl
+
+-- the tables have room where the key is known, or they had room for it
+required_light : (key : Key) (version : Version) (old : Store) → ((weight : ℕ) → (entry_of key old.apps ≡ None) × (weight ≡ weight_of (map bare_view old.views) (required key version old.apps)) × IsTooHeavy old.room weight → ⊥) → IsLight old.room (weight_of (map bare_view old.views) old.apps) → IsLight old.room (weight_of (map bare_view old.views) (required key version old.apps))
+required_light key version old fits light = by (entry_of key old.apps) refl
+  where
+    by : (entry : Option AppState) → entry_of key old.apps ≡ entry → IsLight old.room (weight_of (map bare_view old.views) (required key version old.apps))
+    by (Some app) known = known_light key (raised_app version) (keeps_weight version) old.room (map bare_view old.views) old.apps app known light
+    by None new = is_light old.room (weight_of (map bare_view old.views) (required key version old.apps)) (λ heavy. fits (weight_of (map bare_view old.views) (required key version old.apps)) (new, refl, heavy))
+
+pub required_valid : (key : Key) (version : Version) (old : Store) → IsShortKey key → IsVersion version → ¬ ((entry_of key old.apps ≡ None) × (APPLICATION_LIMIT ≤ length old.apps)) → ((weight : ℕ) → (entry_of key old.apps ≡ None) × (weight ≡ weight_of (map bare_view old.views) (required key version old.apps)) × IsTooHeavy old.room weight → ⊥) → Valid old → Valid (record old { apps = required key version old.apps })
+required_valid key version old is_key is_version room fits valid = record {
   ordered = required_ordered key version old is_key is_version room valid.ordered;
   room = valid.room;
+  light = required_light key version old fits valid.light;
 }

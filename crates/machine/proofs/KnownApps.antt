@@ -1,5 +1,5 @@
 -- A store in which the entry of a known application is changed.
-use Rattle.std.proofs.Common.{◌≡◌, ◌∙◌, ◌≤◌, refl, sym, ap, subst, length, Bool, List, All, Option, Some, IsSome, arith}
+use Rattle.std.proofs.Common.{◌≡◌, ◌∙◌, ◌≤◌, refl, sym, ap, subst, length, map, Bool, List, All, Option, Some, IsSome, arith}
 use Rattle.std.specs.Prelude.{IsSomeAnd, unwrap_or}
 use Rattle.std.specs.declared.cmp.Ordering.{Ordering}
 use Rattle.std.specs.declared.cmp.Ordering.TheVariants.{Less, Equal, Greater}
@@ -9,9 +9,11 @@ use Rattle.machine.specs.declared.app.AppState.{AppState}
 use Rattle.small_types.specs.declared.limits.TheConstants.{APPLICATION_LIMIT}
 use Rattle.machine.specs.Entries.{KeepsKeys, entry_of, fresh, key_cmp, with_entry}
 use Rattle.machine.specs.Fields.{IsShortKey}
+use Rattle.machine.specs.Shape.{bare_view}
 use Rattle.machine.specs.Store.{Store}
 use Rattle.machine.specs.Valid.{IsApp, IsInstalled, Ordered, Valid}
 use Rattle.machine.specs.Views.{View, key_of}
+use Rattle.machine.proofs.AppWeights.{KeepsWeight, known_light}
 use Rattle.machine.proofs.Changing.{greater_apart, less_apart}
 use Rattle.machine.proofs.Entering.{All-with_entry, entry_of-other, entry_of-with_entry, length-with_known, order-with_entry}
 use Rattle.machine.proofs.Finding.{value_of}
@@ -72,8 +74,13 @@ module _ (key : Key) (f : AppState → AppState) (keeps : KeepsKeys f) (old : St
       changed old.apps was.apps)
       (installed was.installed)
 
-  pub changed_valid : Valid old → Valid (record old { apps = with_entry key f old.apps })
-  changed_valid valid = record { ordered = changed_ordered valid.ordered; room = valid.room }
+  pub changed_valid : KeepsWeight f → Valid old → Valid (record old { apps = with_entry key f old.apps })
+  changed_valid same valid = record {
+    ordered = changed_ordered valid.ordered;
+    room = valid.room;
+    light = (let app = value_of (entry_of key old.apps) known in
+        known_light key f same old.room (map bare_view old.views) old.apps app.0 app.1 valid.light);
+  }
 
 -- ---- where each entry keeps its current view
 
@@ -86,10 +93,10 @@ module _ (key : Key) (f : AppState → AppState) (keeps : KeepsKeys f)
       changed_ordered key f keeps old is_key known changed
       (installed-with_entry key f keeps keeps_current old.apps old.views) was
 
-  pub known_valid : Valid old → Valid (record old { apps = with_entry key f old.apps })
-  known_valid valid =
+  pub known_valid : KeepsWeight f → Valid old → Valid (record old { apps = with_entry key f old.apps })
+  known_valid same valid =
       changed_valid key f keeps old is_key known changed
-      (installed-with_entry key f keeps keeps_current old.apps old.views) valid
+      (installed-with_entry key f keeps keeps_current old.apps old.views) same valid
 
 -- ---- where the entry of the key has a current view
 

@@ -14,9 +14,12 @@ use Rattle.machine.specs.FinishRow.{finished}
 use Rattle.machine.specs.LaunchRow.{launched, started_app}
 use Rattle.machine.specs.Leases.{lease_of, with_lease, without_lease}
 use Rattle.machine.specs.Minimums.{minimum_of}
+use Rattle.machine.specs.Shape.{bare_view}
 use Rattle.machine.specs.Store.{Store}
 use Rattle.machine.specs.Valid.{AreNumbers, IsApp, Ordered, Valid}
 use Rattle.machine.specs.Views.{View}
+use Rattle.machine.specs.Weight.{app_weight}
+use Rattle.machine.proofs.AppWeights.{KeepsWeight, known_light}
 use Rattle.machine.proofs.Changing.{same_part}
 use Rattle.machine.proofs.Entering.{All-with_entry, length-with_known, order-with_entry}
 use Rattle.machine.proofs.Finding.{find-kept, find-last, find-lost, find-other, find_in, find_none, value_of}
@@ -115,6 +118,10 @@ module _ (key : Key) where
   pub starts_keys : KeepsKeys started_app
   starts_keys app = refl
 
+  starts_weight : KeepsWeight started_app
+  unfolding app_weight
+  starts_weight app = refl
+
   -- a start leaves each minimum
   pub started_minimum : (apps : List AppState) (other : Key)
       → minimum_of other (with_entry key started_app apps) ≡ minimum_of other apps
@@ -167,7 +174,13 @@ module _ (key : Key) where
         }
 
     pub launched_valid : Valid old → Valid (launched key number old)
-    launched_valid valid = record { ordered = launched_ordered valid.ordered; room = valid.room }
+    launched_valid valid = record {
+      ordered = launched_ordered valid.ordered;
+      room = valid.room;
+      light = (let app = value_of (entry_of key old.apps) known in
+          known_light key started_app starts_weight old.room (map bare_view old.views) old.apps app.0
+          app.1 valid.light);
+    }
 
 -- ---- one less
 
@@ -193,4 +206,8 @@ module _ (number : ℕ) (old : Store) where
   }
 
   pub finished_valid : Valid old → Valid (finished number old)
-  finished_valid valid = record { ordered = finished_ordered valid.ordered; room = valid.room }
+  finished_valid valid = record {
+    ordered = finished_ordered valid.ordered;
+    room = valid.room;
+    light = valid.light;
+  }

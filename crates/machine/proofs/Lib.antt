@@ -1,5 +1,6 @@
 pub mod Addresses
 pub mod Answering
+pub mod AppWeights
 pub mod AtFacts
 pub mod Bringing
 pub mod Changing
@@ -32,6 +33,7 @@ pub mod InstallApps
 pub mod InstallExact
 pub mod InstallFacts
 pub mod InstallSteps
+pub mod InstallWeights
 pub mod Installing
 pub mod Keeping
 pub mod Keys
@@ -42,11 +44,14 @@ pub mod Leased
 pub mod LeasesKept
 pub mod Leasing
 pub mod Leaving
+pub mod Lightness
 pub mod ListFacts
 pub mod Listing
 pub mod LocalFacts
+pub mod LowerWeights
 pub mod Mapping
 pub mod Members
+pub mod MigratedData
 pub mod Migrating
 pub mod Missing
 pub mod Moments
@@ -90,5 +95,7 @@ pub mod UrlHosts
 pub mod UrlTexts
 pub mod Using
 pub mod ViewSteps
+pub mod ViewWeights
 pub mod Wanting
 pub mod Weaving
+pub mod Weighing

@@ -163,7 +163,7 @@ pub sum_agree : {X : Type 0} (f g : X → ℕ) (xs : List X) → All (λ x. f x 
 sum_agree f g [] all = refl
 sum_agree f g (x ∷ xs) all = omega (arith, sum_by-cons f x xs, sum_by-cons g x xs, All-head (λ x. f x ≡ g x) x xs all, sum_agree f g xs (All-tail (λ x. f x ≡ g x) x xs all))
 
-kept_map : {X Y : Type 0} (f : X → Y) (b : Bool) (x : X) (xs : List X) → cond b (f x ∷ map f xs) (map f xs) ≡ map f (cond b (x ∷ xs) xs)
+pub kept_map : {X Y : Type 0} (f : X → Y) (b : Bool) (x : X) (xs : List X) → cond b (f x ∷ map f xs) (map f xs) ≡ map f (cond b (x ∷ xs) xs)
 kept_map f true x xs = refl
 kept_map f false x xs = refl
 

@@ -87,7 +87,7 @@ module _ (old : List DataFile) (old_files : List FileEntry) (a : Application) (o
   stay = copied old old_files a.files originals
 
   -- the files, in no order
-  files : List DataFile
+  unfoldable pub files : List DataFile
   files = map move stay ++ map make (filter comes_fresh originals)
 
   stay_in : (f : DataFile) → In f stay → In f old × ¬ IsBelowPre f.name
@@ -153,7 +153,7 @@ module _ (old : List DataFile) (old_files : List FileEntry) (a : Application) (o
       (subst (λ (x : DataFile). ◌≢◌ {A = List ℕ} x.name of.0.entry.name) from.2
       (across_by (stays old_files a.files from.0.name) from.0 of.0 refl old_one.0 old_one.1 original.1 original.0))
 
-  differ : AllPairs IsNamedOther files
+  pub differ : AllPairs IsNamedOther files
   unfolding files
   differ = pairs_append IsNamedOther (map move stay) (map make (filter comes_fresh originals)) moved_differ fresh_differ across
 
@@ -212,3 +212,8 @@ module _ (old : List DataFile) (old_files : List FileEntry) (a : Application) (o
       );
     },
   )
+
+  -- it is those files in their order
+  pub migration_is : migration.0 ≡ in_order files
+  unfolding migration
+  migration_is = refl

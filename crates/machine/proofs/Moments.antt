@@ -55,7 +55,10 @@ module _ (url : List ℕ) (heard : List (List ℕ)) (shape : Shape) where
           (λ r given. ap set given.1),
           (
             (λ r given. ap set given.1),
-            ((λ r given. ap set given.1), ((λ r given. ap set given.2), tt)),
+            (
+              (λ r given. ap set given.1),
+              ((λ r given. ap set given.2), ((λ r given. ap set given.2), tt)),
+            ),
           ),
         ),
       ),

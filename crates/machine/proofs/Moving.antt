@@ -33,7 +33,7 @@ less_differs a b less same = apart (sym (subst (λ (t : List ℕ). text_cmp a t 
 pub names_differ : (files : List DataFile) → AllPairs (λ (f g : DataFile). text_cmp f.name g.name ≡ Less) files → AllPairs (λ (f g : DataFile). ◌≢◌ {A = List ℕ} f.name g.name) files
 names_differ files ordered = pairs_weaker _ _ files (λ f g less. less_differs f.name g.name less) ordered
 
-files_differ : (files : List DataFile) → AllPairs (λ (f g : DataFile). text_cmp f.name g.name ≡ Less) files → Differ files
+pub files_differ : (files : List DataFile) → AllPairs (λ (f g : DataFile). text_cmp f.name g.name ≡ Less) files → Differ files
 files_differ files ordered = pairs_weaker (λ (f g : DataFile). text_cmp f.name g.name ≡ Less) (λ (f g : DataFile). f ≢ g) files (λ f g less same. less_differs f.name g.name less (ap (λ (file : DataFile). file.name) same)) ordered
 
 texts_differ : (files : List DataFile) → AllPairs (λ (f g : DataFile). text_cmp f.name g.name ≡ Less) files → Differ (map (λ (file : DataFile). file.name) files)

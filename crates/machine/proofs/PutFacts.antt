@@ -17,26 +17,29 @@ use Rattle.machine.specs.DataFiles.{bare_data_named, data_name, data_named, put_
 use Rattle.machine.specs.Laws.{IsAnswered}
 use Rattle.machine.specs.Leases.{lease_of, leased_bare, leased_view}
 use Rattle.machine.specs.Machine.{moment_set}
-use Rattle.machine.specs.PutRow.{IsBadName, IsOneTooMany, PutEffect, outside_count, put_refusals}
+use Rattle.machine.specs.PutRow.{IsBadName, IsOneTooMany, PutEffect, outside_count, put_refusals, weight_put}
 use Rattle.machine.specs.Rows.{AreExact, ChangeNothing, PassesAll}
 use Rattle.machine.specs.Shape.{BareData, BareView, Shape, bare_data, bare_view, shape_of}
 use Rattle.machine.specs.Sound.{Sound}
 use Rattle.machine.specs.Store.{Session, Store}
 use Rattle.machine.specs.Valid.{IsDataFile, IsView, Ordered, Valid}
 use Rattle.machine.specs.Views.{DataFile, ListedFile, View}
+use Rattle.machine.specs.Weight.{IsLight, IsTooHeavy, table_room, weight_of}
 use Rattle.machine.proofs.Choosing.{AllGive, exactly-exact, exactly_with-exact}
 use Rattle.machine.proofs.CountedBlocks.{counted_more}
-use Rattle.machine.proofs.DataViews.{changed_keeps, changed_ordered, changed_sound, data_with, room_with, same_programs, same_standing, weight}
+use Rattle.machine.proofs.DataViews.{changed_keeps, changed_ordered, changed_sound, data_with, room_with, same_programs, same_standing, file_blocks}
 use Rattle.machine.proofs.Finding.{some_there}
 use Rattle.machine.proofs.GroupStands.{leased_number}
 use Rattle.machine.proofs.Leased.{leased_bare_kept, leased_shape, leased_valid}
+use Rattle.machine.proofs.Lightness.{heavy_or_light, is_light}
 use Rattle.machine.proofs.LocalFacts.{bare_found}
 use Rattle.machine.proofs.Members.{In, sum_map}
 use Rattle.machine.proofs.Moments.{SetsNone}
 use Rattle.machine.proofs.Names.{below_from, test_outside}
 use Rattle.machine.proofs.NamedItems.{all_with_named, order-with_named, sum-with_known, sum-with_named}
-use Rattle.machine.proofs.OtherReplies.{full_is_other, no_lease_is_other}
+use Rattle.machine.proofs.OtherReplies.{full_is_other, no_lease_is_other, table_full_is_other}
 use Rattle.machine.proofs.RowFacts.{Acts, RowFacts, TakesMore, acts_on, kept_unchanged, rises_as}
+use Rattle.machine.proofs.ViewWeights.{bare_put}
 
 -- ---- replies
 
@@ -63,14 +66,20 @@ module _ (lease : ℕ) (name bytes : List ℕ) (shape : Shape) where
         (
           exactly_with-exact _ _ (λ x y a b.
               ap (λ (n : ℕ). says.Full n (free_blocks shape)) (a.0 ∙ sym b.0)),
-          tt,
+          (
+            exactly_with-exact _ _ (λ x y a b.
+                ap (λ (n : ℕ). says.TableFull n (table_room shape.room))
+                (a.2 ∙ ap (λ (v : BareView). weight_put v.number (record { name = name; length = length bytes }) shape)
+                (same_Some a.0 b.0 (sym a.1 ∙ b.1)) ∙ sym b.2)),
+            tt,
+          ),
         ),
       ),
     ),
   )
 
   pub put_unchanged : ChangeNothing (put_refusals lease name bytes shape)
-  put_unchanged = ((λ s. refl), ((λ s. refl), ((λ s. refl), ((λ s. refl), tt))))
+  put_unchanged = ((λ s. refl), ((λ s. refl), ((λ s. refl), ((λ s. refl), ((λ s. refl), tt)))))
 
   abbrev set : Reply → Option ℕ
   set reply = moment_set (Some reply)
@@ -80,7 +89,10 @@ module _ (lease : ℕ) (name bytes : List ℕ) (shape : Shape) where
     (λ r given. ap set given.1),
     (
       (λ r given. ap set given.1),
-      ((λ r given. ap set given.1), ((λ r given. ap set given.2), tt)),
+      (
+        (λ r given. ap set given.1),
+        ((λ r given. ap set given.2), ((λ r given. ap set given.2), tt)),
+      ),
     ),
   )
 
@@ -154,7 +166,7 @@ put_takes number name bytes old was =
       standing = λ entry there. subst (λ (es : List FileEntry). In entry es)
           (same_standing number (among file) old) there;
       data_blocks = data_with number (among file) old (blocks_of (length bytes))
-          (λ files. sum-with_named data_name file weight files) was;
+          (λ files. sum-with_named data_name file file_blocks files) was;
     }
 
 -- ---- its effect
@@ -197,15 +209,26 @@ module _ (lease : ℕ) (name bytes : List ℕ) (old : Session) (is_name : IsName
       with_is file view (leased_valid lease old.store view was leased)
       (record { name = is_name; short = λ outside. short }) few
 
+  -- the tables have room for it
+  put_light : IsLight old.store.room
+      (weight_of (map bare_view (put_in view.number file old.store).views) old.store.apps)
+  put_light =
+      subst (λ (bares : List BareView). IsLight old.store.room (weight_of bares old.store.apps))
+      (sym (bare_put file view.number old.store.views))
+      (is_light old.store.room (weight_put view.number (bare_data file) (shape_of old))
+      (λ heavy. passes.1.1.1.1.0 (weight_put view.number (bare_data file) (shape_of old))
+      (bare_view view, bare, refl, heavy)))
+
   pub put_valid : Valid old.store → Valid (put_in view.number file old.store)
   put_valid valid = record {
     ordered = changed_ordered view.number (among file) old.store view
         (leased_number lease old.store view leased) (view_with valid.ordered) valid.ordered;
     room = (let room = valid.room in
         let more = room_with view.number (among file) old.store (blocks_of (length bytes))
-        (λ files. sum-with_named data_name file weight files) valid.ordered in
+        (λ files. sum-with_named data_name file file_blocks files) valid.ordered in
         let counted = counted_more (shape_of old).views (shape_of old).jobs in
         omega (arith, room, more, has_room lease name bytes old passes, counted));
+    light = put_light;
   }
 
   pub put_sound : Sound old.store → Sound (put_in view.number file old.store)
@@ -275,6 +298,20 @@ module _ (now : ℕ) (heard : List (List ℕ)) (lease : ℕ) (name bytes : List 
       }
 
       module _ (few : IsOneTooMany lease name (shape_of old) → ⊥) where
+        abbrev new_file : BareData
+        new_file = record { name = name; length = length bytes }
+
+        abbrev new_weight : ℕ
+        new_weight = weight_put view.number new_file (shape_of old)
+
+        has_weight : (IsTooHeavy old.store.room new_weight → ⊥) → (n : ℕ)
+            → ((v : BareView) × (leased_bare lease (shape_of old) ≡ Some v)
+            × (n ≡ weight_put v.number new_file (shape_of old)) × IsTooHeavy old.store.room n) → ⊥
+        has_weight light n over =
+            light (subst (IsTooHeavy old.store.room)
+            (over.2 ∙ ap (λ (v : BareView). weight_put v.number new_file (shape_of old))
+            (same_Some over.0 (bare_view view) (sym over.1 ∙ bare))) over.3)
+
         by_room : (free_blocks (shape_of old) < blocks_of (length bytes))
             ⊎ (blocks_of (length bytes) ≤ free_blocks (shape_of old))
             → IsAnswered now heard old (Put lease name bytes)
@@ -293,22 +330,47 @@ module _ (now : ℕ) (heard : List (List ℕ)) (lease : ℕ) (name bytes : List 
           ));
           other = full_is_other (blocks_of (length bytes)) (free_blocks (shape_of old));
         }
-        by_room (inr room) = record {
-          reply = says.Put;
-          new = record old {
-            store = put_in view.number (record { name = name; bytes = bytes }) old.store;
-          };
-          answers = inr (
-            (tt, (lives, (good, (few, (fits, tt))))),
-            record { view = view; leased = leased; replied = refl; is = refl },
-          );
-          other = put_is_other;
-        }
+        by_room (inr room) = by_weight (heavy_or_light old.store.room new_weight)
           where
             fits : (need : ℕ)
                 → (need ≡ blocks_of (length bytes)) × (free_blocks (shape_of old) < need) → ⊥
             fits need over =
                 let same = over.0 in let less = over.1 in absurd (omega (arith, same, less, room))
+
+            by_weight : IsTooHeavy old.store.room new_weight ⊎ (IsTooHeavy old.store.room new_weight → ⊥)
+                → IsAnswered now heard old (Put lease name bytes)
+            by_weight (inl heavy) = record {
+              reply = says.TableFull new_weight (table_room old.store.room);
+              new = old;
+              answers = inl (inr (
+                tt,
+                inr (
+                  lives,
+                  inr (
+                    good,
+                    inr (
+                      few,
+                      inr (
+                        fits,
+                        inl ((new_weight, (bare_view view, bare, refl, heavy), refl), refl),
+                      ),
+                    ),
+                  ),
+                ),
+              ));
+              other = table_full_is_other new_weight (table_room old.store.room);
+            }
+            by_weight (inr light) = record {
+              reply = says.Put;
+              new = record old {
+                store = put_in view.number (record { name = name; bytes = bytes }) old.store;
+              };
+              answers = inr (
+                (tt, (lives, (good, (few, (fits, (has_weight light, tt)))))),
+                record { view = view; leased = leased; replied = refl; is = refl },
+              );
+              other = put_is_other;
+            }
 
       by_file : (found : Option DataFile) → data_named name view.data_files ≡ found
           → (outside_count (map bare_data view.data_files) < LOCAL_COUNT_LIMIT)

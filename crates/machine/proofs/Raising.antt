@@ -53,13 +53,17 @@ shown_memory minimum e = absurd cc
 shown_too_many : {P : Type 0} (minimum : Version) (what : _) (limit : ℕ) → says.Minimum minimum ≡ says.TooMany what limit → P
 shown_too_many minimum what limit e = absurd cc
 
+shown_table_full : {P : Type 0} (minimum : Version) (weight room : ℕ) → says.Minimum minimum ≡ says.TableFull weight room → P
+shown_table_full minimum weight room e = absurd cc
+
 shown_one : (a b : Version) → says.Minimum a ≡ says.Minimum b → a ≡ b
 shown_one a b e = cc
 
 pub minimum_shown : (now : ℕ) (heard : List (List ℕ)) (old : Session) (key : Key) (version minimum : Version) (new : Session) → Answers now heard old (Require key version) (says.Minimum minimum) new → minimum_of key new.store.apps ≡ Some minimum
 minimum_shown now heard old key version minimum new (inl (inl memory)) = shown_memory minimum memory.0
 minimum_shown now heard old key version minimum new (inl (inr (_, inl full))) = shown_too_many minimum _ _ full.0.1
-minimum_shown now heard old key version minimum new (inl (inr (_, inr none))) = absurd none.1
+minimum_shown now heard old key version minimum new (inl (inr (_, inr (_, inl heavy)))) = shown_table_full minimum _ _ heavy.0.2
+minimum_shown now heard old key version minimum new (inl (inr (_, inr (_, inr none)))) = absurd none.1
 minimum_shown now heard old key version minimum new (inr done) =
     ap (λ (s : Session). minimum_of key s.store.apps) done.1.1
     ∙ minimum_of-required key version old.store.apps

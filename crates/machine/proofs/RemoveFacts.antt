@@ -1,5 +1,5 @@
 -- The row of `remove`.
-use Rattle.std.proofs.Common.{◌≡◌, ◌≢◌, ◌∙◌, ◌≤◌, inl, inr, refl, sym, ap, subst, ℕ, List, Option, Some, None, cond, not, arith}
+use Rattle.std.proofs.Common.{◌≡◌, ◌≢◌, ◌∙◌, ◌≤◌, inl, inr, refl, sym, ap, subst, ℕ, List, map, Option, Some, None, cond, not, arith}
 use Rattle.std.specs.Prelude.{sum_by}
 use Rattle.std.proofs.lemmas.Option.{none-some}
 use Rattle.manifests.specs.declared.facts.FileEntry.{FileEntry}
@@ -13,17 +13,20 @@ use Rattle.machine.specs.Laws.{IsAnswered}
 use Rattle.machine.specs.Leases.{lease_of, leased_bare, leased_view}
 use Rattle.machine.specs.Machine.{moment_set}
 use Rattle.machine.specs.RemoveRow.{RemoveEffect, remove_refusals}
-use Rattle.machine.specs.Shape.{bare_view, shape_of}
+use Rattle.machine.specs.Shape.{bare_data, bare_view, shape_of}
 use Rattle.machine.specs.Sound.{Sound}
 use Rattle.machine.specs.Store.{Session, Store}
 use Rattle.machine.specs.Valid.{IsDataFile, IsView, Ordered, Valid}
 use Rattle.machine.specs.Views.{DataFile, ListedFile, View}
-use Rattle.machine.proofs.DataViews.{changed_keeps, changed_ordered, changed_sound, no_more, room_within, same_programs, same_standing, weight}
+use Rattle.machine.specs.Weight.{data_weight, weight_of}
+use Rattle.machine.proofs.DataViews.{changed_keeps, changed_ordered, changed_sound, no_more, room_within, same_programs, same_standing, file_blocks}
 use Rattle.machine.proofs.Finding.{some_there}
 use Rattle.machine.proofs.GroupStands.{leased_number}
 use Rattle.machine.proofs.Leased.{leased_bare_kept, leased_valid}
+use Rattle.machine.proofs.Lightness.{lighter}
 use Rattle.machine.proofs.LocalFacts.{has, lacks, local_none, local_unchanged}
-use Rattle.machine.proofs.Members.{In}
+use Rattle.machine.proofs.LowerWeights.{lower_data}
+use Rattle.machine.proofs.Members.{In, sum_map}
 use Rattle.machine.proofs.NamedItems.{all_without_named, order-without_named, sum-without_named}
 use Rattle.machine.proofs.OtherReplies.{no_file_is_other, no_lease_is_other}
 use Rattle.machine.proofs.RowFacts.{Acts, RowFacts, TakesMore, acts_on, kept_unchanged, rises_as}
@@ -54,8 +57,18 @@ without_is name view is =
     }
 
 no_heavier : (name : List ℕ) (files : List DataFile)
-    → sum_by weight (rest name files) ≤ sum_by weight files
-no_heavier name files = sum-without_named data_name name weight files
+    → sum_by file_blocks (rest name files) ≤ sum_by file_blocks files
+no_heavier name files = sum-without_named data_name name file_blocks files
+
+weighs_less : (name : List ℕ) (files : List DataFile)
+    → sum_by data_weight (map bare_data (rest name files)) ≤ sum_by data_weight (map bare_data files)
+weighs_less name files =
+    omega (
+      arith,
+      sum-without_named data_name name (λ (file : DataFile). data_weight (bare_data file)) files,
+      sum_map bare_data data_weight (rest name files),
+      sum_map bare_data data_weight files,
+    )
 
 module _ (lease : ℕ) (name : List ℕ) (old : Store) (view : View)
     (leased : leased_view lease old ≡ Some view) where
@@ -70,6 +83,10 @@ module _ (lease : ℕ) (name : List ℕ) (old : Store) (view : View)
     room = (let room = valid.room in
         let within = room_within view.number (rest name) old (no_heavier name) in
         omega (arith, room, within));
+    light = lighter old.room
+        (weight_of (map bare_view (removed_in view.number name old).views) old.apps)
+        (weight_of (map bare_view old.views) old.apps)
+        (lower_data view.number (rest name) old (weighs_less name)) valid.light;
   }
 
   pub removed_sound : Sound old → Sound (removed_in view.number name old)

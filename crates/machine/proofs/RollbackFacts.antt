@@ -25,6 +25,8 @@ use Rattle.machine.specs.Shape.{Shape, shape_of}
 use Rattle.machine.specs.Store.{Session, Store, session_over}
 use Rattle.machine.specs.Valid.{IsApp, IsView, Ordered, Valid}
 use Rattle.machine.specs.Views.{View, version_of}
+use Rattle.machine.specs.Weight.{app_weight}
+use Rattle.machine.proofs.AppWeights.{KeepsWeight}
 use Rattle.machine.proofs.Changing.{same_part}
 use Rattle.machine.proofs.Choosing.{AllGive, exactly-exact, exactly_with-exact}
 use Rattle.machine.proofs.Finding.{some_there, then_value}
@@ -78,6 +80,10 @@ module _ (key : Key) (shape : Shape) where
 
 pub back_keys : (have : Version) → KeepsKeys (rolled_back_app have)
 back_keys have app = refl
+
+back_weight : (have : Version) → KeepsWeight (rolled_back_app have)
+unfolding app_weight
+back_weight have app = refl
 
 -- it leaves each minimum
 pub back_minimum : (key : Key) (have : Version) (apps : List AppState) (other : Key)
@@ -146,7 +152,7 @@ module _ (now : ℕ) (heard : List (List ℕ)) (key : Key) where
       (back_is_app old.store.views done.have
       (have_version key old.store done.have valid.ordered done.current))
       (installed_still key (rolled_back_app done.have) (back_keys done.have) old.store.apps by.1 by.2
-      (some_there by.1.previous by.0 by.3) old.store.views) valid)
+      (some_there by.1.previous by.0 by.3) old.store.views) (back_weight done.have) valid)
 
   -- ---- there is an answer
 

@@ -22,6 +22,8 @@ use Rattle.machine.specs.SkipRow.{SkipEffect, offer_of, skip_refusals, skipped, 
 use Rattle.machine.specs.Store.{Session}
 use Rattle.machine.specs.Valid.{IsApp, Ordered, Valid}
 use Rattle.machine.specs.Views.{View}
+use Rattle.machine.specs.Weight.{app_weight}
+use Rattle.machine.proofs.AppWeights.{KeepsWeight}
 use Rattle.machine.proofs.Changing.{same_part}
 use Rattle.machine.proofs.Choosing.{AllGive, exactly-exact, exactly_with-exact}
 use Rattle.machine.proofs.Finding.{some_there, then_value}
@@ -80,6 +82,10 @@ module _ (key : Key) (now : ℕ) (shape : Shape) where
 pub skips_keys : KeepsKeys skipped_app
 skips_keys app = refl
 
+skips_weight : KeepsWeight skipped_app
+unfolding app_weight
+skips_weight app = refl
+
 -- it leaves each minimum
 skipped_minimum : (key : Key) (apps : List AppState) (other : Key)
     → minimum_of other (with_entry key skipped_app apps) ≡ minimum_of other apps
@@ -121,7 +127,8 @@ module _ (now : ℕ) (heard : List (List ℕ)) (key : Key) where
       done.offered in
       subst (λ (s : Session). Valid s.store) (sym done.is)
       (known_valid key skipped_app skips_keys (λ a current. current) old.store (short_key is)
-      (some_there (entry_of key old.store.apps) app.0 app.1) (skipped_is_app old.store.views) valid)
+      (some_there (entry_of key old.store.apps) app.0 app.1) (skipped_is_app old.store.views)
+      skips_weight valid)
 
   -- ---- there is an answer
 

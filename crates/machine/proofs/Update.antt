@@ -26,12 +26,14 @@ use Rattle.machine.specs.Store.{Store, session_over}
 use Rattle.machine.specs.Valid.{IsDataFile, Valid}
 use Rattle.machine.specs.Views.{DataFile, ListedFile, View, same_content}
 use Rattle.machine.specs.Wanted.{copied_need, program_need}
+use Rattle.machine.specs.Weight.{weight_of}
 use Rattle.machine.proofs.Bringing.{bare_data_current, installed_sound, used_after}
 use Rattle.machine.proofs.Contents.{content_decides}
 use Rattle.machine.proofs.Entering.{order}
 use Rattle.machine.proofs.Example as old
 use Rattle.machine.proofs.FoundTexts.{ascii_text}
 use Rattle.machine.proofs.Installing.{Fitting, installed_ordered}
+use Rattle.machine.proofs.Lightness.{no_halves}
 use Rattle.machine.proofs.Migrating.{migration}
 use Rattle.machine.proofs.Moving.{are_data, few_named}
 
@@ -175,7 +177,7 @@ room =
     omega (arith, used, old.counted, nothing_new, copied)
 
 is_valid : Valid new
-is_valid = record { ordered = installed_ordered old.target old.target d a files made.0 0 old.store fitting old.store_is_ordered; room = room }
+is_valid = record { ordered = installed_ordered old.target old.target d a files made.0 0 old.store fitting old.store_is_ordered; room = room; light = no_halves new.room (weight_of (map bare_view new.views) new.apps) refl }
 
 is_sound : Sound new
 is_sound = installed_sound old.target old.target d a files originals made.0 0 old.store fetched moved refl refl is_valid old.store_is_sound

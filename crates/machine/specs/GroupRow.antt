@@ -47,9 +47,9 @@ weight_grown number group shape =
 -- ---- refusals
 
 -- No lease has the number, or no file the group. Where the group does not stand yet: a wanted file
--- has no address, there are not as many blocks, or the tables would have no room.
-abbrev pub room_refusals : ℕ → List ℕ → Shape → List (Refusal Reply Session)
-room_refusals lease group shape =
+-- has no address, or there are not as many blocks.
+abbrev pub place_refusals : ℕ → List ℕ → Shape → List (Refusal Reply Session)
+place_refusals lease group shape =
     exactly (lease_of lease shape.leases ≡ None) says.NoLease
     ∷ exactly (LacksGroup lease group shape) says.NoGroup
     ∷ exactly (OfMissing lease group shape (λ target. target ≡ Err BadUrl)) says.BadUrl
@@ -57,11 +57,21 @@ room_refusals lease group shape =
     (λ need. OfComing lease group shape (λ view.
     (need ≡ group_need shape.views group view.application) × (free_blocks shape < need)))
     (λ need. says.Full need (free_blocks shape))
-    ∷ exactly_with
+    ∷ []
+
+-- the tables would have no room for a group that does not stand yet
+abbrev pub weight_refusals : ℕ → List ℕ → Shape → List (Refusal Reply Session)
+weight_refusals lease group shape =
+    exactly_with
     (λ weight. OfComing lease group shape (λ view.
     (weight ≡ weight_grown view.number group shape) × IsTooHeavy shape.room weight))
     (λ weight. says.TableFull weight (table_room shape.room))
     ∷ []
+
+-- there is no room for the group
+abbrev pub room_refusals : ℕ → List ℕ → Shape → List (Refusal Reply Session)
+room_refusals lease group shape =
+    place_refusals lease group shape ++ weight_refusals lease group shape
 
 -- no link gives a wanted file, which is a free choice
 abbrev pub missing_refusals : ℕ → List ℕ → Shape → List (Refusal Reply Session)

@@ -148,9 +148,9 @@ deployment_refusals url heard shape =
     ∷ []
 
 -- The application manifest is not heard, cannot be read or is not the listed one, or its files have
--- no place, or the tables would have no room. A view has at most so many data files outside `.pre`.
-abbrev pub release_refusals : List ℕ → List (List ℕ) → Shape → List (Refusal Reply Session)
-release_refusals url heard shape =
+-- no place. A view has at most so many data files outside `.pre`.
+abbrev pub place_refusals : List ℕ → List (List ℕ) → Shape → List (Refusal Reply Session)
+place_refusals url heard shape =
     unheard
     (λ target. OfDeployment heard (λ d. base_of url d ≡ Ok target) × (slice_get heard 1 ≡ None))
     ∷ exactly_with (IsRefused application_of 1 heard) (λ reason. says.Manifest reason)
@@ -166,11 +166,20 @@ release_refusals url heard shape =
     ∷ exactly_with
     (λ need. OfRelease heard (λ d a. (need ≡ install_need shape d a) × (free_blocks shape < need)))
     (λ need. says.Full need (free_blocks shape))
-    ∷ exactly_with
+    ∷ []
+
+-- the tables would have no room
+abbrev pub weight_refusals : List ℕ → List (List ℕ) → Shape → List (Refusal Reply Session)
+weight_refusals url heard shape =
+    exactly_with
     (λ weight. OfRelease heard (λ d a.
     IsWeightOf url shape d a weight × IsTooHeavy shape.room weight))
     (λ weight. says.TableFull weight (table_room shape.room))
     ∷ []
+
+-- the release may not come
+abbrev pub release_refusals : List ℕ → List (List ℕ) → Shape → List (Refusal Reply Session)
+release_refusals url heard shape = place_refusals url heard shape ++ weight_refusals url heard shape
 
 -- no link gives a wanted file, which is a free choice
 abbrev pub file_refusals : List ℕ → List (List ℕ) → Shape → List (Refusal Reply Session)

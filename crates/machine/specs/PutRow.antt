@@ -1,5 +1,5 @@
 -- put L NAME HEX: the data file of the leased view has these bytes.
-use Rattle.std.specs.Prelude.{◌≡◌, ◌⊎◌, ◌<◌, ◌≤◌, ℕ, List, [], ◌∷◌, count_by, length, not, Some, None}
+use Rattle.std.specs.Prelude.{◌≡◌, ◌⊎◌, ◌<◌, ◌≤◌, ℕ, List, [], ◌∷◌, ◌++◌, count_by, length, not, Some, None}
 use Rattle.small_types.specs.declared.limit.Limit.TheVariants.{Locals}
 use Rattle.small_types.specs.declared.limits.TheConstants.{LOCAL_COUNT_LIMIT, LOCAL_NAME_LIMIT}
 use Rattle.small_types.specs.Name.{IsBelowPre}
@@ -40,23 +40,32 @@ weight_put number file shape =
 
 -- ---- refusals
 
--- No lease has the number; the name is a bad one; it is a new one too many; there are not as many
--- blocks; or the tables would have no room. The new bytes have their blocks beside those of the old
--- ones.
-abbrev pub put_refusals : ℕ → List ℕ → List ℕ → Shape → List (Refusal Reply Session)
-put_refusals lease name bytes shape =
+-- No lease has the number; the name is a bad one; it is a new one too many; or there are not as
+-- many blocks. The new bytes have their blocks beside those of the old ones.
+abbrev pub place_refusals : ℕ → List ℕ → List ℕ → Shape → List (Refusal Reply Session)
+place_refusals lease name bytes shape =
     exactly (lease_of lease shape.leases ≡ None) says.NoLease
     ∷ exactly (IsBadName name) says.BadName
     ∷ exactly (IsOneTooMany lease name shape) (says.TooMany Locals LOCAL_COUNT_LIMIT)
     ∷ exactly_with
     (λ need. (need ≡ blocks_of (length bytes)) × (free_blocks shape < need))
     (λ need. says.Full need (free_blocks shape))
-    ∷ exactly_with
+    ∷ []
+
+-- the tables would have no room
+abbrev pub weight_refusals : ℕ → List ℕ → List ℕ → Shape → List (Refusal Reply Session)
+weight_refusals lease name bytes shape =
+    exactly_with
     (λ weight. (view : BareView) × (leased_bare lease shape ≡ Some view)
     × (weight ≡ weight_put view.number (record { name = name; length = length bytes }) shape)
     × IsTooHeavy shape.room weight)
     (λ weight. says.TableFull weight (table_room shape.room))
     ∷ []
+
+-- the data file may not be put
+abbrev pub put_refusals : ℕ → List ℕ → List ℕ → Shape → List (Refusal Reply Session)
+put_refusals lease name bytes shape =
+    place_refusals lease name bytes shape ++ weight_refusals lease name bytes shape
 
 -- ---- the effect
 

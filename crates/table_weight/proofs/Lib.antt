@@ -1,3 +1,4 @@
 pub mod AsRows
 pub mod ByKey
+pub mod Changed
 pub mod EntrySums

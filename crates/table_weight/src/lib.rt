@@ -3,9 +3,10 @@
 #![tactic(auto)]
 
 mod counting;
+mod data_files;
 mod entries;
+mod groups;
 mod laws;
-mod probe;
 mod summing;
 mod tables;
 

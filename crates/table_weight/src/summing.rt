@@ -92,7 +92,7 @@ pub(crate) fn weigh_data(name: &Name, length: u64) -> u64
         .saturating_add(weigh_blocks(length))
 }
 
-struct Locals;
+pub(crate) struct Locals;
 
 #[tactic(auto, unfolding(machine::specs::Weight::data_weight, crate::specs::Weight::local_weight))]
 impl Weighs for Locals {

@@ -17,7 +17,7 @@ use Rattle.machine.proofs.laws.one_refusal_is_given.Goals as goal
 pub returns-clause-rows : goal.returns-clause-rows
 returns-clause-rows c = record {
   at = λ now heard shape next. tt;
-  require = λ now heard shape key version. require_exact key shape;
+  require = λ now heard shape key version. require_exact key version shape;
   install = record { address = address_exact; deployment = deployment_exact; release = release_exact };
   check = λ now text texts shape key. check_exact key text texts shape;
   skip = λ now heard shape key. skip_exact key now shape;

@@ -17,7 +17,7 @@ returns-clause-given c = λ now heard shape command k. unchanged_at k (refusals 
 pub returns-clause-rows : goal.returns-clause-rows
 returns-clause-rows c = record {
   at = λ now heard shape next. tt;
-  require = λ now heard shape key version. ((λ s. refl), tt);
+  require = λ now heard shape key version. ((λ s. refl), ((λ s. refl), tt));
   install = λ now heard shape url. install_unchanged url heard shape;
   skip = λ now heard shape key. skip_unchanged key now shape;
   rollback = λ now heard shape key. rollback_unchanged key shape;
