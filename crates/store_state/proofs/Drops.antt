@@ -15,8 +15,11 @@ use Rattle.machine.specs.Shape.{BareView, bare_view}
 use Rattle.machine.specs.Store.{Store}
 use Rattle.machine.specs.Valid.{AreNumbers, IsApp, IsInstalled, IsView, IsViewOf, Ordered, Valid}
 use Rattle.machine.specs.Views.{View, key_of, standing_entries}
-use Rattle.machine.proofs.DataViews.{data_sum, weight_of}
+use Rattle.machine.specs.Weight.{weight_of}
+use Rattle.machine.proofs.DataViews.{data_sum, view_blocks}
 use Rattle.machine.proofs.Grouping.{blocks_among}
+use Rattle.machine.proofs.Lightness.{lighter}
+use Rattle.machine.proofs.LowerWeights.{lower_kept}
 use Rattle.machine.proofs.Mapping.{flat_map_in}
 use Rattle.machine.proofs.Members.{In, all_in, contains_in, filter_in, filter_map_is, in_all, in_contains, in_filter, in_flat_map, in_map, map_in}
 use Rattle.machine.proofs.Needing.{passes_in}
@@ -158,11 +161,14 @@ module _ (numbers : List ℕ) (old : Store)
   room =
       let files = blocks_among (standing_files (map bare_view views))
       (standing_files (map bare_view old.views)) among_standing in
-      let fewer = sum_by-filter_both is_kept is_gone (λ v. refl) weight_of old.views in
+      let fewer = sum_by-filter_both is_kept is_gone (λ v. refl) view_blocks old.views in
       omega (arith, files, fewer, data_sum views, data_sum old.views)
 
   pub left_valid : Valid old → Valid (without_views numbers old)
   left_valid valid = record {
     ordered = left_ordered valid.ordered;
     room = (let was = valid.room in omega (arith, was, room));
+    light = lighter old.room (weight_of (map bare_view views) old.apps)
+        (weight_of (map bare_view old.views) old.apps)
+        (lower_kept is_kept old.views old.apps among_standing) valid.light;
   }

@@ -36,6 +36,7 @@ use Rattle.machine.specs.Store.{Store, booted, session_over}
 use Rattle.machine.specs.Valid.{IsApp, IsDataFile, IsView, IsViewOf, Ordered}
 use Rattle.machine.specs.Views.{DataFile, ListedFile, standing_entries}
 use Rattle.machine.specs.Views.{View as KeptView}
+use Rattle.machine.specs.Weight.{IsLight, weight_of}
 use Rattle.machine.proofs.CheckFacts.{heard_is_app, unheard_is_app}
 use Rattle.machine.proofs.CleanedStores.{cleaned_ordered}
 use Rattle.machine.proofs.Finding.{some_there, then_value, value_of}
@@ -413,6 +414,14 @@ room_shown room tables image store shows few =
     let same : store.room.blocks ≡ room.blocks = ap (λ (s : Shape). s.room.blocks) shape in
     omega (arith, few, used, same)
 
+light_shown : (room : Room) (tables : Tables) (image : List ℕ) (store : Store)
+    → Shows room tables image store
+    → IsLight room (weight_of (map bare_row tables.views) tables.apps)
+    → IsLight store.room (weight_of (map bare_view store.views) store.apps)
+light_shown room tables image store shows light =
+    subst (λ (s : Shape). IsLight s.room (weight_of s.views s.apps))
+    (sym (shape_shown (session_over store) refl shows)) light
+
 as_ordered : (room : Room) (tables : Tables) (image : List ℕ) → Shown room tables image
     → ShowsOrdered room tables image
 as_ordered room tables image shown = record {
@@ -420,9 +429,10 @@ as_ordered room tables image shown = record {
   shows = shown.shows;
   ordered = shown.ordered;
   valid =
-      λ few. record {
+      λ few light. record {
         ordered = shown.ordered;
         room = room_shown room tables image shown.store shown.shows few;
+        light = light_shown room tables image shown.store shown.shows light;
       };
 }
 

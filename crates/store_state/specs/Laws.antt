@@ -27,6 +27,7 @@ use Rattle.machine.specs.SkipRow.{offer_of, skipped}
 use Rattle.machine.specs.Store.{Session, Store, booted, empty as empty_store}
 use Rattle.machine.specs.Valid.{Ordered, Valid}
 use Rattle.machine.specs.Views.{ListedFile, standing_entries}
+use Rattle.machine.specs.Weight.{IsLight, weight_of}
 use Rattle.store_state.specs.declared.change.Change.{Change}
 use Rattle.store_state.specs.declared.change.Change.TheVariants.{Boot, Require, Install, Heard, Unheard, Skip, Rollback, Launch, Finish, Group, Put, Remove, Clean}
 use Rattle.store_state.specs.declared.view.Content.{Content}
@@ -54,12 +55,13 @@ ShapesAreShown = (room : Room) (tables : Tables) (image : List ℕ) (session : S
     → shape_of session ≡ table_shape room tables
 
 -- Tables that changes led to from the empty ones show a store within its order and its limits,
--- where the number of blocks is possible. Where its files have room, it is valid.
+-- where the number of blocks is possible. Where its files and its tables have room, it is valid.
 pub record ShowsOrdered (room : Room) (tables : Tables) (image : List ℕ) : Type 0 where
   pub store : Store
   pub shows : Shows room tables image store
   pub ordered : Ordered store
-  pub valid : used_blocks (map bare_row tables.views) ≤ room.blocks → Valid store
+  pub valid : used_blocks (map bare_row tables.views) ≤ room.blocks
+      → IsLight room (weight_of (map bare_row tables.views) tables.apps) → Valid store
 
 abbrev pub ChangesShowOrderedStores : Type 0
 ChangesShowOrderedStores = (room : Room) (changes : List Change) (tables : Tables) (image : List ℕ)

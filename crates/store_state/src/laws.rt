@@ -12,7 +12,7 @@ pub fn shapes_are_shown()
 {}
 
 /// Tables that changes led to from the empty ones show a store in its order, which is valid where
-/// its files have room.
+/// its files and its tables have room.
 pub fn changes_show_ordered_stores()
     ensures { laws.ChangesShowOrderedStores }
 {}
@@ -107,7 +107,7 @@ pub fn images_hold_the_new()
 {}
 
 /// Each change that fits leads to tables that show a store in its order, which is valid where its
-/// files have room.
+/// files and its tables have room.
 pub fn each_change_shows_an_ordered_store()
     ensures { laws.EachChangeShowsAnOrderedStore }
 {}

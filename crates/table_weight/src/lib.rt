@@ -5,10 +5,16 @@
 mod counting;
 mod data_files;
 mod entries;
+mod fault;
 mod groups;
 mod laws;
+mod moves;
+mod probe;
 mod summing;
 mod tables;
 
+pub use fault::WeightFault;
 pub use laws::tables_weigh_as_shown;
-pub use tables::weight;
+pub use tables::{
+    weight, weight_with_data, weight_with_group, weight_with_key, weight_with_release,
+};
