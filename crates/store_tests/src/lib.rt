@@ -1,5 +1,5 @@
-//! Tests of the tables, of their changes and of themselves as bytes, of what a clean takes, and of
-//! lines and replies.
+//! Tests of the tables, of their changes and of themselves as bytes, of how much they weigh, of what
+//! a clean takes, and of lines and replies.
 #![tactic(auto)]
 
 #[cfg(test)]
@@ -12,3 +12,5 @@ mod record_codec_tests;
 mod store_state_tests;
 #[cfg(test)]
 mod table_codec_tests;
+#[cfg(test)]
+mod table_weight_tests;

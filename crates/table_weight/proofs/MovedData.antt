@@ -1,22 +1,25 @@
 -- What the data files of a new view weigh, of old ones and of those that its release deploys.
-use Rattle.std.proofs.Common.{◌≡◌, ◌∙◌, ◌++◌, ◌+◌, ◌||◌, ◌&&◌, refl, sym, ap, ap₂, ℕ, Bool, true, false, not, cond, List, [], ◌∷◌, map, arith}
+use Rattle.std.proofs.Common.{◌≡◌, ◌∙◌, ◌++◌, ◌+◌, ◌||◌, ◌&&◌, refl, sym, ap, ap₂, subst, ℕ, min, Bool, true, false, not, cond, List, [], ◌∷◌, map, Option, Some, None, arith}
 use mathlib.Core.Path.{fun_ext}
-use Rattle.std.specs.Prelude.{filter, flat_map, sum_by}
+use Rattle.std.specs.Prelude.{filter, flat_map, option_map, sum_by}
 use Rattle.std.specs.Borrow.{Bor}
 use Rattle.std.specs.BTreeMap.{BTreeMap}
 use Rattle.std.specs.BTreeSet.{BTreeSet}
 use Rattle.std.specs.List.{list_any}
+use Rattle.std.specs.Option.{option_copied}
 use Rattle.std.proofs.lemmas.List.Sums.{sum_by-append, sum_by-cons}
 use Rattle.manifests.specs.declared.facts.FileEntry.{FileEntry}
 use Rattle.manifests.specs.Applications.{is_below_pre}
 use Rattle.machine.specs.BareViews.{migrated_data, moved_data}
 use Rattle.machine.specs.Blocks.{deployed_data}
+use Rattle.machine.specs.Current.{bare_data_of, bare_listed_by}
 use Rattle.machine.specs.DataFiles.{bare_name}
 use Rattle.machine.specs.Migrated.{aside, is_fresh, is_same, stays}
-use Rattle.machine.specs.Shape.{BareData}
+use Rattle.machine.specs.Shape.{BareData, BareView}
 use Rattle.machine.specs.Weight.{data_weight}
 use Rattle.store_state.specs.declared.view.LocalFile.{LocalFile}
-use Rattle.store_state.specs.Tables.{bare_local}
+use Rattle.store_state.specs.declared.view.View.{View}
+use Rattle.store_state.specs.Tables.{bare_local, bare_row}
 use Rattle.data_migration.specs.Plans.{is_kept}
 use Rattle.data_migration.specs.Tables.{IsTable, has_name, is_missing, stays_by}
 use Rattle.table_weight.specs.Releases.{carried_weight, fresh_weight}
@@ -140,3 +143,64 @@ module _ (old : List LocalFile) (old_files new_files : List FileEntry)
         stay,
         fresh,
       )
+
+-- ---- one file
+
+module _ (stay : List ℕ → Bool) (file : LocalFile) (below : Bool)
+    (is : below ≡ is_below_pre file.name) where
+  abbrev Carried : Bool → Bool → ℕ
+  Carried b same = cond b 0 (data_weight (record {
+    name = cond same file.name (aside file.name);
+    length = file.length;
+  }))
+
+  pub below_weighs : below ≡ true → carried_weight stay file ≡ 0
+  below_weighs e = ap (λ (b : Bool). Carried b (stay file.name)) (sym is ∙ e)
+
+  outside : below ≡ false → carried_weight stay file ≡ Carried false (stay file.name)
+  outside e = ap (λ (b : Bool). Carried b (stay file.name)) (sym is ∙ e)
+
+  module _ (stays : Bool) (stay_is : stays ≡ stay file.name) where
+    pub staying_weighs : below ≡ false → stays ≡ true → carried_weight stay file
+        ≡ data_weight (record { name = file.name; length = file.length })
+    staying_weighs e same =
+        outside e ∙ ap (λ (b : Bool). Carried false b) (sym stay_is ∙ same)
+
+    aside_more : data_weight (record { name = aside file.name; length = file.length })
+        ≡ data_weight (record { name = file.name; length = file.length }) + 5
+    unfolding data_weight
+    aside_more = omega arith
+
+    pub aside_weighs : below ≡ false → stays ≡ false → carried_weight stay file
+        ≡ data_weight (record { name = file.name; length = file.length }) + 5
+    aside_weighs e other =
+        outside e ∙ ap (λ (b : Bool). Carried false b) (sym stay_is ∙ other) ∙ aside_more
+
+-- ---- the view that is current, or none
+
+module _ (found : Option BareView) (o : Option (Bor View)) (new_files : List FileEntry)
+    (is : option_map bare_row (option_copied o) ≡ found) (sum limit : ℕ) where
+  abbrev Moves : Option BareView → Type 0
+  Moves old = sum
+      ≡ min (sum_by data_weight (migrated_data (bare_data_of old) (bare_listed_by old) new_files))
+      limit
+
+  found_is : (p : Option (Bor View)) → o ≡ p → option_map bare_row (option_copied p) ≡ found
+  found_is p e = sym (ap (λ (q : Option (Bor View)). option_map bare_row (option_copied q)) e) ∙ is
+
+  pub some_moves : (v : Bor View) (locals : List LocalFile) (old_files : List FileEntry)
+      → o ≡ Some v → locals ≡ v.now.locals → old_files ≡ v.now.application.files
+      → sum ≡ min (sum_by data_weight (migrated_data (map bare_local locals) old_files new_files))
+      limit
+      → Moves found
+  some_moves v locals old_files e same_locals same_files summed =
+      subst Moves (found_is (Some v) e)
+      (summed
+      ∙ ap (λ (fs : List LocalFile). min (sum_by data_weight
+      (migrated_data (map bare_local fs) old_files new_files)) limit) same_locals
+      ∙ ap (λ (es : List FileEntry). min (sum_by data_weight
+      (migrated_data (map bare_local v.now.locals) es new_files)) limit) same_files)
+
+  pub none_moves : o ≡ None
+      → sum ≡ min (sum_by data_weight (migrated_data [] [] new_files)) limit → Moves found
+  none_moves e summed = subst Moves (found_is None e) summed

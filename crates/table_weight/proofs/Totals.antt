@@ -45,6 +45,10 @@ pub joined : (a b c x y z all limit : ℕ) → x ≡ min a limit → y ≡ min b
     → all ≡ min (STATE_WEIGHT + x + y + z) limit → all ≡ min (STATE_WEIGHT + a + b + c) limit
 joined a b c x y z all limit first second third sum = omega (arith, first, second, third, sum)
 
+pub joined_more : (a b x y all limit : ℕ) → x ≡ min a limit → y ≡ min b limit
+    → all ≡ min (x + y) limit → all ≡ min (a + b) limit
+joined_more a b x y all limit first second sum = omega (arith, first, second, sum)
+
 -- ---- views of which that of a number is changed
 
 abbrev changed : ℕ → (BareView → BareView) → BareView → BareView

@@ -9,7 +9,6 @@ mod fault;
 mod groups;
 mod laws;
 mod moves;
-mod probe;
 mod summing;
 mod tables;
 

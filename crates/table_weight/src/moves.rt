@@ -19,6 +19,9 @@ use std::alloc::Global;
 use std::collections::{BTreeMap, BTreeSet};
 use store_state::{LocalFile, StoreState};
 
+// The data files that a release deploys, by their names.
+type Deployed<'a> = BTreeMap<&'a str, &'a FileEntry>;
+
 // How many bytes `.pre/` has.
 const ASIDE_LENGTH: u64 = 5;
 
@@ -30,11 +33,7 @@ fn is_below(name: &Name) -> bool
 }
 
 // What an old data file weighs in the new view; one below `.pre` is dropped.
-fn weigh_carried(
-    file: &LocalFile,
-    before: &BTreeMap<&str, &FileEntry>,
-    after: &BTreeMap<&str, &FileEntry>,
-) -> u64
+fn weigh_carried(file: &LocalFile, before: &Deployed, after: &Deployed) -> u64
     ensures { result
         ≡ min (carried_weight (stays_by before.now after.now) file.now) (2 ^ 64 - 1) }
 {
@@ -49,11 +48,7 @@ fn weigh_carried(
 }
 
 // How much the old data files weigh in the new view.
-fn sum_carried(
-    old: &[LocalFile],
-    before: &BTreeMap<&str, &FileEntry>,
-    after: &BTreeMap<&str, &FileEntry>,
-) -> u64
+fn sum_carried(old: &[LocalFile], before: &Deployed, after: &Deployed) -> u64
     ensures { result
         ≡ min (sum_by (carried_weight (stays_by before.now after.now)) old.now) (2 ^ 64 - 1) }
 {
@@ -116,13 +111,11 @@ pub(crate) fn weigh_moves(
         (bare_listed_by (current_bare key.now (table_shape room state.now))) files.now))
         (2 ^ 64 - 1)) }
 {
-    match state.current(key) {
-        Some(view) => weigh_migrated(
-            alloc,
-            view.locals.as_slice(),
-            view.application.files.as_slice(),
-            files,
-        ),
-        None => weigh_migrated(alloc, &[], &[], files),
-    }
+    let Some(view) = state.current(key) else {
+        let none = weigh_migrated(alloc, &[], &[], files)?;
+        return Ok(none);
+    };
+    let old = view.locals.as_slice();
+    let some = weigh_migrated(alloc, old, view.application.files.as_slice(), files)?;
+    Ok(some)
 }

@@ -81,9 +81,9 @@ pub fn weight_with_data(state: &StoreState, number: u64, name: &Name, length: u6
     sum_parts(apps, views, contents)
 }
 
-/// How much the tables weigh once the group stands in the view of the tables, as far as a number
-/// goes. The files are those of the group, without it, and the places are those of the ones that
-/// are wanted. It takes no memory.
+/// How much the tables weigh once the group stands in the view, as far as a number goes. It is so
+/// where the view is one of the tables, the files are those of the group, without it, and the
+/// places are those of the ones that are wanted. It takes no memory.
 pub fn weight_with_group(
     state: &StoreState,
     view: &View,
@@ -91,13 +91,11 @@ pub fn weight_with_group(
     files: &[FileEntry],
     places: &[usize],
 ) -> u64
-    requires row { row_at view.now.number state.now.views ≡ Some view.now }
-    requires files { files.now
-        ≡ map without_group (group_files group.now view.now.application) }
-    requires wanted { map (slice_get files.now) places.now ≡ map Some
-        (wanted_beside (standing_files (map bare_row state.now.views)) files.now) }
-    ensures { (room : Room) → result
-        ≡ min (weight_grown view.now.number group.now (table_shape room state.now))
+    ensures { (room : Room) → row_at view.now.number state.now.views ≡ Some view.now
+        → files.now ≡ map without_group (group_files group.now view.now.application)
+        → map (slice_get files.now) places.now ≡ map Some
+        (wanted_beside (standing_files (map bare_row state.now.views)) files.now)
+        → result ≡ min (weight_grown view.now.number group.now (table_shape room state.now))
         (2 ^ 64 - 1) }
 {
     state.are_tables();
@@ -109,8 +107,8 @@ pub fn weight_with_group(
 }
 
 /// How much the tables weigh once the release is installed, with its application manifest at the
-/// base and updates from the provider, as far as a number goes. The places are those of the files
-/// of the application that are wanted. It fails only for want of memory.
+/// base and updates from the provider, as far as a number goes. It is so where the places are those
+/// of the files of the application that are wanted. It fails only for want of memory.
 pub fn weight_with_release(
     alloc: Global,
     state: &StoreState,
@@ -120,9 +118,8 @@ pub fn weight_with_release(
     a: &Application,
     places: &[usize],
 ) -> Result<u64, WeightFault>
-    requires { map (slice_get a.now.files) places.now
-        ≡ map Some (wanted (map bare_row state.now.views) a.now) }
-    ensures { IfOk result (λ weight. (room : Room) → weight
+    ensures { IfOk result (λ weight. (room : Room) → map (slice_get a.now.files) places.now
+        ≡ map Some (wanted (map bare_row state.now.views) a.now) → weight
         ≡ min (weight_installed provider.now base.now d.now a.now (table_shape room state.now))
         (2 ^ 64 - 1)) }
 {
