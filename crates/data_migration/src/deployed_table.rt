@@ -28,10 +28,7 @@ fn add<'a>(table: &mut Deployed<'a>, entry: &'a FileEntry) -> Result<(), Migrate
 }
 
 /// The data files among the files. It fails only for want of memory.
-pub fn deployed<'a>(
-    alloc: Global,
-    files: &'a [FileEntry],
-) -> Result<Deployed<'a>, MigrateFault>
+pub fn deployed<'a>(alloc: Global, files: &'a [FileEntry]) -> Result<Deployed<'a>, MigrateFault>
     ensures { IfOk result (λ table. IsTable table files.now) }
 {
     let mut table = BTreeMap::new(alloc);

@@ -52,7 +52,10 @@ fn a_new_key_weighs(rt: HostRuntime) -> Result<(), Fail> {
     for (word, more) in [("a,t,l,x", 0), ("name,t,l,x", 263)] {
         let key = Key::read(rt.alloc(), word.as_bytes())?;
         let total = with_key(rt.alloc(), &key);
-        assert!(rt; total == Some(FULL_WEIGHT + 3 * BLOCK_WEIGHT + more), "{word}");
+        assert!(rt;
+            total == Some(FULL_WEIGHT + 3 * BLOCK_WEIGHT + more),
+            "{word}"
+        );
     }
     Ok(())
 }
@@ -73,12 +76,17 @@ fn with_data(alloc: Global, number: u64, name: &Name, length: u64) -> Option<u64
 #[test]
 fn a_data_file_takes_the_place_of_one(rt: HostRuntime) -> Result<(), Fail> {
     // The one of the name had a block, and no view has the number nine.
-    for (number, name, length, more, blocks) in
-        [(1, "d", 4_097, 0, 4), (1, "new", 1, 27, 4), (9, "new", 1, 0, 3)]
-    {
+    for (number, name, length, more, blocks) in [
+        (1, "d", 4_097, 0, 4),
+        (1, "new", 1, 27, 4),
+        (9, "new", 1, 0, 3),
+    ] {
         let name = Name::read(rt.alloc(), name.as_bytes())?;
         let total = with_data(rt.alloc(), number, &name, length);
-        assert!(rt; total == Some(FULL_WEIGHT + more + blocks * BLOCK_WEIGHT), "{length}");
+        assert!(rt;
+            total == Some(FULL_WEIGHT + more + blocks * BLOCK_WEIGHT),
+            "{length}"
+        );
     }
     Ok(())
 }

@@ -58,32 +58,32 @@ key_there entries entry there =
 -- ---- the contents of tables
 
 module _ (entries : List FileEntry) (contents : List Content) (are : AreContentsOf entries contents)
-    where
-  content_stands : (content : Content) → In content contents
-      → In (key content) (map content_key (distinct entries))
-  content_stands content there =
-      let one = any_in (λ (e : FileEntry). is_content_of e content ≡ true) entries
-      (all_in (λ (c : Content). Any (λ (e : FileEntry). is_content_of e c ≡ true) entries) contents
-      content are.only there) in
-      subst (λ (k : ContentKey). In k (map content_key (distinct entries)))
-      (of_key one.0 content one.2) (key_there entries one.0 one.1)
+  where
+    content_stands : (content : Content) → In content contents
+        → In (key content) (map content_key (distinct entries))
+    content_stands content there =
+        let one = any_in (λ (e : FileEntry). is_content_of e content ≡ true) entries
+        (all_in (λ (c : Content). Any (λ (e : FileEntry). is_content_of e c ≡ true) entries) contents
+        content are.only there) in
+        subst (λ (k : ContentKey). In k (map content_key (distinct entries)))
+        (of_key one.0 content one.2) (key_there entries one.0 one.1)
 
-  stands_content : (entry : FileEntry) → In entry (distinct entries)
-      → In (content_key entry) (map key contents)
-  stands_content entry there =
-      let one = in_find (is_content_of entry) contents
-      (all_in (λ (e : FileEntry). IsSome (content_of contents e)) entries entry are.each
-      (distinct_in entries entry there)) in
-      subst (λ (k : ContentKey). In k (map key contents)) (sym (of_key entry one.0 one.2))
-      (in_map key contents one.0 one.1)
+    stands_content : (entry : FileEntry) → In entry (distinct entries)
+        → In (content_key entry) (map key contents)
+    stands_content entry there =
+        let one = in_find (is_content_of entry) contents
+        (all_in (λ (e : FileEntry). IsSome (content_of contents e)) entries entry are.each
+        (distinct_in entries entry there)) in
+        subst (λ (k : ContentKey). In k (map key contents)) (sym (of_key entry one.0 one.2))
+        (in_map key contents one.0 one.1)
 
-  -- they weigh what the files weigh that stand, each content once
-  pub contents_weigh : sum_by (content_weight block_cost) contents
-      ≡ sum_by entry_weight (distinct entries)
-  unfolding content_weight entry_weight
-  contents_weigh =
-      same_sum key content_key key_weight contents (distinct entries)
-      (differ entries contents are) (distinct_keys entries) content_stands stands_content
+    -- they weigh what the files weigh that stand, each content once
+    pub contents_weigh : sum_by (content_weight block_cost) contents
+        ≡ sum_by entry_weight (distinct entries)
+    unfolding content_weight entry_weight
+    contents_weigh =
+        same_sum key content_key key_weight contents (distinct entries)
+        (differ entries contents are) (distinct_keys entries) content_stands stands_content
 
 -- ---- files that come beside others
 

@@ -63,7 +63,8 @@ module _ (key : Key) (f : AppState → AppState) where
   known_at : (o : Ordering) (app : AppState) (apps rest : List AppState)
       (others : Option AppState) (k : ℕ) (x : AppState) → IsBelowAll app.key apps
       → (others ≡ Some x → sum_by app_weight rest
-      ≡ sum_by app_weight (take k apps) + (app_weight (f x) + sum_by app_weight (drop (suc k) apps)))
+      ≡ sum_by app_weight (take k apps)
+      + (app_weight (f x) + sum_by app_weight (drop (suc k) apps)))
       → slice_get apps k ≡ Some x → entry_at o app others ≡ Some x
       → sum_by app_weight (with_entry_at o key f app apps rest)
       ≡ sum_by app_weight (take (suc k) (app ∷ apps))
@@ -174,7 +175,8 @@ required_known key version apps x is =
 -- ---- a provider
 
 provided_weighs : (provider : Target) (app : AppState)
-    → app_weight (with_provider provider app) ≡ APP_WEIGHT + key_bytes app.key + target_bytes provider
+    → app_weight (with_provider provider app)
+    ≡ APP_WEIGHT + key_bytes app.key + target_bytes provider
 unfolding app_weight
 provided_weighs provider app = refl
 

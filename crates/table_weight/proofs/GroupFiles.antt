@@ -48,7 +48,8 @@ programs_weigh [] all = refl
 programs_weigh (e ∷ entries) all =
     let first = program_is (entry_weight e) e.local
     (All-head (λ (e : FileEntry). e.local ≡ false) e entries all) in
-    let rest = programs_weigh entries (All-tail (λ (e : FileEntry). e.local ≡ false) e entries all) in
+    let rest = programs_weigh entries
+    (All-tail (λ (e : FileEntry). e.local ≡ false) e entries all) in
     omega (
       arith,
       first,
@@ -63,7 +64,8 @@ module _ (views : List BareView) (group : List ℕ) (a : Application) where
       let missing = are_missing views group a in
       in_all (λ (e : FileEntry). e.local ≡ false) (group_wanted views group a) (λ e there.
       all_in (λ (e : FileEntry). e.local ≡ false) (group_files group a) e (group_programs group a)
-      (in_contains (group_files group a) e (all_in (Contains (group_files group a)) (group_wanted views group a) e missing.among there)))
+      (in_contains (group_files group a) e
+      (all_in (Contains (group_files group a)) (group_wanted views group a) e missing.among there)))
 
   pub group_weighs : (files : List FileEntry) (places : List ℕ)
       → files ≡ map without_group (group_files group a)
@@ -72,7 +74,8 @@ module _ (views : List BareView) (group : List ℕ) (a : Application) where
       ≡ sum_by entry_weight (group_wanted views group a)
   group_weighs files places are wanted =
       places_weigh program_weight files (wanted_beside (standing_files views) files) places wanted
-      ∙ ap (λ (es : List FileEntry). sum_by program_weight (wanted_beside (standing_files views) es)) are
+      ∙ ap (λ (es : List FileEntry).
+      sum_by program_weight (wanted_beside (standing_files views) es)) are
       ∙ ap (λ (es : List FileEntry). sum_by program_weight es) (group_ungrouped views group a)
       ∙ programs_weigh (group_wanted views group a) wanted_programs
 
@@ -82,8 +85,8 @@ module _ (views : List BareView) (group : List ℕ) (a : Application) where
       record {
         each = λ entry there. missing.each entry (contains_in (group_files group a) entry there);
         among = λ entry there. in_contains (group_files group a) entry
-            (all_in (Contains (group_files group a)) (group_wanted views group a) entry missing.among
-            there);
+            (all_in (Contains (group_files group a)) (group_wanted views group a) entry
+            missing.among there);
         new = missing.new;
         once = missing.once;
       }

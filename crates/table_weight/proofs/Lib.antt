@@ -1,6 +1,7 @@
 pub mod AsRows
 pub mod ByKey
 pub mod Changed
+pub mod Cuts
 pub mod EntrySums
 pub mod GroupFiles
 pub mod MovedData

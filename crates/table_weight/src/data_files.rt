@@ -43,8 +43,9 @@ fn sum_others(files: &[LocalFile], name: &Name) -> u64
 // What the view weighs once it has a data file of that name with so many bytes.
 fn weigh_put(view: &View, name: &Name, length: u64) -> u64
     requires { IsRow view.now }
-    ensures { result ≡ min (view_weight (with_bare_data (record { name = name.now; length = length })
-        (bare_row view.now))) (2 ^ 64 - 1) }
+    ensures { result ≡ min (view_weight
+        (with_bare_data (record { name = name.now; length = length }) (bare_row view.now)))
+        (2 ^ 64 - 1) }
 {
     weigh_release(&view.deployment, &view.application, &view.base)
         .saturating_add(sum_weights::<Groups>(view.groups.as_slice()))

@@ -28,12 +28,12 @@ use small_types::{Name, Target, Text};
 use std::alloc::Global;
 use store_state::{StoreState, View};
 
-/// How much the tables weigh, as far as a number goes: 131,072, and for each application 256 and the
-/// bytes of its key and of the address that updates come from; for each view 1,024, the bytes of its
-/// texts outside files and 72 a digest of its application manifest; for each group that stands in a
-/// view 16 and the bytes of its name; for each listed file 64, the bytes of its name and its group
-/// and 72 a digest; for each data file 24, the bytes of its name and `BLOCK_WEIGHT` a block; and for
-/// each content 24, 72 a digest and `BLOCK_WEIGHT` a block. It takes no memory.
+/// How much the tables weigh, as far as a number goes: 131,072, and for each application 256 and
+/// the bytes of its key and of the address that updates come from; for each view 1,024, the bytes
+/// of its texts outside files and 72 a digest of its application manifest; for each group that
+/// stands in a view 16 and the bytes of its name; for each listed file 64, the bytes of its name
+/// and its group and 72 a digest; for each data file 24, the bytes of its name and `BLOCK_WEIGHT` a
+/// block; and for each content 24, 72 a digest and `BLOCK_WEIGHT` a block. It takes no memory.
 #[tactic(auto, unfolding(crate::specs::Weight::weight_with))]
 pub fn weight(state: &StoreState) -> u64
     ensures { result ≡ min (tables_weight state.now) (2 ^ 64 - 1) }

@@ -6,7 +6,8 @@ use Rattle.table_weight.proofs.groups.weigh_where_grown.Goals as goal
 
 pub returns-then-view-number : goal.returns-then-view-number
 returns-then-view-number c =
-    where_same c.args.view.now.number c.args.number (with_bare_group c.args.group.now (bare_row c.args.view.now))
+    where_same c.args.view.now.number c.args.number
+    (with_bare_group c.args.group.now (bare_row c.args.view.now))
     (bare_row c.args.view.now) c.saturating_add.result 18446744073709551615 c.if-view-number.true
     (omega (
       arith,
@@ -18,6 +19,7 @@ returns-then-view-number c =
 
 pub returns : goal.returns
 returns c =
-    where_other c.args.view.now.number c.args.number (with_bare_group c.args.group.now (bare_row c.args.view.now))
+    where_other c.args.view.now.number c.args.number
+    (with_bare_group c.args.group.now (bare_row c.args.view.now))
     (bare_row c.args.view.now) c.weigh-known.result 18446744073709551615 c.if-view-number.false
     (as_row c.args.view.now c.weigh-known.result 18446744073709551615 c.weigh-known.ensures)
