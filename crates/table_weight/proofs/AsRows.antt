@@ -1,11 +1,9 @@
 -- Tables weigh what their views and applications do without the bytes of their files.
-use Rattle.std.proofs.Common.{◌≡◌, ◌+◌, ℕ, List, [], ◌∷◌, map, arith}
+use Rattle.std.proofs.Common.{◌≡◌, List, [], ◌∷◌, map, arith}
 use Rattle.std.specs.Prelude.{sum_by}
 use Rattle.std.proofs.lemmas.List.Sums.{sum_by-cons}
-use Rattle.machine.specs.Blocks.{distinct, standing_files}
-use Rattle.machine.specs.Shape.{BareView}
+use Rattle.machine.specs.Blocks.{standing_files}
 use Rattle.machine.specs.Weight.{data_weight, weight_of}
-use Rattle.machine.specs.Weight.{content_weight as entry_weight}
 use Rattle.machine.specs.Weight.{view_weight as bare_weight}
 use Rattle.machine.proofs.Members.{sum_map}
 use Rattle.store_state.specs.declared.view.View.{View}

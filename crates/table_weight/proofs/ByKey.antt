@@ -1,7 +1,7 @@
 -- What contents weigh, by their keys.
-use Rattle.std.proofs.Common.{◌≡◌, ◌≢◌, ◌∙◌, ◌⊎◌, ◌++◌, ◌+◌, ◌*◌, inl, inr, sym, ap, subst, ℕ, zero, suc, Bool, true, false, List, [], ◌∷◌, map, All, AllPairs, IsSome, arith}
+use Rattle.std.proofs.Common.{◌≡◌, ◌≢◌, ◌∙◌, ◌⊎◌, ◌++◌, ◌+◌, ◌*◌, inl, inr, sym, subst, ℕ, true, false, List, [], ◌∷◌, map, All, AllPairs, IsSome, arith}
 use Rattle.std.specs.Prelude.{Any, sum_by}
-use Rattle.std.proofs.lemmas.List.Elements.{All-append, All-head, All-tail}
+use Rattle.std.proofs.lemmas.List.Elements.{All-append}
 use Rattle.std.proofs.lemmas.List.Kept.{AllPairs-cons}
 use Rattle.std.proofs.lemmas.List.Sums.{sum_by-append}
 use Rattle.manifests.specs.declared.facts.FileEntry.{FileEntry}

@@ -1,5 +1,5 @@
 -- What a view weighs that gets a data file or a group.
-use Rattle.std.proofs.Common.{◌≡◌, ◌≢◌, ◌∙◌, ◌+◌, refl, sym, ap, subst, ℕ, Bool, cond, eqb, eq-eqb, ne_eqb, min, bytes_eq, List, [], ◌∷◌, ◌++◌, map, All, AllPairs, arith}
+use Rattle.std.proofs.Common.{◌≡◌, ◌≢◌, ◌∙◌, ◌+◌, refl, sym, ap, subst, ℕ, Bool, cond, eqb, eq-eqb, ne_eqb, min, bytes_eq, List, [], ◌∷◌, map, All, AllPairs, arith}
 use Rattle.std.specs.Prelude.{sum_by}
 use Rattle.std.specs.declared.cmp.Ordering.{Ordering}
 use Rattle.std.specs.declared.cmp.Ordering.TheVariants.{Less, Equal, Greater}

@@ -1,5 +1,5 @@
 -- What contents weigh once a group stands in one of the views.
-use Rattle.std.proofs.Common.{◌≡◌, ◌≢◌, ◌∙◌, ◌⊎◌, ◌<◌, ◌++◌, ◌+◌, inl, inr, refl, sym, ap, subst, ℕ, cond, eqb, true, false, Bool, List, [], ◌∷◌, map, All, AllPairs, Contains, Option, Some, arith}
+use Rattle.std.proofs.Common.{◌≡◌, ◌∙◌, ◌⊎◌, ◌<◌, ◌+◌, inl, inr, refl, sym, ap, ℕ, cond, eqb, true, false, Bool, List, [], ◌∷◌, map, All, AllPairs, Contains, Option, Some, arith}
 use Rattle.std.specs.Prelude.{slice_get, sum_by}
 use Rattle.std.proofs.lemmas.List.Elements.{All-head, All-tail}
 use Rattle.std.proofs.lemmas.List.Sums.{sum_by-cons}
@@ -13,7 +13,7 @@ use Rattle.machine.specs.Views.{standing_entries}
 use Rattle.machine.specs.Wanted.{wanted_beside}
 use Rattle.machine.specs.Weight.{counted}
 use Rattle.machine.specs.Weight.{content_weight as entry_weight}
-use Rattle.machine.proofs.Members.{In, all_in, in_contains, contains_in, in_all, in_map, map_in, sum_map}
+use Rattle.machine.proofs.Members.{In, all_in, in_contains, contains_in, in_all, in_map, sum_map}
 use Rattle.machine.proofs.Missing.{are_missing}
 use Rattle.machine.proofs.Ungrouped.{group_programs, group_ungrouped}
 use Rattle.store_state.specs.declared.view.View.{View}

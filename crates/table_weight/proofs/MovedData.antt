@@ -1,5 +1,5 @@
 -- What the data files of a new view weigh, of old ones and of those that its release deploys.
-use Rattle.std.proofs.Common.{◌≡◌, ◌∙◌, ◌++◌, ◌+◌, ◌||◌, ◌&&◌, refl, sym, ap, ap₂, subst, ℕ, min, Bool, true, false, not, cond, List, [], ◌∷◌, map, Option, Some, None, arith}
+use Rattle.std.proofs.Common.{◌≡◌, ◌∙◌, ◌+◌, ◌||◌, ◌&&◌, refl, sym, ap, ap₂, subst, ℕ, min, Bool, true, false, not, cond, List, [], ◌∷◌, map, Option, Some, None, arith}
 use mathlib.Core.Path.{fun_ext}
 use Rattle.std.specs.Prelude.{filter, flat_map, option_map, sum_by}
 use Rattle.std.specs.Borrow.{Bor}

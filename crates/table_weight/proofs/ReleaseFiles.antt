@@ -1,7 +1,7 @@
 -- What contents weigh once a release is installed.
 use Rattle.std.proofs.Common.{◌≡◌, ◌∙◌, ◌⊎◌, ◌++◌, ◌+◌, ◌&&◌, inl, inr, refl, sym, ap, subst, ℕ, Bool, true, false, not, cond, is_none, List, [], ◌∷◌, Option, Some, None, arith}
 use Rattle.std.specs.Prelude.{filter, sum_by}
-use Rattle.std.proofs.lemmas.Bool.{and_from, and_parts}
+use Rattle.std.proofs.lemmas.Bool.{and_parts}
 use Rattle.std.proofs.lemmas.List.Sums.{sum_by-cons}
 use Rattle.manifests.specs.declared.facts.Application.{Application}
 use Rattle.manifests.specs.declared.facts.FileEntry.{FileEntry}

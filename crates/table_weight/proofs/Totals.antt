@@ -1,11 +1,9 @@
 -- What the tables weigh after a command, by what their parts weigh.
-use Rattle.std.proofs.Common.{◌≡◌, ◌∙◌, ◌<◌, ◌++◌, ◌+◌, ◌-◌, refl, sym, ap, ℕ, Bool, true, false, cond, eqb, min, List, [], ◌∷◌, map, AllPairs, Option, Some, arith}
+use Rattle.std.proofs.Common.{◌≡◌, ◌∙◌, ◌+◌, refl, ap, ℕ, Bool, true, false, cond, eqb, min, List, [], ◌∷◌, map, Some, arith}
 use Rattle.std.specs.Prelude.{slice_get, sum_by}
 use Rattle.std.proofs.lemmas.List.Sums.{sum_by-append, sum_by-cons}
 use Rattle.small_types.specs.declared.room.Room.{Room}
 use Rattle.small_types.specs.declared.target.Target.{Target}
-use Rattle.identity.specs.declared.key.Key.{Key}
-use Rattle.identity.specs.declared.version.Version.{Version}
 use Rattle.manifests.specs.declared.facts.Application.{Application}
 use Rattle.manifests.specs.declared.facts.Deployment.{Deployment}
 use Rattle.manifests.specs.declared.facts.FileEntry.{FileEntry}
@@ -37,7 +35,7 @@ use Rattle.table_weight.specs.Weight.{block_cost, content_weight, view_weight}
 use Rattle.table_weight.proofs.AsRows.{rows_weigh}
 use Rattle.table_weight.proofs.ByKey.{contents_weigh}
 use Rattle.table_weight.proofs.GroupFiles.{group_weighs, grown_contents, places_weigh}
-use Rattle.table_weight.proofs.ReleaseFiles.{programs, programs_weigh, release_contents}
+use Rattle.table_weight.proofs.ReleaseFiles.{programs_weigh, release_contents}
 
 -- ---- parts that go as far as a number does
 

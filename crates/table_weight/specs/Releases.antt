@@ -1,5 +1,5 @@
 -- How much the parts of a release weigh that comes.
-use Rattle.std.specs.Prelude.{ℕ, ◌+◌, Bool, ◌&&◌, List, Option, None, map, sum_by, if◌then◌else◌}
+use Rattle.std.specs.Prelude.{ℕ, ◌+◌, Bool, ◌&&◌, List, None, sum_by, if◌then◌else◌}
 use Rattle.small_types.specs.declared.target.Target.{Target}
 use Rattle.manifests.specs.declared.facts.Application.{Application}
 use Rattle.manifests.specs.declared.facts.Deployment.{Deployment}
@@ -7,7 +7,6 @@ use Rattle.manifests.specs.declared.facts.FileEntry.{FileEntry}
 use Rattle.manifests.specs.Applications.{is_below_pre}
 use Rattle.machine.specs.declared.weights.TheConstants.{VIEW_WEIGHT}
 use Rattle.machine.specs.Blocks.{deployed_data}
-use Rattle.machine.specs.Shape.{BareData}
 use Rattle.machine.specs.Weight.{application_bytes, content_weight, data_weight, deployment_bytes, digests_weight, file_weight, target_bytes}
 use Rattle.store_state.specs.declared.view.LocalFile.{LocalFile}
 use Rattle.data_migration.specs.Plans.{carried_to}

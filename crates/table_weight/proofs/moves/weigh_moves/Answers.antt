@@ -1,6 +1,6 @@
 use Rattle.machine.specs.Current.{current_bare}
 use Rattle.store_state.specs.Tables.{table_shape}
-use Rattle.table_weight.proofs.MovedData.{none_moves, some_moves}
+use Rattle.table_weight.proofs.MovedData.{some_moves}
 use Rattle.table_weight.proofs.moves.weigh_moves.Goals as goal
 
 pub returns : goal.returns
