@@ -12,7 +12,7 @@ use std::alloc::Global;
 use std::collections::BTreeMap;
 
 /// The data files that a release deploys, by their names. Of one name the first file counts.
-pub(crate) type Deployed<'a> = BTreeMap<&'a str, &'a FileEntry>;
+pub type Deployed<'a> = BTreeMap<&'a str, &'a FileEntry>;
 
 // Adds the file, where it is a data file and none of its name is there.
 fn add<'a>(table: &mut Deployed<'a>, entry: &'a FileEntry) -> Result<(), MigrateFault>
@@ -27,11 +27,8 @@ fn add<'a>(table: &mut Deployed<'a>, entry: &'a FileEntry) -> Result<(), Migrate
     Ok(())
 }
 
-// The data files among the files.
-pub(crate) fn deployed<'a>(
-    alloc: Global,
-    files: &'a [FileEntry],
-) -> Result<Deployed<'a>, MigrateFault>
+/// The data files among the files. It fails only for want of memory.
+pub fn deployed<'a>(alloc: Global, files: &'a [FileEntry]) -> Result<Deployed<'a>, MigrateFault>
     ensures { IfOk result (λ table. IsTable table files.now) }
 {
     let mut table = BTreeMap::new(alloc);
@@ -48,9 +45,9 @@ fn find<'a>(table: &Deployed<'a>, name: &Name) -> Option<&'a FileEntry>
     table.get(name.as_str()).copied()
 }
 
-// Whether an old data file of that name stays: the new release does not deploy it, or both releases
-// do, with one content.
-pub(crate) fn stays(before: &Deployed, after: &Deployed, name: &Name) -> bool
+/// Whether an old data file of that name stays, by the data files of the old release and of the new
+/// one: the new release does not deploy it, or both releases do, with one content.
+pub fn stays(before: &Deployed, after: &Deployed, name: &Name) -> bool
     ensures { result ≡ stays_by before.now after.now name.now }
 {
     match (find(before, name), find(after, name)) {

@@ -8,7 +8,8 @@ mod names;
 mod plan;
 mod same;
 
+pub use deployed_table::{deployed, stays};
 pub use fault::MigrateFault;
-pub use migration_plans::migrate;
+pub use migration_plans::{kept_names, migrate};
 pub use plan::LocalPlan;
 pub use same::same_content;

@@ -38,8 +38,9 @@ fn keep<'a>(
     Ok(())
 }
 
-// The names of the old data files that stay outside `.pre`.
-fn kept_names<'a>(
+/// The names of the old data files that stay outside `.pre`, by the data files of the old release
+/// and of the new one. It fails only for want of memory.
+pub fn kept_names<'a>(
     alloc: Global,
     old: &'a [LocalFile],
     before: &Deployed,

@@ -1,5 +1,5 @@
-//! Tests of the tables, of their changes and of themselves as bytes, of both in a journal, of what a
-//! clean takes, and of lines and replies.
+//! Tests of the tables, of their changes and of themselves as bytes, of both in a journal, of how
+//! much they weigh, of what a clean takes, and of lines and replies.
 #![tactic(auto)]
 
 #[cfg(test)]
@@ -16,3 +16,5 @@ mod table_check_tests;
 mod table_codec_tests;
 #[cfg(test)]
 mod table_log_tests;
+#[cfg(test)]
+mod table_weight_tests;

@@ -5,7 +5,7 @@ use record_fields::CodecFault;
 use std::alloc::{AllocError, Global};
 use std::test::Fail;
 use store_state::StoreState;
-use table_codec::{decode_state, encode_state, encoded_length_of_state, weight};
+use table_codec::{decode_state, encode_state, encoded_length_of_state};
 
 // The tables of the empty store.
 pub(crate) const EMPTY: &[u8] = &[
@@ -102,25 +102,6 @@ fn read(alloc: Global, bytes: &[u8]) -> Said {
 fn tables_are_written_as_they_are_read(rt: HostRuntime) {
     for (number, bytes) in [EMPTY, FULL].iter().enumerate() {
         assert!(rt; read(rt.alloc(), bytes) == Said::Same, "case {number}");
-    }
-}
-
-// How much the tables weigh that the bytes encode.
-fn weighed(alloc: Global, bytes: &[u8]) -> Option<u64> {
-    match decode_state(alloc, bytes) {
-        Ok(state) => {
-            let total = weight(&state);
-            drop(state);
-            Some(total)
-        }
-        Err(_) => None,
-    }
-}
-
-#[test]
-fn tables_weigh_the_sum_of_their_parts(rt: HostRuntime) {
-    for (bytes, wanted) in [(EMPTY, 131_072), (FULL, 133_301)] {
-        assert!(rt; weighed(rt.alloc(), bytes) == Some(wanted), "{wanted}");
     }
 }
 

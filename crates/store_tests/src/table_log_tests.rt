@@ -166,7 +166,11 @@ fn step(alloc: Global, disk: &mut MemDisk, boot: u8) -> Said {
 }
 
 fn step_in(alloc: Global, disk: &mut MemDisk, opened: Opened, boot: u8) -> Said {
-    let Opened { mut log, room, state } = opened;
+    let Opened {
+        mut log,
+        room,
+        state,
+    } = opened;
     let was = state.boot;
     drop(state);
     if was.saturating_add(1) != boot as u64 {

@@ -1,6 +1,5 @@
 mod Bounds
 mod Judged
-mod Light
 mod Tables
 mod Whole
 mod Within

@@ -33,7 +33,7 @@ use Rattle.record_codec.specs.Spelling.{content_field, local_field, view_field}
 use Rattle.record_codec.specs.Values.{IsEncodableContent, IsEncodableLocal, IsEncodableView}
 use Rattle.table_codec.specs.Spelling.{app_field, lease_field, lists_field, number_field, rest_field, state_text}
 use Rattle.table_codec.specs.Values.{IsEncodableApp, IsEncodableLease, IsEncodableState, IsWide}
-use Rattle.table_codec.specs.Weight.{content_weight, local_weight, spelled_cost, view_weight, weight_with}
+use Rattle.table_weight.specs.Weight.{content_weight, local_weight, spelled_cost, view_weight, weight_with}
 
 -- ---- lists and options
 

@@ -3,7 +3,7 @@ use Rattle.std.specs.Prelude.{◌≡◌, ◌≤◌, length}
 use Rattle.store_state.specs.Tables.{Tables}
 use Rattle.table_codec.specs.Spelling.{state_text}
 use Rattle.table_codec.specs.Values.{IsEncodableState}
-use Rattle.table_codec.specs.Weight.{spelled_cost, weight_with}
+use Rattle.table_weight.specs.Weight.{spelled_cost, weight_with}
 
 -- different tables have different encodings
 abbrev pub AreSpelledOnce : Type 0

@@ -2,4 +2,3 @@ pub mod Laws
 pub mod Reading
 pub mod Spelling
 pub mod Values
-pub mod Weight

@@ -1,5 +1,4 @@
-//! The tables of a store as bytes: the one encoding of each, the tables that bytes encode, and how
-//! much tables weigh.
+//! The tables of a store as bytes: the one encoding of each, and the tables that bytes encode.
 #![tactic(auto)]
 
 mod app_field;
@@ -7,7 +6,6 @@ mod laws;
 mod lease_field;
 mod option_fields;
 mod table_reading;
-mod table_weight;
 mod table_writing;
 mod view_field;
 
@@ -16,6 +14,5 @@ pub use laws::{encodings_are_within_weights, tables_are_spelled_once};
 pub use lease_field::LeaseField;
 pub use option_fields::{NumberField, TargetField};
 pub use table_reading::{decode_state, decode_tables};
-pub use table_weight::weight;
 pub use table_writing::{encode_state, encoded_length_of_state};
 pub use view_field::ViewField;

@@ -1,0 +1,16 @@
+use Rattle.std.proofs.Common.{◌≡◌, ◌≤◌, ◌+◌, ◌-◌, ◌^◌, min, sum_by, drop, ◌==◌, if◌then◌else◌}
+use Rattle.machine.specs.BareViews.{with_bare_group}
+use Rattle.machine.specs.Weight.{view_weight}
+use Rattle.store_state.specs.declared.view.View.{View}
+use Rattle.store_state.specs.Tables.{bare_row}
+use Rattle.table_weight.proofs.groups.sum_grown.Given as goal
+
+abbrev pub invariant-loop-view : goal.invariant-loop-view
+invariant-loop-view l =
+    let weigh = λ (view : View). view_weight (if view.number == l.number
+    then with_bare_group l.group (bare_row view) else bare_row view) in
+    record {
+      sum : min (l.total + sum_by weigh (drop l.view-index l.views)) (2 ^ 64 - 1)
+          ≡ min (sum_by weigh l.views) (2 ^ 64 - 1);
+      fits : l.total ≤ 2 ^ 64 - 1;
+    }

@@ -1,0 +1,19 @@
+//! How much tables weigh, and how much they would after a command: so it is known whether a half of
+//! the journal has room for them.
+#![tactic(auto)]
+
+mod counting;
+mod data_files;
+mod entries;
+mod fault;
+mod groups;
+mod laws;
+mod moves;
+mod summing;
+mod tables;
+
+pub use fault::WeightFault;
+pub use laws::tables_weigh_as_shown;
+pub use tables::{
+    weight, weight_with_data, weight_with_group, weight_with_key, weight_with_release,
+};
