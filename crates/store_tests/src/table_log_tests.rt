@@ -1,6 +1,6 @@
 // What no clause says of tables in a journal: that its calls succeed, how a half turns over, and
 // which tables stops and other bytes leave.
-ghost use Rattle.std.specs.Prelude.{◌≡◌, OnOk};
+ghost use Rattle.std.specs.Prelude.{◌≡◌, ◌+◌, length, IfOk};
 ghost use Rattle.journal.specs.Log.{half_of};
 ghost use Rattle.record_codec.specs.Codec.{IsChange};
 ghost use Rattle.store_state.specs.Change.{Fits};
@@ -207,42 +207,37 @@ fn a_new_journal_has_no_boot(rt: HostRuntime) -> Result<(), Fail> {
     Ok(())
 }
 
-// What a stop at each disk call of a step leaves, from before the first: the old tables or the new
-// ones, where what is not synced is kept, lost, filled with 1 and filled with 0.
+// How many disk calls a step makes, and what a stop before them and behind each of them leaves: the
+// old tables or the new ones, by what becomes of that which is not synced.
 struct Turn {
-    kept: &'static [u8],
-    lost: &'static [u8],
-    ones: &'static [u8],
-    zeros: &'static [u8],
+    calls: u64,
+    left: &'static [(Pick, &'static [u8])],
 }
 
 // An append.
 const FITS: Turn = Turn {
-    kept: b"ooonn",
-    lost: b"oooon",
-    ones: b"ooonn",
-    zeros: b"oooon",
+    calls: 4,
+    left: &[],
 };
 
 // A checkpoint of four calls, and an append.
 const TURNS: Turn = Turn {
-    kept: b"ooooooonn",
-    lost: b"oooooooon",
-    ones: b"ooooooonn",
-    zeros: b"oooooooon",
+    calls: 8,
+    left: &[(Pick::Kept, b"ooooooonn"), (Pick::Lost, b"oooooooon")],
 };
 
 // A checkpoint that closes a gate first, and an append.
 const TURNS_BACK: Turn = Turn {
-    kept: b"ooooooooonn",
-    lost: b"oooooooooon",
-    ones: b"ooooooooonn",
-    zeros: b"oooooooooon",
+    calls: 10,
+    left: &[
+        (Pick::Kept, b"ooooooooonn"),
+        (Pick::Filled(1), b"ooooooooonn"),
+    ],
 };
 
 // The steps of a journal: two entries fit behind the first tables, and two behind those of each
 // checkpoint.
-const STEPS: &[Turn] = &[FITS, FITS, TURNS, FITS, TURNS_BACK, FITS, TURNS_BACK];
+const STEPS: &[Turn] = &[FITS, FITS, TURNS, FITS, TURNS_BACK, FITS];
 
 // What is found of that which a stop leaves.
 fn left(alloc: Global, disk: &MemDisk, moment: u64, pick: Pick) -> Said {
@@ -277,32 +272,25 @@ fn first_left(
 
 // The number of the first pick and call at which a stop leaves something else: 100 for each pick.
 fn first_stop(alloc: Global, disk: &MemDisk, from: u64, boot: u8, turn: &Turn) -> Option<usize> {
-    let rows = [
-        (Pick::Kept, turn.kept),
-        (Pick::Lost, turn.lost),
-        (Pick::Filled(1), turn.ones),
-        (Pick::Filled(0), turn.zeros),
-    ];
-    for (number, (pick, want)) in rows.iter().enumerate() {
+    for (number, (pick, want)) in turn.left.iter().enumerate() {
         if let Some(call) = first_left(alloc, disk, from, boot, *pick, want) {
-            return Some((100 * number).saturating_add(call));
+            return Some((100 * (number % 100)).saturating_add(call));
         }
     }
     None
 }
 
 // Makes the step, and says where it is another one: 1,000 where it answers something else, and
-// 2,000 where it makes another number of calls.
+// 2,000 where it makes another number of calls, beside the sync of the opening.
 fn turned(alloc: Global, disk: &mut MemDisk, boot: u8, turn: &Turn) -> Option<usize> {
-    let from = disk.calls();
+    let from = disk.calls().saturating_add(1);
     if step(alloc, disk, boot) != Said::Boot(boot as u64) {
         return Some(1000);
     }
-    let calls = disk.calls().saturating_sub(from);
-    if calls != turn.kept.len() as u64 {
+    if disk.calls().saturating_sub(from) != turn.calls {
         return Some(2000);
     }
-    first_stop(alloc, disk, from.saturating_add(1), boot, turn)
+    first_stop(alloc, disk, from, boot, turn)
 }
 
 // The first step that is another one, and where.
@@ -373,15 +361,23 @@ const EMPTY: &[u8] = &[
     0, 0, 0, 0, 0, 0, 0, 0,
 ];
 
-// Adds an entry, which is not empty.
+// A piece with room for the log's bytes around the change.
+fn piece_of(alloc: Global, change: &[u8]) -> Result<Vec<u8>, AllocError>
+    ensures { IfOk result (λ piece. length piece.items ≡ 5 + length change.now + 1) }
+{
+    let mut piece = vec![in alloc; 0u8; BEFORE]?;
+    piece.extend_from_slice(change)?;
+    piece.push(0)?;
+    Ok(piece)
+}
+
+// Adds an entry, where it is not empty.
 fn append(alloc: Global, disk: &mut MemDisk, change: &[u8]) -> Result<(), LogFault> {
     if change.is_empty() {
         return Ok(());
     }
     let (mut log, _) = Log::recover(alloc, disk)?;
-    let mut piece = vec![in alloc; 0u8; BEFORE]?;
-    piece.extend_from_slice(change)?;
-    piece.push(0)?;
+    let mut piece = piece_of(alloc, change)?;
     log.append(disk, &mut piece)
 }
 
