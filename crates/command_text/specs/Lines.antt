@@ -40,7 +40,7 @@ use Rattle.command_text.specs.declared.file_lines.Span.{Span}
 use Rattle.command_text.specs.Applications.{list_text, optional_text, show_text}
 use Rattle.command_text.specs.Numbers.{count_of, number_of}
 use Rattle.machine.specs.declared.reply.Reply.{Reply}
-use Rattle.machine.specs.declared.reply.Reply.TheVariants.{AllLinks, BadName, BadUrl, BelowMinimum, CheckFirst, Checked, Cleaned, Current, Finished, Full, Installed, Lease, LeasesFull, Listed, Manifest, Minimum, NoFile, NoGroup, NoLease, NoPrevious, NotHttp, NotInstalled, NotNewer, NothingOffered, Offered, Release, Removed, Required, Shown, Skipped, Spent, TooMany}
+use Rattle.machine.specs.declared.reply.Reply.TheVariants.{AllLinks, BadName, BadUrl, BelowMinimum, CheckFirst, Checked, Cleaned, Current, Finished, Full, Installed, Lease, LeasesFull, Listed, Manifest, Minimum, NoFile, NoGroup, NoLease, NoPrevious, NotHttp, NotInstalled, NotNewer, NothingOffered, Offered, Release, Removed, Required, Shown, Skipped, Spent, TableFull, TooMany}
 use Rattle.machine.specs.declared.reply.Reply.TheVariants as reply
 
 -- words are separated by one space each
@@ -436,6 +436,8 @@ reply_text (BelowMinimum minimum) = codes "no below-minimum "
 reply_text (Spent next) = codes "no spent " ++ (decimal next ++ codes "\n")
 reply_text (Full need free) =
     codes "no full " ++ (decimal need ++ (codes " " ++ (decimal free ++ codes "\n")))
+reply_text (TableFull weight room) =
+    codes "no table-full " ++ (decimal weight ++ (codes " " ++ (decimal room ++ codes "\n")))
 reply_text (AllLinks target causes) = links_text target causes
 reply_text (Manifest fault) = refusal_text fault
 reply_text (Release fault) = release_text fault

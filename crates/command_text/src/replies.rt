@@ -184,6 +184,16 @@ fn print_line<K: Sink>(reply: &Reply, sink: &mut K) -> Result<(), Failed>
             ],
             sink,
         ),
+        Reply::TableFull { weight, room } => print_pieces(
+            &[
+                Piece::Bytes(b"no table-full "),
+                Piece::Number(*weight),
+                Piece::Bytes(b" "),
+                Piece::Number(*room),
+                Piece::Bytes(b"\n"),
+            ],
+            sink,
+        ),
         Reply::AllLinks { target, causes } => print_links(target, causes.as_slice(), sink),
         Reply::Manifest { fault } => print_manifest(fault, sink),
         Reply::Release { fault } => print_release(fault, sink),
