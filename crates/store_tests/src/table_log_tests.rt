@@ -165,7 +165,9 @@ fn step(alloc: Global, disk: &mut MemDisk, boot: u8) -> Said {
     }
 }
 
-fn step_in(alloc: Global, disk: &mut MemDisk, opened: Opened, boot: u8) -> Said {
+fn step_in(alloc: Global, disk: &mut MemDisk, opened: Opened, boot: u8) -> Said
+    requires half { opened.room.half ≡ half_of opened.log }
+{
     let Opened {
         mut log,
         room,
