@@ -1,5 +1,5 @@
 -- What is read of a name is read again as itself.
-use Rattle.std.proofs.Common.{◌≡◌, ℕ, ◌<◌, Bool, true, false, cond, not, ◌==◌, ◌&&◌, nat_lt, nat_le, List, [], ◌∷◌, length, take, Option, Some, None, Ok, Err, IfOk, IsUtf8, position, slice_get, ok_or, refl, sym, ap, if◌then◌else◌, ap₂, subst, ◌∙◌, inl, inr, arith}
+use Rattle.std.proofs.Common.{◌≡◌, ℕ, ◌<◌, Bool, true, false, cond, not, ◌==◌, ◌&&◌, nat_lt, nat_le, List, [], ◌∷◌, length, take, Some, None, Ok, Err, IsUtf8, position, slice_get, refl, sym, ap, if◌then◌else◌, ap₂, ◌∙◌, inl, inr, arith}
 use Rattle.std.specs.List.{position_or_len, list_all}
 use Rattle.std.specs.Str.{is_utf8}
 use Rattle.std.proofs.lemmas.Bool.{and_parts, cases_Bool, cond-true, cond-false, false_from_ne_true, ltb-true, ltb-false, leb-true}
@@ -42,20 +42,14 @@ is_name_from : (text : List ℕ) → is_fit text ≡ true → is_utf8 text ≡ t
 unfolding is_name
 is_name_from text fit utf8 = rw (fit, utf8) refl
 
-pub not_fit : (text : List ℕ) → is_fit text ≡ false → None ≡ cond (is_name text) (Some text) None
-not_fit text unfit =
-    sym (cond-false _ _ _ (false_from_ne_true (is_name text) (λ is. let both : true ≡ false = sym (name_parts_of text is).0 ∙ unfit in cc)))
+pub not_fit : (text : List ℕ) → is_fit text ≡ false → ¬ IsName text
+not_fit text unfit = λ is. let both : true ≡ false = sym (name_parts_of text is).0 ∙ unfit in cc
 
-pub not_text : (text : List ℕ) → (¬ IsUtf8 text) → None ≡ cond (is_name text) (Some text) None
-not_text text other =
-    sym (cond-false _ _ _ (false_from_ne_true (is_name text) (λ is. other (IsUtf8-from_is_utf8 text (name_parts_of text is).1))))
+pub not_text : (text : List ℕ) → (¬ IsUtf8 text) → ¬ IsName text
+not_text text other = λ is. other (IsUtf8-from_is_utf8 text (name_parts_of text is).1)
 
 pub name_from : (text : List ℕ) → is_fit text ≡ true → IsUtf8 text → IsName text
 name_from text fit utf8 = is_name_from text fit (is_utf8-from_IsUtf8 text utf8)
-
-pub named : (text made : List ℕ) → is_fit text ≡ true → made ≡ text → IsUtf8 text → Some made ≡ cond (is_name text) (Some text) None
-named text made fit same utf8 =
-    ap (λ (x : List ℕ). Some x) same ∙ sym (cond-true _ _ _ (name_from text fit utf8))
 
 -- ---- reading
 
@@ -88,17 +82,6 @@ read_again text is =
     let bytes_fit = (and_parts (nat_lt 0 (length text) && nat_le (length text) NAME_LIMIT && list_all is_name_byte text) (list_all is_name_part (name_parts text)) all).0 in
     let each = (and_parts (nat_lt 0 (length text) && nat_le (length text) NAME_LIMIT) (list_all is_name_byte text) bytes_fit).1 in
     rw (kept_text text each) (cond-true _ _ _ is)
-
--- what the test lets through is read as itself
-pub again_made : (made : Option (List ℕ)) (text : List ℕ) → made ≡ cond (is_name text) (Some text) None → IfOk (ok_or made Bad) (λ name. name_of name ≡ Ok name)
-again_made None text is = tt
-again_made (Some name) text is = elim (cases_Bool (is_name text)) [
-  | inl passes ↦
-      let both : Some name ≡ Some text = is ∙ cond-true _ _ _ passes in
-      let same : text ≡ name = cc in
-      read_again name (subst IsName same passes)
-  | inr fails ↦ absurd (let both : Some name ≡ None = is ∙ cond-false _ _ _ fails in cc)
-]
 
 -- ---- tests without memory
 

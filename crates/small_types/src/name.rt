@@ -148,35 +148,27 @@ pub fn is_name(bytes: &[u8]) -> bool
     is_whole(&with_slashes_here(bytes))
 }
 
-// The text of the bytes, where they are UTF-8.
-fn string_of(bytes: Vec<u8>) -> Option<String>
-    ensures { MatchOption result (¬ IsUtf8 bytes.items)
-        (λ t. (string_bytes t ≡ bytes.items) × IsUtf8 bytes.items) }
+// The text, where it is a name. It looks once whether the bytes are UTF-8.
+fn spelled_by(text: &[u8]) -> Option<&str>
+    ensures { MatchOption result (¬ IsName text.now)
+        (λ t. (t.now ≡ text.now) × IsName text.now) }
 {
-    let Ok(text) = String::from_utf8(bytes) else {
-        return None;
-    };
-    Some(text)
-}
-
-// The bytes with slashes for backslashes.
-fn with_slashes(alloc: Global, bytes: &[u8]) -> Result<Vec<u8>, AllocError>
-    ensures { IfOk result (λ text. text.items ≡ name_text bytes.now) }
-{
-    bytes.iter().map(|b| with_slash(*b)).collect(alloc)
-}
-
-// The name of the text, where it is one.
-fn name_within(text: Vec<u8>) -> Option<Name>
-    ensures { result ≡ (if is_name text.items then Some text.items else None) }
-{
-    if !is_fit(&text) {
+    if !is_fit(text) {
         return None;
     }
-    let Some(held) = string_of(text) else {
-        return None;
-    };
-    Some(Name { held })
+    match str::from_utf8(text) {
+        Ok(text) => Some(text),
+        Err(_) => None,
+    }
+}
+
+// The name that has this text.
+fn name_with(alloc: Global, text: &str) -> Result<Name, AllocError>
+    requires { IsName text.now }
+    ensures { IfOk result (λ name. name ≡ text.now) }
+{
+    let held = String::from_str(alloc, text)?;
+    Ok(Name { held })
 }
 
 // Where the first slash stands.
@@ -207,11 +199,14 @@ impl Name {
         ensures again { IfOk result (λ name. name_of name ≡ Ok name) }
         ensures memory { result ≡ Err Memory → IsTrue (is_name (name_text bytes.now)) }
     {
-        if !is_name(bytes) {
+        if bytes.len() > NAME_LIMIT {
             return Err(NameFault::Bad);
         }
-        let text = with_slashes(alloc, bytes)?;
-        name_within(text).ok_or(NameFault::Bad)
+        let text = with_slashes_here(bytes);
+        match spelled_by(&text) {
+            Some(text) => Ok(name_with(alloc, text)?),
+            None => Err(NameFault::Bad),
+        }
     }
 
     /// The name, to be read.

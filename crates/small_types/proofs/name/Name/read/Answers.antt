@@ -1,13 +1,14 @@
-use Rattle.std.proofs.Common.{◌≡◌, List, ℕ, Result, Ok, IfOk, sym, ◌∙◌, subst}
-use Rattle.small_types.specs.declared.name.NameFault.{NameFault}
-use Rattle.small_types.specs.Name.{name_of}
-use Rattle.small_types.proofs.Spelling.{unread, again_made}
+use Rattle.std.proofs.Common.{◌≡◌, sym, subst}
+use Rattle.small_types.specs.Name.{IsName}
+use Rattle.small_types.proofs.Spelling.{unread, no_long_name, read_again}
 use Rattle.small_types.proofs.name.Name.read.Goals as goal
 
-pub returns-then-not-is_name-clause-exact : goal.returns-then-not-is_name-clause-exact
-returns-then-not-is_name-clause-exact c = unread c.args.bytes.now (sym c.is_name.ensures ∙ c.if-not-is_name.true)
+pub returns-then-bytes-gt-NAME_LIMIT-clause-exact : goal.returns-then-bytes-gt-NAME_LIMIT-clause-exact
+returns-then-bytes-gt-NAME_LIMIT-clause-exact c = unread c.args.bytes.now (no_long_name c.args.bytes.now c.if-bytes-gt-NAME_LIMIT.true)
 
-pub returns-clause-again : goal.returns-clause-again
-returns-clause-again c =
-    let IsAgain : Result (List ℕ) NameFault → Type 0 = λ r. IfOk r (λ name. name_of name ≡ Ok name) in
-    subst IsAgain (sym c.ok_or.ensures.value) (again_made _ _ c.name_within.ensures)
+pub returns-in_ok-name_with-in-Some-clause-again : goal.returns-in_ok-name_with-in-Some-clause-again
+returns-in_ok-name_with-in-Some-clause-again c =
+    let same : c.in_ok-name_with-in-Some.field-0 ≡ c.in-Some.text.now = c.in_ok-name_with-in-Some.ensures in
+    let text = c.in-Some.ensures in
+    let is : IsName c.in-Some.text.now = subst IsName (sym text.0) text.1 in
+    read_again _ (subst IsName (sym same) is)
