@@ -6,4 +6,5 @@ pub mod Decimal
 pub mod Limit
 pub mod Name
 pub mod Reading
+pub mod Room
 pub mod Short

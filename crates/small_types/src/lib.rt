@@ -27,7 +27,7 @@ pub use limit::Limit;
 pub use list::List;
 pub use name::{Name, NameFault, is_name};
 pub use print_fault::PrintFault;
-pub use room::Room;
+pub use room::{Room, new_room};
 pub use slices::{copy_front, rest_from};
 pub use target::Target;
 pub use text::Text;

@@ -82,13 +82,13 @@ pub const STORED_FILE_LIMIT: u64 = 268_435_456;
 /// The fewest bytes of a half of the journal of a store in blocks.
 pub const HALF_LEAST: u64 = 1_048_576;
 
-/// The most bytes of such a half.
-pub const HALF_LIMIT: u64 = 67_108_864;
+/// The most bytes of such a half. It is to hold the bytes of all files, which stand in the journal.
+pub const HALF_LIMIT: u64 = 536_870_912;
 
 /// The length of such a half is a multiple of so many bytes.
 pub const HALF_STEP: u64 = 4_096;
 
-/// The bytes of such a half where none are named.
+/// The bytes of such a half, beside those of the blocks that it is to hold.
 pub const HALF_DEFAULT: u64 = 16_777_216;
 
 /// The numbers of today's limits.
@@ -110,6 +110,6 @@ pub fn block_limits_are()
     ensures head { HEAD_BLOCK_SIZE ≡ 4_096 }
     ensures blocks { STORED_BLOCK_LIMIT ≡ 1_048_576 }
     ensures files { STORED_FILE_LIMIT ≡ 268_435_456 }
-    ensures halves { (HALF_LEAST ≡ 1_048_576) × (HALF_LIMIT ≡ 67_108_864) }
+    ensures halves { (HALF_LEAST ≡ 1_048_576) × (HALF_LIMIT ≡ 536_870_912) }
     ensures steps { (HALF_STEP ≡ 4_096) × (HALF_DEFAULT ≡ 16_777_216) }
 {}
