@@ -31,7 +31,7 @@ use Rattle.install_plan.specs.Downs.{CountsDowns}
 use Rattle.install_plan.proofs.Downs.{counts_none}
 use Rattle.updater.specs.declared.fault.StepFault.{StepFault}
 use Rattle.updater.specs.declared.fault.StepFault.TheVariants.{Memory, DiskFault}
-use Rattle.updater.specs.declared.updater.Updater.{Updater}
+use Rattle.updater.specs.Shown.{Updater}
 use Rattle.updater.specs.Answer.{IsAnswer}
 use Rattle.updater.specs.Commanded.{Commanded, LeavesLinks, LinksServe, SoundFor}
 use Rattle.updater.specs.Costs.{Costs}

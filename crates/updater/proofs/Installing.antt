@@ -27,7 +27,7 @@ use Rattle.install_plan.specs.Ready.{IsReady, IsStep}
 use Rattle.install_plan.specs.LeadsIn.{LeadsIn}
 use Rattle.install_plan.proofs.Downs.{counts_none}
 use Rattle.updater.specs.declared.fault.StepFault.{StepFault}
-use Rattle.updater.specs.declared.updater.Updater.{Updater}
+use Rattle.updater.specs.Shown.{Updater}
 use Rattle.updater.specs.Answer.{IsAnswer}
 use Rattle.updater.specs.Commanded.{Commanded, LinksServe}
 use Rattle.updater.specs.MakesDurable.{MakesDurable, LeadsBetween}

@@ -18,7 +18,7 @@ use Rattle.store_state.specs.Tables.{Tables, empty}
 use Rattle.store_state.proofs.Images.{images_have, images_hold}
 use Rattle.store_state.proofs.Showing.{shows_same}
 use Rattle.install_plan.proofs.NewFiles.{has_new}
-use Rattle.updater.specs.declared.updater.Updater.{Updater}
+use Rattle.updater.specs.Shown.{Updater}
 use Rattle.updater.specs.declared.fault.StepFault.{StepFault}
 use Rattle.updater.specs.declared.fault.StepFault.TheVariants.{DiskFault, Memory}
 use Rattle.updater.specs.MakesDurable.{MakesDurable, LeadsBetween}

@@ -14,7 +14,7 @@ use Rattle.updater.specs.declared.fault.RecoverFault.{RecoverFault}
 use Rattle.updater.specs.declared.fault.RecoverFault.TheVariants.{NotAStore, DiskFault, Memory}
 use Rattle.updater.specs.declared.fault.StepFault.{StepFault}
 use Rattle.updater.specs.declared.fault.StepFault.TheVariants as step
-use Rattle.updater.specs.declared.updater.Updater.{Updater}
+use Rattle.updater.specs.Shown.{Updater}
 use Rattle.updater.specs.Costs.{Costs}
 use Rattle.updater.specs.MakesDurable.{MakesDurable, LeadsBetween}
 use Rattle.updater.specs.Loaded.{Loaded, IsLoaded}

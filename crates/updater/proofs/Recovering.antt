@@ -20,7 +20,7 @@ use Rattle.store_state.specs.Shows.{Shows}
 use Rattle.store_state.specs.Tables.{Tables, bare_row, empty}
 use Rattle.store_state.proofs.Images.{images_have}
 use Rattle.store_state.proofs.Showing.{shows_same}
-use Rattle.updater.specs.declared.updater.Updater.{Updater}
+use Rattle.updater.specs.Shown.{Updater}
 use Rattle.updater.specs.declared.fault.RecoverFault.{RecoverFault}
 use Rattle.updater.specs.declared.fault.RecoverFault.TheVariants.{DiskFault, NotAStore, Memory as OutOfMemory}
 use Rattle.updater.specs.Loaded.{IsLoaded, Loaded}

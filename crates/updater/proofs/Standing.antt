@@ -14,7 +14,7 @@ use Rattle.store_log.proofs.Store.{unique}
 use Rattle.store_state.specs.Shows.{Shows}
 use Rattle.store_state.specs.Tables.{Tables, empty}
 use Rattle.store_state.proofs.Showing.{one_shown, shows_empty}
-use Rattle.updater.specs.declared.updater.Updater.{Updater}
+use Rattle.updater.specs.Shown.{Updater}
 use Rattle.updater.specs.StandsFor.{IsJournal, Loads, StandsFor, StandsForEither}
 use Rattle.updater.specs.Updater.{Holds, IsOpenAs, tables_of}
 use Rattle.updater.proofs.Loading.{loads_same}

@@ -1,5 +1,5 @@
 use Rattle.std.proofs.Common.{Err, sym, ap, ◌∙◌}
-use Rattle.updater.specs.declared.updater.Updater.{Updater}
+use Rattle.updater.specs.Shown.{Updater}
 use Rattle.updater.proofs.Opening as opening
 use Rattle.updater.proofs.updater.Updater.recover.Goals as goal
 
