@@ -26,7 +26,7 @@ use Rattle.machine.specs.Sound.{Sound}
 use Rattle.machine.specs.Store.{Session, Store}
 use Rattle.machine.specs.Valid.{Valid}
 use Rattle.machine.specs.Views.{ListedFile, View}
-use Rattle.machine.specs.Weight.{IsLight, IsTooHeavy, table_room, weight_of}
+use Rattle.machine.specs.Weight.{IsLight, IsTooHeavy, table_room, told_weight, weight_of}
 use Rattle.machine.specs.Words.{IsGroup}
 use Rattle.machine.proofs.Choosing.{AllGive, exactly-exact, exactly_with-exact}
 use Rattle.machine.proofs.CountedBlocks.{counted_more}
@@ -72,7 +72,7 @@ module _ (lease : ℕ) (group : List ℕ) (shape : Shape) where
               (same_Some a.0 b.0 (sym a.1 ∙ b.1)) ∙ sym b.3.0)),
           (
             exactly_with-exact _ _ (λ x y a b.
-                ap (λ (n : ℕ). says.TableFull n (table_room shape.room))
+                ap (λ (n : ℕ). says.TableFull (told_weight n) (table_room shape.room))
                 (a.3.0 ∙ ap (λ (v : BareView). weight_grown v.number group shape)
                 (same_Some a.0 b.0 (sym a.1 ∙ b.1)) ∙ sym b.3.0)),
             tt,
@@ -339,7 +339,7 @@ module _ (now : ℕ) (heard : List (List ℕ)) (lease : ℕ) (group : List ℕ) 
             too_heavy : IsTooHeavy shape.room new_weight
                 → IsAnswered now heard old (Group lease group)
             too_heavy heavy = record {
-              reply = says.TableFull new_weight (table_room shape.room);
+              reply = says.TableFull (told_weight new_weight) (table_room shape.room);
               new = old;
               answers = inl (inr (
                 tt,

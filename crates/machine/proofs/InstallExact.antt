@@ -25,7 +25,7 @@ use Rattle.machine.specs.InstallRow.{InstallEffect, IsRefused, IsWeightOf, OfDep
 use Rattle.machine.specs.Rows.{AreExact}
 use Rattle.machine.specs.Shape.{Shape}
 use Rattle.machine.specs.Store.{Session}
-use Rattle.machine.specs.Weight.{table_room}
+use Rattle.machine.specs.Weight.{table_room, told_weight}
 use Rattle.machine.proofs.Choosing.{exactly-exact, exactly_with-exact, unheard_exact}
 use Rattle.machine.proofs.Told.{refused_one, same_text, told_one}
 
@@ -143,7 +143,7 @@ release_exact url text other texts shape = (
             (
               exactly_with-exact _ _ (λ x y first second. (let both = both_release (text ∷ other ∷ texts) first second in ap (λ (n : ℕ). says.Full n (free_blocks shape)) (both.2.0 ∙ sym both.3.0))),
               (
-                exactly_with-exact _ _ (λ x y first second. (let both = both_release (text ∷ other ∷ texts) first second in ap (λ (n : ℕ). says.TableFull n (table_room shape.room)) (one_weight url shape both.0 both.1 x y both.2.0 both.3.0))),
+                exactly_with-exact _ _ (λ x y first second. (let both = both_release (text ∷ other ∷ texts) first second in ap (λ (n : ℕ). says.TableFull (told_weight n) (table_room shape.room)) (one_weight url shape both.0 both.1 x y both.2.0 both.3.0))),
                 tt,
               ),
             ),

@@ -24,7 +24,7 @@ use Rattle.machine.specs.Sound.{Sound}
 use Rattle.machine.specs.Store.{Session, Store}
 use Rattle.machine.specs.Valid.{IsDataFile, IsView, Ordered, Valid}
 use Rattle.machine.specs.Views.{DataFile, ListedFile, View}
-use Rattle.machine.specs.Weight.{IsLight, IsTooHeavy, table_room, weight_of}
+use Rattle.machine.specs.Weight.{IsLight, IsTooHeavy, table_room, told_weight, weight_of}
 use Rattle.machine.proofs.Choosing.{AllGive, exactly-exact, exactly_with-exact}
 use Rattle.machine.proofs.CountedBlocks.{counted_more}
 use Rattle.machine.proofs.DataViews.{changed_keeps, changed_ordered, changed_sound, data_with, room_with, same_programs, same_standing, file_blocks}
@@ -68,7 +68,7 @@ module _ (lease : ℕ) (name bytes : List ℕ) (shape : Shape) where
               ap (λ (n : ℕ). says.Full n (free_blocks shape)) (a.0 ∙ sym b.0)),
           (
             exactly_with-exact _ _ (λ x y a b.
-                ap (λ (n : ℕ). says.TableFull n (table_room shape.room))
+                ap (λ (n : ℕ). says.TableFull (told_weight n) (table_room shape.room))
                 (a.2 ∙ ap (λ (v : BareView). weight_put v.number (record { name = name; length = length bytes }) shape)
                 (same_Some a.0 b.0 (sym a.1 ∙ b.1)) ∙ sym b.2)),
             tt,
@@ -340,7 +340,7 @@ module _ (now : ℕ) (heard : List (List ℕ)) (lease : ℕ) (name bytes : List 
             by_weight : IsTooHeavy old.store.room new_weight ⊎ (IsTooHeavy old.store.room new_weight → ⊥)
                 → IsAnswered now heard old (Put lease name bytes)
             by_weight (inl heavy) = record {
-              reply = says.TableFull new_weight (table_room old.store.room);
+              reply = says.TableFull (told_weight new_weight) (table_room old.store.room);
               new = old;
               answers = inl (inr (
                 tt,

@@ -18,7 +18,7 @@ use Rattle.machine.specs.Rows.{AreExact}
 use Rattle.machine.specs.Shape.{Shape, shape_of}
 use Rattle.machine.specs.Store.{Session}
 use Rattle.machine.specs.Valid.{Valid}
-use Rattle.machine.specs.Weight.{IsTooHeavy, table_room, weight_of}
+use Rattle.machine.specs.Weight.{IsTooHeavy, table_room, told_weight, weight_of}
 use Rattle.machine.proofs.Choosing.{exactly-exact, exactly_with-exact}
 use Rattle.machine.proofs.Keeping.{required_valid, same_views_sound}
 use Rattle.machine.proofs.LeasesKept.{keeps_more}
@@ -44,7 +44,7 @@ require_exact key version shape = (
   exactly-exact _ _,
   (
     exactly_with-exact _ _ (λ x y a b.
-        ap (λ (n : ℕ). says.TableFull n (table_room shape.room)) (a.1 ∙ sym b.1)),
+        ap (λ (n : ℕ). says.TableFull (told_weight n) (table_room shape.room)) (a.1 ∙ sym b.1)),
     tt,
   ),
 )
@@ -80,7 +80,7 @@ module _ (now : ℕ) (heard : List (List ℕ)) (key : Key) (version : Version) w
         → ¬ ((entry_of key old.store.apps ≡ None) × (APPLICATION_LIMIT ≤ length old.store.apps))
         → IsTooHeavy old.store.room weight → IsAnswered now heard old (Require key version)
     weighs new room heavy = record {
-      reply = says.TableFull weight (table_room old.store.room);
+      reply = says.TableFull (told_weight weight) (table_room old.store.room);
       new = old;
       answers = inl (inr (tt, inr (room, inl ((weight, (new, refl, heavy), refl), refl))));
       other = table_full_is_other weight (table_room old.store.room);

@@ -16,7 +16,7 @@ use Rattle.machine.specs.Shape.{BareView, Shape}
 use Rattle.machine.specs.Store.{Session, Store}
 use Rattle.machine.specs.Unheard.{may_be_unheard}
 use Rattle.machine.specs.Views.{View}
-use Rattle.machine.specs.Weight.{IsTooHeavy, table_room, weight_of}
+use Rattle.machine.specs.Weight.{IsTooHeavy, table_room, told_weight, weight_of}
 
 -- ---- conditions
 
@@ -65,7 +65,7 @@ weight_refusals lease group shape =
     exactly_with
     (λ weight. OfComing lease group shape (λ view.
     (weight ≡ weight_grown view.number group shape) × IsTooHeavy shape.room weight))
-    (λ weight. says.TableFull weight (table_room shape.room))
+    (λ weight. says.TableFull (told_weight weight) (table_room shape.room))
     ∷ []
 
 -- there is no room for the group

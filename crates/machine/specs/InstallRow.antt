@@ -38,7 +38,7 @@ use Rattle.machine.specs.Store.{Session, Store}
 use Rattle.machine.specs.Unheard.{may_be_unheard, unheard}
 use Rattle.machine.specs.Views.{ListedFile}
 use Rattle.machine.specs.Wanted.{install_need, wanted}
-use Rattle.machine.specs.Weight.{IsTooHeavy, table_room, weight_of}
+use Rattle.machine.specs.Weight.{IsTooHeavy, table_room, told_weight, weight_of}
 
 -- ---- what was heard
 
@@ -174,7 +174,7 @@ weight_refusals url heard shape =
     exactly_with
     (λ weight. OfRelease heard (λ d a.
     IsWeightOf url shape d a weight × IsTooHeavy shape.room weight))
-    (λ weight. says.TableFull weight (table_room shape.room))
+    (λ weight. says.TableFull (told_weight weight) (table_room shape.room))
     ∷ []
 
 -- the release may not come

@@ -14,7 +14,7 @@ use Rattle.machine.specs.Rows.{Refusal, exactly, exactly_with}
 use Rattle.machine.specs.Shape.{BareData, BareView, Shape}
 use Rattle.machine.specs.Store.{Session}
 use Rattle.machine.specs.Views.{View}
-use Rattle.machine.specs.Weight.{IsTooHeavy, table_room, weight_of}
+use Rattle.machine.specs.Weight.{IsTooHeavy, table_room, told_weight, weight_of}
 
 -- ---- conditions
 
@@ -59,7 +59,7 @@ weight_refusals lease name bytes shape =
     (λ weight. (view : BareView) × (leased_bare lease shape ≡ Some view)
     × (weight ≡ weight_put view.number (record { name = name; length = length bytes }) shape)
     × IsTooHeavy shape.room weight)
-    (λ weight. says.TableFull weight (table_room shape.room))
+    (λ weight. says.TableFull (told_weight weight) (table_room shape.room))
     ∷ []
 
 -- the data file may not be put

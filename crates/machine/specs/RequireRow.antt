@@ -12,7 +12,7 @@ use Rattle.machine.specs.Minimums.{minimum_of, raised, raised_app}
 use Rattle.machine.specs.Rows.{Refusal, exactly, exactly_with}
 use Rattle.machine.specs.Shape.{Shape}
 use Rattle.machine.specs.Store.{Session}
-use Rattle.machine.specs.Weight.{IsTooHeavy, table_room, weight_of}
+use Rattle.machine.specs.Weight.{IsTooHeavy, table_room, told_weight, weight_of}
 
 -- an unknown key has an entry from then on
 abbrev pub required : Key → Version → List AppState → List AppState
@@ -28,7 +28,7 @@ require_refusals key version shape =
     (λ weight. (entry_of key shape.apps ≡ None)
     × (weight ≡ weight_of shape.views (required key version shape.apps))
     × IsTooHeavy shape.room weight)
-    (λ weight. says.TableFull weight (table_room shape.room))
+    (λ weight. says.TableFull (told_weight weight) (table_room shape.room))
     ∷ []
 
 -- the reply shows the minimum that then holds

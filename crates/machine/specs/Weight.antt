@@ -1,6 +1,6 @@
 -- How much the tables of a store weigh: so much for each thing that they have, and the bytes of its
 -- texts.
-use Rattle.std.specs.Prelude.{◌≢◌, ◌<◌, ℕ, ◌+◌, ◌-◌, ◌*◌, List, Option, Some, None, length, sum_by}
+use Rattle.std.specs.Prelude.{◌≢◌, ◌<◌, ◌^◌, ℕ, ◌+◌, ◌-◌, ◌*◌, List, Option, Some, None, length, min, sum_by}
 use Rattle.small_types.specs.declared.room.Room.{Room}
 use Rattle.small_types.specs.declared.target.Target.{Target}
 use Rattle.identity.specs.declared.identity.Identity.{Identity}
@@ -90,6 +90,10 @@ weight_of views apps =
 -- what tables may weigh where the journal has halves
 abbrev pub table_room : Room → ℕ
 table_room room = room.half - CHANGE_ROOM
+
+-- a weight as a reply tells it: as far as a number goes
+abbrev pub told_weight : ℕ → ℕ
+told_weight weight = min weight (2 ^ 64 - 1)
 
 -- tables of that weight have no room; without halves any weight has
 abbrev pub IsTooHeavy : Room → ℕ → Type 0

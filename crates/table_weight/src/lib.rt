@@ -9,11 +9,13 @@ mod fault;
 mod groups;
 mod laws;
 mod moves;
+mod room;
 mod summing;
 mod tables;
 
 pub use fault::WeightFault;
 pub use laws::tables_weigh_as_shown;
+pub use room::table_full;
 pub use tables::{
     weight, weight_with_data, weight_with_group, weight_with_key, weight_with_release,
 };
