@@ -102,6 +102,10 @@ pub(crate) fn putting_of(
     if free < need {
         return Err(Reply::Full { need, free });
     }
+    let length = bytes.as_slice().len() as u64;
+    if let Some(reply) = table_full(room, weight_with_data(state, view.number, name, length)) {
+        return Err(reply);
+    }
     Ok(Putting {
         view: view.number,
         stands: has_bytes(view, name, bytes),
