@@ -25,13 +25,13 @@ use demo::DemoFault;
 use disks::Disk;
 use folders::Folder;
 use inspection::inspect;
+use journal::LogFault;
 use links::Links;
 use machine::Report;
 use outside::{Sink, Source};
 use publication::{WordFault, publish_options};
-use small_types::Word;
+use small_types::{Word, new_room};
 use std::alloc::Global;
-use store_log::{Log, LogFault};
 
 // A new store of so many blocks.
 fn format<D: Disk>(alloc: Global, disk: &mut D, blocks: u64) -> Status
@@ -39,7 +39,7 @@ fn format<D: Disk>(alloc: Global, disk: &mut D, blocks: u64) -> Status
     ensures makes { MakesStore D.Disk blocks (code_of result) disk.old disk.new }
     ensures asks { Asks D.Disk (result ≡ exit.DiskFault) disk.old disk.new }
 {
-    match Log::format(alloc, disk, blocks, 0, &[]) {
+    match table_log::format(alloc, disk, new_room(blocks)) {
         Ok(()) => Status::Done,
         Err(LogFault::Memory) => Status::Memory,
         Err(_) => Status::DiskFault,
