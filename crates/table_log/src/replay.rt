@@ -1,6 +1,6 @@
 // How tables and changes are made of their texts.
 ghost use Rattle.std.specs.Prelude.{IfOk};
-ghost use Rattle.table_codec.specs.Values.{IsEncodableState};
+ghost use Rattle.table_codec.specs.Values.{HaveFields};
 ghost use Rattle.table_log.specs.Replay.{IsBase, IsMade, Replays, Settled, Tests, Tries};
 
 use crate::RecoverFault;
@@ -9,8 +9,7 @@ use record_fields::CodecFault;
 use small_types::Bytes;
 use std::alloc::Global;
 use store_state::{Change, StateFault, StoreState};
-use table_codec::{changes_stay_encodable, decode_state, tables_are_spelled_once};
-use table_weight::changes_keep_tables;
+use table_codec::{decode_state, fields_stay_encodable, tables_are_spelled_once};
 
 // How a change that fits ends.
 fn made(applied: Result<(), StateFault>) -> Result<bool, StateFault>
@@ -81,11 +80,10 @@ pub(crate) fn settle(
     changes: &[Bytes],
 ) -> Result<StoreState, RecoverFault>
     ensures leads { Settled text.now changes.now result }
-    ensures encodable { IfOk result IsEncodableState }
+    ensures fields { IfOk result HaveFields }
 {
     tables_are_spelled_once();
-    changes_keep_tables();
-    changes_stay_encodable();
+    fields_stay_encodable();
     let mut state = match base_of(alloc, text) {
         Ok(state) => state,
         Err(fault) => return Err(fault),

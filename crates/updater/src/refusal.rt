@@ -14,6 +14,7 @@ use machine::Reply;
 use small_types::Limit;
 use small_types::limits::APPLICATION_LIMIT;
 use store_state::StoreState;
+use table_weight::{table_full, weight_with_key};
 
 /// The refusal of `require` that the tables give. It takes no memory.
 pub(crate) fn require_refusal(state: &StoreState, room: Room, key: &Key) -> Option<Reply>
