@@ -35,7 +35,7 @@ use Rattle.updater.specs.declared.fault.RecoverFault.{RecoverFault}
 use Rattle.updater.specs.declared.fault.RecoverFault.TheVariants.{DiskFault, NotAStore}
 use Rattle.updater.specs.Loaded.{IsLoaded, Loaded}
 use Rattle.updater.specs.Shown.{Updater}
-use Rattle.updater.specs.Standing.{AreOfStore}
+use Rattle.updater.specs.StoreTables.{AreOfStore}
 use Rattle.updater.specs.StandsFor.{StandsForNone}
 use Rattle.updater.proofs.Changing.{apps_shown, blocks_shown, views_shown}
 

@@ -31,7 +31,7 @@ use crate::refusal::{finish_refusal, require_refusal};
 use crate::requirement::minimum_that_stays;
 use crate::rows::{list_rows, show_row};
 use crate::skipping::skipping_of;
-use crate::standing::are_of_store;
+use crate::store_tables::are_of_store;
 use crate::start::start_of;
 use cleaner::{CleanFault, removable};
 use disks::Disk;
@@ -113,6 +113,7 @@ impl Updater {
         requires { boot ≤ NUMBER_LIMIT }
         ensures { Opened D.Disk boot disk.old result disk.new }
     {
+        an_image_reads_as_one();
         let mut updater = match Updater::load(alloc, disk) {
             Ok(updater) => updater,
             Err(fault) => return Err(fault),
