@@ -13,11 +13,11 @@ pub mod GoingBack
 pub mod GroupEnds
 pub mod Installing
 pub mod Keeping
+pub mod KeyRoom
 pub mod Launching
 pub mod LeasedData
 pub mod LeasedFiles
 pub mod Lists
-pub mod Loading
 pub mod Opening
 pub mod PutFits
 pub mod PutRefused
@@ -25,3 +25,4 @@ pub mod Recovering
 pub mod Requiring
 pub mod ShownViews
 pub mod Standing
+pub mod TableRoom
