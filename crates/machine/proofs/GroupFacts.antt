@@ -360,7 +360,7 @@ module _ (now : ℕ) (heard : List (List ℕ)) (lease : ℕ) (group : List ℕ) 
                   ),
                 ),
               ));
-              other = table_full_is_other new_weight (table_room shape.room);
+              other = table_full_is_other (told_weight new_weight) (table_room shape.room);
             }
 
             weighs : (IsTooHeavy shape.room new_weight → ⊥) → (n : ℕ)

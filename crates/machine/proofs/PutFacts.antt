@@ -358,7 +358,7 @@ module _ (now : ℕ) (heard : List (List ℕ)) (lease : ℕ) (name bytes : List 
                   ),
                 ),
               ));
-              other = table_full_is_other new_weight (table_room old.store.room);
+              other = table_full_is_other (told_weight new_weight) (table_room old.store.room);
             }
             by_weight (inr light) = record {
               reply = says.Put;

@@ -83,7 +83,7 @@ module _ (now : ℕ) (heard : List (List ℕ)) (key : Key) (version : Version) w
       reply = says.TableFull (told_weight weight) (table_room old.store.room);
       new = old;
       answers = inl (inr (tt, inr (room, inl ((weight, (new, refl, heavy), refl), refl))));
-      other = table_full_is_other weight (table_room old.store.room);
+      other = table_full_is_other (told_weight weight) (table_room old.store.room);
     }
 
     by_weight : entry_of key old.store.apps ≡ None
