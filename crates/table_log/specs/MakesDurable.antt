@@ -57,8 +57,9 @@ pub record Stores {D T : Type 0} (on : Ghosts D) (change : Change) (tables : Tab
   pub marked : OnOk result (on.moment disk_old + 1 ≤ on.moment disk_new)
 
 -- What making a change durable does, in the tables, the log and the disk. For want of memory it
--- does nothing; else the tables have changed, also where the disk failed. Where the entry fits the current half it costs an append; else at most a
--- checkpoint of the old tables more, which makes up to six calls and closes a gate first.
+-- does nothing; else the tables have changed, also where the disk failed. Where the entry fits the
+-- current half it costs an append; else at most a checkpoint of the old tables more, which makes up
+-- to six calls and closes a gate first.
 pub record MakesDurable {D T : Type 0} (on : Ghosts D) (change : Change) (log_old : Log)
     (tables_old : Tables) (disk_old : D) (result : Result T StepFault) (log_new : Log)
     (tables_new : Tables) (disk_new : D) : Type 0 where

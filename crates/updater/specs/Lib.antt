@@ -12,7 +12,7 @@ pub mod Putting
 pub mod Requirement
 pub mod Shown
 pub mod Skipping
-pub mod Standing
+pub mod StoreTables
 pub mod StandsFor
 pub mod StepCosts
 pub mod Start

@@ -11,7 +11,7 @@ mod refusal;
 mod requirement;
 mod rows;
 mod skipping;
-mod standing;
+mod store_tables;
 mod start;
 mod updater;
 

@@ -19,6 +19,7 @@ use small_types::limits::{BLOCK_SIZE, LOCAL_COUNT_LIMIT, LOCAL_NAME_LIMIT};
 use small_types::{Bytes, CopyFault, Duplicate, Limit, Name, Room};
 use std::alloc::Global;
 use store_state::{LocalFile, StoreState, View};
+use table_weight::{table_full, weight_with_data};
 
 /// A data file that may be put into a view.
 #[derive(Clone, Copy, Debug)]

@@ -11,9 +11,10 @@ ghost use Rattle.install_plan.specs.Checks.{is_missing};
 
 use identity::Key;
 use machine::Reply;
-use small_types::Limit;
+use small_types::{Limit, Room};
 use small_types::limits::APPLICATION_LIMIT;
 use store_state::StoreState;
+use table_weight::{table_full, weight_with_key};
 
 /// The refusal of `require` that the tables give. It takes no memory.
 pub(crate) fn require_refusal(state: &StoreState, room: Room, key: &Key) -> Option<Reply>

@@ -31,7 +31,7 @@ use crate::refusal::{finish_refusal, require_refusal};
 use crate::requirement::minimum_that_stays;
 use crate::rows::{list_rows, show_row};
 use crate::skipping::skipping_of;
-use crate::standing::are_of_store;
+use crate::store_tables::are_of_store;
 use crate::start::start_of;
 use cleaner::{CleanFault, removable};
 use disks::Disk;
@@ -48,7 +48,7 @@ use std::mem::replace;
 use store_state::{Change, LocalFile, StoreState, puts_show_the_file, removals_show_the_rest};
 use table_check::ordered_tables_show_ordered_stores;
 use table_codec::{changes_are_within_weights, changes_stay_encodable, encodings_are_within_table_weights};
-use table_log::{Opened, StepFault, make_durable};
+use table_log::{Opened, StepFault, an_image_reads_as_one, make_durable};
 use table_weight::{changed_tables_weigh, tables_weigh_as_shown};
 
 /// A store that is open: its log, its room and its tables. The tables have always room in a half of
@@ -113,6 +113,7 @@ impl Updater {
         requires { boot ≤ NUMBER_LIMIT }
         ensures { Opened D.Disk boot disk.old result disk.new }
     {
+        an_image_reads_as_one();
         let mut updater = match Updater::load(alloc, disk) {
             Ok(updater) => updater,
             Err(fault) => return Err(fault),
@@ -240,6 +241,10 @@ impl Updater {
             Err(table_log::RecoverFault::Memory) => return Err(RecoverFault::Memory),
             Err(table_log::RecoverFault::DiskFault) => return Err(RecoverFault::DiskFault),
         };
+        an_image_reads_as_one();
+        ordered_tables_show_ordered_stores();
+        tables_weigh_as_shown();
+        opened.state.are_tables();
         if !are_of_store(&opened.state, opened.room) {
             drop(opened);
             return Err(RecoverFault::NotAStore);

@@ -5,7 +5,7 @@ ghost use Rattle.machine.specs.Weight.{IsLight};
 ghost use Rattle.small_types.specs.declared.limits.TheConstants as limits;
 ghost use Rattle.store_state.specs.Tables.{bare_row};
 ghost use Rattle.table_weight.specs.Weight.{tables_weight};
-ghost use Rattle.updater.specs.Standing.{AreOfStore};
+ghost use Rattle.updater.specs.StoreTables.{AreOfStore};
 
 use small_types::Room;
 use small_types::limits::BLOCK_LIMIT;
