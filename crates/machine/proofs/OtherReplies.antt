@@ -24,7 +24,7 @@ pub full_is_other : (need free : ℕ) → says.Full need free ≢ says.Memory
 full_is_other need free e = cc
 
 pub table_full_is_other : (weight room : ℕ) → says.TableFull weight room ≢ says.Memory
-table_full_is_other (told_weight weight) room e = cc
+table_full_is_other weight room e = cc
 
 pub all_links_is_other : (target : Target) (causes : List Cause)
     → says.AllLinks target causes ≢ says.Memory
