@@ -1,5 +1,9 @@
-mod Bounds
+mod ChangedFields
+mod Encodable
 mod Judged
+mod Lengths
 mod Tables
 mod Whole
 mod Within
+mod WithinChanges
+mod WithinTables
