@@ -2,6 +2,7 @@
 use Rattle.std.proofs.Common.{◌≡◌, ℕ, ◌+◌, ◌<◌, ◌≤◌, ◌^◌, Bool, true, false, List, [], ◌∷◌, ◌++◌, length, take, drop, sym, ◌∙◌, ap, subst, arith, length-append}
 use Rattle.std.proofs.lemmas.List.{append-nil}
 use Rattle.std.specs.List.{flat_map}
+use Rattle.small_types.specs.declared.limits.TheConstants.{HALF_LIMIT}
 use Rattle.journal.specs.declared.side.Side.{Side}
 use Rattle.journal.specs.declared.side.Side.TheVariants.{First, Second}
 use Rattle.journal.specs.Layout.{long_bytes, entry_of, head_of, AreLimits, AreSmall, ClosedAfter, IsHalf, OpensWith, IsNextSerial, IsOtherHalf, part_at, start_of, HalvesStand, IsHalvedJournal, NoJournal}
@@ -63,7 +64,7 @@ next_of false serial other part opens is =
 no_both : (a b : ℕ) → IsNextSerial a b → IsNextSerial b a → ⊥
 no_both a b next back = omega (arith, next.0, next.1, back.0, back.1)
 
-short_part : (q half : ℕ) (image : List ℕ) → half ≤ 67108864 → length (part_at q half image) < 2 ^ 64
+short_part : (q half : ℕ) (image : List ℕ) → half ≤ HALF_LIMIT → length (part_at q half image) < 2 ^ 64
 short_part q half image small = omega (arith, length-part_at q half image, small)
 
 module _ (image : List ℕ) (half : ℕ) where
