@@ -1,5 +1,6 @@
 mod ChangedFields
 mod Encodable
+mod Fields
 mod Judged
 mod Lengths
 mod Tables
