@@ -15,7 +15,6 @@ ghost use Rattle.publisher.specs.Publication.{application_identity as applicatio
 
 use crate::PublishFault;
 use crate::entries::digests_of;
-use digest_list::DigestList;
 use identity::{Identity, Key, Version};
 use manifest_writer::{write_application, write_deployment};
 use manifests::{Application, Deployment, FileEntry};
@@ -137,23 +136,14 @@ fn places_of(alloc: Global, options: &Options) -> Result<(Option<Text>, Text), P
     Ok((provider, codebase_of(alloc, options)?))
 }
 
-// The identity of the application, and the digests of its manifest with this text.
-fn app_of(
+// The deployment of the application manifest with this text, which is that of the application.
+fn deployment_of(
     alloc: Global,
     options: &Options,
+    app: Identity,
     text: &[u8],
-) -> Result<(Identity, DigestList), PublishFault>
-    ensures identity { IfOk result (λ app. app.0 ≡ application_identity_of options.now) }
-    ensures digests { IfOk result (λ app. app.1 ≡ digests_in text.now) }
-    ensures sized { IfOk result (λ app. All IsSized app.1) }
-    ensures memory { OnErr result (result ≡ Err Memory) }
-{
-    let identity = application_identity(alloc, options)?;
-    Ok((identity, digests_of(alloc, text)?))
-}
-
-// The deployment of the application manifest with this text.
-fn deployment_of(alloc: Global, options: &Options, text: &[u8]) -> Result<Deployment, PublishFault>
+) -> Result<Deployment, PublishFault>
+    requires { app ≡ application_identity_of options.now }
     ensures deployment { IfOk result
         (λ deployment. deployment ≡ deployment_with options.now text.now) }
     ensures sized { IfOk result (λ deployment. All IsSized deployment.app_list) }
@@ -162,7 +152,7 @@ fn deployment_of(alloc: Global, options: &Options, text: &[u8]) -> Result<Deploy
 {
     let identity = deployment_identity(alloc, options)?;
     let (provider, codebase) = places_of(alloc, options)?;
-    let (app, app_list) = app_of(alloc, options, text)?;
+    let app_list = digests_of(alloc, text)?;
     Ok(Deployment {
         identity,
         install: true,
@@ -188,8 +178,10 @@ fn into_key(deployment: Deployment) -> Key
 fn deployment_manifest(
     alloc: Global,
     options: &Options,
+    app: Identity,
     text: &[u8],
 ) -> Result<(Bytes, Key), PublishFault>
+    requires app { app ≡ application_identity_of options.now }
     requires options { IsPublishable options.now }
     requires fit { early_of options.now ≡ None }
     requires short { length text.now ≤ MANIFEST_LIMIT }
@@ -198,37 +190,53 @@ fn deployment_manifest(
     ensures key { IfOk result (λ made. made.1 ≡ deployment_key_of options.now) }
     ensures fault { IfErr result IsManifestFault }
 {
-    let deployment = deployment_of(alloc, options, text)?;
+    let deployment = deployment_of(alloc, options, app, text)?;
     match write_deployment(alloc, &deployment, &options.publisher, &options.name) {
         Ok(text) => Ok((text, into_key(deployment))),
         Err(fault) => Err(PublishFault::from(fault)),
     }
 }
 
-// The files of the application.
-fn into_files(application: Application) -> List<FileEntry>
-    ensures { result ≡ application.files }
-{
-    application.files
+// What is written of an application: its text, its identity and its files.
+#[derive(Drop)]
+struct ApplicationText {
+    text: Bytes,
+    identity: Identity,
+    entries: List<FileEntry>,
 }
 
-// The text of the application manifest of these files, and the files.
+// The application with this text.
+fn with_text(application: Application, text: Bytes) -> ApplicationText
+    ensures text { result.text ≡ text }
+    ensures identity { result.identity ≡ application.identity }
+    ensures entries { result.entries ≡ application.files }
+{
+    ApplicationText {
+        text,
+        identity: application.identity,
+        entries: application.files,
+    }
+}
+
+// The text of the application manifest of these files, its identity, and the files.
 fn application_text(
     alloc: Global,
     options: &Options,
     entries: List<FileEntry>,
-) -> Result<(Bytes, List<FileEntry>), PublishFault>
+) -> Result<ApplicationText, PublishFault>
     requires fit { early_of options.now ≡ None }
     requires files { AreFiles entries }
     requires each { All IsFile entries }
-    ensures exact { Gives (λ made. made.0) result
+    ensures exact { Gives (λ made. made.text) result
         (limited (application_text_of (application_with options.now entries))) }
-    ensures entries { IfOk result (λ made. made.1 ≡ entries) }
+    ensures identity { IfOk result
+        (λ made. made.identity ≡ application_identity_of options.now) }
+    ensures entries { IfOk result (λ made. made.entries ≡ entries) }
     ensures fault { IfErr result IsManifestFault }
 {
     let application = application_of(alloc, options, entries)?;
     match application_manifest(alloc, &application) {
-        Ok(text) => Ok((text, into_files(application))),
+        Ok(text) => Ok(with_text(application, text)),
         Err(fault) => Err(fault),
     }
 }
@@ -248,8 +256,13 @@ pub(crate) fn manifests_of(
     ensures entries { IfOk result (λ release. release.entries ≡ entries) }
     ensures fault { IfErr result IsManifestFault }
 {
-    let (application, entries) = application_text(alloc, options, entries)?;
-    let (deployment, key) = deployment_manifest(alloc, options, application.as_slice())?;
+    let written = application_text(alloc, options, entries)?;
+    let ApplicationText {
+        text: application,
+        identity,
+        entries,
+    } = written;
+    let (deployment, key) = deployment_manifest(alloc, options, identity, application.as_slice())?;
     Ok(ReleaseTexts {
         key,
         entries,
