@@ -35,10 +35,10 @@ pub record IsNew {D : Type 0} (on : Ghosts D) (blocks : ℕ) (disk : D) : Type 0
   pub images : (image : List ℕ) → on.left_at disk (on.moment disk) image → StandsForNew blocks image
   pub reads : StandsForNew blocks (on.seen disk)
 
--- A format of so many blocks. With status 0 it is done. At most those calls are made, which write a
--- head block, the first half with the empty tables, the second one's gate, and the head's own gate
--- anew. The count of faults rises with status 4
--- alone. Without memory, which is status 6, no call is made.
+-- A format of so many blocks. With status 0 it is done. At most seven calls are made, which write
+-- a head block, the first half with the empty tables, the second one's gate, and the head's own
+-- gate anew. The count of faults rises with status 4 alone. Without memory, which is status 6, no
+-- call is made.
 pub record MakesStore {D : Type 0} (on : Ghosts D) (blocks status : ℕ) (old new : D) : Type 0 where
   pub done : status ≡ code_of Done → IsNew on blocks new
   pub spends : Spends on 7 (HEAD_BLOCK_SIZE + AROUND_TABLES + length (state_text empty) + 2) old new

@@ -48,7 +48,8 @@ fn format<D: Disk>(alloc: Global, disk: &mut D, blocks: u64) -> Status
 
 /// Does what the words ask for and answers the exit status.
 ///
-/// `format --blocks N` makes a new store of N blocks, 1 to 65,536, on the disk.
+/// `format --blocks N` makes a new store of N blocks, 1 to 65,536, on the disk. Its journal has two
+/// halves, each of which has room for the bytes of all blocks and for 16,777,216 more.
 ///
 /// `session --boot N --now N` answers the lines of the source on the sink over the store on the
 /// disk; the numbers are at most 2^62, and `now` is in seconds. The lines are `at N`,
