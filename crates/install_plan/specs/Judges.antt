@@ -2,6 +2,7 @@
 use Rattle.std.specs.Prelude.{◌≡◌, ◌≢◌, ◌⊎◌, ◌<◌, ◌≤◌, ℕ, List, [], ◌∷◌, ◌++◌, Result, Ok, Err, length}
 use Rattle.small_types.specs.declared.limit.Limit.TheVariants.{Applications, Views, Files, Locals}
 use Rattle.small_types.specs.declared.limits.TheConstants.{APPLICATION_LIMIT, FILE_COUNT_LIMIT, LOCAL_COUNT_LIMIT, NUMBER_LIMIT, VIEW_LIMIT}
+use Rattle.small_types.specs.declared.room.Room.{Room}
 use Rattle.small_types.specs.declared.target.Target.{Target}
 use Rattle.addresses.specs.declared.fault.UrlFault.{UrlFault}
 use Rattle.addresses.specs.declared.fault.UrlFault.TheVariants as no_address
@@ -17,6 +18,7 @@ use Rattle.machine.specs.Rows.{PassesAll, Refusal, Refuses, exactly, exactly_wit
 use Rattle.machine.specs.Shape.{Shape}
 use Rattle.machine.specs.Store.{Session}
 use Rattle.machine.specs.Wanted.{install_need}
+use Rattle.machine.specs.Weight.{IsTooHeavy, table_room, told_weight}
 
 -- ---- judgements
 
@@ -73,6 +75,13 @@ file_checks shape d a =
 abbrev pub room_checks : ℕ → ℕ → List (Refusal Reply Session)
 room_checks needed free =
     exactly_with (λ need. (need ≡ needed) × (free < need)) (λ need. says.Full need free) ∷ []
+
+-- tables that weigh so much have no room
+abbrev pub weight_checks : Room → ℕ → List (Refusal Reply Session)
+weight_checks room weighed =
+    exactly_with (λ weight. (weight ≡ weighed) × IsTooHeavy room weight)
+    (λ weight. says.TableFull (told_weight weight) (table_room room))
+    ∷ []
 
 -- a wanted file has no address
 abbrev pub target_checks : List ℕ → Shape → Deployment → Application → List (Refusal Reply Session)

@@ -100,10 +100,11 @@ pub(crate) fn judge_room(state: &StoreState, room: Room, need: u64) -> Result<()
     Ok(())
 }
 
-// The files that are wanted, with their addresses, and the blocks that they need.
+// The files that are wanted, with their addresses; their places; and the blocks that they need.
 #[derive(Drop)]
 pub(crate) struct FilesNeeded {
     pub(crate) files: List<WantedFile>,
+    pub(crate) places: Vec<usize>,
     pub(crate) need: u64,
 }
 
@@ -116,6 +117,8 @@ pub(crate) fn wants(
     files: &[FileEntry],
 ) -> Result<FilesNeeded, Reply>
     ensures places { IfOk result (λ w. map (λ file. slice_get files.now file.place) w.files
+        ≡ map Some (wanted_beside (standing_files (map bare_row state.now.views)) files.now)) }
+    ensures stand { IfOk result (λ w. map (slice_get files.now) w.places.items
         ≡ map Some (wanted_beside (standing_files (map bare_row state.now.views)) files.now)) }
     ensures targets { IfOk result (λ w. map (λ entry. file_target_of base.now mapped entry.name)
         (wanted_beside (standing_files (map bare_row state.now.views)) files.now)
@@ -132,7 +135,11 @@ pub(crate) fn wants(
     };
     let need = blocks_needed(files, places.as_slice());
     match wanted_files(alloc, base, mapped, files, places.as_slice()) {
-        Ok(files) => Ok(FilesNeeded { files, need }),
+        Ok(files) => Ok(FilesNeeded {
+            files,
+            places,
+            need,
+        }),
         Err(reply) => Err(reply),
     }
 }
