@@ -19,6 +19,7 @@ pub mod Fitting
 pub mod GroupOver
 pub mod GroupReadying
 pub mod GroupServing
+pub mod GroupSpace
 pub mod GroupStanding
 pub mod Joining
 pub mod Judged
