@@ -144,7 +144,8 @@ fn is_first_form<D: Disk>(disk: &mut D) -> bool {
 
 // Says that the file is no store, and what to do; of a store of the form before this one, that it is
 // that.
-fn explain_no_store(rt: &HostRuntime, path: &str, is_first_form: bool) {
+fn explain_no_store(rt: &HostRuntime, is_first_form: bool, disk: &Failure) {
+    let path = disk.name();
     if is_first_form {
         say(
             rt,
@@ -176,7 +177,7 @@ fn explain(
         2 => say(rt, failures.source.or(failures.folder)),
         3 => say(rt, failures.sink.or(failures.folder)),
         4 => say(rt, failures.disk),
-        5 => explain_no_store(rt, failures.disk.name(), is_first_form),
+        5 => explain_no_store(rt, is_first_form, &failures.disk),
         6 => explain_early(rt, note),
         8 => say(rt, "more input than a session takes"),
         _ => {}
