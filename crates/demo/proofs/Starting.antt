@@ -15,7 +15,7 @@ use Rattle.store_log.specs.declared.fault.LogFault.TheVariants as log
 use Rattle.store_log.specs.Log.{IsStore}
 use Rattle.updater.specs.declared.fault.RecoverFault.{RecoverFault}
 use Rattle.updater.specs.declared.fault.RecoverFault.TheVariants as recover
-use Rattle.updater.specs.declared.updater.Updater.{Updater}
+use Rattle.updater.specs.Shown.{Updater}
 use Rattle.updater.specs.Opened.{Opened}
 use Rattle.updater.specs.StandsFor.{StandsFor}
 use Rattle.updater.proofs.Standing.{new_stands}
