@@ -20,7 +20,7 @@ use Rattle.store_state.proofs.Keyed.{any_in, differ, of_key}
 use Rattle.store_state.proofs.Naming.{is_standing}
 use Rattle.record_codec.specs.declared.numbers.TheConstants.{COUNT_LIMIT}
 use Rattle.record_codec.specs.Values.{IsEncodableView}
-use Rattle.table_codec.specs.Laws.{LightAreEncodable, StayEncodable}
+use Rattle.table_codec.specs.Laws.{AreEncodable, StayEncodable}
 use Rattle.table_codec.specs.Values.{HasFields}
 use Rattle.table_codec.proofs.ChangedFields.{fields_stay}
 use Rattle.table_codec.proofs.Fields.{have_fields}
@@ -117,9 +117,9 @@ view_encodes view has light = record {
 
 -- ---- tables
 
-pub light_encodable : LightAreEncodable
+pub are_encodable : AreEncodable
 unfolding weight_with
-light_encodable t are have light = record {
+are_encodable t are have light = record {
   boot = have.boot;
   next_view = have.next_view;
   next_lease = have.next_lease;
@@ -137,5 +137,5 @@ light_encodable t are have light = record {
 
 pub stay_encodable : StayEncodable
 stay_encodable t change are is fits has light =
-    light_encodable _ (kept_tables t change are fits)
+    are_encodable _ (kept_tables t change are fits)
     (fields_stay t change (have_fields t is) fits has) light
