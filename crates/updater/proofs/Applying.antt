@@ -17,7 +17,7 @@ use Rattle.machine.specs.Store.{Session}
 use Rattle.machine.specs.Valid.{Ordered}
 use Rattle.install_plan.proofs.Downs.{counts_none}
 use Rattle.install_plan.proofs.LeasedRows.{still_brought}
-use Rattle.updater.specs.declared.updater.Updater.{Updater}
+use Rattle.updater.specs.Shown.{Updater}
 use Rattle.updater.specs.Commanded.{Commanded, LinksServe}
 use Rattle.updater.proofs.Commanding.{rested, unlinked}
 use Rattle.updater.proofs.Installing.{one_more}

@@ -23,8 +23,8 @@ use Rattle.store_state.specs.Shows.{Shows}
 use Rattle.install_plan.specs.Checks.{CheckStep, IsCheckOver, IsCheckReady, LedBy}
 use Rattle.install_plan.specs.LeadsIn.{LeadsIn}
 use Rattle.install_plan.proofs.Downs.{counts_none}
-use Rattle.updater.specs.declared.fault.StepFault.{StepFault}
-use Rattle.updater.specs.declared.updater.Updater.{Updater}
+use Rattle.table_log.specs.declared.fault.StepFault.{StepFault}
+use Rattle.updater.specs.Shown.{Updater}
 use Rattle.updater.specs.Answer.{IsAnswer}
 use Rattle.updater.specs.Commanded.{Commanded}
 use Rattle.updater.specs.MakesDurable.{MakesDurable, LeadsBetween}

@@ -21,8 +21,6 @@ use Rattle.machine.specs.DataLaws.{PutsAreThere}
 use Rattle.machine.specs.Grouped.{with_view_at}
 use Rattle.machine.specs.Leases.{leased_view}
 use Rattle.machine.specs.Machine.{Answers}
-use Rattle.machine.specs.PutRow.{place_refusals, put_refusals, weight_refusals}
-use Rattle.machine.specs.Rows.{PassesAll}
 use Rattle.machine.specs.Store.{Session, Store}
 use Rattle.machine.specs.Valid.{IsView, Valid}
 use Rattle.machine.specs.Views.{DataFile}
@@ -46,7 +44,6 @@ use Rattle.store_state.proofs.Showing.{shape_shown}
 use Rattle.record_codec.specs.Values.{IsEncodableLocal}
 use Rattle.links.specs.Links.{LinksState}
 use Rattle.install_plan.specs.LeadsIn.{LeadsIn}
-use Rattle.install_plan.proofs.Listed.{passes_both}
 use Rattle.install_plan.proofs.NewFiles.{leads_over}
 use Rattle.updater.specs.declared.putting.Putting.{Putting}
 use Rattle.updater.specs.DataFiles.{bytes_named}
@@ -172,7 +169,7 @@ module _ (now lease : ℕ) (room : Room) (name bytes : List ℕ) (tables : Table
     (valid : Valid old.store)
     (words : (lease ≤ NUMBER_LIMIT) × IsName name × (length bytes ≤ PIECE_LIMIT))
     (moment : now ≤ NUMBER_LIMIT) (putting : Putting)
-    (of : IsPutting room image lease name bytes tables putting) (plain : room.half ≡ 0) where
+    (of : IsPutting room image lease name bytes tables putting) where
   abbrev file : DataFile
   file = record { name = name; bytes = bytes }
 
@@ -186,16 +183,9 @@ module _ (now lease : ℕ) (room : Room) (name bytes : List ℕ) (tables : Table
   found = leased_shown shows lease
       ∙ ap (option_map (shown_view room image tables.contents)) of.leased
 
-  -- without halves the tables have room
-  passes : PassesAll (put_refusals lease name bytes (table_shape room tables))
-  passes =
-      passes_both (place_refusals lease name bytes (table_shape room tables))
-      (weight_refusals lease name bytes (table_shape room tables)) of.passes
-      ((λ weight over. over.3.0 plain), tt)
-
   step : Answers now [] old (command.Put lease name bytes) says.Put new
   step = effect_answers now [] room tables old (shape_shown old no_jobs shows) (command.Put lease name bytes)
-      says.Put new passes
+      says.Put new of.passes
       (record { view = shown; leased = found; replied = refl; is = refl })
 
   -- where the bytes stand already, the store stays

@@ -22,8 +22,8 @@ use Rattle.install_plan.specs.GroupReady.{GroupStep, IsGroupOver, IsGroupReady}
 use Rattle.install_plan.proofs.Downs.{counts_none}
 use Rattle.install_plan.proofs.LeasedRows.{still_brought}
 use Rattle.install_plan.specs.LeadsIn.{LeadsIn}
-use Rattle.updater.specs.declared.fault.StepFault.{StepFault}
-use Rattle.updater.specs.declared.updater.Updater.{Updater}
+use Rattle.table_log.specs.declared.fault.StepFault.{StepFault}
+use Rattle.updater.specs.Shown.{Updater}
 use Rattle.updater.specs.Answer.{IsAnswer}
 use Rattle.updater.specs.Commanded.{Commanded}
 use Rattle.updater.specs.MakesDurable.{MakesDurable, LeadsBetween}
@@ -38,7 +38,7 @@ module _ (now lease : ℕ) (group : List ℕ) (before after : LinksState) (updat
       → (old : Session) → Shown image (Group lease group) updater old
       → LeavesStore now [] (Group lease group) before after old reply
   over_rests reply over old s =
-      let step = over.step s.half now image old s.jobs s.shows s.sound in
+      let step = over.step now image old s.jobs s.shows s.sound in
       record {
         new = step.new;
         step = step.step;
@@ -52,7 +52,7 @@ module _ (now lease : ℕ) (group : List ℕ) (before after : LinksState) (updat
     step_of : (old : Session) → Shown image (Group lease group) updater old
         → GroupStep lease group before after now reply old
         (LedBy (room_of updater) (tables_of updater) change old.store)
-    step_of old s = ready.step s.half now image old s.jobs s.shows s.sound
+    step_of old s = ready.step now image old s.jobs s.shows s.sound
 
     leads_by : (old : Session) (s : Shown image (Group lease group) updater old)
         → LeadsBetween change (tables_of updater) old.store (step_of old s).new.store

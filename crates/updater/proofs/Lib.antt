@@ -17,7 +17,6 @@ pub mod Launching
 pub mod LeasedData
 pub mod LeasedFiles
 pub mod Lists
-pub mod Loading
 pub mod Opening
 pub mod PutFits
 pub mod PutRefused

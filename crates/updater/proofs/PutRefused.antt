@@ -6,12 +6,16 @@ use Rattle.small_types.specs.declared.room.Room.{Room}
 use Rattle.small_types.specs.declared.limit.Limit.TheVariants.{Locals}
 use Rattle.small_types.specs.declared.limits.TheConstants.{LOCAL_COUNT_LIMIT}
 use Rattle.manifests.specs.Applications.{is_below_pre}
+use Rattle.machine.specs.declared.reply.Reply.{Reply}
 use Rattle.machine.specs.declared.reply.Reply.TheVariants as says
 use Rattle.machine.specs.Blocks.{blocks_of, free_blocks}
-use Rattle.machine.specs.PutRow.{IsBadName, IsOneTooMany, outside_count, place_refusals, put_refusals}
+use Rattle.machine.specs.Leases.{leased_bare}
+use Rattle.machine.specs.PutRow.{IsBadName, IsOneTooMany, outside_count, put_refusals, weight_put}
 use Rattle.machine.specs.Rows.{PassesAll, Refuses}
 use Rattle.machine.specs.Shape.{BareData, BareView}
 use Rattle.machine.specs.Store.{Session}
+use Rattle.machine.specs.Weight.{IsLight, IsTooHeavy, table_room, told_weight}
+use Rattle.machine.proofs.Lightness.{not_heavy}
 use Rattle.machine.proofs.Members.{sum_map}
 use Rattle.store_state.specs.declared.view.LocalFile.{LocalFile}
 use Rattle.store_state.specs.declared.view.View.{View}
@@ -96,22 +100,71 @@ module _ (lease : ℕ) (room : Room) (name bytes : List ℕ) (tables : Tables) (
             ),
           )
 
-      pub put_passes : (need free : ℕ) → need ≡ blocks_of (length bytes)
-          → free ≡ free_blocks (table_shape room tables) → ¬ (free < need)
-          → PassesAll (place_refusals lease name bytes (table_shape room tables))
-      put_passes need free is left enough = (
-        lives lease name room tables row leased,
-        (
-          good,
+      module _ (need free : ℕ) (is : need ≡ blocks_of (length bytes))
+          (left : free ≡ free_blocks (table_shape room tables)) (enough : ¬ (free < need)) where
+        -- the weight of the tables with the data file
+        abbrev weight : ℕ
+        weight =
+            weight_put row.number (record { name = name; length = length bytes })
+            (table_shape room tables)
+
+        has_room : (other : ℕ) → (other ≡ blocks_of (length bytes))
+            × (free_blocks (table_shape room tables) < other) → ⊥
+        has_room other less =
+            enough (subst (λ (n : ℕ). n < need) (sym left)
+            (subst (λ (n : ℕ). free_blocks (table_shape room tables) < n) (less.0 ∙ sym is)
+            less.1))
+
+        pub too_heavy : (old : Session) (reply : Reply) → IsTooHeavy room weight
+            → reply ≡ says.TableFull (told_weight weight) (table_room room)
+            → Refuses (put_refusals lease name bytes (table_shape room tables)) old reply old
+        too_heavy old reply heavy told =
+            inr (
+              lives lease name room tables row leased,
+              inr (
+                good,
+                inr (
+                  few,
+                  inr (
+                    has_room,
+                    inl (
+                      (
+                        weight,
+                        (bare_row row, bare lease name room tables row leased, refl, heavy),
+                        told,
+                      ),
+                      refl,
+                    ),
+                  ),
+                ),
+              ),
+            )
+
+        same_weight : (other : ℕ) (view : BareView)
+            → leased_bare lease (table_shape room tables) ≡ Some view
+            → other ≡ weight_put view.number (record { name = name; length = length bytes })
+            (table_shape room tables) → other ≡ weight
+        same_weight other view there is =
+            is ∙ ap (λ (v : BareView). weight_put v.number
+            (record { name = name; length = length bytes }) (table_shape room tables))
+            (sym (one_bare lease name room tables row leased view there))
+
+        pub put_passes : IsLight room weight
+            → PassesAll (put_refusals lease name bytes (table_shape room tables))
+        put_passes light = (
+          lives lease name room tables row leased,
           (
-            few,
+            good,
             (
-              (λ other less.
-                  enough (subst (λ (n : ℕ). n < need) (sym left)
-                  (subst (λ (n : ℕ). free_blocks (table_shape room tables) < n) (less.0 ∙ sym is)
-                  less.1))),
-              tt,
+              few,
+              (
+                has_room,
+                (
+                  (λ other over. not_heavy room weight light
+                      (subst (IsTooHeavy room) (same_weight other over.0 over.1 over.2) over.3)),
+                  tt,
+                ),
+              ),
             ),
           ),
-        ),
-      )
+        )

@@ -6,13 +6,12 @@ mod fault;
 mod going_back;
 mod laws;
 mod leased;
-mod piece;
 mod putting;
 mod refusal;
-mod replay;
 mod requirement;
 mod rows;
 mod skipping;
+mod store_tables;
 mod start;
 mod updater;
 

@@ -2,7 +2,7 @@ use Rattle.std.proofs.Common.{◌≤◌, ◌<◌, ◌+◌, ◌≡◌, List, ℕ,
 use Rattle.store_log.specs.declared.piece.TheConstants.{AROUND}
 use Rattle.store_log.specs.Log.{entry_in}
 use Rattle.record_codec.specs.Codec.{change_text}
-use Rattle.updater.specs.declared.fault.StepFault.{StepFault}
+use Rattle.table_log.specs.declared.fault.StepFault.{StepFault}
 use Rattle.updater.specs.MakesDurable.{MakesDurable}
 use Rattle.updater.specs.StandsFor.{Encodes}
 use Rattle.updater.specs.Updater.{room_of}
