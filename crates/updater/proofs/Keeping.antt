@@ -24,7 +24,7 @@ use Rattle.store_state.proofs.Images.{images_have, images_hold}
 use Rattle.store_state.proofs.Showing.{shows_same}
 use Rattle.install_plan.proofs.NewFiles.{has_new}
 use Rattle.table_weight.specs.Weight.{tables_weight}
-use Rattle.table_codec.specs.Laws.{AreWithinTableWeights, ChangesAreWithinWeights, StayEncodable}
+use Rattle.table_codec.specs.Laws.{AreWithinTableWeights, ChangesAreWithinWeights, HadFields, IsShortPut, StayEncodable}
 use Rattle.table_log.specs.declared.fault.StepFault.{StepFault}
 use Rattle.table_log.specs.declared.fault.StepFault.TheVariants.{DiskFault, Memory}
 use Rattle.table_log.specs.MakesDurable as table_log
@@ -48,22 +48,25 @@ most_weight room weight long light = by (cases_lt room.half (weight + 65536))
     by (inr fits) = fits
 
 module _ (log : Log) (room : Room) (tables : Tables) (change : Change) (is : IsKept log room tables) (are : AreTables tables) (may : Fits tables change × IsChange change) (light : IsLight room (tables_weight (effect change tables))) where
+  old_weight : tables_weight tables + 65536 ≤ room.half
+  old_weight = let least = is.limits.least in most_weight room (tables_weight tables) (omega (arith, least)) is.light
+
+  new_weight : tables_weight (effect change tables) + 65536 ≤ room.half
+  new_weight = let least = is.limits.least in most_weight room (tables_weight (effect change tables)) (omega (arith, least)) light
+
   -- the changed tables are kept as well
   pub still_kept : StayEncodable → (log_new : Log) (tables_new : Tables) → half_of log_new ≡ half_of log → tables_new ≡ effect change tables → IsKept log_new room tables_new
   still_kept stay log_new tables_new half same = subst (IsKept log_new room) (sym same) (record {
-    encodable = stay tables change are is.encodable may.0 may.1;
+    encodable = stay tables change are is.encodable may.0 may.1 (let most = is.limits.greatest in omega (arith, new_weight, most));
     light = light;
     limits = is.limits;
     half = half ∙ is.half;
   })
 
   -- the tables and the change's entry fit a half together
-  pub new_half_fits : AreWithinTableWeights → ChangesAreWithinWeights → FitsNewHalf log tables change
-  new_half_fits within changes =
-      let least = is.limits.least in
-      let old = most_weight room (tables_weight tables) (omega (arith, least)) is.light in
-      let new = most_weight room (tables_weight (effect change tables)) (omega (arith, least)) light in
-      omega (arith, within tables are is.encodable, changes tables change are may.0 may.1, old, new, is.half)
+  pub new_half_fits : HadFields → AreWithinTableWeights → ChangesAreWithinWeights → IsShortPut change → FitsNewHalf log tables change
+  new_half_fits had within changes short =
+      omega (arith, within tables are (had tables is.encodable), changes tables change are is.encodable may.0 may.1 short, old_weight, new_weight, is.half)
 
 -- ---- what it costs
 

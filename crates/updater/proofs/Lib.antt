@@ -13,6 +13,7 @@ pub mod GoingBack
 pub mod GroupEnds
 pub mod Installing
 pub mod Keeping
+pub mod KeyRoom
 pub mod Launching
 pub mod LeasedData
 pub mod LeasedFiles
@@ -24,3 +25,4 @@ pub mod Recovering
 pub mod Requiring
 pub mod ShownViews
 pub mod Standing
+pub mod TableRoom
