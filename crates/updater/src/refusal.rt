@@ -27,7 +27,7 @@ pub(crate) fn require_refusal(state: &StoreState, room: Room, key: &Key) -> Opti
     ensures still { (now : ℕ) → IfSome result (λ reply. moment_after now (Some reply) ≡ now) }
     ensures no_target { IfSome result (λ reply. is_missing reply ≡ false) }
 {
-    if state.entry(key).is_some() {
+    if let Some(_) = state.entry(key) {
         return None;
     }
     if state.count() >= APPLICATION_LIMIT {
