@@ -13,7 +13,6 @@ use Rattle.manifests.specs.Applications.{application_of}
 use Rattle.manifests.specs.Deployments.{deployment_of}
 use Rattle.manifests.specs.Facts.{IsProvider}
 use Rattle.machine.specs.declared.reply.Reply.{Reply}
-use Rattle.machine.specs.declared.reply.Reply.TheVariants as says
 use Rattle.machine.specs.Fields.{IsApplication}
 use Rattle.machine.specs.Installed.{IsProvidedBy}
 use Rattle.machine.specs.Rows.{PassesAll}

@@ -1,10 +1,11 @@
 -- Whether a new key has room.
-use Rattle.std.proofs.Common.{◌≡◌, ◌<◌, ◌≤◌, ◌∙◌, ℕ, [], Option, Some, None, inl, inr, length, map, refl, subst, arith}
+use Rattle.std.proofs.Common.{◌≡◌, ◌<◌, ◌≤◌, ℕ, [], Option, Some, None, IsSome, inl, inr, length, map, refl, sym, subst, arith}
 use Rattle.std.specs.Prelude.{IfSome}
 use Rattle.small_types.specs.declared.limits.TheConstants.{APPLICATION_LIMIT}
 use Rattle.small_types.specs.declared.room.Room.{Room}
 use Rattle.identity.specs.declared.key.Key.{Key}
 use Rattle.identity.specs.declared.version.Version.{Version}
+use Rattle.machine.specs.declared.app.AppState.{AppState}
 use Rattle.machine.specs.declared.command.Command.TheVariants.{Require}
 use Rattle.machine.specs.declared.reply.Reply.{Reply}
 use Rattle.machine.specs.Entries.{entry_of}
@@ -14,7 +15,15 @@ use Rattle.machine.specs.Rows.{PassesAll, Refuses}
 use Rattle.machine.specs.Store.{Session}
 use Rattle.machine.specs.Weight.{IsLight, IsTooHeavy, weight_of}
 use Rattle.machine.proofs.Lightness.{is_light, not_heavy}
+use Rattle.journal.specs.declared.log.Log.{Log}
+use Rattle.store_state.specs.declared.change.Change.TheVariants as change
+use Rattle.store_state.specs.Change.{Fits, effect}
+use Rattle.store_state.specs.Kept.{AreTables}
 use Rattle.store_state.specs.Tables.{Tables, bare_row, table_shape}
+use Rattle.table_weight.specs.Laws.{LightenOthers, WeighWithKey}
+use Rattle.table_weight.specs.Weight.{tables_weight}
+use Rattle.updater.specs.Shown.{IsKept}
+use Rattle.updater.proofs.Keeping.{lighter_room}
 use Rattle.updater.proofs.TableRoom.{Judges}
 
 module _ (key : Key) (room : Room) (tables : Tables) (version : Version) where
@@ -39,3 +48,12 @@ module _ (key : Key) (room : Room) (tables : Tables) (version : Version) where
   -- once it is passed, the tables with the new key have room
   pub key_light : entry_of key tables.apps ≡ None → (now : ℕ) → PassesAll (refusals now [] (table_shape room tables) (Require key version)) → IsLight room weight_with
   key_light new now passes = is_light room weight_with (λ heavy. passes.1.0 weight_with (new, refl, heavy))
+
+-- the tables with the key have room, whether it is new or not
+pub required_light : WeighWithKey → LightenOthers → (now : ℕ) (log : Log) (room : Room) (tables : Tables) (key : Key) (version : Version) → IsKept log room tables → AreTables tables → Fits tables (change.Require key version)
+    → PassesAll (refusals now [] (table_shape room tables) (Require key version)) → IsLight room (tables_weight (effect (change.Require key version) tables))
+required_light weigh others now log room tables key version is are fits passes = by (entry_of key tables.apps) refl
+  where
+    by : (known : Option AppState) → entry_of key tables.apps ≡ known → IsLight room (tables_weight (effect (change.Require key version) tables))
+    by None new = subst (IsLight room) (sym (weigh tables key version are fits)) (key_light key room tables version new now passes)
+    by (Some app) known = lighter_room others log room tables (change.Require key version) is are fits (subst IsSome (sym known) refl)

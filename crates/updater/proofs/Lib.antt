@@ -1,5 +1,6 @@
 pub mod Applying
 pub mod BackTables
+pub mod Brings
 pub mod Changing
 pub mod Checking
 pub mod Cleanings
@@ -23,6 +24,7 @@ pub mod PutFits
 pub mod PutRefused
 pub mod Recovering
 pub mod Requiring
+pub mod Seen
 pub mod ShownViews
 pub mod Standing
 pub mod TableRoom

@@ -1,4 +1,3 @@
-use Rattle.std.proofs.Common.{ℕ}
 use Rattle.machine.specs.InstallRow.{weight_installed}
 use Rattle.store_state.specs.Tables.{table_shape}
 use Rattle.install_plan.proofs.TableRoom.{heavy_refused, light_passes, plain_passes}
