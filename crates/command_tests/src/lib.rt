@@ -2,4 +2,6 @@
 #![tactic(auto)]
 
 #[cfg(test)]
+mod store_tables_tests;
+#[cfg(test)]
 mod updater_tests;

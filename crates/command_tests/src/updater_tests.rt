@@ -15,13 +15,13 @@ use std::alloc::Global;
 use std::test::Fail;
 use updater::{RecoverFault, Updater};
 
-const ROOM: Room = Room {
+pub(crate) const ROOM: Room = Room {
     blocks: 16,
     half: 1_048_576,
 };
 
 // A disk of these bytes, whose call of the number `failing`, counted from 1, fails.
-fn disk_of(alloc: Global, bytes: &[u8], failing: u64) -> Result<MemDisk, Fail> {
+pub(crate) fn disk_of(alloc: Global, bytes: &[u8], failing: u64) -> Result<MemDisk, Fail> {
     let bytes = Bytes::from_vec(bytes.to_vec(alloc)?);
     let failing = List::from_vec(vec![in alloc; failing]?);
     Ok(MemDisk::new(alloc, bytes, failing))
@@ -121,7 +121,7 @@ fn required(
 
 // What is done with a store that is open.
 #[derive(Drop)]
-enum Step {
+pub(crate) enum Step {
     // Requiring the version with the first number replies the minimum with the second, and calls the disk so often.
     Shows(u16, u16, u64),
     // Requiring the version succeeds.
@@ -153,7 +153,7 @@ fn count_steps(alloc: Global, updater: &mut Updater, disk: &mut MemDisk, steps: 
 // What is seen of a store that was open: whether its boot number was another one, its boot number, how many
 // applications it has, and how many steps went as they were to.
 #[derive(Clone, Copy, Debug, PartialEq, Eq)]
-struct Seen {
+pub(crate) struct Seen {
     other: bool,
     boot: u64,
     count: usize,
@@ -162,7 +162,7 @@ struct Seen {
 
 // Opens the store with that boot number, and does the steps. A store that is open is dropped here alone: its proof
 // then has one place where all of the tables go.
-fn session(
+pub(crate) fn session(
     alloc: Global,
     disk: &mut MemDisk,
     boot: u64,
