@@ -11,8 +11,8 @@ ghost use Rattle.install_plan.specs.Checks.{is_missing};
 
 use identity::Key;
 use machine::Reply;
-use small_types::{Limit, Room};
 use small_types::limits::APPLICATION_LIMIT;
+use small_types::{Limit, Room};
 use store_state::StoreState;
 use table_weight::{table_full, weight_with_key};
 

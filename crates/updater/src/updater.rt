@@ -31,8 +31,8 @@ use crate::refusal::{finish_refusal, require_refusal};
 use crate::requirement::minimum_that_stays;
 use crate::rows::{list_rows, show_row};
 use crate::skipping::skipping_of;
-use crate::store_tables::are_of_store;
 use crate::start::start_of;
+use crate::store_tables::are_of_store;
 use cleaner::{CleanFault, removable};
 use disks::Disk;
 use identity::{Key, Version};
@@ -47,7 +47,10 @@ use std::marker::Model;
 use std::mem::replace;
 use store_state::{Change, LocalFile, StoreState, puts_show_the_file, removals_show_the_rest};
 use table_check::ordered_tables_show_ordered_stores;
-use table_codec::{changes_are_within_weights, changes_stay_encodable, encodings_are_within_table_weights, fields_stay_encodable};
+use table_codec::{
+    changes_are_within_weights, changes_stay_encodable, encodings_are_within_table_weights,
+    fields_stay_encodable,
+};
 use table_log::{StepFault, an_image_reads_as_one, make_durable};
 use table_weight::{changed_tables_weigh, tables_weigh_as_shown};
 
