@@ -28,6 +28,10 @@ const MOST_ADDRESSES: usize = 32;
 // How many reads at most follow the last answer.
 const MOST_READS: u64 = 4096;
 
+// How often at most a call is made again that was interrupted. A process that is stopped and goes on interrupts those
+// that wait for a limited time, and so does a machine that sleeps.
+const MOST_INTERRUPTIONS: u64 = 1000;
+
 // A connection that was accepted, since when, and how many bytes were sent on it.
 #[derive(Drop)]
 pub(crate) struct Guest<S> {
@@ -75,14 +79,37 @@ pub(crate) fn connect<R: Net + Clock>(rt: &R, host: &str, port: u16) -> io::Resu
     Err(last)
 }
 
-// Sends the first of the bytes in one system call. No byte taken is a failure.
+// Whether the call was interrupted, and is to be made again.
+fn is_interrupted(error: &io::Error) -> bool {
+    error.kind() == io::ErrorKind::Interrupted
+}
+
+// Sends the first of the bytes in one system call that is not interrupted. No byte taken is a failure.
 pub(crate) fn send_some<S: Write>(stream: &mut S, bytes: &[u8]) -> Result<usize, Failed>
     ensures { IfOk result (λ n. TakesSome n bytes.now) }
 {
-    match stream.write(bytes) {
-        Ok(0) | Err(_) => Err(Failed),
-        Ok(n) => Ok(n),
+    for _ in 0..MOST_INTERRUPTIONS {
+        match stream.write(bytes) {
+            Err(error) if is_interrupted(&error) => {}
+            Ok(0) | Err(_) => return Err(Failed),
+            Ok(n) => return Ok(n),
+        }
     }
+    Err(Failed)
+}
+
+// What one system call gives that is not interrupted.
+pub(crate) fn receive_some<S: Read>(stream: &mut S, buf: &mut [u8]) -> Result<usize, Failed>
+    ensures { IfOk result (λ n. n ≤ length buf.old) }
+{
+    for _ in 0..MOST_INTERRUPTIONS {
+        match stream.read(buf) {
+            Err(error) if is_interrupted(&error) => {}
+            Err(_) => return Err(Failed),
+            Ok(n) => return Ok(n),
+        }
+    }
+    Err(Failed)
 }
 
 // How much is left of a time that began at a moment, if any is.
@@ -119,10 +146,7 @@ impl<S: Read + Write + OpenStream + Drop> Guest<S> {
         if left.is_none() || self.stream.set_read_timeout(left).is_err() {
             return Err(Failed);
         }
-        match self.stream.read(buf) {
-            Ok(n) => Ok(n),
-            Err(_) => Err(Failed),
-        }
+        receive_some(&mut self.stream, buf)
     }
 
     // Whether bytes wait that were not received. It takes some of them.
