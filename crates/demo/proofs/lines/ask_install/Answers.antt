@@ -1,4 +1,4 @@
-use Rattle.std.proofs.Common.{◌∙◌, List, ℕ, Err, sym, subst}
+use Rattle.std.proofs.Common.{◌∙◌, List, ℕ, sym, subst}
 use Rattle.machine.specs.declared.command.Command.TheVariants.{Install}
 use Rattle.machine.specs.Words.{IsUrl}
 use Rattle.demo.specs.declared.fault.DemoFault.TheVariants.{Memory}

@@ -1,4 +1,4 @@
-use Rattle.std.proofs.Common.{Err, sym, subst}
+use Rattle.std.proofs.Common.{sym, subst}
 use Rattle.identity.specs.declared.key.Key.{Key}
 use Rattle.identity.specs.Key.{IsKey}
 use Rattle.machine.specs.declared.command.Command.TheVariants.{Launch}
