@@ -7,6 +7,7 @@ pub mod Downs
 pub mod Ends
 pub mod Formatting
 pub mod Inputs
+pub mod Installable
 pub mod Leased
 pub mod NoOthers
 pub mod Opened
@@ -24,6 +25,7 @@ pub mod PublishedRuns
 pub mod PublishedTexts
 pub mod PublishedUses
 pub mod Publishing
+pub mod Quiet
 pub mod Reading
 pub mod Releases
 pub mod Running

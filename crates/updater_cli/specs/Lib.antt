@@ -3,12 +3,14 @@ pub mod Devices
 pub mod Downs
 pub mod Format
 pub mod Headline
+pub mod Installable
 pub mod Lines
 pub mod NoOthers
 pub mod Offered
 pub mod Opening
 pub mod Premises
 pub mod Published
+pub mod Quiet
 pub mod Releases
 pub mod Report
 pub mod Requests

@@ -2,6 +2,7 @@
 ghost use Rattle.updater_cli.specs.NoOthers.{NoOthersCome};
 ghost use Rattle.updater_cli.specs.Premises.{OneSiteIsGiven, PublishesWrite, ServedIsGiven};
 ghost use Rattle.updater_cli.specs.Published.{PublishedDataIsRead, PublishedIsGiven, PublishedIsRead};
+ghost use Rattle.updater_cli.specs.Quiet.{WalksFind};
 ghost use Rattle.updater_cli.specs.Releases.{PagesHaveReleases, ReleasesAreOffered};
 ghost use Rattle.updater_cli.specs.Walk.{WalksTell};
 
@@ -66,4 +67,12 @@ pub fn one_site_is_given<L: Links>(links: &L)
 /// links with which it began tell, what the lines heard and brought is of their sites.
 pub fn walks_tell<L: Links>(first: &L, links: &L)
     ensures { WalksTell L.Links (L.links first.now) links.now }
+{}
+
+/// Over links that tell, each line of a walk in which none of them failed found what they had: what
+/// it heard is what they gave, and where it says that no link gave a target, none had it. Such is
+/// each line whose number of failures is that of the line before it, and each line at all where no
+/// link's count rose in the walk.
+pub fn walks_find<L: Links>(first: &L, links: &L)
+    ensures { WalksFind L.Links (L.links first.now) links.now }
 {}
