@@ -2,6 +2,7 @@ pub mod Answering
 pub mod Asked
 pub mod Asking
 pub mod Begin
+pub mod Complete
 pub mod DemoEnds
 pub mod Downs
 pub mod Ends

@@ -1,3 +1,4 @@
+pub mod Complete
 pub mod Demonstration
 pub mod Devices
 pub mod Downs
