@@ -1,6 +1,6 @@
 -- A change that fits leaves the fields of tables with encodings.
-use Rattle.std.proofs.Common.{◌≡◌, ◌+◌, ◌<◌, ◌++◌, refl, subst, ℕ, Bool, true, false, cond, eqb, not, bytes_eq, set, List, [], ◌∷◌, map, All, IfSome, Option, Some, None, arith}
-use Rattle.std.specs.Prelude.{option_and_then, option_map, slice_get, unwrap_or}
+use Rattle.std.proofs.Common.{◌≡◌, ◌<◌, ◌++◌, refl, subst, ℕ, Bool, true, false, cond, eqb, not, bytes_eq, set, List, [], map, All, IfSome, Option, Some, None, arith}
+use Rattle.std.specs.Prelude.{option_map, slice_get, unwrap_or}
 use Rattle.std.specs.Option.{option_map_or}
 use Rattle.std.specs.Ordering.{is_lt}
 use Rattle.std.proofs.lemmas.List.Elements.{All-append, All-filter, All-nil, All-push, All-set}
@@ -11,7 +11,7 @@ use Rattle.small_types.specs.Short.{IsShort, IsTarget}
 use Rattle.identity.specs.declared.key.Key.{Key}
 use Rattle.identity.specs.declared.version.Version.{Version}
 use Rattle.identity.specs.Key.{IsShortKey}
-use Rattle.identity.specs.Version.{IsVersion, greater_of, version_cmp}
+use Rattle.identity.specs.Version.{IsVersion, version_cmp}
 use Rattle.manifests.specs.declared.facts.Deployment.{Deployment}
 use Rattle.machine.specs.declared.app.AppState.{AppState}
 use Rattle.machine.specs.declared.lease.Lease.{Lease}
@@ -193,8 +193,8 @@ by_key key f keeps is each apps have =
     All-with_entry key f keeps IsEncodableApp (each (fresh key) (fresh_has key is)) each apps have
 
 -- what stands at a place
-there_has : {X : Type 0} (P : X → Type 0) (xs : List X) (place : ℕ) (x : X) → slice_get xs place ≡ Some x
-    → All P xs → P x
+there_has : {X : Type 0} (P : X → Type 0) (xs : List X) (place : ℕ) (x : X)
+    → slice_get xs place ≡ Some x → All P xs → P x
 there_has P xs place x is all =
     subst P (get_or_from_slice_get xs place x x is) (all place x (slice_get_within xs place x is))
 

@@ -1,13 +1,13 @@
 -- Tables that have their fields have an encoding, where they weigh little enough.
-use Rattle.std.proofs.Common.{◌≡◌, ◌∙◌, ◌+◌, ◌<◌, ◌≤◌, ◌^◌, ℕ, subst, List, [], ◌∷◌, ◌++◌, All, length, map, true, arith}
+use Rattle.std.proofs.Common.{◌≡◌, ◌∙◌, ◌<◌, ◌≤◌, ◌^◌, ℕ, subst, List, [], ◌∷◌, length, map, true, arith}
 use Rattle.std.specs.Prelude.{Any, sum_by}
 use Rattle.std.proofs.lemmas.List.{length-append, length-map}
 use Rattle.std.proofs.lemmas.List.Sums.{count_by-le-length, get_or-le-sum_by, length-filter, sum_by-cons}
 use Rattle.small_types.specs.declared.limits.TheConstants.{FILE_COUNT_LIMIT}
 use Rattle.manifests.specs.declared.facts.FileEntry.{FileEntry}
 use Rattle.machine.specs.Blocks.{standing_files}
-use Rattle.machine.specs.Views.{ContentKey, content_key, standing_entries, stands_by}
-use Rattle.machine.specs.Weight.{file_weight, group_weight}
+use Rattle.machine.specs.Views.{ContentKey, content_key, standing_entries}
+use Rattle.machine.specs.Weight.{group_weight}
 use Rattle.machine.proofs.Members.{In, all_in, in_map, map_in, sum_within}
 use Rattle.store_state.specs.declared.view.Content.{Content}
 use Rattle.store_state.specs.declared.view.LocalFile.{LocalFile}
@@ -20,11 +20,11 @@ use Rattle.store_state.proofs.Keyed.{any_in, differ, of_key}
 use Rattle.store_state.proofs.Naming.{is_standing}
 use Rattle.record_codec.specs.declared.numbers.TheConstants.{COUNT_LIMIT}
 use Rattle.record_codec.specs.Values.{IsEncodableView}
-use Rattle.table_codec.specs.Laws.{LightAreEncodable, StayEncodable}
+use Rattle.table_codec.specs.Laws.{AreEncodable, StayEncodable}
 use Rattle.table_codec.specs.Values.{HasFields}
 use Rattle.table_codec.proofs.ChangedFields.{fields_stay}
 use Rattle.table_codec.proofs.Fields.{have_fields}
-use Rattle.table_weight.specs.Weight.{block_cost, content_weight, local_weight, tables_weight, view_weight, weight_with}
+use Rattle.table_weight.specs.Weight.{block_cost, local_weight, view_weight, weight_with}
 use Rattle.table_weight.proofs.KeptTables.{kept_tables}
 
 -- ---- contents, of which there are no more than files are listed
@@ -35,27 +35,27 @@ ones {A} (x ∷ xs) = omega (arith, ones xs, sum_by-cons (λ (y : A). 1) x xs)
 
 module _ (entries : List FileEntry) (contents : List Content) (are : AreContentsOf entries contents)
   where
-  key_there : (key : ContentKey) → In key (map held_key contents)
-      → In key (map content_key entries)
-  key_there key there =
-      let content = map_in held_key contents key there in
-      let entry = any_in (λ (e : FileEntry). is_content_of e content.0 ≡ true) entries
-      (all_in (λ (c : Content). Any (λ (e : FileEntry). is_content_of e c ≡ true) entries) contents
-      content.0 are.only content.1) in
-      subst (λ (k : ContentKey). In k (map content_key entries))
-      (of_key entry.0 content.0 entry.2 ∙ content.2) (in_map content_key entries entry.0 entry.1)
+    key_there : (key : ContentKey) → In key (map held_key contents)
+        → In key (map content_key entries)
+    key_there key there =
+        let content = map_in held_key contents key there in
+        let entry = any_in (λ (e : FileEntry). is_content_of e content.0 ≡ true) entries
+        (all_in (λ (c : Content). Any (λ (e : FileEntry). is_content_of e c ≡ true) entries) contents
+        content.0 are.only content.1) in
+        subst (λ (k : ContentKey). In k (map content_key entries))
+        (of_key entry.0 content.0 entry.2 ∙ content.2) (in_map content_key entries entry.0 entry.1)
 
-  few_by_files : length contents ≤ length entries
-  few_by_files =
-      omega (
-        arith,
-        sum_within (λ (k : ContentKey). 1) (map held_key contents) (map content_key entries)
-            (differ entries contents are) key_there,
-        ones (map held_key contents),
-        ones (map content_key entries),
-        length-map contents held_key,
-        length-map entries content_key,
-      )
+    few_by_files : length contents ≤ length entries
+    few_by_files =
+        omega (
+          arith,
+          sum_within (λ (k : ContentKey). 1) (map held_key contents) (map content_key entries)
+              (differ entries contents are) key_there,
+          ones (map held_key contents),
+          ones (map content_key entries),
+          length-map contents held_key,
+          length-map entries content_key,
+        )
 
 files_listed : (views : List View)
     → length (standing_files (map bare_row views)) ≤ listed_files views
@@ -117,9 +117,9 @@ view_encodes view has light = record {
 
 -- ---- tables
 
-pub light_encodable : LightAreEncodable
+pub are_encodable : AreEncodable
 unfolding weight_with
-light_encodable t are have light = record {
+are_encodable t are have light = record {
   boot = have.boot;
   next_view = have.next_view;
   next_lease = have.next_lease;
@@ -137,5 +137,5 @@ light_encodable t are have light = record {
 
 pub stay_encodable : StayEncodable
 stay_encodable t change are is fits has light =
-    light_encodable _ (kept_tables t change are fits)
+    are_encodable _ (kept_tables t change are fits)
     (fields_stay t change (have_fields t is) fits has) light

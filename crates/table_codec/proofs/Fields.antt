@@ -4,7 +4,7 @@ use Rattle.store_state.specs.declared.view.View.{View}
 use Rattle.record_codec.specs.declared.numbers.TheConstants.{COUNT_LIMIT}
 use Rattle.record_codec.specs.Values.{IsEncodableView}
 use Rattle.std.proofs.Common.{ℕ}
-use Rattle.table_codec.specs.Laws.{HaveTheirFields}
+use Rattle.table_codec.specs.Laws.{HadFields}
 use Rattle.table_codec.specs.Values.{HasFields}
 
 pub has_fields : {most : ℕ} (view : View) → IsEncodableView most view → HasFields view
@@ -17,7 +17,7 @@ has_fields view is = record {
   locals = is.locals;
 }
 
-pub have_fields : HaveTheirFields
+pub have_fields : HadFields
 have_fields t is = record {
   boot = is.boot;
   next_view = is.next_view;

@@ -23,6 +23,7 @@ use Rattle.machine.specs.Weight.{app_weight, application_bytes, counted, deploym
 use Rattle.store_state.specs.declared.view.Content.{Content}
 use Rattle.store_state.specs.declared.view.LocalFile.{LocalFile}
 use Rattle.store_state.specs.declared.view.View.{View}
+use Rattle.store_state.specs.Tables.{Tables}
 use Rattle.record_fields.specs.Fields.{key_field, text_field, version_field}
 use Rattle.record_fields.specs.Spelling.{application_field, deployment_field, digest_field, entry_field, identity_field, list_field, listed_field, option_field, rule_field, target_field, terms_field, truth_field}
 use Rattle.record_fields.specs.Values.{AreDigests, IsEncodableApplication, IsEncodableDeployment, IsEncodableEntry}
@@ -32,7 +33,7 @@ use Rattle.record_codec.specs.Spelling.{content_field, local_field, view_field}
 use Rattle.record_codec.specs.Values.{IsEncodableContent, IsEncodableLocal}
 use Rattle.table_codec.specs.Laws.{AreWithinWeights}
 use Rattle.table_codec.specs.Spelling.{app_field, lease_field, lists_field, number_field, rest_field, state_text}
-use Rattle.table_codec.specs.Values.{HasFields, IsEncodableApp, IsEncodableLease, IsWide}
+use Rattle.table_codec.specs.Values.{HasFields, HaveFields, IsEncodableApp, IsEncodableLease, IsWide}
 use Rattle.table_codec.proofs.Fields.{have_fields}
 use Rattle.table_weight.specs.Weight.{content_weight, local_weight, spelled_cost, view_weight, weight_with}
 
@@ -288,9 +289,10 @@ lease_long lease is = omega arith
 
 -- ---- tables
 
-pub state_within : AreWithinWeights
+pub fields_within : (t : Tables) → length t.leases ≤ LEASE_LIMIT → HaveFields t
+    → length (state_text t) ≤ weight_with spelled_cost t
 unfolding state_text lists_field weight_with
-state_within t is =
+fields_within t few have =
     let a = number_field t.boot in
     let b = number_field t.next_view in
     let c = number_field t.next_lease in
@@ -300,12 +302,11 @@ state_within t is =
     let o = list_field content_field t.contents in
     omega (
       arith,
-      list_le lease_field IsEncodableLease 16 LEASE_LIMIT t.leases lease_long is.few_leases is.leases,
-      list_within view_field (view_weight spelled_cost) HasFields t.views view_within
-          (have_fields t is).views,
-      list_within app_field app_weight IsEncodableApp t.apps app_within is.apps,
+      list_le lease_field IsEncodableLease 16 LEASE_LIMIT t.leases lease_long few have.leases,
+      list_within view_field (view_weight spelled_cost) HasFields t.views view_within have.views,
+      list_within app_field app_weight IsEncodableApp t.apps app_within have.apps,
       list_within content_field (content_weight spelled_cost) IsEncodableContent t.contents content_within
-          is.contents,
+          have.contents,
       length-append a (b ++ (c ++ (l ++ (v ++ (p ++ o))))),
       length-append b (c ++ (l ++ (v ++ (p ++ o)))),
       length-append c (l ++ (v ++ (p ++ o))),
@@ -313,3 +314,6 @@ state_within t is =
       length-append v (p ++ o),
       length-append p o,
     )
+
+pub state_within : AreWithinWeights
+state_within t is = fields_within t is.few_leases (have_fields t is)

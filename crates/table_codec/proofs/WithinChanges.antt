@@ -1,5 +1,5 @@
 -- The encoding of a change is hardly longer than the weight that it adds.
-use Rattle.std.proofs.Common.{◌≡◌, ◌+◌, ◌-◌, ◌≤◌, ℕ, Bool, true, false, cond, eqb, List, [], ◌∷◌, ◌++◌, All, IfSome, Option, Some, None, length, map, refl, arith}
+use Rattle.std.proofs.Common.{◌≡◌, ◌+◌, ◌-◌, ◌≤◌, ℕ, Bool, true, false, cond, eqb, List, [], ◌∷◌, ◌++◌, All, IfSome, Option, Some, None, length, arith}
 use Rattle.std.specs.Prelude.{sum_by}
 use Rattle.std.specs.Int.{to_be_bytes, w64}
 use Rattle.std.specs.declared.cmp.Ordering.{Ordering}
@@ -20,11 +20,11 @@ use Rattle.store_state.specs.declared.change.Change.TheVariants.{Boot, Require, 
 use Rattle.store_state.specs.declared.view.Content.{Content}
 use Rattle.store_state.specs.declared.view.LocalFile.{LocalFile}
 use Rattle.store_state.specs.declared.view.View.{View}
-use Rattle.store_state.specs.Change.{FitsGroup, FitsInstall, FitsPut, MayPut, effect, grown}
+use Rattle.store_state.specs.Change.{FitsGroup, FitsInstall, effect, grown}
 use Rattle.store_state.specs.Contents.{IsMeasured}
-use Rattle.store_state.specs.Rows.{row_at, with_row}
+use Rattle.store_state.specs.Rows.{with_row}
 use Rattle.store_state.specs.Tables.{Tables}
-use Rattle.store_state.proofs.Growing.{row_grows, some_with}
+use Rattle.store_state.proofs.Growing.{row_grows}
 use Rattle.record_fields.specs.Fields.{text_field}
 use Rattle.record_fields.specs.Spelling.{list_field, target_field}
 use Rattle.record_fields.proofs.Long.{length-text_field}
@@ -218,37 +218,36 @@ group_within t number group contents fits is =
       sum_by-append (content_weight block_cost) t.contents contents,
     )
 
-put_within : (t : Tables) (number : ℕ) (file : LocalFile) → FitsPut t number file
-    → IsEncodableLocal file → file.length ≤ PIECE_LIMIT
+put_within : (number : ℕ) (file : LocalFile) → IsEncodableLocal file
+    → length file.held ≤ PIECE_LIMIT
     → length (change_text (Put number file)) ≤ CHANGE_LIMIT
-put_within t number file fits is short =
+put_within number file is short =
     omega (
       arith,
       put_long number file,
       name_le file.name is.name,
-      (some_with (MayPut file) (row_at number t.views) fits).2.local.measured,
       short,
     )
 
 -- ---- every change
 
 pub changes_within : ChangesAreWithinWeights
-changes_within t (Boot boot) has fits is short = omega (arith, change_le (Boot boot) is)
-changes_within t (Require key version) has fits is short =
+changes_within t (Boot boot) are has fits is short = omega (arith, change_le (Boot boot) is)
+changes_within t (Require key version) are has fits is short =
     omega (arith, change_le (Require key version) is)
-changes_within t (Install view contents provider now) has fits is short =
+changes_within t (Install view contents provider now) are has fits is short =
     install_within t view contents provider now has fits is
-changes_within t (Heard key version minimum now) has fits is short =
+changes_within t (Heard key version minimum now) are has fits is short =
     omega (arith, change_le (Heard key version minimum now) is)
-changes_within t (Unheard key) has fits is short = omega (arith, change_le (Unheard key) is)
-changes_within t (Skip place) has fits is short = omega (arith, change_le (Skip place) is)
-changes_within t (Rollback place) has fits is short = omega (arith, change_le (Rollback place) is)
-changes_within t (Launch place) has fits is short = omega (arith, change_le (Launch place) is)
-changes_within t (Finish lease) has fits is short = omega (arith, change_le (Finish lease) is)
-changes_within t (Group number group contents) has fits is short =
+changes_within t (Unheard key) are has fits is short = omega (arith, change_le (Unheard key) is)
+changes_within t (Skip place) are has fits is short = omega (arith, change_le (Skip place) is)
+changes_within t (Rollback place) are has fits is short = omega (arith, change_le (Rollback place) is)
+changes_within t (Launch place) are has fits is short = omega (arith, change_le (Launch place) is)
+changes_within t (Finish lease) are has fits is short = omega (arith, change_le (Finish lease) is)
+changes_within t (Group number group contents) are has fits is short =
     group_within t number group contents fits is
-changes_within t (Put number file) has fits is short =
-    omega (arith, put_within t number file fits is.1 short)
-changes_within t (Remove number name) has fits is short =
+changes_within t (Put number file) are has fits is short =
+    omega (arith, put_within number file is.1 short)
+changes_within t (Remove number name) are has fits is short =
     omega (arith, change_le (Remove number name) is)
-changes_within t Clean has fits is short = omega (arith, change_le Clean is)
+changes_within t Clean are has fits is short = omega (arith, change_le Clean is)

@@ -1,5 +1,5 @@
--- An encoding is within what its tables weigh: each file has as many bytes as its size says, and its
--- blocks weigh no less.
+-- An encoding is within what its tables weigh: each file has as many bytes as its size says, and
+-- its blocks weigh no less.
 use Rattle.std.proofs.Common.{◌≤◌, ℕ, List, [], ◌∷◌, All, arith}
 use Rattle.std.specs.Prelude.{sum_by}
 use Rattle.std.proofs.lemmas.List.Elements.{All-head, All-tail}
@@ -12,7 +12,7 @@ use Rattle.store_state.specs.Change.{IsLocal, IsRow}
 use Rattle.store_state.specs.Contents.{IsMeasured}
 use Rattle.store_state.specs.Stored.{IsHeldFor}
 use Rattle.table_codec.specs.Laws.{AreWithinTableWeights}
-use Rattle.table_codec.proofs.Within.{state_within}
+use Rattle.table_codec.proofs.Within.{fields_within}
 use Rattle.table_weight.specs.Weight.{block_cost, content_weight, local_weight, spelled_cost, view_weight, weight_with}
 
 held_within : (size : ℕ) (held : List ℕ) → IsHeldFor size held
@@ -54,12 +54,12 @@ view_blocks v is =
 
 pub within_tables : AreWithinTableWeights
 unfolding weight_with
-within_tables t are is =
+within_tables t are have =
     omega (
       arith,
-      state_within t is,
+      fields_within t are.few_leases have,
       sums_within (view_weight spelled_cost) (view_weight block_cost) IsRow t.views view_blocks
           are.rows,
       sums_within (content_weight spelled_cost) (content_weight block_cost) IsMeasured t.contents
-          content_blocks is.measured,
+          content_blocks have.measured,
     )

@@ -20,8 +20,8 @@ AreSpelledOnce = (t u : Tables) → IsEncodableState t → IsEncodableState u
 -- ---- which tables have one
 
 -- tables that have one have their fields
-abbrev pub HaveTheirFields : Type 0
-HaveTheirFields = (t : Tables) → IsEncodableState t → HaveFields t
+abbrev pub HadFields : Type 0
+HadFields = (t : Tables) → IsEncodableState t → HaveFields t
 
 -- a change that fits, and has an encoding, leaves the fields of tables
 abbrev pub FieldsStay : Type 0
@@ -29,8 +29,8 @@ FieldsStay = (t : Tables) (change : Change) → HaveFields t → Fits t change �
     → HaveFields (effect change t)
 
 -- tables that have their fields have an encoding, where they weigh less than four bytes can say
-abbrev pub LightAreEncodable : Type 0
-LightAreEncodable = (t : Tables) → AreTables t → HaveFields t → tables_weight t < 2 ^ 32
+abbrev pub AreEncodable : Type 0
+AreEncodable = (t : Tables) → AreTables t → HaveFields t → tables_weight t < 2 ^ 32
     → IsEncodableState t
 
 -- so such a change leads from tables that have one to tables that have one
@@ -47,19 +47,21 @@ abbrev pub AreWithinWeights : Type 0
 AreWithinWeights = (t : Tables) → IsEncodableState t
     → length (state_text t) ≤ weight_with spelled_cost t
 
--- So it is where a file counts its blocks: its bytes are as many as its size says.
+-- Where tables have their fields, a file holds as many bytes as its size says, and its blocks weigh
+-- no less: so their spelling is at most as long as they weigh.
 abbrev pub AreWithinTableWeights : Type 0
-AreWithinTableWeights = (t : Tables) → AreTables t → IsEncodableState t
+AreWithinTableWeights = (t : Tables) → AreTables t → HaveFields t
     → length (state_text t) ≤ tables_weight t
 
 -- a data file that is put has at most the bytes that a line can bring
 abbrev pub IsShortPut : Change → Type 0
-IsShortPut (Put view file) = file.length ≤ PIECE_LIMIT
+IsShortPut (Put view file) = length file.held ≤ PIECE_LIMIT
 IsShortPut change = Unit {0}
 
--- The encoding of a change is longer by at most so much than the weight that it adds. Weight that it
--- takes away counts as none.
+-- The encoding of a change is longer by at most so much than the weight that it adds. A loss of
+-- weight counts as none.
 abbrev pub ChangesAreWithinWeights : Type 0
-ChangesAreWithinWeights = (t : Tables) (change : Change) → IsEncodableState t → Fits t change
-    → IsChange change → IsShortPut change
-    → length (change_text change) ≤ CHANGE_LIMIT + (tables_weight (effect change t) - tables_weight t)
+ChangesAreWithinWeights = (t : Tables) (change : Change) → AreTables t → IsEncodableState t
+    → Fits t change → IsChange change → IsShortPut change
+    → length (change_text change)
+    ≤ CHANGE_LIMIT + (tables_weight (effect change t) - tables_weight t)

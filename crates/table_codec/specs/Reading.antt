@@ -125,7 +125,7 @@ unfoldable pub tables_of : List ℕ → Result Tables CodecFault
 tables_of bytes = do
   tables ← tables_at bytes 0
   if tables.1 == length bytes && are_measured tables.0.contents
-    then Ok tables.0 else Err (Bad tables.1)
+      then Ok tables.0 else Err (Bad tables.1)
 
 -- Where the bytes are no encoding, a call gives that fault. Where they spell tables, it gives
 -- these; and where they spell what is none, the fault is at their end.

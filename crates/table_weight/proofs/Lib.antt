@@ -8,6 +8,7 @@ pub mod EntrySums
 pub mod GroupFiles
 pub mod KeptTables
 pub mod LighterTables
+pub mod MigratedLocals
 pub mod MovedData
 pub mod ReleaseFiles
 pub mod Totals

@@ -1,21 +1,28 @@
 -- What holds of all tables' weights.
-use Rattle.std.specs.Prelude.{◌≡◌, ◌≤◌, ℕ, List, [], ◌∷◌, ◌++◌, IsSome, map, sum_by}
+use Rattle.std.specs.Prelude.{◌≡◌, ◌≤◌, ℕ, List, [], ◌∷◌, ◌++◌, All, IsSome, Option, filter, map, option_map, sum_by}
 use Rattle.small_types.specs.declared.room.Room.{Room}
 use Rattle.small_types.specs.declared.target.Target.{Target}
 use Rattle.identity.specs.declared.key.Key.{Key}
 use Rattle.identity.specs.declared.version.Version.{Version}
 use Rattle.machine.specs.BareViews.{new_bare, with_bare_at, with_bare_data, with_bare_group}
+use Rattle.machine.specs.Current.{data_of, listed_by}
 use Rattle.machine.specs.Entries.{entry_of, with_entry}
 use Rattle.machine.specs.InstallRow.{weight_installed, with_provider}
+use Rattle.machine.specs.Migrated.{Migrated}
 use Rattle.machine.specs.RequireRow.{required}
+use Rattle.machine.specs.Sound.{IsWhole}
+use Rattle.machine.specs.Views.{ListedFile}
+use Rattle.machine.specs.Views.{View as KeptView}
 use Rattle.machine.specs.Weight.{data_weight, weight_of}
 use Rattle.store_state.specs.declared.change.Change.{Change}
 use Rattle.store_state.specs.declared.change.Change.TheVariants.{Boot, Require, Install, Heard, Unheard, Skip, Rollback, Launch, Finish, Group, Put, Remove, Clean}
 use Rattle.store_state.specs.declared.view.Content.{Content}
 use Rattle.store_state.specs.declared.view.LocalFile.{LocalFile}
 use Rattle.store_state.specs.declared.view.View.{View}
-use Rattle.store_state.specs.Change.{Fits, effect}
+use Rattle.store_state.specs.Change.{Fits, IsRow, effect}
 use Rattle.store_state.specs.Kept.{AreTables}
+use Rattle.store_state.specs.Rows.{current_row}
+use Rattle.store_state.specs.Shows.{shown_data, shown_view}
 use Rattle.store_state.specs.Tables.{Tables, bare_local, bare_row, table_shape}
 use Rattle.table_weight.specs.Weight.{tables_weight}
 
@@ -66,18 +73,40 @@ WeighWithRelease = (tables : Tables) (view : View) (contents : List Content) (pr
     ≡ weight_of (map bare_row tables.views ++ bare_row view ∷ [])
     (with_entry view.deployment.identity.key (with_provider provider) tables.apps)
 
--- Where its data files weigh what those do that the release brings, it is the weight that the row
--- of an install compares.
+-- the data files of the view weigh what those do that an install of its release brings, whose order
+-- plays no part
+abbrev pub WeighsAsMigrated : Room → Tables → View → Type 0
+WeighsAsMigrated room tables view =
+    sum_by data_weight (map bare_local view.locals)
+    ≡ sum_by data_weight
+    (new_bare view.base view.deployment view.application (table_shape room tables)).data_files
+
+-- where they do, it is the weight that the row of an install compares
 abbrev pub WeighAsInstalled : Type 0
 WeighAsInstalled = (room : Room) (tables : Tables) (view : View) (contents : List Content)
     (provider : Target) (now : ℕ) → AreTables tables
     → Fits tables (Install view contents provider now)
-    → sum_by data_weight (map bare_local view.locals)
-    ≡ sum_by data_weight
-    (new_bare view.base view.deployment view.application (table_shape room tables)).data_files
+    → WeighsAsMigrated room tables view
     → tables_weight (effect (Install view contents provider now) tables)
     ≡ weight_installed provider view.base view.deployment view.application
     (table_shape room tables)
+
+-- the view that is current for the key, as an image shows it
+abbrev pub current_shown : Room → List ℕ → Tables → Key → Option KeptView
+current_shown room image tables key =
+    option_map (shown_view room image tables.contents) (current_row key tables)
+
+-- They do where an image shows them as the data files that the release makes of those of the view
+-- that is current, and of the ones that it deploys.
+abbrev pub MigratedDataWeigh : Type 0
+MigratedDataWeigh = (room : Room) (tables : Tables) (view : View) (image : List ℕ)
+    (originals : List ListedFile) → AreTables tables → IsRow view
+    → map (λ file. file.entry) originals ≡ filter (λ entry. entry.local) view.application.files
+    → All IsWhole originals
+    → Migrated (data_of (current_shown room image tables view.deployment.identity.key))
+    (listed_by (current_shown room image tables view.deployment.identity.key))
+    view.application.files originals (map (shown_data room image) view.locals)
+    → WeighsAsMigrated room tables view
 
 -- nothing comes that weighs: no new application, no view, no group and no data file
 abbrev pub BringsNothing : Tables → Change → Type 0

@@ -1,5 +1,5 @@
 // What holds of all tables' weights.
-ghost use Rattle.table_weight.specs.Laws.{LightenOthers, StayTables, WeighAsInstalled, WeighAsShown, WeighWithData, WeighWithGroup, WeighWithKey, WeighWithRelease};
+ghost use Rattle.table_weight.specs.Laws.{LightenOthers, MigratedDataWeigh, StayTables, WeighAsInstalled, WeighAsShown, WeighWithData, WeighWithGroup, WeighWithKey, WeighWithRelease};
 
 /// A law: tables weigh what the machine says of their views and applications.
 pub fn tables_weigh_as_shown()
@@ -20,4 +20,9 @@ pub fn changed_tables_weigh()
     ensures with_release { WeighWithRelease }
     ensures as_installed { WeighAsInstalled }
     ensures others { LightenOthers }
+{}
+
+/// A law: the data files of a release that is installed weigh what a refusal of it compares.
+pub fn migrated_data_weigh()
+    ensures { MigratedDataWeigh }
 {}

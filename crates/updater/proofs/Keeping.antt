@@ -23,14 +23,15 @@ use Rattle.store_state.specs.Tables.{Tables}
 use Rattle.store_state.proofs.Images.{images_have, images_hold}
 use Rattle.store_state.proofs.Showing.{shows_same}
 use Rattle.install_plan.proofs.NewFiles.{has_new}
+use Rattle.table_weight.specs.Laws.{BringsNothing, LightenOthers}
 use Rattle.table_weight.specs.Weight.{tables_weight}
-use Rattle.table_codec.specs.Laws.{AreWithinTableWeights, ChangesAreWithinWeights, StayEncodable}
+use Rattle.table_codec.specs.Laws.{AreWithinTableWeights, ChangesAreWithinWeights, HadFields, StayEncodable}
 use Rattle.table_log.specs.declared.fault.StepFault.{StepFault}
 use Rattle.table_log.specs.declared.fault.StepFault.TheVariants.{DiskFault, Memory}
 use Rattle.table_log.specs.MakesDurable as table_log
 use Rattle.table_log.specs.MakesDurable.{FitsNewHalf, change_size, tables_size}
 use Rattle.table_log.specs.ReadsAs.{IsOpenAs, ReadsAs, ReadsAsEither}
-use Rattle.updater.specs.MakesDurable.{LeadsBetween, MakesDurable}
+use Rattle.updater.specs.MakesDurable.{LeadsBetween, MakesDurable, MayKeep}
 use Rattle.updater.specs.Shown.{IsKept, Updater}
 use Rattle.updater.specs.StandsFor.{StandsForEither}
 use Rattle.updater.specs.StepCosts.{CostsOf, checkpoint_cost, entry_cost}
@@ -39,7 +40,7 @@ use Rattle.updater.specs.Updater.{Holds, room_of, tables_of}
 -- ---- room
 
 -- what tables with room may weigh, where there are halves
-most_weight : (room : Room) (weight : ℕ) → 65536 < room.half → IsLight room weight → weight + 65536 ≤ room.half
+pub most_weight : (room : Room) (weight : ℕ) → 65536 < room.half → IsLight room weight → weight + 65536 ≤ room.half
 unfolding IsLight
 most_weight room weight long light = by (cases_lt room.half (weight + 65536))
   where
@@ -47,23 +48,38 @@ most_weight room weight long light = by (cases_lt room.half (weight + 65536))
     by (inl over) = absurd (light ((λ none. omega (arith, long, none)), omega (arith, over)))
     by (inr fits) = fits
 
-module _ (log : Log) (room : Room) (tables : Tables) (change : Change) (is : IsKept log room tables) (are : AreTables tables) (may : Fits tables change × IsChange change) (light : IsLight room (tables_weight (effect change tables))) where
+module _ (log : Log) (room : Room) (tables : Tables) (change : Change) (is : IsKept log room tables) (are : AreTables tables) (may : MayKeep (record { log = log; room = room; state = tables }) change) where
+  old_weight : tables_weight tables + 65536 ≤ room.half
+  old_weight = let least = is.limits.least in most_weight room (tables_weight tables) (omega (arith, least)) is.light
+
+  new_weight : tables_weight (effect change tables) + 65536 ≤ room.half
+  new_weight = let least = is.limits.least in most_weight room (tables_weight (effect change tables)) (omega (arith, least)) may.light
+
   -- the changed tables are kept as well
   pub still_kept : StayEncodable → (log_new : Log) (tables_new : Tables) → half_of log_new ≡ half_of log → tables_new ≡ effect change tables → IsKept log_new room tables_new
   still_kept stay log_new tables_new half same = subst (IsKept log_new room) (sym same) (record {
-    encodable = stay tables change are is.encodable may.0 may.1;
-    light = light;
+    encodable = stay tables change are is.encodable may.fits may.has (let most = is.limits.greatest in omega (arith, new_weight, most));
+    light = may.light;
     limits = is.limits;
     half = half ∙ is.half;
   })
 
   -- the tables and the change's entry fit a half together
-  pub new_half_fits : AreWithinTableWeights → ChangesAreWithinWeights → FitsNewHalf log tables change
-  new_half_fits within changes =
-      let least = is.limits.least in
-      let old = most_weight room (tables_weight tables) (omega (arith, least)) is.light in
-      let new = most_weight room (tables_weight (effect change tables)) (omega (arith, least)) light in
-      omega (arith, within tables are is.encodable, changes tables change are may.0 may.1, old, new, is.half)
+  pub new_half_fits : HadFields → AreWithinTableWeights → ChangesAreWithinWeights → FitsNewHalf log tables change
+  new_half_fits had within changes =
+      omega (arith, within tables are (had tables is.encodable), changes tables change are is.encodable may.fits may.has may.short, old_weight, new_weight, is.half)
+
+  -- and where there was no memory nothing has changed
+  pub kept_after : {D T : Type 0} (on : Ghosts D) → StayEncodable → (disk : D) (result : Result T StepFault) (log_new : Log) (tables_new : Tables) (disk_new : D) → table_log.MakesDurable on change log tables disk result log_new tables_new disk_new → IsKept log_new room tables_new
+  kept_after on stay disk (Ok done) log_new tables_new disk_new makes = still_kept stay log_new tables_new makes.stores.half (makes.made (λ e. absurd (cc)))
+  kept_after on stay disk (Err DiskFault) log_new tables_new disk_new makes = still_kept stay log_new tables_new makes.stores.half (makes.made (λ e. absurd (cc)))
+  kept_after on stay disk (Err Memory) log_new tables_new disk_new makes =
+      let same = makes.memory refl in
+      subst (λ (l : Log). IsKept l room tables_new) (sym same.0) (subst (λ (t : Tables). IsKept log room t) (sym same.1) is)
+
+-- a change by which nothing comes leaves room
+pub lighter_room : LightenOthers → (log : Log) (room : Room) (tables : Tables) (change : Change) → IsKept log room tables → AreTables tables → Fits tables change → BringsNothing tables change → IsLight room (tables_weight (effect change tables))
+lighter_room others log room tables change is are fits nothing = lighter room (tables_weight (effect change tables)) (tables_weight tables) (others tables change are fits nothing) is.light
 
 -- ---- what it costs
 
@@ -145,7 +161,7 @@ module _ {D : Type 0} (on : Ghosts D) (updater : Updater) (disk : D) (change : C
 
 -- ---- the durable step
 
-module _ {D : Type 0} (on : Ghosts D) (log : Log) (room : Room) (tables : Tables) (disk : D) (change : Change) (may : Fits tables change × IsChange change) (within : tables_size tables ≤ tables_weight tables) (seen_left : on.left_at disk (on.moment disk) (on.seen disk)) where
+module _ {D : Type 0} (on : Ghosts D) (log : Log) (room : Room) (tables : Tables) (disk : D) (change : Change) (fits : Fits tables change) (has : IsChange change) (within : tables_size tables ≤ tables_weight tables) (seen_left : on.left_at disk (on.moment disk) (on.seen disk)) where
   abbrev updater : Updater
   updater = record { log = log; room = room; state = tables }
 
@@ -154,10 +170,10 @@ module _ {D : Type 0} (on : Ghosts D) (log : Log) (room : Room) (tables : Tables
   kept_by {T = T} result log_new tables_new disk_new makes =
       let spent = spent_so on change log tables disk disk_new (result ≡ Err DiskFault) within makes.spends makes.spends_more in
       record {
-        fits = may.0;
-        has = may.1;
+        fits = fits;
+        has = has;
         stored = λ told old new leads holds. stored result makes.made old new leads holds (makes.stores.opened old.store.room holds.log);
-        stop = λ told old new leads holds. either_store on updater disk change may.0 old new leads holds seen_left disk_new (makes.stores.stop old.store.room holds.log);
+        stop = λ told old new leads holds. either_store on updater disk change fits old new leads holds seen_left disk_new (makes.stores.stop old.store.room holds.log);
         past = makes.stores.behind.past;
         memory = λ e. let same = makes.memory e in (as_was same.0 same.1, same.2);
         marked = makes.stores.marked;
@@ -168,7 +184,7 @@ module _ {D : Type 0} (on : Ghosts D) (log : Log) (room : Room) (tables : Tables
     where
       stored : (ended : Result T StepFault) → (ended ≢ Err Memory → tables_new ≡ effect change tables) → (old : Session) (new : Store) → LeadsBetween change tables old.store new → Holds on updater disk old → OnOk ended (IsOpenAs on log_new old.store.room (effect change tables) disk_new)
           → OnOk ended (Holds on (record { log = log_new; room = room; state = tables_new }) disk_new (record old { store = new }))
-      stored (Ok done) made old new leads holds opened = holds_more on updater disk change may.0 old new leads holds seen_left log_new tables_new disk_new (made (λ e. let no : ◌≡◌ {A = Result T StepFault} (Ok done) (Err Memory) = e in absurd (cc))) opened
+      stored (Ok done) made old new leads holds opened = holds_more on updater disk change fits old new leads holds seen_left log_new tables_new disk_new (made (λ e. let no : ◌≡◌ {A = Result T StepFault} (Ok done) (Err Memory) = e in absurd (cc))) opened
       stored (Err fault) made old new leads holds opened = tt
 
       as_was : log_new ≡ log → tables_new ≡ tables → ◌≡◌ {A = Updater} (record { log = log_new; room = room; state = tables_new }) (record { log = log; room = room; state = tables })

@@ -32,6 +32,17 @@ pub outside_bare : (files : List LocalFile) → outside_count (map bare_local fi
 outside_bare files =
     sum_map bare_local (λ (file : BareData). cond (not (is_below_pre file.name)) 1 0) files
 
+-- the weight of the tables with a data file of the name and these bytes
+abbrev pub weight_with : Room → Tables → ℕ → List ℕ → List ℕ → ℕ
+weight_with room tables number name bytes =
+    weight_put number (record { name = name; length = length bytes }) (table_shape room tables)
+
+pub told_with : (room : Room) (tables : Tables) (number : ℕ) (name held bytes : List ℕ) (told : ℕ)
+    → held ≡ bytes → told ≡ told_weight (weight_with room tables number name held)
+    → told ≡ told_weight (weight_with room tables number name bytes)
+told_with room tables number name held bytes told same is =
+    subst (λ (b : List ℕ). told ≡ told_weight (weight_with room tables number name b)) same is
+
 -- the name is a new one, and there are as many as may be
 abbrev pub IsFull : List ℕ → View → Type 0
 IsFull name row =
@@ -102,11 +113,8 @@ module _ (lease : ℕ) (room : Room) (name bytes : List ℕ) (tables : Tables) (
 
       module _ (need free : ℕ) (is : need ≡ blocks_of (length bytes))
           (left : free ≡ free_blocks (table_shape room tables)) (enough : ¬ (free < need)) where
-        -- the weight of the tables with the data file
         abbrev weight : ℕ
-        weight =
-            weight_put row.number (record { name = name; length = length bytes })
-            (table_shape room tables)
+        weight = weight_with room tables row.number name bytes
 
         has_room : (other : ℕ) → (other ≡ blocks_of (length bytes))
             × (free_blocks (table_shape room tables) < other) → ⊥

@@ -23,6 +23,7 @@ use Rattle.store_state.specs.Tables.{Tables, bare_row}
 use Rattle.store_state.proofs.Images.{images_have}
 use Rattle.store_state.proofs.Showing.{shows_same}
 use Rattle.table_check.specs.Laws.{OrderedTablesAreOfOrderedStores, OrderedTablesShowAStore}
+use Rattle.table_codec.specs.Laws.{AreEncodable}
 use Rattle.table_weight.specs.Laws.{WeighAsShown}
 use Rattle.table_weight.specs.Weight.{tables_weight}
 use Rattle.table_log.specs.declared.fault.RecoverFault.{RecoverFault as TablesFault}
@@ -30,14 +31,15 @@ use Rattle.table_log.specs.declared.fault.RecoverFault.TheVariants as tables
 use Rattle.table_log.specs.declared.recovery.Opened.{Opened}
 use Rattle.table_log.specs.Laws.{ReadsAsOne}
 use Rattle.table_log.specs.ReadsAs.{IsOpenAs, ReadsAs, ReadsAsNone}
-use Rattle.table_log.specs.Recovers.{Recovers}
+use Rattle.table_log.specs.Recovers.{HasRoom, Recovers}
 use Rattle.updater.specs.declared.fault.RecoverFault.{RecoverFault}
 use Rattle.updater.specs.declared.fault.RecoverFault.TheVariants.{DiskFault, NotAStore}
 use Rattle.updater.specs.Loaded.{IsLoaded, Loaded}
-use Rattle.updater.specs.Shown.{Updater}
+use Rattle.updater.specs.Shown.{IsKept, Updater}
 use Rattle.updater.specs.StoreTables.{AreOfStore}
 use Rattle.updater.specs.StandsFor.{StandsForNone}
 use Rattle.updater.proofs.Changing.{apps_shown, blocks_shown, views_shown}
+use Rattle.updater.proofs.Keeping.{most_weight}
 
 -- ---- the store of tables
 
@@ -61,6 +63,19 @@ shows_valid show weigh room tables image are some of =
       store = shown.store;
       shows = shown.shows;
       valid = shown.valid of.within (subst (IsLight room) (weigh tables are) of.light);
+    }
+
+-- and an updater may keep them
+pub kept_of_store : AreEncodable → (opened : Opened) → AreTables opened.state → HasRoom opened → AreOfStore opened.room opened.state → IsKept opened.log opened.room opened.state
+kept_of_store encodable opened are has of =
+    let least = has.limits.least in
+    let most = has.limits.greatest in
+    let light = most_weight opened.room (tables_weight opened.state) (omega (arith, least)) of.light in
+    record {
+      encodable = encodable opened.state are has.fields (omega (arith, light, most));
+      light = of.light;
+      limits = has.limits;
+      half = has.half;
     }
 
 -- what tables weigh is what the machine says of the store that they show

@@ -5,17 +5,28 @@ use Rattle.disks.specs.Moments.{LeavesOnly}
 use Rattle.disks.specs.Spends.{Spends}
 use Rattle.machine.specs.Store.{Session, Store}
 use Rattle.machine.specs.Valid.{Valid}
+use Rattle.machine.specs.Weight.{IsLight}
 use Rattle.record_codec.specs.Codec.{IsChange}
 use Rattle.store_state.specs.declared.change.Change.{Change}
-use Rattle.store_state.specs.Change.{Fits}
+use Rattle.store_state.specs.Change.{Fits, effect}
 use Rattle.store_state.specs.Tables.{Tables}
+use Rattle.table_weight.specs.Weight.{tables_weight}
+use Rattle.table_codec.specs.Laws.{IsShortPut}
 use Rattle.install_plan.specs.LeadsIn.{LeadsIn}
 use Rattle.table_log.specs.declared.fault.StepFault.{StepFault}
 use Rattle.table_log.specs.declared.fault.StepFault.TheVariants.{Memory, DiskFault}
 use Rattle.updater.specs.Shown.{Updater}
 use Rattle.updater.specs.StandsFor.{StandsForEither}
 use Rattle.updater.specs.StepCosts.{CostsOf}
-use Rattle.updater.specs.Updater.{Holds, tables_of}
+use Rattle.updater.specs.Updater.{Holds, room_of, tables_of}
+
+-- An updater may make the change: it fits the tables and has an encoding, and the changed tables
+-- have room.
+pub record MayKeep (updater : Updater) (change : Change) : Type 0 where
+  pub fits : Fits (tables_of updater) change
+  pub has : IsChange change
+  pub short : IsShortPut change
+  pub light : IsLight (room_of updater) (tables_weight (effect change (tables_of updater)))
 
 -- The change leads from tables that show the old store to tables that show the new one, which is
 -- valid.

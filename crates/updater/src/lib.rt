@@ -11,8 +11,8 @@ mod refusal;
 mod requirement;
 mod rows;
 mod skipping;
-mod store_tables;
 mod start;
+mod store_tables;
 mod updater;
 
 pub use fault::RecoverFault;

@@ -11,8 +11,8 @@ ghost use Rattle.install_plan.specs.Checks.{is_missing};
 
 use identity::Key;
 use machine::Reply;
-use small_types::{Limit, Room};
 use small_types::limits::APPLICATION_LIMIT;
+use small_types::{Limit, Room};
 use store_state::StoreState;
 use table_weight::{table_full, weight_with_key};
 
@@ -27,7 +27,7 @@ pub(crate) fn require_refusal(state: &StoreState, room: Room, key: &Key) -> Opti
     ensures still { (now : ℕ) → IfSome result (λ reply. moment_after now (Some reply) ≡ now) }
     ensures no_target { IfSome result (λ reply. is_missing reply ≡ false) }
 {
-    if state.entry(key).is_some() {
+    if let Some(_) = state.entry(key) {
         return None;
     }
     if state.count() >= APPLICATION_LIMIT {

@@ -1,7 +1,7 @@
 // Whether tables are those of a store.
-ghost use Rattle.std.specs.Prelude.{◌↔◌, ◌≤◌, IsTrue, map};
+ghost use Rattle.std.specs.Prelude.{◌≡◌, ◌↔◌, ◌≤◌, ℕ, IsTrue, map};
 ghost use Rattle.machine.specs.Blocks.{used_blocks};
-ghost use Rattle.machine.specs.Weight.{IsLight};
+ghost use Rattle.machine.specs.Weight.{IsLight, told_weight};
 ghost use Rattle.small_types.specs.declared.limits.TheConstants as limits;
 ghost use Rattle.store_state.specs.Tables.{bare_row};
 ghost use Rattle.table_weight.specs.Weight.{tables_weight};
@@ -13,13 +13,26 @@ use store_state::StoreState;
 use table_check::is_ordered;
 use table_weight::{table_full, weight};
 
+// Whether tables that weigh so much have room.
+fn is_light(room: Room, weight: u64) -> bool
+    ensures { (exact : ℕ) → weight ≡ told_weight exact → (IsTrue result ↔ IsLight room exact) }
+{
+    match table_full(room, weight) {
+        None => true,
+        Some(reply) => {
+            drop(reply);
+            false
+        }
+    }
+}
+
 // Whether files and tables have room.
 fn have_room(state: &StoreState, room: Room) -> bool
     requires { room.blocks ≤ limits.BLOCK_LIMIT }
     ensures { IsTrue result ↔ ((used_blocks (map bare_row state.now.views) ≤ room.blocks)
         × IsLight room (tables_weight state.now)) }
 {
-    state.is_within(room) && table_full(room, weight(state)).is_none()
+    state.is_within(room) && is_light(room, weight(state))
 }
 
 /// Whether the tables of a journal of this room are those of a store: within its order and its

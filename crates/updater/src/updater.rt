@@ -31,8 +31,8 @@ use crate::refusal::{finish_refusal, require_refusal};
 use crate::requirement::minimum_that_stays;
 use crate::rows::{list_rows, show_row};
 use crate::skipping::skipping_of;
-use crate::store_tables::are_of_store;
 use crate::start::start_of;
+use crate::store_tables::are_of_store;
 use cleaner::{CleanFault, removable};
 use disks::Disk;
 use identity::{Key, Version};
@@ -47,8 +47,11 @@ use std::marker::Model;
 use std::mem::replace;
 use store_state::{Change, LocalFile, StoreState, puts_show_the_file, removals_show_the_rest};
 use table_check::ordered_tables_show_ordered_stores;
-use table_codec::{changes_are_within_weights, changes_stay_encodable, encodings_are_within_table_weights};
-use table_log::{Opened, StepFault, an_image_reads_as_one, make_durable};
+use table_codec::{
+    changes_are_within_weights, changes_stay_encodable, encodings_are_within_table_weights,
+    fields_stay_encodable,
+};
+use table_log::{StepFault, an_image_reads_as_one, make_durable};
 use table_weight::{changed_tables_weigh, tables_weigh_as_shown};
 
 /// A store that is open: its log, its room and its tables. The tables have always room in a half of
@@ -96,12 +99,11 @@ fn most_texts(command: &Command) -> usize
 
 impl Updater {
     ghost use Rattle.updater.specs.Commanded.{Commanded, CommandedBehind};
-    ghost use Rattle.updater.specs.MakesDurable.{MakesDurable};
+    ghost use Rattle.updater.specs.MakesDurable.{MakesDurable, MayKeep};
     ghost use Rattle.updater.specs.Loaded.{Loaded};
     ghost use Rattle.updater.specs.Opened.{Opened};
     ghost use Rattle.updater.specs.Updater.{room_of, tables_of};
     ghost use Rattle.table_weight.specs.Laws.{BringsNothing};
-    ghost use Rattle.table_weight.specs.Weight.{tables_weight};
 
     /// Opens the store on the disk. Where the kept boot number differs from the given one, which is
     /// at most 2^62, the given one is made durable, which ends all leases, and the answer is true.
@@ -244,12 +246,13 @@ impl Updater {
         an_image_reads_as_one();
         ordered_tables_show_ordered_stores();
         tables_weigh_as_shown();
+        changes_stay_encodable();
         opened.state.are_tables();
         if !are_of_store(&opened.state, opened.room) {
             drop(opened);
             return Err(RecoverFault::NotAStore);
         }
-        let Opened { log, room, state } = opened;
+        let table_log::Opened { log, room, state } = opened;
         Ok(Updater { log, room, state })
     }
 
@@ -261,12 +264,11 @@ impl Updater {
         disk: &mut D,
         change: Change,
     ) -> Result<(), StepFault>
-        requires may { Fits (tables_of self.old) change × IsChange change }
-        requires light { IsLight (room_of self.old)
-            (tables_weight (effect change (tables_of self.old))) }
+        requires { MayKeep self.old change }
         ensures { MakesDurable D.Disk change self.old disk.old result self.new disk.new }
     {
         self.state.are_tables();
+        fields_stay_encodable();
         changes_stay_encodable();
         encodings_are_within_table_weights();
         changes_are_within_weights();
@@ -336,6 +338,8 @@ impl Updater {
             Ok(key) => key,
             Err(CopyFault::Memory) => return Ok(Reply::Memory),
         };
+        self.state.are_tables();
+        changed_tables_weigh();
         answer(
             self.keep(alloc, disk, Change::Require { key, version }),
             Reply::Minimum { version },
@@ -562,6 +566,7 @@ impl Updater {
             file,
         };
         self.state.are_tables();
+        changed_tables_weigh();
         puts_show_the_file();
         one_data_file_is_changed();
         answer(self.keep(alloc, disk, change), Reply::Put)

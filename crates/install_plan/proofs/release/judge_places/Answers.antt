@@ -9,7 +9,7 @@ use Rattle.machine.specs.Wanted.{wanted_beside}
 use Rattle.store_state.specs.Tables.{bare_row, table_shape}
 use Rattle.install_plan.proofs.Fitting.{need_is}
 use Rattle.install_plan.proofs.Released.{by_files, by_identity, by_room, by_wants, released}
-use Rattle.install_plan.proofs.release.judge_release.Goals as goal
+use Rattle.install_plan.proofs.release.judge_places.Goals as goal
 
 pub returns-in-Err-clause-judged : goal.returns-in-Err-clause-judged
 returns-in-Err-clause-judged c = λ url at is.
