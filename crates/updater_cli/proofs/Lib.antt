@@ -25,6 +25,7 @@ pub mod PublishedRelease
 pub mod PublishedRuns
 pub mod PublishedTexts
 pub mod PublishedUses
+pub mod Publishable
 pub mod Publishing
 pub mod Quiet
 pub mod Reading

@@ -10,6 +10,7 @@ pub mod NoOthers
 pub mod Offered
 pub mod Opening
 pub mod Premises
+pub mod Publishable
 pub mod Published
 pub mod Quiet
 pub mod Releases
