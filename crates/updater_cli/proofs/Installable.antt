@@ -160,69 +160,70 @@ same_identity d a text is (VersionDiffers listed found) refuses other =
 same_identity d a text is unlike.Memory refuses other = other refl
 
 module _ (links : LinksState) (shape : Shape) (url : List ℕ) (can : CanInstall links shape url)
-    where
-  base_read : base_of url can.deployment ≡ Ok can.base
-  base_read = base_is url can.deployment can.target (Ok can.base) can.address can.joined
+  where
+    base_read : base_of url can.deployment ≡ Ok can.base
+    base_read = base_is url can.deployment can.target (Ok can.base) can.address can.joined
 
-  -- ---- what the deployment manifest may be refused for
+    -- ---- what the deployment manifest may be refused for
 
-  address_passes : PassesAll (address_refusals url)
-  address_passes = (
-    λ bad. bad_is_none can.target (sym can.address ∙ bad),
-    (λ scheme other. http_is_none can.target scheme (sym can.address ∙ other), tt),
-  )
+    address_passes : PassesAll (address_refusals url)
+    address_passes = (
+      λ bad. bad_is_none can.target (sym can.address ∙ bad),
+      (λ scheme other. http_is_none can.target scheme (sym can.address ∙ other), tt),
+    )
 
-  module _ (heard : List (List ℕ)) (first : slice_get heard 0 ≡ Some can.text) where
-    told : OfDeployment heard (λ d. d ≡ can.deployment)
-    told = (can.text, can.deployment, first, can.tells, refl)
+    module _ (heard : List (List ℕ)) (first : slice_get heard 0 ≡ Some can.text) where
+      told : OfDeployment heard (λ d. d ≡ can.deployment)
+      told = (can.text, can.deployment, first, can.tells, refl)
 
-    of_deployment : (W : Deployment → Type 0) → OfDeployment heard W → W can.deployment
-    of_deployment W holds =
-        is_it shape url heard can.deployment can.target can.address told W holds
+      of_deployment : (W : Deployment → Type 0) → OfDeployment heard W → W can.deployment
+      of_deployment W holds =
+          is_it shape url heard can.deployment can.target can.address told W holds
 
-    too_low : (have : _) → OfDeployment heard (λ d. IsNotNewer shape d have) → ⊥
-    too_low have is =
-        let not = of_deployment (λ d. IsNotNewer shape d have) is in
-        not.1 (if_at (λ have. IsBelow have can.deployment.identity.version) _ have can.newer not.0)
+      too_low : (have : _) → OfDeployment heard (λ d. IsNotNewer shape d have) → ⊥
+      too_low have is =
+          let not = of_deployment (λ d. IsNotNewer shape d have) is in
+          not.1 (if_at (λ have. IsBelow have can.deployment.identity.version) _ have can.newer not.0)
 
-    below : (minimum : _) → OfDeployment heard (λ d. IsBelowMinimum shape d minimum) → ⊥
-    below minimum is =
-        let low = of_deployment (λ d. IsBelowMinimum shape d minimum) is in
-        if_at (λ minimum. ¬ IsBelow can.deployment.identity.version minimum) _ minimum can.reaches
-        low.0 low.1
+      below : (minimum : _) → OfDeployment heard (λ d. IsBelowMinimum shape d minimum) → ⊥
+      below minimum is =
+          let low = of_deployment (λ d. IsBelowMinimum shape d minimum) is in
+          if_at (λ minimum. ¬ IsBelow can.deployment.identity.version minimum) _ minimum can.reaches
+          low.0 low.1
 
-    no_place : OfDeployment heard (LacksEntry shape) → ⊥
-    no_place is =
-        let lacks = of_deployment (LacksEntry shape) is in
-        let few = can.few_applications lacks.0 in
-        let full = lacks.1 in omega (arith, few, full)
+      no_place : OfDeployment heard (LacksEntry shape) → ⊥
+      no_place is =
+          let lacks = of_deployment (LacksEntry shape) is in
+          let few = can.few_applications lacks.0 in
+          let full = lacks.1 in omega (arith, few, full)
 
-    deployment_passes : PassesAll (deployment_refusals url heard shape)
-    deployment_passes = (
-      λ target lacks. some_text can.text (sym first ∙ lacks.1),
-      (
-        λ reason refused.
-            unrefused deployment_of can.text can.deployment can.tells 0 heard first reason refused,
+      deployment_passes : PassesAll (deployment_refusals url heard shape)
+      deployment_passes = (
+        λ target lacks. some_text can.text (sym first ∙ lacks.1),
         (
-          too_low,
+          λ reason refused.
+              unrefused deployment_of can.text can.deployment can.tells 0 heard first reason refused,
           (
-            below,
+            too_low,
             (
-              no_place,
+              below,
               (
-                λ full. (let few = can.few_views in omega (arith, full, few)),
+                no_place,
                 (
-                  λ spent. (let less = can.number in omega (arith, spent, less)),
+                  λ full. (let few = can.few_views in omega (arith, full, few)),
                   (
-                    λ is.
-                        bad_is_none can.base
-                        (sym base_read ∙ of_deployment (λ d. base_of url d ≡ Err BadUrl) is),
+                    λ spent. (let less = can.number in omega (arith, spent, less)),
                     (
-                      λ scheme is.
-                          http_is_none can.base scheme
-                          (sym base_read
-                          ∙ of_deployment (λ d. base_of url d ≡ Err (NotHttp scheme)) is),
-                      tt,
+                      λ is.
+                          bad_is_none can.base
+                          (sym base_read ∙ of_deployment (λ d. base_of url d ≡ Err BadUrl) is),
+                      (
+                        λ scheme is.
+                            http_is_none can.base scheme
+                            (sym base_read
+                            ∙ of_deployment (λ d. base_of url d ≡ Err (NotHttp scheme)) is),
+                        tt,
+                      ),
                     ),
                   ),
                 ),
@@ -230,102 +231,101 @@ module _ (links : LinksState) (shape : Shape) (url : List ℕ) (can : CanInstall
             ),
           ),
         ),
-      ),
-    )
-
-    -- ---- what the release may be refused for
-
-    module _ (second : slice_get heard 1 ≡ Some can.app_text) where
-      both_told : OfRelease heard (λ d a. (d ≡ can.deployment) × (a ≡ can.application))
-      both_told = (
-        can.text,
-        can.deployment,
-        first,
-        can.tells,
-        (can.app_text, can.application, second, can.release.application, (refl, refl)),
       )
 
-      of_release : (W : Deployment → Application → Type 0) → OfRelease heard W
-          → W can.deployment can.application
-      of_release W holds =
-          is_both shape url heard can.deployment can.application both_told W holds
+      -- ---- what the release may be refused for
 
-      -- a wanted file has its address
-      file_at : (entry : FileEntry) → Contains (wanted shape.views can.application) entry
-          → HasFile links can.base can.deployment.mapped entry
-      file_at entry there =
-          all_in (HasFile links can.base can.deployment.mapped)
-          (wanted shape.views can.application) entry can.wanted_files
-          (in_contains (wanted shape.views can.application) entry there)
+      module _ (second : slice_get heard 1 ≡ Some can.app_text) where
+        both_told : OfRelease heard (λ d a. (d ≡ can.deployment) × (a ≡ can.application))
+        both_told = (
+          can.text,
+          can.deployment,
+          first,
+          can.tells,
+          (can.app_text, can.application, second, can.release.application, (refl, refl)),
+        )
 
-      no_address : OfRelease heard (λ d a. OfWanted url shape d a (λ target. target ≡ Err BadUrl))
-          → ⊥
-      no_address is =
-          let bad = of_release (λ d a. OfWanted url shape d a (λ target. target ≡ Err BadUrl)) is in
-          let file = file_at bad.2.1 (bad.2.0, bad.2.2, bad.2.3) in
-          let same : bad.0 ≡ can.base = ok_one (base_of url can.deployment) bad.0 can.base bad.1
-          base_read in
-          bad_is_none file.target
-          (sym file.at
-          ∙ subst (λ (t : Target). file_target_of t can.deployment.mapped bad.2.1.name ≡ Err BadUrl)
-          same bad.2.4)
+        of_release : (W : Deployment → Application → Type 0) → OfRelease heard W
+            → W can.deployment can.application
+        of_release W holds =
+            is_both shape url heard can.deployment can.application both_told W holds
 
-      too_heavy : (weight : ℕ)
-          → OfRelease heard (λ d a. IsWeightOf url shape d a weight × IsTooHeavy shape.room weight)
-          → ⊥
-      too_heavy weight is =
-          let over = of_release
-          (λ d a. IsWeightOf url shape d a weight × IsTooHeavy shape.room weight) is in
-          not_heavy shape.room weight (can.light weight over.0) over.1
+        -- a wanted file has its address
+        file_at : (entry : FileEntry) → Contains (wanted shape.views can.application) entry
+            → HasFile links can.base can.deployment.mapped entry
+        file_at entry there =
+            all_in (HasFile links can.base can.deployment.mapped)
+            (wanted shape.views can.application) entry can.wanted_files
+            (in_contains (wanted shape.views can.application) entry there)
 
-      too_many_files : OfRelease heard (λ d a. FILE_COUNT_LIMIT < files_after shape a) → ⊥
-      too_many_files is =
-          let over : FILE_COUNT_LIMIT < files_after shape can.application =
-          of_release (λ d a. FILE_COUNT_LIMIT < files_after shape a) is in
-          let few = can.few_files in omega (arith, over, few)
+        no_address : OfRelease heard (λ d a. OfWanted url shape d a (λ target. target ≡ Err BadUrl))
+            → ⊥
+        no_address is =
+            let bad = of_release (λ d a. OfWanted url shape d a (λ target. target ≡ Err BadUrl)) is in
+            let file = file_at bad.2.1 (bad.2.0, bad.2.2, bad.2.3) in
+            let same : bad.0 ≡ can.base = ok_one (base_of url can.deployment) bad.0 can.base bad.1
+            base_read in
+            bad_is_none file.target
+            (sym file.at
+            ∙ subst (λ (t : Target). file_target_of t can.deployment.mapped bad.2.1.name ≡ Err BadUrl)
+            same bad.2.4)
 
-      too_many_data : OfRelease heard (λ d a. LOCAL_COUNT_LIMIT < locals_after shape d a) → ⊥
-      too_many_data is =
-          let over : LOCAL_COUNT_LIMIT < locals_after shape can.deployment can.application =
-          of_release (λ d a. LOCAL_COUNT_LIMIT < locals_after shape d a) is in
-          let few = can.few_data in omega (arith, over, few)
+        too_heavy : (weight : ℕ)
+            → OfRelease heard (λ d a. IsWeightOf url shape d a weight × IsTooHeavy shape.room weight)
+            → ⊥
+        too_heavy weight is =
+            let over = of_release
+            (λ d a. IsWeightOf url shape d a weight × IsTooHeavy shape.room weight) is in
+            not_heavy shape.room weight (can.light weight over.0) over.1
 
-      no_blocks : (need : ℕ) → OfRelease heard
-          (λ d a. (need ≡ install_need shape d a) × (free_blocks shape < need)) → ⊥
-      no_blocks need is =
-          let full : (need ≡ install_need shape can.deployment can.application)
-          × (free_blocks shape < need) =
-          of_release (λ d a. (need ≡ install_need shape d a) × (free_blocks shape < need)) is in
-          let same = full.0 in let less = full.1 in let enough = can.blocks in
-          omega (arith, same, less, enough)
+        too_many_files : OfRelease heard (λ d a. FILE_COUNT_LIMIT < files_after shape a) → ⊥
+        too_many_files is =
+            let over : FILE_COUNT_LIMIT < files_after shape can.application =
+            of_release (λ d a. FILE_COUNT_LIMIT < files_after shape a) is in
+            let few = can.few_files in omega (arith, over, few)
 
-      release_passes : PassesAll (release_refusals url heard shape)
-      release_passes = (
-        λ target lacks. some_text can.app_text (sym second ∙ lacks.1),
-        (
-          λ reason refused.
-              unrefused application_of can.app_text can.application can.release.application 1 heard
-              second reason refused,
+        too_many_data : OfRelease heard (λ d a. LOCAL_COUNT_LIMIT < locals_after shape d a) → ⊥
+        too_many_data is =
+            let over : LOCAL_COUNT_LIMIT < locals_after shape can.deployment can.application =
+            of_release (λ d a. LOCAL_COUNT_LIMIT < locals_after shape d a) is in
+            let few = can.few_data in omega (arith, over, few)
+
+        no_blocks : (need : ℕ) → OfRelease heard
+            (λ d a. (need ≡ install_need shape d a) × (free_blocks shape < need)) → ⊥
+        no_blocks need is =
+            let full : (need ≡ install_need shape can.deployment can.application)
+            × (free_blocks shape < need) =
+            of_release (λ d a. (need ≡ install_need shape d a) × (free_blocks shape < need)) is in
+            let same = full.0 in let less = full.1 in let enough = can.blocks in
+            omega (arith, same, less, enough)
+
+        release_passes : PassesAll (release_refusals url heard shape)
+        release_passes = (
+          λ target lacks. some_text can.app_text (sym second ∙ lacks.1),
           (
-            λ reason refuses.
-                same_identity can.deployment can.application can.app_text can.release reason
-                (of_release (λ d a. RefusesIdentity d a reason) refuses.0) refuses.1,
+            λ reason refused.
+                unrefused application_of can.app_text can.application can.release.application 1 heard
+                second reason refused,
             (
-              too_many_files,
+              λ reason refuses.
+                  same_identity can.deployment can.application can.app_text can.release reason
+                  (of_release (λ d a. RefusesIdentity d a reason) refuses.0) refuses.1,
               (
-                too_many_data,
+                too_many_files,
                 (
-                  no_address,
+                  too_many_data,
                   (
-                    no_blocks,
-                    (too_heavy, tt),
+                    no_address,
+                    (
+                      no_blocks,
+                      (too_heavy, tt),
+                    ),
                   ),
                 ),
               ),
             ),
           ),
-        ),
-      )
+        )
 
 -- ---- its line
 

@@ -114,97 +114,97 @@ text_within text within =
 -- ---- what is written
 
 module _ (o : Options) (names : List (List ℕ)) (held : List Held) (can : CanPublish o names held)
-    where
-  minimum_fits : (minimum : Option Version)
-      → IfSome minimum (λ minimum. ¬ IsBelow o.version minimum) → above o.version minimum ≡ None
-  minimum_fits None fits = refl
-  minimum_fits (Some minimum) fits =
-      by (cases_Bool (is_lt (version_cmp o.version minimum)))
-    where
-      by : (is_lt (version_cmp o.version minimum) ≡ true)
-          ⊎ (is_lt (version_cmp o.version minimum) ≡ false) → above o.version (Some minimum) ≡ None
-      by (inl below) = absurd (fits (IsBelow-from_cmp o.version minimum below))
-      by (inr other) = chosen_last (is_lt (version_cmp o.version minimum)) _ _ other
+  where
+    minimum_fits : (minimum : Option Version)
+        → IfSome minimum (λ minimum. ¬ IsBelow o.version minimum) → above o.version minimum ≡ None
+    minimum_fits None fits = refl
+    minimum_fits (Some minimum) fits =
+        by (cases_Bool (is_lt (version_cmp o.version minimum)))
+      where
+        by : (is_lt (version_cmp o.version minimum) ≡ true)
+            ⊎ (is_lt (version_cmp o.version minimum) ≡ false) → above o.version (Some minimum) ≡ None
+        by (inl below) = absurd (fits (IsBelow-from_cmp o.version minimum below))
+        by (inr other) = chosen_last (is_lt (version_cmp o.version minimum)) _ _ other
 
-  early : early_of o ≡ None
-  unfolding early_of
-  early =
-      chosen_last (not (is_plain_name o.name)) _ _ (ap not can.name)
-      ∙ chosen_last (not (is_plain_name o.entry)) _ _ (ap not can.entry)
-      ∙ chosen_last (overlap o.from o.to) _ _ can.apart
-      ∙ chosen_last (nat_lt NAME_LIMIT (length (manifest_name o))) _ _
-      (le-ltb NAME_LIMIT (length (manifest_name o)) can.short)
-      ∙ minimum_fits o.minimum can.minimum
+    early : early_of o ≡ None
+    unfolding early_of
+    early =
+        chosen_last (not (is_plain_name o.name)) _ _ (ap not can.name)
+        ∙ chosen_last (not (is_plain_name o.entry)) _ _ (ap not can.entry)
+        ∙ chosen_last (overlap o.from o.to) _ _ can.apart
+        ∙ chosen_last (nat_lt NAME_LIMIT (length (manifest_name o))) _ _
+        (le-ltb NAME_LIMIT (length (manifest_name o)) can.short)
+        ∙ minimum_fits o.minimum can.minimum
 
-  abbrev planned_release : Plan
-  planned_release = record {
-    files = written_files o names;
-    manifest = manifest_name o;
-    deployment = deployment_name o;
-  }
+    abbrev planned_release : Plan
+    planned_release = record {
+      files = written_files o names;
+      manifest = manifest_name o;
+      deployment = deployment_name o;
+    }
 
-  fits : fit_inputs o (inputs o names) ≡ Ok tt
-  fits = none_unless _ (ap (option_map _) (find_none (is_bad_input o) (inputs o names) can.fit))
+    fits : fit_inputs o (inputs o names) ≡ Ok tt
+    fits = none_unless _ (ap (option_map _) (find_none (is_bad_input o) (inputs o names) can.fit))
 
-  few_enough : few (written_files o names) ≡ Ok tt
-  few_enough =
-      chosen_last (nat_lt FILE_COUNT_LIMIT (length (written_files o names))) _ _
-      (le-ltb FILE_COUNT_LIMIT (length (written_files o names)) can.few_files)
-      ∙ chosen_last _ _ _ (le-ltb LOCAL_COUNT_LIMIT _ can.few_data)
+    few_enough : few (written_files o names) ≡ Ok tt
+    few_enough =
+        chosen_last (nat_lt FILE_COUNT_LIMIT (length (written_files o names))) _ _
+        (le-ltb FILE_COUNT_LIMIT (length (written_files o names)) can.few_files)
+        ∙ chosen_last _ _ _ (le-ltb LOCAL_COUNT_LIMIT _ can.few_data)
 
-  started : with_entry o (inputs o names) ≡ Ok tt
-  started =
-      chosen_first (is_among (inputs o names) o.entry && not (is_marked o.marks o.entry)) _ _
-      (and_from (is_among (inputs o names) o.entry) (not (is_marked o.marks o.entry)) can.started
-      (ap not can.unmarked))
+    started : with_entry o (inputs o names) ≡ Ok tt
+    started =
+        chosen_first (is_among (inputs o names) o.entry && not (is_marked o.marks o.entry)) _ _
+        (and_from (is_among (inputs o names) o.entry) (not (is_marked o.marks o.entry)) can.started
+        (ap not can.unmarked))
 
-  marked : good_marks o (inputs o names) ≡ Ok tt
-  marked = none_unless _ (ap (option_map _) (marks_good (inputs o names) [] o.marks can.marks))
+    marked : good_marks o (inputs o names) ≡ Ok tt
+    marked = none_unless _ (ap (option_map _) (marks_good (inputs o names) [] o.marks can.marks))
 
-  planned_for : plan_for o (inputs o names) ≡ Ok planned_release
-  unfolding plan_for
-  planned_for =
-      then_ok (fit_inputs o (inputs o names)) tt _ fits
-      ∙ then_ok (few (written_files o names)) tt _ few_enough
-      ∙ then_ok (with_entry o (inputs o names)) tt _ started
-      ∙ then_ok (good_marks o (inputs o names)) tt _ marked
+    planned_for : plan_for o (inputs o names) ≡ Ok planned_release
+    unfolding plan_for
+    planned_for =
+        then_ok (fit_inputs o (inputs o names)) tt _ fits
+        ∙ then_ok (few (written_files o names)) tt _ few_enough
+        ∙ then_ok (with_entry o (inputs o names)) tt _ started
+        ∙ then_ok (good_marks o (inputs o names)) tt _ marked
 
-  free : standing o names ≡ Ok tt
-  free =
-      none_unless _ (ap (option_map _) (find_none (lies_below (version_folder o)) names can.fresh))
+    free : standing o names ≡ Ok tt
+    free =
+        none_unless _ (ap (option_map _) (find_none (lies_below (version_folder o)) names can.fresh))
 
-  some : some_input o names ≡ Ok tt
-  some =
-      chosen_first (list_any (lies_below o.from) names) _ _
-      (list_any-from_Any (lies_below o.from) names can.some)
+    some : some_input o names ≡ Ok tt
+    some =
+        chosen_first (list_any (lies_below o.from) names) _ _
+        (list_any-from_Any (lies_below o.from) names can.some)
 
-  planned : plan_of o names ≡ Ok planned_release
-  unfolding plan_of
-  planned =
-      then_ok (standing o names) tt _ free ∙ then_ok (some_input o names) tt _ some ∙ planned_for
+    planned : plan_of o names ≡ Ok planned_release
+    unfolding plan_of
+    planned =
+        then_ok (standing o names) tt _ free ∙ then_ok (some_input o names) tt _ some ∙ planned_for
 
-  released : (files : List Held) × (release_of o held planned_release ≡ Ok files)
-  unfolding release_of manifests_of
-  released =
-      let text = app_text o names held in (
-        _,
-        then_ok (read_entries held (written_files o names)) (listed_files o names held) _
-            (entries_read held (written_files o names) can.sizes)
-            ∙ then_ok (manifests_of o (listed_files o names held)) _ _
-            (then_ok (limited text) text _ (text_within text can.application)
-            ∙ then_ok (limited (deployment_manifest_of o text)) (deployment_manifest_of o text) _
-            (text_within (deployment_manifest_of o text) can.deployment)),
-      )
+    released : (files : List Held) × (release_of o held planned_release ≡ Ok files)
+    unfolding release_of manifests_of
+    released =
+        let text = app_text o names held in (
+          _,
+          then_ok (read_entries held (written_files o names)) (listed_files o names held) _
+              (entries_read held (written_files o names) can.sizes)
+              ∙ then_ok (manifests_of o (listed_files o names held)) _ _
+              (then_ok (limited text) text _ (text_within text can.application)
+              ∙ then_ok (limited (deployment_manifest_of o text)) (deployment_manifest_of o text) _
+              (text_within (deployment_manifest_of o text) can.deployment)),
+        )
 
-  pub published : (files : List Held) × (publish_of o names held ≡ Ok files)
-  unfolding publish_of
-  published = (
-    released.0,
-    then_ok (judged (unless (early_of o))) tt _
-        (ap (λ (r : Option PlanFault). judged (unless r)) early)
-        ∙ then_ok (judged (plan_of o names)) planned_release _ (ap judged planned)
-        ∙ released.1,
-  )
+    pub published : (files : List Held) × (publish_of o names held ≡ Ok files)
+    unfolding publish_of
+    published = (
+      released.0,
+      then_ok (judged (unless (early_of o))) tt _
+          (ap (λ (r : Option PlanFault). judged (unless r)) early)
+          ∙ then_ok (judged (plan_of o names)) planned_release _ (ap judged planned)
+          ∙ released.1,
+    )
 
 -- ---- what is answered
 

@@ -170,6 +170,7 @@ module _ {L : Type 0} (net : LinksGhosts L) (first : LinksState) where
         walk.0,
         walk.1,
         walk.5.step,
+        walk.5.served,
         walk.5.failures,
         λ quiet.
             line_finds (net.links before) (net.links walk.1)
@@ -209,6 +210,7 @@ module _ {L : Type 0} (net : LinksGhosts L) (first : LinksState) where
         walk.0,
         walk.1,
         walk.5.step,
+        walk.5.served,
         walk.5.failures,
         λ any.
             line_finds (net.links before) (net.links walk.1)

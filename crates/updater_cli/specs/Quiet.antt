@@ -27,7 +27,7 @@ use Rattle.machine.specs.Shape.{Shape, shape_of}
 use Rattle.machine.specs.Store.{Session}
 use Rattle.machine.specs.Wanted.{wanted}
 use Rattle.updater_cli.specs.Installable.{InstallsWhereItCan}
-use Rattle.updater_cli.specs.Report.{Origin, origin_after}
+use Rattle.updater_cli.specs.Report.{IsLineServed, Origin, origin_after}
 use Rattle.updater_cli.specs.Walk.{Walks}
 
 -- ---- quiet lines
@@ -123,14 +123,15 @@ pub record LineFinds (l : ReportLine) (before after : LinksState) (old : Session
 -- ---- all lines
 
 -- The lines lead to this session, and took the links from those before them to those behind. Each
--- of which it holds found what the links had. It is asked of the number of failures before the
--- line, and of the line.
+-- shows how often links had failed by then. Those of which `Holds` is so found what they had; it is
+-- asked of the number of failures before a line, and of the line.
 abbrev pub LinesFind : {L : Type 0} → LinksGhosts L → (ℕ → ReportLine → Type 0)
     → ℕ → Origin → L → List ReportLine → Session → L → Type 0
 LinesFind net Holds failures from before [] new behind =
     (new ≡ from.session) × (behind ≡ before)
 LinesFind {L = L} net Holds failures from before (l ∷ lines) new behind =
     (mid : Session) × (after : L) × Step from.now from.session l.event l.reply mid
+    × IsLineServed net l.event l.reply before after from.session mid
     × (l.failures ≡ failures_of (net.links after))
     × (Holds failures l → LineFinds l (net.links before) (net.links after) from.session)
     × LinesFind net Holds l.failures (origin_after from l.reply mid) after lines new behind
