@@ -10,6 +10,10 @@ One request is answered on each of COUNT connections, one after the other. At
 the start one line on the standard error says what is served where, and another
 one comes where FOLDER is not there.
 
+A client has 10 seconds for its request, and then 10 for its answer and one
+more for each 65536 bytes of it. After that its connection ends, and the next
+one is served.
+
 Words:
   FOLDER                       the folder, which is read anew for each request
   PORT                         1 to 65535, of all IPv4 addresses

@@ -117,7 +117,10 @@ fn announce(rt: &HostRuntime, folder: &str, asked: Asked) {
         Err(error) if is_absence(error.kind()) => {
             say(rt, format_args!("{path}: there is no such folder"));
         }
-        Err(error) => say(rt, format_args!("{path}: {error}")),
+        Err(error) => {
+            let reason = Reason::from(error);
+            say(rt, format_args!("{path}: {reason}"));
+        }
     }
 }
 

@@ -6,7 +6,7 @@ use crate::folder_path::{
 };
 use small_types::Name;
 use std::alloc::{AllocError, Global};
-use std::fs::File;
+use std::fs::{File, TryLockError};
 use std::io::ErrorKind;
 use std::os::unix::fs::FileExt;
 use std::rt::Files;
@@ -85,12 +85,21 @@ fn make_folders<R: Files<File = File>>(
     Ok(())
 }
 
+// Takes the lock of an unfinished file. One that another program holds is being written by it.
+fn lock_unfinished(file: &File) -> io::Result<()> {
+    match file.try_lock() {
+        Ok(()) => Ok(()),
+        Err(TryLockError::WouldBlock) => Err(io::Error::from(ErrorKind::AlreadyExists)),
+        Err(TryLockError::Error(error)) => Err(error),
+    }
+}
+
 // Makes an empty file at the path, and takes its lock.
 fn create<R: Files<File = File>>(rt: &R, path: &str) -> io::Result<File> {
     let file = File::create_new(rt, path)?;
-    if file.try_lock().is_err() {
+    if let Err(error) = lock_unfinished(&file) {
         let _ = fs::remove_file(rt, path);
-        return Err(io::Error::from(ErrorKind::AlreadyExists));
+        return Err(error);
     }
     Ok(file)
 }
@@ -117,7 +126,8 @@ fn clear<R: Files<File = File>>(rt: &R, path: &str) -> io::Result<()> {
         return Err(io::Error::from(ErrorKind::AlreadyExists));
     }
     let left = File::open(rt, path)?;
-    if left.try_lock().is_err() || !stands_there(rt, path, &left) {
+    lock_unfinished(&left)?;
+    if !stands_there(rt, path, &left) {
         return Err(io::Error::from(ErrorKind::AlreadyExists));
     }
     fs::remove_file(rt, path)

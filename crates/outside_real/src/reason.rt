@@ -12,6 +12,12 @@ const LONGEST: usize = 512;
 #[derive(Clone, Copy, Debug)]
 pub struct Reason(io::Error);
 
+impl From<io::Error> for Reason {
+    fn from(error: io::Error) -> Reason {
+        Reason(error)
+    }
+}
+
 // The text of an error of the system without its number.
 fn without_number(text: &str) -> &str {
     match text.split_once(" (os error ") {

@@ -13,8 +13,11 @@ use std::time::{Duration, Instant};
 // call waits until it takes anything.
 pub(crate) const HOST_PATIENCE: u64 = 10;
 
-// The seconds that the other side of such a connection may take until it has the whole answer.
-const ANSWER_PATIENCE: u64 = 3600;
+// The seconds from the accept in which an answer of any length may be sent: those for the request, and ten more.
+const ANSWER_PATIENCE: u64 = 20;
+
+// For so many bytes that were sent there is another second.
+const BYTES_A_SECOND: u64 = 65_536;
 
 // The seconds that a client waits for a connection, for the next byte, and until any is taken.
 pub(crate) const CLIENT_PATIENCE: u64 = 60;
@@ -25,11 +28,16 @@ const MOST_ADDRESSES: usize = 32;
 // How many reads at most follow the last answer.
 const MOST_READS: u64 = 4096;
 
-// A connection that was accepted, and since when.
+// How often at most a call is made again that was interrupted. A process that is stopped and goes on interrupts those
+// that wait for a limited time, and so does a machine that sleeps.
+const MOST_INTERRUPTIONS: u64 = 1000;
+
+// A connection that was accepted, since when, and how many bytes were sent on it.
 #[derive(Drop)]
 pub(crate) struct Guest<S> {
     pub(crate) stream: S,
     pub(crate) since: Instant,
+    pub(crate) sent: u64,
 }
 
 // Sends each piece at once, and waits no longer than so many seconds for some of one to be taken.
@@ -71,14 +79,37 @@ pub(crate) fn connect<R: Net + Clock>(rt: &R, host: &str, port: u16) -> io::Resu
     Err(last)
 }
 
-// Sends the first of the bytes in one system call. No byte taken is a failure.
+// Whether the call was interrupted, and is to be made again.
+fn is_interrupted(error: &io::Error) -> bool {
+    error.kind() == io::ErrorKind::Interrupted
+}
+
+// Sends the first of the bytes in one system call that is not interrupted. No byte taken is a failure.
 pub(crate) fn send_some<S: Write>(stream: &mut S, bytes: &[u8]) -> Result<usize, Failed>
     ensures { IfOk result (λ n. TakesSome n bytes.now) }
 {
-    match stream.write(bytes) {
-        Ok(0) | Err(_) => Err(Failed),
-        Ok(n) => Ok(n),
+    for _ in 0..MOST_INTERRUPTIONS {
+        match stream.write(bytes) {
+            Err(error) if is_interrupted(&error) => {}
+            Ok(0) | Err(_) => return Err(Failed),
+            Ok(n) => return Ok(n),
+        }
     }
+    Err(Failed)
+}
+
+// What one system call gives that is not interrupted.
+pub(crate) fn receive_some<S: Read>(stream: &mut S, buf: &mut [u8]) -> Result<usize, Failed>
+    ensures { IfOk result (λ n. n ≤ length buf.old) }
+{
+    for _ in 0..MOST_INTERRUPTIONS {
+        match stream.read(buf) {
+            Err(error) if is_interrupted(&error) => {}
+            Err(_) => return Err(Failed),
+            Ok(n) => return Ok(n),
+        }
+    }
+    Err(Failed)
 }
 
 // How much is left of a time that began at a moment, if any is.
@@ -89,15 +120,22 @@ fn time_left<R: Clock>(rt: &R, since: Instant, whole: Duration) -> Option<Durati
     }
 }
 
+// How long after the accept more may be sent, where so many bytes were.
+fn answer_time(sent: u64) -> Duration {
+    Duration::from_secs(ANSWER_PATIENCE + sent / BYTES_A_SECOND)
+}
+
 impl<S: Read + Write + OpenStream + Drop> Guest<S> {
     // Sends the first of the bytes in one system call, while there is time for the answer.
     pub(crate) fn send<R: Clock>(&mut self, rt: &R, bytes: &[u8]) -> Result<usize, Failed>
         ensures { IfOk result (λ n. TakesSome n bytes.now) }
     {
-        if time_left(rt, self.since, Duration::from_secs(ANSWER_PATIENCE)).is_none() {
+        if time_left(rt, self.since, answer_time(self.sent)).is_none() {
             return Err(Failed);
         }
-        send_some(&mut self.stream, bytes)
+        let n = send_some(&mut self.stream, bytes)?;
+        self.sent = self.sent.saturating_add(n as u64);
+        Ok(n)
     }
 
     // What one system call gives, within the time that is left.
@@ -108,10 +146,7 @@ impl<S: Read + Write + OpenStream + Drop> Guest<S> {
         if left.is_none() || self.stream.set_read_timeout(left).is_err() {
             return Err(Failed);
         }
-        match self.stream.read(buf) {
-            Ok(n) => Ok(n),
-            Err(_) => Err(Failed),
-        }
+        receive_some(&mut self.stream, buf)
     }
 
     // Whether bytes wait that were not received. It takes some of them.

@@ -15,8 +15,9 @@ use std::time::Instant;
 
 /// The TCP connections that a host accepts at a port of all its addresses of the fourth version,
 /// over a runtime's network. It tells no content. The other side has 10 seconds from the accept for
-/// all that it sends, an hour until it has all that is sent, and a call that waits 10 seconds for a
-/// byte to be taken fails. A call that takes no byte is a failed one, and a peer that has gone is a
+/// all that it sends. A call that sends fails later than 20 seconds after the accept, and one second
+/// more for each 65,536 bytes that were sent before it; and it fails where it waits 10 seconds for a
+/// byte to be taken. A call that takes no byte is a failed one, and a peer that has gone is a
 /// fault and no signal. Dropping the door ends the last connection as `accept` does.
 pub struct TcpDoor<R: Net + Clock + Drop> {
     rt: R,
@@ -124,6 +125,7 @@ fn next_guest<R: Net + Clock>(
     Ok(Guest {
         stream,
         since: Instant::now(rt)?,
+        sent: 0,
     })
 }
 

@@ -4,12 +4,11 @@ ghost use Rattle.outside.specs.Streams.{Causes, TakesSome};
 ghost use Rattle.connections.specs.Wire.{Connects, Receives, Sends, all_sent};
 
 use crate::counted::counted;
-use crate::stream::{CLIENT_PATIENCE, connect, prepare, send_some};
+use crate::stream::{CLIENT_PATIENCE, connect, prepare, receive_some, send_some};
 use connections::Wire;
 use outside::Failed;
 use small_types::Text;
 use std::io;
-use std::io::Read;
 use std::net::{Net, OpenStream};
 use std::rt::Clock;
 use std::time::Duration;
@@ -69,10 +68,7 @@ fn receive<R: Net>(stream: &mut Option<R::Stream>, buf: &mut [u8]) -> Result<usi
     ensures { IfOk result (λ n. n ≤ length buf.old) }
 {
     match stream {
-        Some(stream) => match stream.read(buf) {
-            Ok(n) => Ok(n),
-            Err(_) => Err(Failed),
-        },
+        Some(stream) => receive_some(stream, buf),
         None => Err(Failed),
     }
 }

@@ -69,6 +69,8 @@ enum DoorStep {
     // What can be received at once, in a buffer of four bytes.
     Receive(Result<(usize, [u8; 4]), Failed>),
     Send(&'static [u8; 6], Result<usize, Failed>),
+    // Sends until 65,536 bytes are taken, or a call fails.
+    SendLong(Result<(), Failed>),
     // One of many sends to a peer that has gone fails.
     SendToNobody,
     // How often accepting failed, and how often the other calls did.
@@ -79,6 +81,14 @@ fn received<D: Door>(door: &mut D) -> Result<(usize, [u8; 4]), Failed> {
     let mut buf = *b"....";
     let n = door.receive(&mut buf)?;
     Ok((n, buf))
+}
+
+fn sent_long<D: Door>(door: &mut D) -> Result<(), Failed> {
+    let mut left = 65_536;
+    while left > 0 {
+        left -= door.send(&[0; 4096][..left.min(4096)])?;
+    }
+    Ok(())
 }
 
 fn is_refused<D: Door>(door: &mut D) -> bool {
@@ -96,6 +106,7 @@ fn door_answers<D: Door>(door: &mut D, step: &DoorStep) -> bool {
         DoorStep::Accept(want) => door.accept() == *want,
         DoorStep::Receive(want) => received(door) == *want,
         DoorStep::Send(bytes, want) => door.send(*bytes) == *want,
+        DoorStep::SendLong(want) => sent_long(door) == *want,
         DoorStep::SendToNobody => is_refused(door),
         DoorStep::Counts(missed, faults) => door.missed() == *missed && door.faults() == *faults,
     }
@@ -196,6 +207,50 @@ fn a_door_does_not_wait_without_end(rt: HostRuntime) -> Result<(), Fail> {
     };
     let mut door = TcpDoor::new(near, 0);
     serve_silent(&rt, &rt, &listener, &millis, &mut door)?;
+    Ok(())
+}
+
+const ANSWER_IN_TIME: &[DoorStep] = &[DoorStep::SendLong(Ok(()))];
+
+const LONGER_ANSWER: &[DoorStep] = &[DoorStep::Send(b"answer", Ok(6))];
+
+const LATE_ANSWER: &[DoorStep] = &[DoorStep::Send(b"answer", Err(Failed))];
+
+// A client takes nothing. What is sent to it has 20 seconds, and one more once 65,536 bytes of it were taken.
+fn serve_slow<D: Door>(
+    abort: &impl Abort,
+    rt: &HostRuntime,
+    listener: &TcpListener,
+    millis: &Cell<u64>,
+    door: &mut D,
+) -> io::Result<()> {
+    let slow = client_of(rt, listener)?;
+    go(abort, rt, "slow", door, ACCEPT);
+    millis.set(19_999);
+    go(abort, rt, "in time", door, ANSWER_IN_TIME);
+    millis.set(20_999);
+    go(abort, rt, "longer", door, LONGER_ANSWER);
+    millis.set(21_000);
+    go(abort, rt, "late", door, LATE_ANSWER);
+    drop(slow);
+    let next = client_of(rt, listener)?;
+    go(abort, rt, "next", door, ACCEPT);
+    millis.set(41_000);
+    go(abort, rt, "late", door, LATE_ANSWER);
+    drop(next);
+    Ok(())
+}
+
+#[test]
+fn a_door_gives_an_answer_time_for_its_length(rt: HostRuntime) -> Result<(), Fail> {
+    let listener = bound(&rt)?;
+    let millis = Cell::new(0);
+    let near = Near {
+        listener: &listener,
+        millis: &millis,
+    };
+    let mut door = TcpDoor::new(near, 0);
+    serve_slow(&rt, &rt, &listener, &millis, &mut door)?;
     Ok(())
 }
 

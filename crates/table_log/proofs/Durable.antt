@@ -1,5 +1,5 @@
 -- What a durable step does, by what became of its pieces.
-use Rattle.std.proofs.Common.{◌≡◌, ◌+◌, ◌<◌, ◌≤◌, ℕ, List, Option, Some, None, length, Result, Ok, Err, refl, subst, arith}
+use Rattle.std.proofs.Common.{◌≡◌, ◌+◌, ℕ, List, length, Result, Ok, Err, refl, arith}
 use Rattle.std.specs.Prelude.{IfErr}
 use Rattle.disks.specs.declared.disk.Disk.{Ghosts}
 use Rattle.disks.specs.Spends.{Spends}
@@ -30,18 +30,6 @@ module _ {D : Type 0} (on : Ghosts D) (change : Change) (tables : Tables) (log :
     memory = λ e. (refl, same, refl);
     spends = λ fits. spends_nothing on 4 (AROUND + change_size change) disk;
     spends_more = λ none. spends_nothing on 10 (AROUND + change_size change + AROUND_TABLES + 1 + tables_size tables) disk;
-  }
-
-  -- the entry was added
-  pub made_by_append : {T : Type 0} (result : Result T StepFault) (log_new : Log) (tables_new : Tables) (disk_new : D) (piece : List ℕ) → HasEntry (change_text change) piece → FitsHalf log (change_size change)
-      → Stores on change tables log disk result log_new disk_new → tables_new ≡ effect change tables → IfErr result (λ e. e ≡ DiskFault) → Spends on 4 (length piece) disk disk_new (result ≡ Err DiskFault)
-      → MakesDurable on change log tables disk result log_new tables_new disk_new
-  made_by_append result log_new tables_new disk_new piece has fits stores same fault spends = record {
-    stores = stores;
-    made = λ other. same;
-    memory = λ e. absurd (no_memory result fault e);
-    spends = λ few. spends_bytes on 4 (length piece) (AROUND + change_size change) disk disk_new _ has.size spends;
-    spends_more = λ none. absurd (none fits);
   }
 
   -- the other half was begun with the tables, and the entry was added there

@@ -40,8 +40,8 @@ abbrev pub AgreesBehind : ℕ → List ℕ → List ℕ → Type 0
 AgreesBehind half old new = AgreesOutside 0 (blocks_start half) old new
 
 -- What storing a change of these tables does to the log and to the disk, for any room. Where the
--- log was open as the tables, it is open as the changed ones, and a stop inside leaves an image that
--- reads as either. What stands behind the halves stays, also where the disk failed.
+-- log was open as the tables, it is open as the changed ones, and a stop inside leaves an image
+-- that reads as either. What stands behind the halves stays, also where the disk failed.
 pub record Stores {D T : Type 0} (on : Ghosts D) (change : Change) (tables : Tables)
     (log_old : Log) (disk_old : D) (result : Result T StepFault) (log_new : Log) (disk_new : D)
     : Type 0 where

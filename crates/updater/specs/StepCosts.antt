@@ -10,8 +10,8 @@ use Rattle.table_weight.specs.Weight.{tables_weight}
 abbrev pub entry_cost : Change → ℕ
 entry_cost change = AROUND + length (change_text change)
 
--- a checkpoint: at most what the tables weigh, with the log's own bytes around them, one of which is
--- written twice
+-- a checkpoint: at most what the tables weigh, with the log's own bytes around them, of which one
+-- is written twice
 abbrev pub checkpoint_cost : Tables → ℕ
 checkpoint_cost tables = AROUND_TABLES + 1 + tables_weight tables
 

@@ -1,3 +1,4 @@
+// The faults of an opening.
 /// Why a store is not opened.
 #[derive(Clone, Copy, Debug, PartialEq, Eq)]
 pub enum RecoverFault {

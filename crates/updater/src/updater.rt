@@ -107,6 +107,8 @@ impl Updater {
 
     /// Opens the store on the disk. Where the kept boot number differs from the given one, which is
     /// at most 2^62, the given one is made durable, which ends all leases, and the answer is true.
+    /// `NotAStore`: the bytes are no tables in a journal, or tables that are out of order, beyond a
+    /// limit or without room.
     pub fn recover<D: Disk>(
         alloc: Global,
         disk: &mut D,
@@ -275,7 +277,7 @@ impl Updater {
         make_durable(&mut self.log, alloc, disk, &mut self.state, change)
     }
 
-    // The same of a change by which no table weighs more.
+    // The same of a change by which nothing comes, so that the tables weigh no more than before.
     fn keep_lighter<D: Disk>(
         &mut self,
         alloc: Global,

@@ -1,6 +1,7 @@
 use Rattle.std.proofs.Common.{[], sym, refl}
 use Rattle.machine.specs.declared.command.Command.TheVariants as command
 use Rattle.machine.specs.declared.reply.Reply.TheVariants as says
+use Rattle.machine.specs.Entries.{entry_of}
 use Rattle.install_plan.proofs.Downs.{counts_none}
 use Rattle.updater.proofs.Commanding.{refused, rested, unlinked}
 use Rattle.updater.proofs.Lists.{not_shown, shown_rests}
@@ -16,7 +17,7 @@ returns-in_default g c =
     (g.met.D.Disk.seen_left c.args._disk.now) c.requires tt says.NotInstalled c.requires
     (counts_none refl)
     (λ old s. not_shown c.args.key.now u.room u.state old
-    (sym c.in_default.ensures)))
+    (sym {b = entry_of c.args.key.now c.self.inside.state.apps} c.in_default.ensures)))
 
 pub returns-in-Ok : goal.returns-in-Ok
 returns-in-Ok g c =
@@ -30,4 +31,4 @@ returns-in-Ok g c =
     (counts_none refl)
     (λ old s. shown_rests c.args.now u.room u.state
     _ _ _ old s.jobs s.shows c.args.key.now c.in-Some.app.now c.in-Ok.row
-    (sym c.in-Some.ensures) c.in-Ok.ensures))
+    (sym {b = entry_of c.args.key.now c.self.inside.state.apps} c.in-Some.ensures) c.in-Ok.ensures))
