@@ -1,6 +1,6 @@
 -- An install that can be made is made, where no link failed in its line.
-use Rattle.std.proofs.Common.{◌≡◌, ◌≢◌, ◌∙◌, ◌⊎◌, inl, inr, ◌<◌, ◌≤◌, ◌++◌, refl, sym, ap, subst, ℕ, List, [], ◌∷◌, length, All, Contains, Option, Some, None, Ok, Err, arith}
-use Rattle.std.specs.Prelude.{Any, IfSome, IsSomeAnd, Result, slice_get}
+use Rattle.std.proofs.Common.{◌≡◌, ◌≢◌, ◌∙◌, ◌⊎◌, inl, inr, ◌<◌, ◌≤◌, ◌++◌, refl, sym, ap, subst, ℕ, List, [], ◌∷◌, Contains, Option, Some, None, Ok, Err, arith}
+use Rattle.std.specs.Prelude.{Any, IfSome, Result, slice_get}
 use Rattle.std.proofs.lemmas.Bool.{cases_lt}
 use Rattle.std.proofs.lemmas.Option.{same_Some}
 use Rattle.small_types.specs.declared.limits.TheConstants.{FILE_COUNT_LIMIT, LOCAL_COUNT_LIMIT, MANIFEST_LIMIT}
@@ -8,11 +8,9 @@ use Rattle.small_types.specs.declared.target.Target.{Target}
 use Rattle.addresses.specs.declared.fault.UrlFault.{UrlFault}
 use Rattle.addresses.specs.declared.fault.UrlFault.TheVariants.{BadUrl, NotHttp}
 use Rattle.addresses.specs.Address.{target_of_text}
-use Rattle.addresses.specs.Join.{app_target_of, file_target_of}
-use Rattle.causes.specs.declared.cause.Cause.{Cause}
+use Rattle.addresses.specs.Join.{file_target_of}
 use Rattle.digest_list.specs.Matches.{Matches}
 use Rattle.identity.specs.Version.{IsBelow}
-use Rattle.manifest_parts.specs.declared.fault.ManifestFault.{ManifestFault}
 use Rattle.manifest_parts.specs.Parts.{Tells}
 use Rattle.manifests.specs.declared.facts.Application.{Application}
 use Rattle.manifests.specs.declared.facts.Deployment.{Deployment}
@@ -31,7 +29,7 @@ use Rattle.machine.specs.declared.command.Command.TheVariants.{Install}
 use Rattle.machine.specs.declared.reply.Reply.{Reply}
 use Rattle.machine.specs.declared.reply.Reply.TheVariants as says
 use Rattle.machine.specs.Blocks.{free_blocks}
-use Rattle.machine.specs.InstallRow.{HearsRelease, InstallEffect, IsBelowMinimum, IsNotNewer, IsRefused, IsWeightOf, LacksEntry, OfDeployment, OfRelease, OfWanted, address_refusals, base_of, deployment_refusals, file_refusals, files_after, install_refusals, locals_after, release_refusals}
+use Rattle.machine.specs.InstallRow.{HearsRelease, InstallEffect, IsBelowMinimum, IsNotNewer, IsWeightOf, LacksEntry, OfDeployment, OfRelease, OfWanted, address_refusals, base_of, deployment_refusals, file_refusals, files_after, install_refusals, locals_after, release_refusals}
 use Rattle.machine.specs.Machine.{Answers}
 use Rattle.machine.specs.Rows.{PassesAll, Refusal, Refuses}
 use Rattle.machine.specs.Shape.{Shape, shape_of}

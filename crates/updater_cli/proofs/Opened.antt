@@ -6,7 +6,7 @@ use Rattle.links.specs.declared.links.Links.{Ghosts as LinksGhosts}
 use Rattle.links.specs.Links.{failures_of}
 use Rattle.machine.specs.declared.event.Event.TheVariants.{Boot}
 use Rattle.machine.specs.declared.report.ReportLine.{ReportLine}
-use Rattle.machine.specs.Store.{Session, Store, booted, session_over}
+use Rattle.machine.specs.Store.{Session, booted, session_over}
 use Rattle.updater.specs.declared.fault.RecoverFault.{RecoverFault}
 use Rattle.updater.specs.declared.fault.RecoverFault.TheVariants as faults
 use Rattle.updater.specs.Shown.{Updater}

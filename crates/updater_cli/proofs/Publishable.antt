@@ -1,6 +1,6 @@
 -- A release that can be published is, over a folder that tells and does not fail.
-use Rattle.std.proofs.Common.{◌≡◌, ◌≢◌, ◌∙◌, ◌⊎◌, inl, inr, ◌≤◌, ◌++◌, ◌&&◌, refl, sym, ap, subst, ℕ, Bool, true, false, not, cond, List, [], ◌∷◌, length, map, All, Option, Some, None, Ok, Err, append_assoc}
-use Rattle.std.specs.Prelude.{Any, IfErr, IfSome, Result, find, nat_lt, option_map}
+use Rattle.std.proofs.Common.{◌≡◌, ◌∙◌, ◌⊎◌, inl, inr, ◌≤◌, ◌++◌, ◌&&◌, refl, sym, ap, subst, ℕ, Bool, true, false, not, cond, List, [], ◌∷◌, length, map, All, Option, Some, None, Ok, Err, append_assoc}
+use Rattle.std.specs.Prelude.{IfErr, IfSome, Result, nat_lt, option_map}
 use Rattle.std.specs.List.{list_any}
 use Rattle.std.proofs.lemmas.Bool.{and_from, cases_Bool, le-ltb}
 use Rattle.std.proofs.lemmas.List.{append-nil}
@@ -17,8 +17,6 @@ use Rattle.identity.specs.Version.{IsBelow, version_cmp}
 use Rattle.identity.proofs.VersionLemmas.{IsBelow-from_cmp}
 use Rattle.std.specs.Ordering.{is_lt}
 use Rattle.manifests.specs.Applications.{size_limit}
-use Rattle.manifests.specs.declared.facts.FileEntry.{FileEntry}
-use Rattle.manifest_writer.specs.Applications.{application_text}
 use Rattle.machine.proofs.Finding.{find_none}
 use Rattle.publish_plan.specs.declared.fault.PlanFault.{PlanFault}
 use Rattle.publish_plan.specs.declared.options.Mark.{Mark}
@@ -27,15 +25,14 @@ use Rattle.publish_plan.specs.declared.options.Plan.{Plan}
 use Rattle.publish_plan.specs.declared.options.PlannedFile.{PlannedFile}
 use Rattle.publish_plan.specs.Early.{above, early_of, overlap}
 use Rattle.publish_plan.specs.Marks.{bad_mark, is_among, is_good, is_marked}
-use Rattle.publish_plan.specs.Outcome.{Read, unless}
-use Rattle.publish_plan.specs.Places.{deployment_name, input_names, is_plain_name, lies_below, manifest_name, version_folder}
-use Rattle.publish_plan.specs.Plans.{few, fit_inputs, good_marks, is_bad_input, plan_for, plan_of, planned_files, some_input, standing, with_entry}
+use Rattle.publish_plan.specs.Outcome.{unless}
+use Rattle.publish_plan.specs.Places.{deployment_name, is_plain_name, lies_below, manifest_name, version_folder}
+use Rattle.publish_plan.specs.Plans.{few, fit_inputs, good_marks, is_bad_input, plan_for, plan_of, some_input, standing, with_entry}
 use Rattle.publisher.specs.declared.fault.PublishFault.{PublishFault}
 use Rattle.publisher.specs.declared.fault.PublishFault.TheVariants.{BadInput, BadMark, BadName, Changed, EmptyInput, FileTooLong, ManifestTooLong, Memory, MinimumAbove, NoEntryPoint, ReadFault, TooMany, VersionExists, WriteFault}
 use Rattle.publisher.specs.declared.published.Published.{Published}
-use Rattle.publisher.specs.Faults.{FaultsCounted}
 use Rattle.publisher.specs.Outcome.{Refuses}
-use Rattle.publisher.specs.Publication.{Outcome, application_of, bytes_in, deployment_manifest_of, entry_in, judged, limited, manifests_of, publish_of, published_files, read_entries, read_entry, release_of}
+use Rattle.publisher.specs.Publication.{Outcome, bytes_in, deployment_manifest_of, entry_in, judged, limited, manifests_of, publish_of, read_entries, read_entry, release_of}
 use Rattle.publisher.specs.Published.{IsPublish}
 use Rattle.publication.specs.declared.publication.End.{End}
 use Rattle.publication.specs.declared.publication.End.TheVariants as ends

@@ -2,11 +2,8 @@
 use Rattle.std.proofs.Common.{◌≡◌, ◌∙◌, ◌<◌, ◌++◌, inl, refl, subst, sym, ℕ, List, [], ◌∷◌, Option, Some, None}
 use Rattle.std.specs.Prelude.{Any, Contains, IfSome, IsSomeAnd, slice_get}
 use Rattle.small_types.specs.declared.target.Target.{Target}
-use Rattle.addresses.specs.Join.{file_target_of}
 use Rattle.causes.specs.declared.cause.Cause.{Cause}
 use Rattle.identity.specs.declared.key.Key.{Key}
-use Rattle.manifests.specs.declared.facts.Application.{Application}
-use Rattle.manifests.specs.declared.facts.Deployment.{Deployment}
 use Rattle.manifests.specs.declared.facts.FileEntry.{FileEntry}
 use Rattle.manifests.specs.Deployments.{deployment_of}
 use Rattle.links.specs.declared.links.Links.{Ghosts as LinksGhosts}
@@ -21,18 +18,18 @@ use Rattle.machine.specs.declared.reply.Reply.{Reply}
 use Rattle.machine.specs.declared.reply.Reply.TheVariants.{AllLinks}
 use Rattle.machine.specs.declared.report.ReportLine.{ReportLine}
 use Rattle.machine.specs.Machine.{Step}
-use Rattle.machine.specs.Shape.{BareView, Shape, shape_of}
+use Rattle.machine.specs.Shape.{Shape, shape_of}
 use Rattle.machine.specs.Store.{Session}
 use Rattle.machine.specs.Wanted.{wanted}
 use Rattle.machine.proofs.Members.{contains_in, in_right}
-use Rattle.install_plan.specs.GroupAsked.{AccountsGroup, GroupServed, LacksOfGroup}
-use Rattle.install_plan.specs.Hearing.{Accounts, LacksFile, LacksTarget, Served}
+use Rattle.install_plan.specs.GroupAsked.{AccountsGroup, GroupServed}
+use Rattle.install_plan.specs.Hearing.{Accounts, LacksTarget, Served}
 use Rattle.install_plan.specs.Offers.{AccountsOffer, OfferServed}
 use Rattle.install_plan.proofs.Told.{base_is, release_map, text_map}
 use Rattle.updater.specs.Commanded.{LinksServe}
 use Rattle.updater_cli.specs.Installable.{InstallsWhereItCan, IsInstalledOrMemory}
-use Rattle.updater_cli.specs.Quiet.{CheckFinds, CommandFinds, EventFinds, GroupFinds, InstallFinds, IsLacked, IsQuiet, LacksOne, LineFinds, LinesFind, WalkFinds, WalksFind}
-use Rattle.updater_cli.specs.Report.{IsLineServed, Origin, ServesLine, origin_after}
+use Rattle.updater_cli.specs.Quiet.{CheckFinds, CommandFinds, EventFinds, GroupFinds, InstallFinds, IsQuiet, LacksOne, LineFinds, LinesFind, WalkFinds, WalksFind}
+use Rattle.updater_cli.specs.Report.{Origin, ServesLine, origin_after}
 use Rattle.updater_cli.specs.Walk.{Walks}
 use Rattle.updater_cli.proofs.Installable.{installs}
 

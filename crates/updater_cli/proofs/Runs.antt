@@ -13,7 +13,7 @@ use Rattle.machine.specs.Laws.{FetchesWithoutJobs}
 use Rattle.machine.specs.Words.{IsEvent}
 use Rattle.machine.proofs.Sessions.{step_jobs, step_session}
 use Rattle.machine.specs.Store.{Session}
-use Rattle.updater_cli.specs.Report.{Origin, origin_after, events_of, replies_of, marked_by, moment_behind, AreRunFrom, answered, IsSettled, RunsTo, MarksRise, FailuresRise, AreMarkedBy}
+use Rattle.updater_cli.specs.Report.{Origin, events_of, replies_of, marked_by, moment_behind, AreRunFrom, answered, IsSettled, RunsTo, MarksRise, FailuresRise, AreMarkedBy}
 
 -- ---- a step
 

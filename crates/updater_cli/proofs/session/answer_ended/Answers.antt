@@ -1,4 +1,4 @@
-use Rattle.std.proofs.Common.{◌≡◌, ◌∙◌, ap, is_ok, List, ℕ, if◌then◌else◌}
+use Rattle.std.proofs.Common.{◌∙◌, ap}
 use Rattle.std.specs.Str.Lines.{strip_carriage_return}
 use Rattle.updater_cli.proofs.Pieces.{line_answered, line_refused, line_stopped}
 use Rattle.updater_cli.proofs.session.answer_ended.Goals as goal

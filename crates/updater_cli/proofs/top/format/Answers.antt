@@ -1,4 +1,4 @@
-use Rattle.std.proofs.Common.{rules, inl, inr, refl, arith, ◌+◌}
+use Rattle.std.proofs.Common.{rules, inl, inr, refl, arith}
 use Rattle.disks.proofs.Books.{spends_as}
 use Rattle.table_log.proofs.NewRooms.{made_limits}
 use Rattle.updater_cli.proofs.Formatting.{renews, stands_new}
