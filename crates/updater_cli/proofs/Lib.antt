@@ -2,11 +2,13 @@ pub mod Answering
 pub mod Asked
 pub mod Asking
 pub mod Begin
+pub mod Complete
 pub mod DemoEnds
 pub mod Downs
 pub mod Ends
 pub mod Formatting
 pub mod Inputs
+pub mod Installable
 pub mod Leased
 pub mod NoOthers
 pub mod Opened
@@ -23,7 +25,9 @@ pub mod PublishedRelease
 pub mod PublishedRuns
 pub mod PublishedTexts
 pub mod PublishedUses
+pub mod Publishable
 pub mod Publishing
+pub mod Quiet
 pub mod Reading
 pub mod Releases
 pub mod Running

@@ -1,11 +1,15 @@
 // What holds from a publish to a read, with no code.
 ghost use Rattle.updater_cli.specs.NoOthers.{NoOthersCome};
 ghost use Rattle.updater_cli.specs.Premises.{OneSiteIsGiven, PublishesWrite, ServedIsGiven};
+ghost use Rattle.updater_cli.specs.Publishable.{PublishesWhereItMay};
 ghost use Rattle.updater_cli.specs.Published.{PublishedDataIsRead, PublishedIsGiven, PublishedIsRead};
+ghost use Rattle.updater_cli.specs.Quiet.{WalksFind};
 ghost use Rattle.updater_cli.specs.Releases.{PagesHaveReleases, ReleasesAreOffered};
 ghost use Rattle.updater_cli.specs.Walk.{WalksTell};
 
+use folders::Folder;
 use links::Links;
+use outside::Sink;
 
 /// What was published is what is given. The first link's site is a folder that holds what a publish
 /// wrote, at what an install asks for, and the install hears what the links give. Then the view that
@@ -66,4 +70,19 @@ pub fn one_site_is_given<L: Links>(links: &L)
 /// links with which it began tell, what the lines heard and brought is of their sites.
 pub fn walks_tell<L: Links>(first: &L, links: &L)
     ensures { WalksTell L.Links (L.links first.now) links.now }
+{}
+
+/// Over links that tell, each line of a walk in which none of them failed found what they had: what
+/// it heard is what they gave, and where it says that no link gave a target, none had it. Such is
+/// each line whose number of failures is that of the line before it, and each line at all where no
+/// link's count rose in the walk.
+pub fn walks_find<L: Links>(first: &L, links: &L)
+    ensures { WalksFind L.Links (L.links first.now) links.now }
+{}
+
+/// A release that may be published is, unless memory runs out: none of the refusals of a publish
+/// applies to its options and its files, and the folder tells what it holds and does not fail. The
+/// folder and the sink are those before the publish and behind it.
+pub fn publishes_where_it_may<F: Folder, K: Sink>(old: &F, new: &F, sink_old: &K, sink: &K)
+    ensures { PublishesWhereItMay F.Folder K.Sink old.now new.now sink_old.now sink.now }
 {}

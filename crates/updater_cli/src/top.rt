@@ -9,6 +9,7 @@ ghost use Rattle.publish_plan.specs.declared.options.Options.{Options};
 ghost use Rattle.updater.specs.StandsFor.{StandsForNone};
 ghost use Rattle.updater_cli.specs.declared.status.Status.TheVariants as exit;
 ghost use Rattle.updater_cli.specs.declared.words.Request.TheVariants as asked;
+ghost use Rattle.updater_cli.specs.Complete.{AnswersAll};
 ghost use Rattle.updater_cli.specs.Demonstration.{NotesFault, RunsDemo};
 ghost use Rattle.updater_cli.specs.Devices.{Asks, devices_of};
 ghost use Rattle.updater_cli.specs.Format.{MakesStore};
@@ -102,6 +103,13 @@ pub fn run<S: Source, K: Sink, D: Disk, F: Folder, L: Links>(
     // hand out and when, what its reads show, and that a stop leaves leased views whole.
     ensures headline { (boot now : ℕ) → request_of words.now ≡ Some (asked.Session boot now)
         → Headline S.Source K.Sink D.Disk L.Links boot now result
+        (devices_of source.old sink.old disk.old links.old)
+        (devices_of source.new sink.new disk.new links.new) report.new }
+
+    // It answers: where nothing failed, each line of its input has its reply, the sink took the texts
+    // of all replies, and the status is 0; or there was no memory.
+    ensures complete { (boot now : ℕ) → request_of words.now ≡ Some (asked.Session boot now)
+        → AnswersAll S.Source K.Sink D.Disk L.Links boot now result
         (devices_of source.old sink.old disk.old links.old)
         (devices_of source.new sink.new disk.new links.new) report.new }
 

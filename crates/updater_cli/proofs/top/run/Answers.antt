@@ -1,6 +1,7 @@
 use Rattle.std.proofs.Common.{rules, arith, ◌≡◌, ◌≢◌, Some, Err, inr, refl, sym, ◌∙◌, ap}
 use Rattle.updater_cli.specs.declared.status.Status.{Status}
 use Rattle.updater_cli.specs.declared.status.Status.TheVariants.{Done, Words, SourceFault, SinkFault, DiskFault, NotAStore, Memory, TooMuchInput}
+use Rattle.updater_cli.specs.Complete.{AnswersAll}
 use Rattle.updater_cli.specs.Demonstration.{NotesFault, RunsDemo}
 use Rattle.updater_cli.specs.Devices.{devices_of}
 use Rattle.updater_cli.specs.Format.{MakesStore}
@@ -9,6 +10,7 @@ use Rattle.updater_cli.specs.Requests.{InspectsInput, PublishesBy}
 use Rattle.updater_cli.specs.Status.{code_of}
 use Rattle.updater_cli.specs.Words.{request_of}
 use Rattle.updater_cli.proofs.Asked.{for_session, for_format, for_inspect, for_publish, for_demo}
+use Rattle.updater_cli.proofs.Complete.{answers_all}
 use Rattle.updater_cli.proofs.PublishWords.{no_session, no_format, no_inspect, no_demo, no_others, refused_session, refused_format, refused_inspect, refused_demo, refused_others}
 use Rattle.updater_cli.proofs.Publishing.{publishes, publishes_nothing}
 use Rattle.updater_cli.proofs.top.run.Goals as goal
@@ -32,6 +34,16 @@ returns-in-Ok-Session-clause-headline g c =
     for_session (request_of c.args.words.now)
     (λ boot now. Headline g.S.Source g.K.Sink g.D.Disk g.L.Links boot now c.code-in-Ok-Session.result (devices_of c.args.source.now c.args.sink.now c.args.disk.now c.args.links.now) (devices_of c.session.new.source c.session.new.sink c.session.new.disk c.session.new.links) c.session.new.report)
     c.in-Ok-Session.boot c.in-Ok-Session.now (c.in-Ok-Session.ensures.request ∙ ap Some c.in-Ok-Session.field-0-is) (rw c.code-in-Ok-Session.ensures c.session.ensures.headline)
+
+pub returns-in-Ok-Session-clause-complete : goal.returns-in-Ok-Session-clause-complete
+returns-in-Ok-Session-clause-complete g c =
+    for_session (request_of c.args.words.now)
+    (λ boot now. AnswersAll g.S.Source g.K.Sink g.D.Disk g.L.Links boot now c.code-in-Ok-Session.result (devices_of c.args.source.now c.args.sink.now c.args.disk.now c.args.links.now) (devices_of c.session.new.source c.session.new.sink c.session.new.disk c.session.new.links) c.session.new.report)
+    c.in-Ok-Session.boot c.in-Ok-Session.now (c.in-Ok-Session.ensures.request ∙ ap Some c.in-Ok-Session.field-0-is)
+    (rw c.code-in-Ok-Session.ensures
+    (answers_all g.S.Source g.K.Sink g.D.Disk g.L.Links c.in-Ok-Session.boot c.in-Ok-Session.now (devices_of c.args.source.now c.args.sink.now c.args.disk.now c.args.links.now)
+    (devices_of c.session.new.source c.session.new.sink c.session.new.disk c.session.new.links) c.session.new.report c.session.result c.session.ensures.headline c.session.ensures.words c.session.ensures.not_a_store
+    c.session.ensures.reads c.session.ensures.writes c.session.ensures.asks))
 
 pub returns-in-Ok-Format-clause-format : goal.returns-in-Ok-Format-clause-format
 returns-in-Ok-Format-clause-format g c =
@@ -68,6 +80,9 @@ returns-in-Err-Memory-clause-publish g c = λ options asked other.
 pub returns-in-Err-Unreadable-clause-headline : goal.returns-in-Err-Unreadable-clause-headline
 returns-in-Err-Unreadable-clause-headline g c = λ boot now asked. absurd (refused_session c.args.words.now (c.in-Err-Unreadable.ensures.none (ap Err c.in-Err-Unreadable.field-0-is)) boot now asked)
 
+pub returns-in-Err-Unreadable-clause-complete : goal.returns-in-Err-Unreadable-clause-complete
+returns-in-Err-Unreadable-clause-complete g c = λ boot now asked. absurd (refused_session c.args.words.now (c.in-Err-Unreadable.ensures.none (ap Err c.in-Err-Unreadable.field-0-is)) boot now asked)
+
 pub returns-in-Err-Unreadable-clause-format : goal.returns-in-Err-Unreadable-clause-format
 returns-in-Err-Unreadable-clause-format g c = λ blocks asked. absurd (refused_format c.args.words.now (c.in-Err-Unreadable.ensures.none (ap Err c.in-Err-Unreadable.field-0-is)) blocks asked)
 
@@ -94,6 +109,9 @@ returns-in-Err-Unreadable-clause-other_words g c = λ other. ((λ one. refused_o
 
 pub returns-in-Err-Memory-clause-headline : goal.returns-in-Err-Memory-clause-headline
 returns-in-Err-Memory-clause-headline g c = λ boot now asked. absurd (no_session c.args.words.now (c.in-Err-Memory.ensures.memory (ap Err c.in-Err-Memory.field-0-is)) boot now asked)
+
+pub returns-in-Err-Memory-clause-complete : goal.returns-in-Err-Memory-clause-complete
+returns-in-Err-Memory-clause-complete g c = λ boot now asked. absurd (no_session c.args.words.now (c.in-Err-Memory.ensures.memory (ap Err c.in-Err-Memory.field-0-is)) boot now asked)
 
 pub returns-in-Err-Memory-clause-format : goal.returns-in-Err-Memory-clause-format
 returns-in-Err-Memory-clause-format g c = λ blocks asked. absurd (no_format c.args.words.now (c.in-Err-Memory.ensures.memory (ap Err c.in-Err-Memory.field-0-is)) blocks asked)
