@@ -193,8 +193,8 @@ by_key key f keeps is each apps have =
     All-with_entry key f keeps IsEncodableApp (each (fresh key) (fresh_has key is)) each apps have
 
 -- what stands at a place
-there_has : {X : Type 0} (P : X → Type 0) (xs : List X) (place : ℕ) (x : X) → slice_get xs place ≡ Some x
-    → All P xs → P x
+there_has : {X : Type 0} (P : X → Type 0) (xs : List X) (place : ℕ) (x : X)
+    → slice_get xs place ≡ Some x → All P xs → P x
 there_has P xs place x is all =
     subst P (get_or_from_slice_get xs place x x is) (all place x (slice_get_within xs place x is))
 

@@ -1,5 +1,5 @@
--- An encoding is within what its tables weigh: each file has as many bytes as its size says, and its
--- blocks weigh no less.
+-- An encoding is within what its tables weigh: each file has as many bytes as its size says, and
+-- its blocks weigh no less.
 use Rattle.std.proofs.Common.{◌≤◌, ℕ, List, [], ◌∷◌, All, arith}
 use Rattle.std.specs.Prelude.{sum_by}
 use Rattle.std.proofs.lemmas.List.Elements.{All-head, All-tail}

@@ -47,8 +47,8 @@ abbrev pub AreWithinWeights : Type 0
 AreWithinWeights = (t : Tables) → IsEncodableState t
     → length (state_text t) ≤ weight_with spelled_cost t
 
--- So it is where a file counts its blocks: its bytes are as many as its size says, and the spelling
--- of tables that have their fields is no longer.
+-- Where tables have their fields, a file holds as many bytes as its size says, and its blocks weigh
+-- no less: so their spelling is at most as long as they weigh.
 abbrev pub AreWithinTableWeights : Type 0
 AreWithinTableWeights = (t : Tables) → AreTables t → HaveFields t
     → length (state_text t) ≤ tables_weight t
@@ -58,9 +58,10 @@ abbrev pub IsShortPut : Change → Type 0
 IsShortPut (Put view file) = length file.held ≤ PIECE_LIMIT
 IsShortPut change = Unit {0}
 
--- The encoding of a change is longer by at most so much than the weight that it adds. Weight that it
--- takes away counts as none.
+-- The encoding of a change is longer by at most so much than the weight that it adds. A loss of
+-- weight counts as none.
 abbrev pub ChangesAreWithinWeights : Type 0
 ChangesAreWithinWeights = (t : Tables) (change : Change) → AreTables t → IsEncodableState t
     → Fits t change → IsChange change → IsShortPut change
-    → length (change_text change) ≤ CHANGE_LIMIT + (tables_weight (effect change t) - tables_weight t)
+    → length (change_text change)
+    ≤ CHANGE_LIMIT + (tables_weight (effect change t) - tables_weight t)

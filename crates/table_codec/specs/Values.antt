@@ -61,7 +61,8 @@ pub record HasFields (view : View) : Type 0 where
   pub groups : All (IsShort NAME_LIMIT) view.groups
   pub locals : All IsEncodableLocal view.locals
 
--- the fields of tables do, however many of each they have
+-- the fields of tables do, however many of each they have, and contents hold as many bytes as their
+-- sizes
 pub record HaveFields (tables : Tables) : Type 0 where
   pub boot : IsWide tables.boot
   pub next_view : IsWide tables.next_view

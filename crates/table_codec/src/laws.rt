@@ -17,8 +17,8 @@ pub fn fields_stay_encodable()
     ensures had { HadFields }
 {}
 
-/// A law: tables whose fields have encodings have one, as long as they weigh no more than four bytes
-/// can say, and so have those to which a change leads that fits.
+/// A law: tables whose fields have encodings have one, as long as they weigh less than 2^32, and so
+/// have those to which a change leads that fits.
 pub fn changes_stay_encodable()
     ensures stay { StayEncodable }
     ensures are { AreEncodable }
@@ -35,7 +35,8 @@ pub fn encodings_are_within_table_weights()
     ensures { AreWithinTableWeights }
 {}
 
-/// A law: the encoding of a change is longer by at most `CHANGE_LIMIT` than the weight that it adds.
+/// A law: the encoding of a change is longer by at most `CHANGE_LIMIT` bytes than the weight that it
+/// adds.
 pub fn changes_are_within_weights()
     ensures { ChangesAreWithinWeights }
 {}

@@ -174,8 +174,9 @@ fn made_of(alloc: Global, end: usize, parts: TableParts) -> Result<StoreState, C
 /// The tables in memory that the bytes encode: what is read is within its limits and is tables, and
 /// the bytes are its encoding; bytes that encode such tables are read, unless memory runs out.
 /// `Bad` names the place, at most their length, where the first field begins that cannot be read,
-/// or where bytes are left over; and the end of the bytes, where a content holds more or fewer bytes
-/// than its size says, or what they encode is no tables, as values out of their order are none.
+/// or where bytes are left over; and the end of the bytes, where a content holds more or fewer
+/// bytes than its size says, or what they encode is no tables, as values out of their order are
+/// none.
 pub fn decode_state(alloc: Global, bytes: &[u8]) -> Result<StoreState, CodecFault>
     ensures found { IfOk result (λ t. IsEncodableState t × AreTables t
         × (bytes.now ≡ state_text t)) }
