@@ -1,5 +1,5 @@
 -- The encoding of the empty tables.
-use Rattle.std.proofs.Common.{◌≡◌, ◌⊎◌, ◌+◌, ◌<◌, ◌≤◌, ◌∙◌, ℕ, List, [], length, inl, inr, refl, ap, arith}
+use Rattle.std.proofs.Common.{◌≡◌, ◌⊎◌, ◌+◌, ◌<◌, ◌∙◌, ℕ, List, length, inl, inr, refl, ap, arith}
 use Rattle.std.proofs.lemmas.List.Elements.{All-nil}
 use Rattle.journal.specs.declared.fault.LogFault.{LogFault}
 use Rattle.journal.specs.declared.fault.LogFault.TheVariants.{DiskFault, Memory, NoRoom}

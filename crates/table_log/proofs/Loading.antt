@@ -15,7 +15,7 @@ use Rattle.store_state.specs.Tables.{Tables}
 use Rattle.table_codec.specs.Laws.{FieldsStay}
 use Rattle.table_codec.specs.Values.{HaveFields}
 use Rattle.table_log.specs.Texts.{Encodes, Loads}
-use Rattle.table_log.specs.Replay.{FitsNone, IsMade, LoadsNone, Makes, Replays, Tests, Tries}
+use Rattle.table_log.specs.Replay.{FitsNone, IsMade, LoadsNone, Makes, Tests, Tries}
 
 -- a change has some text
 pub some_text : (change : Change) → 1 ≤ length (change_text change)

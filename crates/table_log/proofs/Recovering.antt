@@ -1,6 +1,5 @@
 -- What reading tables finds.
-use Rattle.std.proofs.Common.{◌≡◌, ◌≢◌, ◌⊎◌, ◌≤◌, ◌+◌, inl, inr, ℕ, Bool, true, false, List, Result, Ok, Err, refl, sym, subst, ◌∙◌}
-use Rattle.std.specs.Prelude.{IfOk}
+use Rattle.std.proofs.Common.{◌≡◌, ◌≢◌, ◌⊎◌, ◌≤◌, ◌+◌, inl, inr, ℕ, List, Result, Ok, Err, refl, sym, subst}
 use Rattle.disks.specs.declared.disk.Disk.{Ghosts}
 use Rattle.disks.specs.Disk.{Only}
 use Rattle.disks.specs.Moments.{LeavesOnly}
@@ -9,7 +8,7 @@ use Rattle.disks.proofs.Books.{spends_as}
 use Rattle.journal.specs.declared.fault.LogFault.{LogFault}
 use Rattle.journal.specs.declared.fault.LogFault.TheVariants as log
 use Rattle.journal.specs.Layout.{IsHalvedJournal}
-use Rattle.journal.specs.Log.{IsOpen, half_of}
+use Rattle.journal.specs.Log.{IsOpen}
 use Rattle.journal.proofs.Store.{unique}
 use Rattle.record_fields.specs.declared.fault.CodecFault.{CodecFault}
 use Rattle.record_fields.specs.declared.fault.CodecFault.TheVariants.{Bad}
@@ -23,9 +22,9 @@ use Rattle.table_codec.specs.Values.{IsEncodableState}
 use Rattle.table_log.specs.declared.fault.RecoverFault.{RecoverFault}
 use Rattle.table_log.specs.declared.fault.RecoverFault.TheVariants.{DiskFault, NotTables, Memory as OutOfMemory}
 use Rattle.table_log.specs.declared.recovery.Opened.{Opened}
-use Rattle.table_log.specs.ReadsAs.{IsOpenAs, ReadsAs, ReadsAsNone}
-use Rattle.table_log.specs.Recovers.{HasRoom, IsReadFrom, Recovers}
-use Rattle.table_log.specs.Replay.{IsBase, LeadNowhere, LoadsNone, Replays, Settled, SpellsNone}
+use Rattle.table_log.specs.ReadsAs.{ReadsAsNone}
+use Rattle.table_log.specs.Recovers.{HasRoom, Recovers}
+use Rattle.table_log.specs.Replay.{IsBase, LeadNowhere, LoadsNone, Settled, SpellsNone}
 use Rattle.table_log.specs.Texts.{LeadTo, Loads, Spells}
 use Rattle.table_log.proofs.Images.{one_spelled}
 
