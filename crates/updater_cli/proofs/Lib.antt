@@ -7,6 +7,7 @@ pub mod Downs
 pub mod Ends
 pub mod Formatting
 pub mod Inputs
+pub mod Lacks
 pub mod Leased
 pub mod NoOthers
 pub mod Opened

@@ -3,6 +3,7 @@ pub mod Devices
 pub mod Downs
 pub mod Format
 pub mod Headline
+pub mod Lacks
 pub mod Lines
 pub mod NoOthers
 pub mod Offered
