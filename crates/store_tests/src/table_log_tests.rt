@@ -15,7 +15,7 @@ use std::alloc::{AllocError, Global};
 use std::test::Fail;
 use store_state::{Change, StoreState};
 use table_codec::{decode_state, encoded_length_of_state};
-use table_log::{Opened, RecoverFault, StepFault, format, make_durable, recover};
+use table_log::{Opened, RecoverFault, Rooms, StepFault, format, make_durable, recover};
 
 // The least length of a half.
 const HALF: u64 = 1_048_576;
@@ -129,7 +129,16 @@ fn enter(
         drop(change);
         return Said::Other;
     }
-    match make_durable(log, alloc, disk, state, change) {
+    let mut rooms = match Rooms::new(alloc, half) {
+        Ok(rooms) => rooms,
+        Err(AllocError) => {
+            drop(change);
+            return Said::Other;
+        }
+    };
+    let made = make_durable(log, &mut rooms, alloc, disk, state, change);
+    drop(rooms);
+    match made {
         Ok(()) => Said::Boot(state.boot),
         Err(StepFault::DiskFault) => Said::DiskFault,
         Err(StepFault::Memory) => Said::Other,

@@ -4,4 +4,5 @@ pub mod Pieces
 pub mod ReadsAs
 pub mod Recovers
 pub mod Replay
+pub mod Rooms
 pub mod Texts

@@ -12,7 +12,7 @@ use Rattle.journal.specs.Layout.{blocks_start}
 use Rattle.journal.specs.Log.{FitsHalf, half_of}
 use Rattle.record_codec.specs.Codec.{change_text}
 use Rattle.store_state.specs.declared.change.Change.{Change}
-use Rattle.store_state.specs.Change.{effect}
+use Rattle.store_state.specs.Change.{TakesMemory, effect}
 use Rattle.store_state.specs.Tables.{Tables}
 use Rattle.table_codec.specs.Spelling.{state_text}
 use Rattle.table_log.specs.declared.fault.StepFault.{StepFault}
@@ -56,10 +56,10 @@ pub record Stores {D T : Type 0} (on : Ghosts D) (change : Change) (tables : Tab
   pub half : half_of log_new ≡ half_of log_old
   pub marked : OnOk result (on.moment disk_old + 1 ≤ on.moment disk_new)
 
--- What making a change durable does, in the tables, the log and the disk. For want of memory it
--- does nothing; else the tables have changed, also where the disk failed. Where the entry fits the
--- current half it costs an append; else at most a checkpoint of the old tables more, which makes up
--- to six calls and closes a gate first.
+-- What making a change durable does, in the tables, the log and the disk. For want of memory, which
+-- the change alone may take in the tables, it does nothing; else the tables have changed, also where
+-- the disk failed. Where the entry fits the current half it costs an append; else at most a
+-- checkpoint of the old tables more, which makes up to six calls and closes a gate first.
 pub record MakesDurable {D T : Type 0} (on : Ghosts D) (change : Change) (log_old : Log)
     (tables_old : Tables) (disk_old : D) (result : Result T StepFault) (log_new : Log)
     (tables_new : Tables) (disk_new : D) : Type 0 where
@@ -67,6 +67,7 @@ pub record MakesDurable {D T : Type 0} (on : Ghosts D) (change : Change) (log_ol
   pub made : result ≢ Err Memory → tables_new ≡ effect change tables_old
   pub memory : result ≡ Err Memory
       → (log_new ≡ log_old) × (tables_new ≡ tables_old) × (disk_new ≡ disk_old)
+  pub needs : result ≡ Err Memory → TakesMemory tables_old change
   pub spends : FitsHalf log_old (change_size change)
       → Spends on 4 (AROUND + change_size change) disk_old disk_new (result ≡ Err DiskFault)
   pub spends_more : ¬ FitsHalf log_old (change_size change)

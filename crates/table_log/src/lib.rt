@@ -8,6 +8,7 @@ mod making;
 mod piece;
 mod recovery;
 mod replay;
+mod rooms;
 mod step;
 mod storing;
 
@@ -15,4 +16,5 @@ pub use fault::{RecoverFault, StepFault};
 pub use laws::{a_log_stays_open_as_tables, an_image_reads_as_one, new_journals_read};
 pub use making::format;
 pub use recovery::{Opened, recover};
+pub use rooms::Rooms;
 pub use step::make_durable;

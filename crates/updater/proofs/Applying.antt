@@ -17,7 +17,7 @@ use Rattle.machine.specs.Valid.{Ordered}
 use Rattle.install_plan.proofs.Downs.{counts_none}
 use Rattle.install_plan.proofs.LeasedRows.{still_brought}
 use Rattle.updater.specs.Shown.{Updater}
-use Rattle.updater.specs.Commanded.{Commanded, LinksServe}
+use Rattle.updater.specs.Commanded.{Commanded, LinksServe, MayLack}
 use Rattle.updater.proofs.Commanding.{rested, unlinked}
 use Rattle.updater.proofs.Installing.{one_more}
 
@@ -64,10 +64,11 @@ served_at_once _ links old ordered = tt
 pub memory_at_once : {D L : Type 0} (on : Ghosts D) (net : LinksGhosts L) (now : ℕ)
     (command : Command) (updater : Updater) (disk : D) (links : L)
     → on.left_at disk (on.moment disk) (on.seen disk) → now ≤ NUMBER_LIMIT
+    → MayLack command
     → Commanded on net now [] command updater disk links (Ok says.Memory) updater disk links
-memory_at_once on net now command updater disk links seen_left moment =
+memory_at_once on net now command updater disk links seen_left moment may =
     rested on net now [] command updater disk links links seen_left moment
-    (unlinked net command updater links) says.Memory moment (counts_none refl) (λ old s. record {
+    (unlinked net command updater links) says.Memory moment (counts_none refl) (λ e. may) (λ old s. record {
       new = old;
       step = inl (inl (refl, refl));
       same = refl;

@@ -101,7 +101,7 @@ module _ {D L : Type 0} (on : Ghosts D) (net : LinksGhosts L) (now : ℕ) (key :
   check_over reply over =
       rested on net now heard (Check key) updater disk links_old links_new seen_left moment
       (record { kept = over.kept; left = tt; hears = over.hears }) reply
-      (subst (λ (n : ℕ). n ≤ NUMBER_LIMIT) (sym over.still) moment) over.downs
+      (subst (λ (n : ℕ). n ≤ NUMBER_LIMIT) (sym over.still) moment) over.downs (λ e. tt)
       (over_rests now key heard before after updater (on.seen disk) is_key moment reply over)
 
   -- what was heard or not is noted
@@ -116,10 +116,10 @@ module _ {D L : Type 0} (on : Ghosts D) (net : LinksGhosts L) (now : ℕ) (key :
       let linked : Linked net heard (Check key) updater links_old links_new =
       record { kept = ready.kept; left = tt; hears = ready.hears } in
       kept on net now heard (Check key) updater disk links_old links_new seen_left moment linked
-      change reply (subst (λ (n : ℕ). n ≤ NUMBER_LIMIT) (sym ready.still) moment) ready.downs
+      change reply (subst (λ (n : ℕ). n ≤ NUMBER_LIMIT) (sym ready.still) moment) ready.downs (λ e. tt)
       (ready_does now key heard before after updater (on.seen disk) is_key moment change reply ready)
-      (rested on net now heard (Check key) updater disk links_old links_new seen_left moment linked
-      says.Memory moment (counts_none refl)
+      (λ takes. rested on net now heard (Check key) updater disk links_old links_new seen_left moment linked
+      says.Memory moment (counts_none refl) (λ e. tt)
       (missed_rests now key heard before after updater (on.seen disk) is_key moment change reply
       ready))
       updater_new disk_new tried result keeps is

@@ -22,6 +22,7 @@ use Rattle.machine.specs.Valid.{Valid}
 use Rattle.machine.specs.Words.{IsCommand}
 use Rattle.machine.proofs.Sessions.{step_jobs}
 use Rattle.store_state.specs.declared.change.Change.{Change}
+use Rattle.store_state.specs.Change.{TakesMemory}
 use Rattle.store_state.specs.Shows.{Shows}
 use Rattle.store_state.specs.Tables.{Tables, table_shape}
 use Rattle.store_state.proofs.Showing.{shape_shown}
@@ -31,7 +32,7 @@ use Rattle.table_log.specs.declared.fault.StepFault.{StepFault}
 use Rattle.table_log.specs.declared.fault.StepFault.TheVariants.{Memory, DiskFault}
 use Rattle.updater.specs.Shown.{Updater}
 use Rattle.updater.specs.Answer.{IsAnswer}
-use Rattle.updater.specs.Commanded.{Commanded, LeavesLinks, LinksServe, SoundFor}
+use Rattle.updater.specs.Commanded.{Commanded, LeavesLinks, LinksServe, MayLack, SoundFor}
 use Rattle.updater.specs.Costs.{Costs}
 use Rattle.updater.specs.MakesDurable.{MakesDurable, LeadsBetween}
 use Rattle.updater.specs.Updater.{Holds, room_of, tables_of}
@@ -117,6 +118,12 @@ module _ (now : ℕ) (heard : List (List ℕ)) (room : Room) (tables : Tables) (
 ok_no_fault : {T : Type 0} (done : T) → ◌≢◌ {A = Result T StepFault} (Ok done) (Err DiskFault)
 ok_no_fault done e = cc
 
+told_reply : (reply other : Reply) → ◌≡◌ {A = Result Reply Failed} (Ok reply) (Ok other) → reply ≡ other
+told_reply reply other e = cc
+
+failed_no_reply : (fault : Failed) (reply : Reply) → ◌≢◌ {A = Result Reply Failed} (Err fault) (Ok reply)
+failed_no_reply fault reply e = cc
+
 module _ {D L : Type 0} (on : Ghosts D) (net : LinksGhosts L) (now : ℕ) (heard : List (List ℕ)) (command : Command) (updater : Updater) (disk : D) (links_old links_new : L)
     (seen_left : on.left_at disk (on.moment disk) (on.seen disk)) (moment : now ≤ NUMBER_LIMIT) (linked : Linked net heard command updater links_old links_new) where
   shown : (old : Session) → Holds on updater disk old → SoundFor command old.store → Shown (on.seen disk) command updater old
@@ -134,9 +141,9 @@ module _ {D L : Type 0} (on : Ghosts D) (net : LinksGhosts L) (now : ℕ) (heard
       (record { moment = refl; hears = heard_by old s; answer = reply; replied = refl; answers = step }) ∙ s.jobs
 
   -- the disk is not touched
-  pub rested : (reply : Reply) → moment_after now (Some reply) ≤ NUMBER_LIMIT → CountsDowns (net.links links_old) (net.links links_new) reply → ((old : Session) → Shown (on.seen disk) command updater old → LeavesStore now heard command (net.links links_old) (net.links links_new) old reply)
+  pub rested : (reply : Reply) → moment_after now (Some reply) ≤ NUMBER_LIMIT → CountsDowns (net.links links_old) (net.links links_new) reply → (reply ≡ says.Memory → MayLack command) → ((old : Session) → Shown (on.seen disk) command updater old → LeavesStore now heard command (net.links links_old) (net.links links_new) old reply)
       → Commanded on net now heard command updater disk links_old (Ok reply) updater disk links_new
-  rested reply few downs rests = record {
+  rested reply few downs lack rests = record {
     answered = λ told old holds sound. let s = shown old holds sound in let r = rests old s in record {
       new = r.new;
       hears = heard_by old s;
@@ -159,11 +166,12 @@ module _ {D L : Type 0} (on : Ghosts D) (net : LinksGhosts L) (now : ℕ) (heard
     hears = linked.hears;
     few = few;
     downs = downs;
+    lacks = λ e. lack (told_reply reply says.Memory e);
   }
 
-  module _ (change : Change) (reply : Reply) (few : moment_after now (Some reply) ≤ NUMBER_LIMIT) (downs : CountsDowns (net.links links_old) (net.links links_new) reply)
+  module _ (change : Change) (reply : Reply) (few : moment_after now (Some reply) ≤ NUMBER_LIMIT) (downs : CountsDowns (net.links links_old) (net.links links_new) reply) (lack : reply ≡ says.Memory → MayLack command)
       (does : (old : Session) → Shown (on.seen disk) command updater old → Does now heard command (net.links links_old) (net.links links_new) change (tables_of updater) old reply)
-      (missed : Commanded on net now heard command updater disk links_old (Ok says.Memory) updater disk links_new) (updater_new : Updater) (disk_new : D) where
+      (missed : TakesMemory (tables_of updater) change → Commanded on net now heard command updater disk links_old (Ok says.Memory) updater disk links_new) (updater_new : Updater) (disk_new : D) where
     -- what the step may write
     costs_of : {T : Type 0} (tried : Result T StepFault) (keeps : MakesDurable on change updater disk tried updater_new disk_new)
         → (old : Session) (s : Shown (on.seen disk) command updater old) → Costs old.store (does old s).new.store keeps.bytes
@@ -205,8 +213,9 @@ module _ {D L : Type 0} (on : Ghosts D) (net : LinksGhosts L) (now : ℕ) (heard
       hears = linked.hears;
       few = few;
       downs = downs;
+      lacks = λ e. lack (told_reply reply says.Memory e);
     })
-    kept (Err Memory) result keeps is = let same = keeps.memory refl in rw (is, same.0, same.1) missed
+    kept (Err Memory) result keeps is = let same = keeps.memory refl in rw (is, same.0, same.1) (missed (keeps.needs refl))
     kept (Err DiskFault) result keeps is = subst (λ (r : Result Reply Failed). Commanded on net now heard command updater disk links_old r updater_new disk_new links_new) (sym is) (record {
       answered = λ told old holds sound. tt;
       fault = λ told old holds sound. let s = shown old holds sound in let d = does old s in record {
@@ -228,6 +237,7 @@ module _ {D L : Type 0} (on : Ghosts D) (net : LinksGhosts L) (now : ℕ) (heard
       hears = linked.hears;
       few = tt;
       downs = tt;
+      lacks = λ e. absurd (failed_no_reply (record {}) says.Memory e);
     })
 
 -- ---- where nothing was asked
@@ -242,10 +252,11 @@ module _ {D L : Type 0} (on : Ghosts D) (net : LinksGhosts L) (now : ℕ) (comma
 
   -- the tables give a refusal, which changes nothing
   pub refused : (reply : Reply) → moment_after now (Some reply) ≤ NUMBER_LIMIT → CountsDowns (net.links links) (net.links links) reply
+      → (reply ≡ says.Memory → MayLack command)
       → ((old : Session) → Shown (on.seen disk) command updater old
       → Refuses (refusals now [] (table_shape (room_of updater) (tables_of updater)) command) old reply old)
       → Commanded on net now [] command updater disk links (Ok reply) updater disk links
-  refused reply few downs refuses = rested on net now [] command updater disk links links seen_left moment asked_none reply few downs (λ old s. record {
+  refused reply few downs lack refuses = rested on net now [] command updater disk links links seen_left moment asked_none reply few downs lack (λ old s. record {
     new = old;
     step = refused_answers now [] (room_of updater) (tables_of updater) old s.shape command reply old (refuses old s);
     same = refl;
@@ -253,8 +264,8 @@ module _ {D L : Type 0} (on : Ghosts D) (net : LinksGhosts L) (now : ℕ) (comma
   })
 
   -- no memory was found, at any place
-  pub memory_missed : Commanded on net now [] command updater disk links (Ok says.Memory) updater disk links
-  memory_missed = rested on net now [] command updater disk links links seen_left moment asked_none says.Memory moment (counts_none refl) (λ old s. record {
+  pub memory_missed : MayLack command → Commanded on net now [] command updater disk links (Ok says.Memory) updater disk links
+  memory_missed may = rested on net now [] command updater disk links links seen_left moment asked_none says.Memory moment (counts_none refl) (λ e. may) (λ old s. record {
     new = old;
     step = inl (inl (refl, refl));
     same = refl;
@@ -266,7 +277,7 @@ moment_shown : {D L : Type 0} (on : Ghosts D) (net : LinksGhosts L) (now next : 
     → on.left_at disk (on.moment disk) (on.seen disk) → now ≤ NUMBER_LIMIT → next ≤ NUMBER_LIMIT
     → Commanded on net now [] (At next) updater disk links (Ok (says.At next)) updater disk links
 moment_shown on net now next updater disk links seen_left moment few =
-    rested on net now [] (At next) updater disk links links seen_left moment (unlinked net (At next) updater links) (says.At next) few (counts_none refl) (λ old s. record {
+    rested on net now [] (At next) updater disk links links seen_left moment (unlinked net (At next) updater links) (says.At next) few (counts_none refl) (λ e. absurd (cc)) (λ old s. record {
       new = old;
       step = inr ((tt, tt), (refl, refl));
       same = refl;

@@ -115,7 +115,7 @@ module _ {D L : Type 0} (on : Ghosts D) (net : LinksGhosts L) (now lease : ℕ) 
   group_over reply over =
       rested on net now [] (Group lease group) updater disk links_old links_new seen_left moment
       (record { kept = over.kept; left = tt; hears = refl }) reply
-      (subst (λ (n : ℕ). n ≤ NUMBER_LIMIT) (sym (over.still now)) moment) over.downs
+      (subst (λ (n : ℕ). n ≤ NUMBER_LIMIT) (sym (over.still now)) moment) over.downs (λ e. tt)
       (over_rests now lease group before after updater (on.seen disk) words moment reply over)
 
   -- the files were fetched, and the change was tried
@@ -131,11 +131,11 @@ module _ {D L : Type 0} (on : Ghosts D) (net : LinksGhosts L) (now lease : ℕ) 
       record { kept = ready.kept; left = tt; hears = refl } in
       kept on net now [] (Group lease group) updater disk links_old links_new seen_left moment
       linked change reply
-      (subst (λ (n : ℕ). n ≤ NUMBER_LIMIT) (sym (ready.still now)) moment) ready.downs
+      (subst (λ (n : ℕ). n ≤ NUMBER_LIMIT) (sym (ready.still now)) moment) ready.downs (λ e. tt)
       (ready_does now lease group before after updater (on.seen disk) words moment change reply
       ready)
-      (rested on net now [] (Group lease group) updater disk links_old links_new seen_left moment
-      linked says.Memory moment (counts_none refl)
+      (λ takes. rested on net now [] (Group lease group) updater disk links_old links_new seen_left moment
+      linked says.Memory moment (counts_none refl) (λ e. tt)
       (missed_rests now lease group before after updater (on.seen disk) words moment change reply
       ready))
       updater_new disk_new tried result keeps is

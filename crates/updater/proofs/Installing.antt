@@ -113,7 +113,7 @@ module _ {D L : Type 0} (on : Ghosts D) (net : LinksGhosts L) (now : ℕ) (url :
       rested on net now heard (Install url) updater disk links_old links_new seen_left moment
       (record { kept = refused.kept; left = tt; hears = refused.hears }) reply
       (subst (λ (n : ℕ). n ≤ NUMBER_LIMIT) (sym (refused.still now)) moment)
-      refused.downs
+      refused.downs (λ e. tt)
       (refused_rests now url heard (net.links links_old) (net.links links_new) updater (on.seen disk) moment reply refused)
 
   -- all was fetched, and the change was tried
@@ -126,8 +126,8 @@ module _ {D L : Type 0} (on : Ghosts D) (net : LinksGhosts L) (now : ℕ) (url :
       let after = net.links links_new in
       kept on net now heard (Install url) updater disk links_old links_new seen_left moment linked change reply
       (ready_moment now url heard before after updater (on.seen disk) moment change reply ready)
-      (subst (CountsDowns before after) (sym ready.replied.3) (counts_none refl))
+      (subst (CountsDowns before after) (sym ready.replied.3) (counts_none refl)) (λ e. tt)
       (ready_does now url heard before after updater (on.seen disk) moment change reply ready)
-      (rested on net now heard (Install url) updater disk links_old links_new seen_left moment linked says.Memory moment (counts_none refl)
+      (λ takes. rested on net now heard (Install url) updater disk links_old links_new seen_left moment linked says.Memory moment (counts_none refl) (λ e. tt)
       (missed_rests now url heard before after updater (on.seen disk) moment (ready_served now url heard before after updater (on.seen disk) moment change reply ready)))
       updater_new disk_new tried result keeps is

@@ -176,6 +176,7 @@ module _ {D : Type 0} (on : Ghosts D) (log : Log) (room : Room) (tables : Tables
         stop = λ told old new leads holds. either_store on updater disk change fits old new leads holds seen_left disk_new (makes.stores.stop old.store.room holds.log);
         past = makes.stores.behind.past;
         memory = λ e. let same = makes.memory e in (as_was same.0 same.1, same.2);
+        needs = makes.needs;
         marked = makes.stores.marked;
         bytes = spent.bytes;
         costs = spent.costs;

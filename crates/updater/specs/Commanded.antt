@@ -1,5 +1,5 @@
 -- What a command does, in one record.
-use Rattle.std.specs.Prelude.{◌≡◌, ◌≢◌, ◌+◌, ◌≤◌, ℕ, List, ◌∷◌, [], ◌++◌, Some, Result, IfOk, OnErr}
+use Rattle.std.specs.Prelude.{◌≡◌, ◌≢◌, ◌+◌, ◌≤◌, ℕ, List, ◌∷◌, [], ◌++◌, Some, Result, Ok, IfOk, OnErr}
 use Rattle.outside.specs.declared.failed.Failed.{Failed}
 use Rattle.outside.specs.Streams.{Causes}
 use Rattle.small_types.specs.declared.limits.TheConstants.{NUMBER_LIMIT}
@@ -14,8 +14,9 @@ use Rattle.install_plan.specs.GroupAsked.{AreBrought, GroupServed}
 use Rattle.install_plan.specs.Hearing.{Served}
 use Rattle.install_plan.specs.Offers.{OfferServed}
 use Rattle.machine.specs.declared.command.Command.{Command}
-use Rattle.machine.specs.declared.command.Command.TheVariants.{Install, Check, Group}
+use Rattle.machine.specs.declared.command.Command.TheVariants.{At, Install, Check, Skip, Rollback, Launch, Group, Finish}
 use Rattle.machine.specs.declared.reply.Reply.{Reply}
+use Rattle.machine.specs.declared.reply.Reply.TheVariants as says
 use Rattle.machine.specs.Machine.{Answers, Hears, moment_after}
 use Rattle.machine.specs.Shape.{shape_of}
 use Rattle.machine.specs.Sound.{Sound}
@@ -42,6 +43,16 @@ LeavesLinks (Install url) old new = Unit {0}
 LeavesLinks (Check key) old new = Unit {0}
 LeavesLinks (Group lease group) old new = Unit {0}
 LeavesLinks _ old new = new ≡ old
+
+-- Whether a command may find no memory. A launch, a skip, a rollback and a finish take none, nor does
+-- the moment that a line sets.
+abbrev pub MayLack : Command → Type 0
+MayLack (At now) = ⊥
+MayLack (Launch key) = ⊥
+MayLack (Skip key) = ⊥
+MayLack (Rollback key) = ⊥
+MayLack (Finish lease) = ⊥
+MayLack _ = Unit {0}
 
 -- What the links did for a step from one session to another. An install asked them for what it
 -- heard, for each program file of the new view whose content no kept view has, and for each data
@@ -99,7 +110,8 @@ pub record Faulted {D L : Type 0} (on : Ghosts D) (net : LinksGhosts L) (now : �
 -- asks it, where the disk tells afterwards. What it tells then it told before. The count of faults
 -- rises exactly where the disk failed. The links and their sites stay. What it heard, its tables
 -- let it hear; and the moment of the next command is within its limit. Whatever session is held or
--- none, where the reply says of a link that it failed, the number of failures rose.
+-- none, where the reply says of a link that it failed, the number of failures rose, and it is want of
+-- memory only where the command may find none.
 pub record Commanded {D L : Type 0} (on : Ghosts D) (net : LinksGhosts L) (now : ℕ)
     (heard : List (List ℕ)) (command : Command) (updater_old : Updater) (disk_old : D)
     (links_old : L) (result : Result Reply Failed) (updater_new : Updater) (disk_new : D)
@@ -119,6 +131,7 @@ pub record Commanded {D L : Type 0} (on : Ghosts D) (net : LinksGhosts L) (now :
   pub hears : Hears (table_shape (room_of updater_old) (tables_of updater_old)) command heard
   pub few : IfOk result (λ reply. moment_after now (Some reply) ≤ NUMBER_LIMIT)
   pub downs : IfOk result (CountsDowns (net.links links_old) (net.links links_new))
+  pub lacks : result ≡ Ok says.Memory → MayLack command
 
 -- The same of the manifest texts that it heard, which stand then behind those that stood there.
 pub record CommandedBehind {D L : Type 0} (on : Ghosts D) (net : LinksGhosts L) (now : ℕ)

@@ -8,7 +8,7 @@ use Rattle.machine.specs.Valid.{Valid}
 use Rattle.machine.specs.Weight.{IsLight}
 use Rattle.record_codec.specs.Codec.{IsChange}
 use Rattle.store_state.specs.declared.change.Change.{Change}
-use Rattle.store_state.specs.Change.{Fits, effect}
+use Rattle.store_state.specs.Change.{Fits, TakesMemory, effect}
 use Rattle.store_state.specs.Tables.{Tables}
 use Rattle.table_weight.specs.Weight.{tables_weight}
 use Rattle.table_codec.specs.Laws.{IsShortPut}
@@ -35,7 +35,8 @@ pub record LeadsBetween (change : Change) (tables : Tables) (old new : Store) : 
   pub valid : Valid new
 
 -- What making a change durable does, for any session and any store between which it leads. It
--- writes at most what the change costs. For want of memory it does nothing.
+-- writes at most what the change costs. For want of memory, which the change alone may take, it does
+-- nothing.
 pub record MakesDurable {D T : Type 0} (on : Ghosts D) (change : Change)
     (updater_old : Updater) (disk_old : D) (result : Result T StepFault)
     (updater_new : Updater) (disk_new : D) : Type 0 where
@@ -52,6 +53,7 @@ pub record MakesDurable {D T : Type 0} (on : Ghosts D) (change : Change)
   pub past : (t : ℕ) (image : List ℕ) → t ≤ on.moment disk_old
       → on.left_at disk_new t image → on.left_at disk_old t image
   pub memory : result ≡ Err Memory → (updater_new ≡ updater_old) × (disk_new ≡ disk_old)
+  pub needs : result ≡ Err Memory → TakesMemory (tables_of updater_old) change
   pub marked : OnOk result (on.moment disk_old + 1 ≤ on.moment disk_new)
   pub bytes : ℕ
   pub costs : CostsOf change (tables_of updater_old) bytes

@@ -1,9 +1,10 @@
 // What going back to the previous view of an application comes to.
-ghost use Rattle.std.specs.Prelude.{◌≡◌, ℕ, List, [], Some, None, IfErr, IfOk, IfSome, false};
+ghost use Rattle.std.specs.Prelude.{◌≡◌, ◌≢◌, ℕ, List, [], Some, None, IfErr, IfOk, IfSome, false};
 ghost use Rattle.small_types.specs.declared.room.Room.{Room};
 ghost use Rattle.identity.specs.declared.version.Version.{Version};
 ghost use Rattle.identity.specs.Version.{IsBelow};
 ghost use Rattle.machine.specs.declared.command.Command.TheVariants as command;
+ghost use Rattle.machine.specs.declared.reply.Reply.TheVariants.{Memory};
 ghost use Rattle.machine.specs.Machine.{moment_after, refusals};
 ghost use Rattle.machine.specs.Minimums.{minimum_of};
 ghost use Rattle.machine.specs.Rows.{Refuses};
@@ -54,6 +55,7 @@ pub(crate) fn going_back_of(state: &StoreState, key: &Key) -> Result<GoingBack, 
         (table_shape room state.now) (command.Rollback key.now)) old reply old) }
     ensures still { (now : ℕ) → IfErr result (λ reply. moment_after now (Some reply) ≡ now) }
     ensures no_target { IfErr result (λ reply. is_missing reply ≡ false) }
+    ensures not_memory { IfErr result (λ reply. reply ≢ Memory) }
 {
     let Some(_) = state.current(key) else {
         return Err(Reply::NotInstalled);

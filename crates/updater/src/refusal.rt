@@ -1,8 +1,9 @@
 // The refusals of commands, as the tables give them.
-ghost use Rattle.std.specs.Prelude.{◌≡◌, ℕ, List, [], None, Some, IfSome, false};
+ghost use Rattle.std.specs.Prelude.{◌≡◌, ◌≢◌, ℕ, List, [], None, Some, IfSome, false};
 ghost use Rattle.small_types.specs.declared.room.Room.{Room};
 ghost use Rattle.identity.specs.declared.version.Version.{Version};
 ghost use Rattle.machine.specs.declared.command.Command.TheVariants as command;
+ghost use Rattle.machine.specs.declared.reply.Reply.TheVariants.{Memory};
 ghost use Rattle.machine.specs.Machine.{moment_after, refusals};
 ghost use Rattle.machine.specs.Rows.{PassesAll, Refuses};
 ghost use Rattle.machine.specs.Store.{Session};
@@ -49,6 +50,7 @@ pub(crate) fn finish_refusal(state: &StoreState, lease: u64) -> Option<Reply>
         (command.Finish lease)) old reply old) }
     ensures still { (now : ℕ) → IfSome result (λ reply. moment_after now (Some reply) ≡ now) }
     ensures no_target { IfSome result (λ reply. is_missing reply ≡ false) }
+    ensures not_memory { IfSome result (λ reply. reply ≢ Memory) }
 {
     match state.lease(lease) {
         Some(_) => None,

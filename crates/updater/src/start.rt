@@ -1,7 +1,8 @@
 // What launching an application comes to.
-ghost use Rattle.std.specs.Prelude.{◌≡◌, ℕ, List, [], Some, IfErr, IfOk, false};
+ghost use Rattle.std.specs.Prelude.{◌≡◌, ◌≢◌, ℕ, List, [], Some, IfErr, IfOk, false};
 ghost use Rattle.small_types.specs.declared.room.Room.{Room};
 ghost use Rattle.machine.specs.declared.command.Command.TheVariants as command;
+ghost use Rattle.machine.specs.declared.reply.Reply.TheVariants.{Memory};
 ghost use Rattle.machine.specs.Machine.{moment_after, refusals};
 ghost use Rattle.machine.specs.Rows.{Refuses};
 ghost use Rattle.machine.specs.Store.{Session};
@@ -60,6 +61,7 @@ pub(crate) fn start_of(state: &StoreState, key: &Key, now: u64) -> Result<Start,
         (command.Launch key.now)) old reply old) }
     ensures still { IfErr result (λ reply. moment_after now (Some reply) ≡ now) }
     ensures no_target { IfErr result (λ reply. is_missing reply ≡ false) }
+    ensures not_memory { IfErr result (λ reply. reply ≢ Memory) }
 {
     let Some(view) = state.current(key) else {
         return Err(Reply::NotInstalled);

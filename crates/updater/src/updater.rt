@@ -20,6 +20,7 @@ ghost use Rattle.store_state.specs.Change.{Fits, effect};
 ghost use Rattle.store_state.specs.Shows.{Shows};
 ghost use Rattle.store_state.specs.Tables.{table_shape};
 ghost use Rattle.updater.specs.Answer.{IsAnswer};
+ghost use Rattle.updater.specs.Commanded.{MayLack};
 ghost use Rattle.updater.specs.Requirement.{Raises};
 
 use crate::RecoverFault;
@@ -51,19 +52,21 @@ use table_codec::{
     changes_are_within_weights, changes_stay_encodable, encodings_are_within_table_weights,
     fields_stay_encodable,
 };
-use table_log::{StepFault, an_image_reads_as_one, make_durable};
+use table_log::{Rooms, StepFault, an_image_reads_as_one, make_durable};
 use table_weight::{changed_tables_weigh, tables_weigh_as_shown};
 
 /// A store that is open: its log, its room and its tables. The tables have always room in a half of
-/// the log.
+/// the log. The memory for what a change writes is taken when the store is opened.
 #[derive(Debug, Drop)]
 pub struct Updater {
     log: Log,
     room: Room,
+    rooms: Rooms,
     state: StoreState,
 }
 
 impl Model for Updater {
+    ghost use Rattle.table_log.specs.Rooms.{HaveRooms};
     ghost use Rattle.updater.specs.Shown.{IsKept};
     ghost use Rattle.updater.specs.Shown as shown;
 
@@ -71,7 +74,7 @@ impl Model for Updater {
 
     ghost view = { λ u. record { log = u.log; room = u.room; state = u.state } };
 
-    ghost invariant = { λ u. IsKept u.log u.room u.state };
+    ghost invariant = { λ u. IsKept u.log u.room u.state × HaveRooms u.room.half u.rooms };
 }
 
 // How a command ends once its change was tried.
@@ -87,8 +90,9 @@ fn answer(kept: Result<(), StepFault>, reply: Reply) -> Result<Reply, Failed>
 
 // The most manifest texts that the command hears.
 fn most_texts(command: &Command) -> usize
-    ensures { (shape : Shape) (texts : List (List ℕ)) → Hears shape command.now texts
+    ensures most { (shape : Shape) (texts : List (List ℕ)) → Hears shape command.now texts
         → length texts ≤ result }
+    ensures some { 0 < result → MayLack command.now }
 {
     match command {
         Command::Install { .. } => 2,
@@ -134,7 +138,8 @@ impl Updater {
 
     /// Runs a command at a moment in seconds, at most 2^62. What it changes is durable once it is
     /// answered. The manifest texts that it heard of the links are added, behind those that stand
-    /// there. Want of memory is a reply. `Failed`: the disk failed; the store is then that before
+    /// there. Want of memory is a reply, but not to a launch, a skip, a rollback or a finish, nor to
+    /// `at`. `Failed`: the disk failed; the store is then that before
     /// or after the command, and is to be recovered anew.
     pub fn apply<D: Disk, L: Links>(
         &mut self,
@@ -254,8 +259,20 @@ impl Updater {
             drop(opened);
             return Err(RecoverFault::NotAStore);
         }
+        let rooms = match Rooms::new(alloc, opened.room.half) {
+            Ok(rooms) => rooms,
+            Err(AllocError) => {
+                drop(opened);
+                return Err(RecoverFault::Memory);
+            }
+        };
         let table_log::Opened { log, room, state } = opened;
-        Ok(Updater { log, room, state })
+        Ok(Updater {
+            log,
+            room,
+            rooms,
+            state,
+        })
     }
 
     // Makes a change that fits durable, and makes it in the tables, which have room then. For want
@@ -274,7 +291,14 @@ impl Updater {
         changes_stay_encodable();
         encodings_are_within_table_weights();
         changes_are_within_weights();
-        make_durable(&mut self.log, alloc, disk, &mut self.state, change)
+        make_durable(
+            &mut self.log,
+            &mut self.rooms,
+            alloc,
+            disk,
+            &mut self.state,
+            change,
+        )
     }
 
     // The same of a change by which nothing comes, so that the tables weigh no more than before.

@@ -10,6 +10,7 @@ use Rattle.links.specs.Links.{failures_of}
 use Rattle.fetcher.proofs.Sequence.{failures_later, kept_same}
 use Rattle.machine.specs.declared.event.Event.{Event}
 use Rattle.machine.specs.declared.reply.Reply.{Reply}
+use Rattle.machine.specs.declared.reply.Reply.TheVariants as says
 use Rattle.machine.specs.declared.report.ReportLine.{ReportLine}
 use Rattle.machine.specs.Machine.{moment_after}
 use Rattle.small_types.specs.declared.limits.TheConstants.{NUMBER_LIMIT}
@@ -17,6 +18,7 @@ use Rattle.command_text.specs.Lines.{reply_text, texts_of}
 use Rattle.install_plan.specs.Downs.{SaysDown}
 use Rattle.updater_cli.specs.declared.course.Course.{Course}
 use Rattle.updater_cli.specs.declared.status.Status.TheVariants.{SinkFault, DiskFault, Memory}
+use Rattle.updater_cli.specs.Lacks.{MayLineLack}
 use Rattle.updater_cli.specs.Lines.{IsReady, LineAnswered, LineRun, Trace, place_of, stage_of}
 use Rattle.updater_cli.proofs.Asking.{rises_none, asks_none, asks_answered, asks_err}
 use Rattle.updater_cli.proofs.Prefix.{ended_at, ended_begun, ended_cut, goes_on}
@@ -24,6 +26,9 @@ use Rattle.updater_cli.proofs.Traces.{trace_none, trace_begun, trace_cut, trace_
 
 six_three : ◌≢◌ {A = ℕ} 6 3
 six_three same = omega arith
+
+some_is : (reply : Reply) → Some reply ≡ Some says.Memory → reply ≡ says.Memory
+some_is reply e = cc
 
 module _ {K D L : Type 0} (to : SinkGhosts K) (on : Ghosts D) (net : LinksGhosts L) (line : List ℕ) (course next : Course) (links links_new : L) (ready : IsReady course) where
   -- there was no memory for it
@@ -80,6 +85,9 @@ module _ {K D L : Type 0} (to : SinkGhosts K) (on : Ghosts D) (net : LinksGhosts
     downs down = subst (λ (n : ℕ). Rose (failures_of (net.links links)) n) (sym is_failures)
         (run.downs.rose (subst (λ (r : Option Reply). IsSomeAnd r SaysDown) is_reply down))
 
+    lacks : l.reply ≡ Some says.Memory → MayLineLack l.event
+    lacks is = run.lacks (some_is reply (sym is_reply ∙ is))
+
     -- and its reply was written
     pub written : (to.tells → Appends (to.taken sink) (to.taken sink_new) (reply_text reply)) → to.count sink_new ≡ to.count sink
         → LineAnswered to on net line (place_of sink disk links course) (Ok tt) (place_of sink_new disk_new links_new next)
@@ -94,7 +102,7 @@ module _ {K D L : Type 0} (to : SinkGhosts K) (on : Ghosts D) (net : LinksGhosts
       ends = tt;
       trace =
           rw (same_begun, ready.begun) (trace_line to.tells line (stage_of to on net (place_of sink disk links course)) (stage_of to on net (place_of sink_new disk_new links_new next)) l grown run.event run.at moment
-          later (omega (arith, is_mark)) failed (omega (arith, is_failures)) downs (λ told. appends told ∙ ap (λ (x : List ℕ). to.taken sink ++ x) (sym text)));
+          later (omega (arith, is_mark)) failed (omega (arith, is_failures)) downs lacks (λ told. appends told ∙ ap (λ (x : List ℕ). to.taken sink ++ x) (sym text)));
     }
 
     -- and its reply was cut off
@@ -113,5 +121,5 @@ module _ {K D L : Type 0} (to : SinkGhosts K) (on : Ghosts D) (net : LinksGhosts
       ends = same_begun ∙ ready.begun;
       trace =
           rw (same_begun, ready.begun) (trace_cut to.tells line (stage_of to on net (place_of sink disk links course)) (stage_of to on net (place_of sink_new disk_new links_new next)) l grown run.event run.at moment
-          later (omega (arith, is_mark)) failed (omega (arith, is_failures)) downs (λ told. subst (λ (x : List ℕ). AppendsPart (to.taken sink) (to.taken sink_new) x) (sym text) (part told)));
+          later (omega (arith, is_mark)) failed (omega (arith, is_failures)) downs lacks (λ told. subst (λ (x : List ℕ). AppendsPart (to.taken sink) (to.taken sink_new) x) (sym text) (part told)));
     }

@@ -13,6 +13,7 @@ use Rattle.fetcher.proofs.Sequence.{kept_same}
 use Rattle.machine.specs.declared.event.Event.{Event}
 use Rattle.machine.specs.declared.event.Event.TheVariants.{Boot, Line, Unread}
 use Rattle.machine.specs.declared.reply.Reply.{Reply}
+use Rattle.machine.specs.declared.reply.Reply.TheVariants as says
 use Rattle.machine.specs.declared.report.Report.{Report}
 use Rattle.machine.specs.declared.report.ReportLine.{ReportLine}
 use Rattle.machine.specs.Store.{Store, booted, session_over}
@@ -25,12 +26,14 @@ use Rattle.updater_cli.specs.declared.status.Status.TheVariants.{Done, Words, So
 use Rattle.updater_cli.specs.Devices.{devices_of}
 use Rattle.updater_cli.specs.Downs.{DownsAreCounted}
 use Rattle.updater_cli.specs.Headline.{after_boot, ReadsLines, BeginsOnFault, MadeCalls, HeadlineLines, HeadlineRun}
+use Rattle.updater_cli.specs.Lacks.{AreLacksFew}
 use Rattle.updater_cli.specs.Lines.{IsReady, Place, AreInputs, InputAnswered}
 use Rattle.updater_cli.specs.Opening.{BeginsAt, IsNoBoot, IsNoBootFirst, IsLineOrNone, BootsFirst, HasBootLine, IsOpeningEnd, begun_by}
 use Rattle.updater_cli.specs.Report.{report_of, events_of, replies_of, moment_behind, CostsBegun, IsRunAt, AreRunFrom, KeepsMoments, MarksRise, FailuresRise, IsBegunServed, WritesReplies}
 use Rattle.updater_cli.specs.Status.{PartOutcome, code_of, end_status, IsSessionEnd}
 use Rattle.updater_cli.proofs.Begin.{boot_served, settled_first}
 use Rattle.updater_cli.proofs.Downs.{downs_on}
+use Rattle.updater_cli.proofs.Lacks.{lacks_on}
 use Rattle.updater_cli.proofs.Runs.{rise_on, failures_on, run_from_append, moment-append}
 use Rattle.updater_cli.proofs.Traces.{writes_on}
 
@@ -97,6 +100,11 @@ module _ (boot failures from mid : ℕ) where
   first_downs [] has = tt
   first_downs (l ∷ []) has = ((λ down. absurd (subst (λ (r : Option Reply). IsSomeAnd r SaysDown) has.1 down)), tt)
   first_downs (l ∷ m ∷ lines) has = absurd has
+
+  first_lacks : (first : List ReportLine) → HasBootLine boot failures from mid first → AreLacksFew first
+  first_lacks [] has = tt
+  first_lacks (l ∷ []) has = ((λ e. absurd (let clash : ◌≡◌ {A = Option Reply} None (Some says.Memory) = sym has.1 ∙ e in cc)), tt)
+  first_lacks (l ∷ m ∷ lines) has = absurd has
 
   -- the moment is the first one
   first_moment : (now : ℕ) (first : List ReportLine) → HasBootLine boot failures from mid first → moment_behind now first ≡ now
@@ -245,6 +253,10 @@ module _ {S K D L : Type 0} (source : SourceGhosts S) (to : SinkGhosts K) (on : 
         (downs_on (failures_of (net.links old.links)) (failures_of (net.links old.links)) (failures_of (net.links new.links)) old.course.lines.items answered.trace.more
         (first_failures boot (failures_of (net.links old.links)) (on.moment disk) (on.moment old.disk) old.course.lines.items begun.lines)
         (first_downs boot (failures_of (net.links old.links)) (on.moment disk) (on.moment old.disk) old.course.lines.items begun.lines) answered.trace.failures answered.trace.downs);
+    lacks =
+        subst AreLacksFew (sym answered.trace.grown)
+        (lacks_on old.course.lines.items answered.trace.more
+        (first_lacks boot (failures_of (net.links old.links)) (on.moment disk) (on.moment old.disk) old.course.lines.items begun.lines) answered.trace.lacks);
     links = answered.keeps.kept;
     opening = inr (record {
       store = not_five (end_status outcome) new.course.begun ending;
@@ -285,6 +297,7 @@ module _ {S K D L : Type 0} (source : SourceGhosts S) (on : Ghosts D) (net : Lin
     marks = le;
     failures = omega arith;
     downs = tt;
+    lacks = tt;
     links = kept_same (net.links l);
     opening = inl (record { lines = refl; begun = ends; unread = refl; unwritten = refl; unasked = refl });
   }

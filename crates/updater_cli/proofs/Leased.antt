@@ -1,5 +1,5 @@
 -- What launches and reads promise, and what a stop leaves of the views that leases keep.
-use Rattle.std.proofs.Common.{◌≡◌, ◌∙◌, ◌⊎◌, inl, inr, ℕ, Bool, List, ◌∷◌, ◌++◌, Option, Some, None, refl, sym, subst, append_assoc}
+use Rattle.std.proofs.Common.{◌≡◌, ◌∙◌, ◌⊎◌, inl, inr, ℕ, Bool, List, ◌∷◌, ◌++◌, Option, Some, None, refl, sym, ap, subst, append_assoc}
 use Rattle.std.specs.Prelude.{IsSome, IsSomeAnd, option_and_then}
 use Rattle.identity.specs.declared.key.Key.{Key}
 use Rattle.identity.specs.declared.version.Version.{Version}
@@ -31,9 +31,11 @@ use Rattle.machine.proofs.LeaseSteps.{launch_granted, launch_is, launch_reaches,
 use Rattle.machine.proofs.Members.{all_in}
 use Rattle.machine.proofs.Stepping.{run_leases}
 use Rattle.updater_cli.specs.Headline.{HeadlineLeased, HeadlineStop}
+use Rattle.updater_cli.specs.Lacks.{AreLacksFew, MayLineLack}
 use Rattle.updater_cli.specs.Opening.{IsUnopened}
 use Rattle.updater_cli.specs.Report.{AreRunFrom, KeepsMoments, Origin, ReachesAfter, StandsForPrefix, answered, events_of, marked_by, moment_behind, origin_over, replies_of, report_of}
-use Rattle.updater_cli.specs.Views.{HandsOut, IsLineOf, IsRead, KeepsViews, LaunchesHold, LeadsThrough, Reading, ShowOneFile, ShowsLeased, StandsWhole, ViewsHold}
+use Rattle.updater_cli.specs.Views.{HandsOut, IsLineOf, IsRead, KeepsViews, LaunchesHold, LeadsThrough, IsLease, Reading, ShowOneFile, ShowsLeased, StandsWhole, ViewsHold}
+use Rattle.updater_cli.proofs.Lacks.{lacks_at}
 use Rattle.updater_cli.proofs.Runs.{moment-append}
 use Rattle.updater_cli.proofs.Through.{halves, joined, line_answers, reached_run, reached_sound, run_before, sound_behind}
 
@@ -136,13 +138,21 @@ module _ (from : Origin) (sound : Sound from.session.store) (lines : List Report
   pub views_hold : (s : Session) → Run from.now from.session (events_of lines) (replies_of lines) s → ViewsHold from lines
   views_hold s run = record { launched = hands_out; read = shows; reads = show_one s run }
 
+-- a launch that is not answered by want of memory is answered with a lease
+granted : (reply : Reply) → IsLeaseOrMemory reply → (reply ≡ says.Memory → ⊥) → IsLease reply
+granted reply (inl lease) other = lease
+granted reply (inr memory) other = absurd (other memory)
+
 -- where nothing is due and a lease is free
-pub launches_hold : (from : Origin) (lines : List ReportLine) → LaunchesHold from lines
-launches_hold from lines l old new key moment heard is asked may =
+pub launches_hold : (from : Origin) (lines : List ReportLine) → AreLacksFew lines → LaunchesHold from lines
+launches_hold from lines few l old new key moment heard is asked may =
     let one = subst (λ (e : Event). Step (moment_behind from.now is.before) old e l.reply new) asked is.step in
     let clear = subst (λ (now : ℕ). due key (shape_of old) now ≡ Some (Clear may.check_due)) one.moment may.clear in
-    subst (λ (r : Option Reply). IsSomeAnd r IsLeaseOrMemory) (sym one.replied)
+    let lacks = subst (λ (e : Event). l.reply ≡ Some says.Memory → MayLineLack e) asked (lacks_at is.before is.after lines l is.split few) in
+    subst (λ (r : Option Reply). IsSomeAnd r IsLease) (sym one.replied)
+    (granted one.answer
     (launch_granted (moment_behind from.now is.before) heard.texts old key may.check_due one.answer new clear may.few may.next one.answers)
+    (λ memory. lacks (one.replied ∙ ap Some memory)))
 
 -- ---- stops
 

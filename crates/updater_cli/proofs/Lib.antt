@@ -9,6 +9,7 @@ pub mod Ends
 pub mod Formatting
 pub mod Inputs
 pub mod Installable
+pub mod Lacks
 pub mod Leased
 pub mod NoOthers
 pub mod Opened

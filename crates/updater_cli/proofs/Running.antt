@@ -57,6 +57,7 @@ module _ {D L : Type 0} (on : Ghosts D) (net : LinksGhosts L) (now : ℕ) (few :
     asks = asks_none on _ disk (λ is. cc (is));
     kept = kept_same (net.links links);
     downs = counts_none refl;
+    lacks = λ e. tt;
   }
 
   module _ (command : Command) (before : List (List ℕ)) (heard : Heard) (none : before ≡ []) (gives : Gives (Ok command) (command_of line)) (is : IsCommand command) (updater_new : Updater) (disk_new : D) (links_new : L) where
@@ -92,6 +93,7 @@ module _ {D L : Type 0} (on : Ghosts D) (net : LinksGhosts L) (now : ℕ) (few :
       asks = asks_call on disk disk_new _ commanded.told commanded.later commanded.cause;
       kept = commanded.kept;
       downs = commanded.downs;
+      lacks = λ e. commanded.lacks (ap Ok e);
     }
 
     -- the command was answered
@@ -122,6 +124,7 @@ module _ {D L : Type 0} (on : Ghosts D) (net : LinksGhosts L) (now : ℕ) (few :
       asks = asks_call on disk disk_new _ commanded.told commanded.later commanded.cause;
       kept = commanded.kept;
       downs = tt;
+      lacks = tt;
     }
 
     -- the disk failed in it

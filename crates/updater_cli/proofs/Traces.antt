@@ -7,6 +7,7 @@ use Rattle.std.specs.Str.Lines.{strip_carriage_return}
 use Rattle.small_types.specs.declared.limits.TheConstants.{LINE_LIMIT}
 use Rattle.outside.specs.Streams.{AppendsPart, Rose}
 use Rattle.machine.specs.declared.event.Event.{Event}
+use Rattle.machine.specs.declared.reply.Reply.TheVariants as says
 use Rattle.machine.specs.declared.report.ReportLine.{ReportLine}
 use Rattle.machine.specs.Machine.{moment_after}
 use Rattle.command_text.specs.Lines.{AreEvents, IsEvent, command_of, texts_of}
@@ -16,10 +17,12 @@ use Rattle.command_text.proofs.LongLines.{event_as, read_part, same_ended, same_
 use Rattle.command_text.proofs.ReadingOn.{AreKeptAlike, events_alike, reads_on, stops_on}
 use Rattle.install_plan.specs.Downs.{SaysDown}
 use Rattle.updater_cli.specs.declared.status.Status.TheVariants.{Done, Words, SourceFault, SinkFault, DiskFault, NotAStore, Memory, TooMuchInput}
+use Rattle.updater_cli.specs.Lacks.{MayLineLack}
 use Rattle.updater_cli.specs.Lines.{Stage, Trace, IsPending, Progress, Stopped, outcome_code, taken_of}
 use Rattle.updater_cli.specs.Report.{events_of, replies_of, moment_behind, IsRunAt, AreRunFrom, WritesReplies, CutsLast}
 use Rattle.updater_cli.specs.Status.{PartOutcome}
 use Rattle.updater_cli.proofs.Downs.{downs_on}
+use Rattle.updater_cli.proofs.Lacks.{lacks_on}
 use Rattle.updater_cli.proofs.Runs.{rise_on, failures_on, moment-append, run_from_append}
 
 -- ---- what was written
@@ -68,6 +71,7 @@ traces_on told status first second old mid new begun one two = record {
   marks = rise_on old.calls mid.calls new.calls one.more two.more one.marks two.marks;
   failures = failures_on old.failures mid.failures new.failures one.more two.more one.failures two.failures;
   downs = downs_on old.failures mid.failures new.failures one.more two.more one.failures one.downs two.failures two.downs;
+  lacks = lacks_on one.more two.more one.lacks two.lacks;
   output = λ is_told. writes_on status old.taken mid.taken new.taken one.more two.more ((one.output is_told).whole zero_three) (two.output is_told);
 }
 
@@ -83,6 +87,7 @@ trace_none told status stage other = record {
   marks = omega arith;
   failures = omega arith;
   downs = tt;
+  lacks = tt;
   output = λ is_told. record { whole = λ not_three. sym (append-nil stage.taken); part = λ three. absurd (other three) };
 }
 
@@ -96,7 +101,7 @@ trace_as told status inputs old new other trace =
 module _ (told : Type 0) (input : List ℕ) (old new : Stage) (l : ReportLine) (grown : new.lines ≡ old.lines ++ l ∷ [])
     (event : IsEvent input l.event) (at : IsRunAt old.now l.event) (moment : new.now ≡ moment_after old.now l.reply)
     (from : old.calls ≤ l.mark) (to : l.mark ≤ new.calls) (risen : old.failures ≤ l.failures) (within : l.failures ≤ new.failures)
-    (down : IsSomeAnd l.reply SaysDown → Rose old.failures l.failures) where
+    (down : IsSomeAnd l.reply SaysDown → Rose old.failures l.failures) (lack : l.reply ≡ Some says.Memory → MayLineLack l.event) where
   -- and its reply was written
   pub trace_line : (told → new.taken ≡ old.taken ++ texts_of (l.reply ∷ [])) → Trace told 0 (input ∷ []) old new None
   trace_line output = record {
@@ -109,6 +114,7 @@ module _ (told : Type 0) (input : List ℕ) (old new : Stage) (l : ReportLine) (
     marks = (from, to);
     failures = (risen, within);
     downs = (down, tt);
+    lacks = (lack, tt);
     output = λ is_told. record { whole = λ not_three. output is_told; part = λ three. absurd (zero_three three) };
   }
 
@@ -124,6 +130,7 @@ module _ (told : Type 0) (input : List ℕ) (old new : Stage) (l : ReportLine) (
     marks = (from, to);
     failures = (risen, within);
     downs = (down, tt);
+    lacks = (lack, tt);
     output = λ is_told. record {
       whole = λ not_three. absurd (not_three refl);
       part = λ three. record { before = []; last = l; split = refl; part = subst (λ (x : List ℕ). AppendsPart x new.taken (texts_of (l.reply ∷ []))) (sym (append-nil old.taken)) (output is_told) };
@@ -143,6 +150,7 @@ trace_begun told input old new e same_lines same_taken same_now le fails event a
   marks = le;
   failures = fails;
   downs = tt;
+  lacks = tt;
   output = λ is_told. record { whole = λ not_three. same_taken ∙ sym (append-nil old.taken); part = λ three. absurd (four_three three) };
 }
   where
@@ -162,6 +170,7 @@ trace_read told status inputs others old new begun same trace = record {
   marks = trace.marks;
   failures = trace.failures;
   downs = trace.downs;
+  lacks = trace.lacks;
   output = trace.output;
 }
 

@@ -55,7 +55,7 @@ module _ {S K D L : Type 0} (from : SourceGhosts S) (to : SinkGhosts K) (on : Gh
         run = unopened_run to on net boot now s k l old new status opens.ends (λ told is. opens.not_a_store told (ap Err is)) opens.within opens.reads opens.written;
         stop = stop;
         views = λ told store stands. views_hold (origin_over now store) stands.sound [] tt (session_over store) refl;
-        launch = λ told store stands. launches_hold (origin_over now store) [];
+        launch = λ told store stands. launches_hold (origin_over now store) [] lines.lacks;
         leased = λ told. leased_holds on now (code_of status) old new (report_of [] (begun_by boot status)) lines.moments (stop told);
       })
 
@@ -152,6 +152,6 @@ module _ {S K D L : Type 0} (from : SourceGhosts S) (to : SinkGhosts K) (on : Gh
           views = λ told store stands.
               let end = ended told store stands in
               views_hold (origin_over now store) stands.sound new.course.lines.items lines.moments.lines end.session end.runs.steps;
-          launch = λ told store stands. launches_hold (origin_over now store) new.course.lines.items;
+          launch = λ told store stands. launches_hold (origin_over now store) new.course.lines.items lines.lacks;
           leased = λ told. leased_holds on now (code_of (end_status outcome)) disk new.disk (report_of new.course.lines.items new.course.begun) lines.moments (stop told);
         })

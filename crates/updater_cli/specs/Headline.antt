@@ -17,6 +17,7 @@ use Rattle.updater.specs.StandsFor.{StandsFor}
 use Rattle.updater_cli.specs.declared.limits.TheConstants.{INPUT_LIMIT}
 use Rattle.updater_cli.specs.Devices.{Devices}
 use Rattle.updater_cli.specs.Downs.{DownsAreCounted}
+use Rattle.updater_cli.specs.Lacks.{AreLacksFew}
 use Rattle.updater_cli.specs.Opening.{BootsFirst, IsLineOrNone, IsUnopened, Survives}
 use Rattle.updater_cli.specs.Report.{answered, marked_by, origin_over, events_of, moment_behind, CostsBegun, FailuresRise, IsBegunServed, IsSettled, KeepsMoments, MarksRise, StandsSound, WritesReplies}
 use Rattle.updater_cli.specs.Status.{code_of, IsBegun}
@@ -99,6 +100,7 @@ pub record HeadlineLines {S K D L : Type 0} (source : SourceGhosts S) (on : Ghos
   pub failures : FailuresRise (failures_of (net.links old.links)) report.lines
       (failures_of (net.links new.links))
   pub downs : DownsAreCounted (failures_of (net.links old.links)) report.lines
+  pub lacks : AreLacksFew report.lines
   pub links : Kept (net.links old.links) (net.links new.links)
   pub opening : IsNotOpened boot status old new report ⊎ IsOpened on boot status old new report
 
@@ -168,7 +170,7 @@ HeadlineViews on now old report =
     (store : Store) → StandsSound (on.seen old) store
     → ViewsHold (origin_over now store) report.lines
 
--- Where nothing is due and a lease is free, a launch is answered with one, or there was no memory.
+-- Where nothing is due and a lease is free, a launch is answered with one.
 abbrev pub HeadlineLaunch : {D : Type 0} → Ghosts D → ℕ → D → Report → Type 0
 HeadlineLaunch on now old report =
     (store : Store) → StandsSound (on.seen old) store
@@ -194,7 +196,7 @@ pub record Headline {S K D L : Type 0} (source : SourceGhosts S) (sink : SinkGho
   -- a launch hands out the current view, which is sound and not below a minimum, and reads on its
   -- lease are of one list of bytes for each file
   pub views : on.tells new.disk → HeadlineViews on now old.disk report
-  -- a launch succeeds where nothing is due and a lease is free, save for want of memory
+  -- a launch succeeds where nothing is due and a lease is free, whatever memory is left
   pub launch : on.tells new.disk → HeadlineLaunch on now old.disk report
   -- what a stop leaves has the view of each lease that lives, whole and unchanged
   pub leased : on.tells new.disk → HeadlineLeased on now status old.disk new.disk report

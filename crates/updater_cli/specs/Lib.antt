@@ -5,6 +5,7 @@ pub mod Downs
 pub mod Format
 pub mod Headline
 pub mod Installable
+pub mod Lacks
 pub mod Lines
 pub mod NoOthers
 pub mod Offered

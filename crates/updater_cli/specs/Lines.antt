@@ -11,6 +11,7 @@ use Rattle.links.specs.Links.{failures_of}
 use Rattle.fetcher.specs.Fetched.{Kept}
 use Rattle.machine.specs.declared.event.Event.{Event}
 use Rattle.machine.specs.declared.reply.Reply.{Reply}
+use Rattle.machine.specs.declared.reply.Reply.TheVariants as says
 use Rattle.machine.specs.declared.report.ReportLine.{ReportLine}
 use Rattle.machine.specs.Machine.{Step, moment_after}
 use Rattle.machine.specs.Store.{Session}
@@ -26,6 +27,7 @@ use Rattle.updater_cli.specs.declared.limits.TheConstants.{INPUT_LIMIT}
 use Rattle.updater_cli.specs.declared.status.Status.TheVariants.{Done, SourceFault, SinkFault, DiskFault, Memory, TooMuchInput}
 use Rattle.updater_cli.specs.Devices.{RisesWith, Asks}
 use Rattle.updater_cli.specs.Downs.{DownsAreCounted}
+use Rattle.updater_cli.specs.Lacks.{AreLacksFew, MayLineLack}
 use Rattle.updater_cli.specs.Report.{events_of, report_of, moment_behind, IsRunAt, AreRunFrom, IsCounted, IsLineServed, IsSettled, MarksRise, FailuresRise, WritesReplies}
 use Rattle.updater_cli.specs.Session.{Start, Between, Ended}
 use Rattle.updater_cli.specs.Status.{PartOutcome, code_of, end_status, IsBegun, IsLineEnd, IsSessionEnd}
@@ -74,6 +76,7 @@ pub record LineRun {D L : Type 0} (on : Ghosts D) (net : LinksGhosts L) (now : �
   pub asks : Asks on (IsErr result) disk_old disk
   pub kept : Kept (net.links links_old) (net.links links)
   pub downs : IfOk result (λ r. CountsDowns (net.links links_old) (net.links links) r.1)
+  pub lacks : IfOk result (λ r. r.1 ≡ says.Memory → MayLineLack r.0)
 
 -- ---- what is seen of a session
 
@@ -98,6 +101,7 @@ pub record Trace (told : Type 0) (status : ℕ) (inputs : List (List ℕ)) (old 
   pub marks : MarksRise old.calls more new.calls
   pub failures : FailuresRise old.failures more new.failures
   pub downs : DownsAreCounted old.failures more
+  pub lacks : AreLacksFew more
   pub output : told → WritesReplies status old.taken new.taken more
 
 -- What is pending of a line that no line feed has ended: as much of it as is kept.

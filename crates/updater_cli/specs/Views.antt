@@ -8,11 +8,12 @@ use Rattle.machine.specs.declared.command.Command.TheVariants.{Launch, Read}
 use Rattle.machine.specs.declared.due.Due.TheVariants.{Clear}
 use Rattle.machine.specs.declared.event.Event.TheVariants.{Line}
 use Rattle.machine.specs.declared.event.Heard.{Heard}
+use Rattle.machine.specs.declared.reply.Reply.{Reply}
 use Rattle.machine.specs.declared.reply.Reply.TheVariants as says
 use Rattle.machine.specs.declared.report.Report.{Report}
 use Rattle.machine.specs.declared.report.ReportLine.{ReportLine}
 use Rattle.machine.specs.Due.{due}
-use Rattle.machine.specs.LeaseLaws.{IsLaunched, IsLeaseOrMemory, IsReadOf, KeepsLeased}
+use Rattle.machine.specs.LeaseLaws.{IsLaunched, IsReadOf, KeepsLeased}
 use Rattle.machine.specs.Leases.{lease_of, leased_view}
 use Rattle.machine.specs.Machine.{Run, Step}
 use Rattle.machine.specs.Minimums.{minimum_of}
@@ -81,12 +82,18 @@ pub record MayLaunch (key : Key) (at : ℕ) (s : Session) : Type 0 where
   pub few : length s.store.leases < LEASE_LIMIT
   pub next : s.store.next_lease < NUMBER_LIMIT
 
--- Each launch in such a session is answered with a lease, or the line found no memory.
+-- the reply is a lease
+abbrev pub IsLease : Reply → Type 0
+IsLease reply =
+    (lease : ℕ) × (version : Version) × (check_due : Bool)
+    × (reply ≡ says.Lease lease version check_due)
+
+-- Each launch in such a session is answered with a lease.
 abbrev pub LaunchesHold : Origin → List ReportLine → Type 0
 LaunchesHold from lines =
     (l : ReportLine) (old new : Session) (key : Key) (at : ℕ) (heard : Heard)
     → IsLineOf from lines l old new → l.event ≡ Line (Launch key) at heard
-    → MayLaunch key at old → IsSomeAnd l.reply IsLeaseOrMemory
+    → MayLaunch key at old → IsSomeAnd l.reply IsLease
 
 -- ---- reads
 

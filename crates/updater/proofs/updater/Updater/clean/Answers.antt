@@ -17,7 +17,7 @@ returns-then-views-eq0 g c =
     (g.met.D.Disk.seen_left c.args.disk.now) c.requires
     (unlinked g.L.Links command.Clean u c.args._links.now)
     (says.Cleaned (length c.as_slice.result.now)) c.requires
-    (counts_none refl)
+    (counts_none refl) (λ e. tt)
     (λ old s. cleaned_rests c.args.now u.room u.state
     _ _ _ old s.jobs s.shows s.valid c.requires (length c.as_slice.result.now)
     (ap length (c.as_slice.ensures ∙ c.in-Ok.ensures u.room)) c.if-views-eq0.true))
@@ -26,7 +26,7 @@ pub returns-in-Err-Memory : goal.returns-in-Err-Memory
 returns-in-Err-Memory g c =
     memory_missed g.D.Disk g.L.Links c.args.now command.Clean
     c.args.self.now c.args.disk.now c.args._links.now
-    (g.met.D.Disk.seen_left c.args.disk.now) c.requires tt
+    (g.met.D.Disk.seen_left c.args.disk.now) c.requires tt tt
 
 pub returns : goal.returns
 returns g c =
@@ -37,11 +37,11 @@ returns g c =
     (g.met.D.Disk.seen_left c.args.disk.now) c.requires
     (unlinked g.L.Links command.Clean u c.args._links.now)
     change.Clean (says.Cleaned (length c.as_slice.result.now)) c.requires
-    (counts_none refl)
+    (counts_none refl) (λ e. tt)
     (λ old s. cleaned_does c.args.now u.room u.state
     _ _ _ old s.jobs s.shows s.valid c.requires (length c.as_slice.result.now)
     (ap length (c.as_slice.ensures ∙ c.in-Ok.ensures u.room)) c.if-views-eq0.false)
-    (memory_missed g.D.Disk g.L.Links c.args.now command.Clean
+    (λ takes. memory_missed g.D.Disk g.L.Links c.args.now command.Clean
     u c.args.disk.now c.args._links.now
-    (g.met.D.Disk.seen_left c.args.disk.now) c.requires tt)
+    (g.met.D.Disk.seen_left c.args.disk.now) c.requires tt tt)
     c.keep_lighter.new.self c.keep_lighter.new.disk c.keep_lighter.result c.answer.result keeps c.answer.ensures)

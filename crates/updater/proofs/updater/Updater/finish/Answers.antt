@@ -4,7 +4,7 @@ use Rattle.machine.specs.declared.command.Command.TheVariants as command
 use Rattle.machine.specs.declared.reply.Reply.TheVariants as says
 use Rattle.store_state.specs.declared.change.Change.TheVariants as change
 use Rattle.install_plan.proofs.Downs.{counts_none}
-use Rattle.updater.proofs.Commanding.{kept, memory_missed, refused, unlinked}
+use Rattle.updater.proofs.Commanding.{kept, refused, unlinked}
 use Rattle.updater.proofs.Finishing.{finished_does, finished_fits}
 use Rattle.updater.proofs.Seen.{kept_as, rested_as, seen}
 use Rattle.updater.specs.Shown.{Updater}
@@ -20,7 +20,7 @@ returns-in-Some g c =
     (g.met.D.Disk.seen_left c.args.disk.now) c.requires.moment tt c.in-Some.reply
     (subst (λ (n : ℕ). n ≤ NUMBER_LIMIT) (sym (c.in-Some.ensures.still c.args.now))
     c.requires.moment)
-    (counts_none c.in-Some.ensures.no_target)
+    (counts_none c.in-Some.ensures.no_target) c.in-Some.ensures.not_memory
     (λ old s. c.in-Some.ensures.some c.args.now u.room old))
 
 pub keep_lighter-requires-clause-may : goal.keep_lighter-requires-clause-may
@@ -39,11 +39,9 @@ returns g c =
     (g.met.D.Disk.seen_left c.args.disk.now) c.requires.moment
     (unlinked g.L.Links command u c.args._links.now)
     (change.Finish c.args.lease) (says.Finished c.args.lease) c.requires.moment
-    (counts_none refl)
+    (counts_none refl) (λ e. absurd (cc))
     (λ old s. finished_does c.args.now c.args.lease u.room u.state
     _ _ _ old s.jobs s.shows s.valid c.requires.words c.requires.moment
     (c.in_default.ensures.none refl c.args.now u.room))
-    (memory_missed g.D.Disk g.L.Links c.args.now command
-    u c.args.disk.now c.args._links.now
-    (g.met.D.Disk.seen_left c.args.disk.now) c.requires.moment tt)
+    (λ takes. absurd takes)
     c.keep_lighter.new.self c.keep_lighter.new.disk c.keep_lighter.result c.answer.result keeps c.answer.ensures)

@@ -1,4 +1,5 @@
-use Rattle.std.proofs.Common.{subst, sym}
+use Rattle.std.proofs.Common.{ℕ, subst, sym}
+use Rattle.table_log.specs.Rooms.{HaveRooms}
 use Rattle.updater.specs.MakesDurable.{MakesDurable, MayKeep}
 use Rattle.updater.specs.Shown.{Updater}
 use Rattle.updater.proofs.Keeping.{kept_after, kept_by, new_half_fits}
@@ -11,17 +12,20 @@ make_durable-requires g c =
     record {
       fits = may.fits;
       change = may.has;
-      tables = c.self.invariant.encodable;
-      room = new_half_fits inside.log inside.room inside.state c.args.change c.self.invariant c.are_tables.ensures may
+      tables = c.self.invariant.0.encodable;
+      room = new_half_fits inside.log inside.room inside.state c.args.change c.self.invariant.0 c.are_tables.ensures may
           c.fields_stay_encodable.ensures.had c.encodings_are_within_table_weights.ensures c.changes_are_within_weights.ensures;
+      rooms = subst (λ (n : ℕ). HaveRooms n inside.rooms) (sym c.self.invariant.0.half) c.self.invariant.1;
     }
 
 pub invariant_of-self : goal.invariant_of-self
 invariant_of-self g c =
     let inside = c.self.inside in
-    let may = subst (λ (u : Updater). MayKeep u c.args.change) (sym c.self.view_is) c.requires in
-    kept_after inside.log inside.room inside.state c.args.change c.self.invariant c.are_tables.ensures may
-    g.D.Disk c.changes_stay_encodable.ensures.stay c.args.disk.now c.make_durable.result c.make_durable.new.log c.make_durable.new.state c.make_durable.new.disk c.make_durable.ensures
+    let may = subst (λ (u : Updater). MayKeep u c.args.change) (sym c.self.view_is) c.requires in (
+      kept_after inside.log inside.room inside.state c.args.change c.self.invariant.0 c.are_tables.ensures may
+          g.D.Disk c.changes_stay_encodable.ensures.stay c.args.disk.now c.make_durable.result c.make_durable.new.log c.make_durable.new.state c.make_durable.new.disk c.make_durable.ensures.makes,
+      subst (λ (n : ℕ). HaveRooms n c.make_durable.new.rooms) c.self.invariant.0.half c.make_durable.ensures.rooms,
+    )
 
 pub returns : goal.returns
 returns g c =
@@ -29,5 +33,5 @@ returns g c =
     let may = subst (λ (u : Updater). MayKeep u c.args.change) (sym c.self.view_is) c.requires in
     subst (λ (u : Updater). MakesDurable g.D.Disk c.args.change u c.args.disk.now c.make_durable.result (record { log = c.make_durable.new.log; room = inside.room; state = c.make_durable.new.state }) c.make_durable.new.disk) c.self.view_is
     (kept_by g.D.Disk inside.log inside.room inside.state c.args.disk.now c.args.change may.fits may.has
-    (c.encodings_are_within_table_weights.ensures inside.state c.are_tables.ensures (c.fields_stay_encodable.ensures.had inside.state c.self.invariant.encodable))
-    (g.met.D.Disk.seen_left c.args.disk.now) c.make_durable.result c.make_durable.new.log c.make_durable.new.state c.make_durable.new.disk c.make_durable.ensures)
+    (c.encodings_are_within_table_weights.ensures inside.state c.are_tables.ensures (c.fields_stay_encodable.ensures.had inside.state c.self.invariant.0.encodable))
+    (g.met.D.Disk.seen_left c.args.disk.now) c.make_durable.result c.make_durable.new.log c.make_durable.new.state c.make_durable.new.disk c.make_durable.ensures.makes)

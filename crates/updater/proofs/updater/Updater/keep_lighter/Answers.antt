@@ -19,5 +19,5 @@ keep-requires g c =
       has = c.requires.may.1;
       short = nothing_short inside.state c.args.change nothing;
       light = subst (λ (u : Updater). IsLight u.room (tables_weight (effect c.args.change u.state))) c.self.view_is
-          (lighter_room c.changed_tables_weigh.ensures.others inside.log inside.room inside.state c.args.change c.self.invariant c.are_tables.ensures fits nothing);
+          (lighter_room c.changed_tables_weigh.ensures.others inside.log inside.room inside.state c.args.change c.self.invariant.0 c.are_tables.ensures fits nothing);
     }

@@ -16,6 +16,6 @@ returns-in-Ok g c =
     (g.met.D.Disk.seen_left c.args._disk.now) c.requires
     (unlinked g.L.Links command.List u c.args._links.now)
     (says.Listed c.in-Ok.rows) c.requires
-    (counts_none refl)
+    (counts_none refl) (λ e. tt)
     (λ old s. listed_rests c.args.now u.room u.state
     _ _ _ old s.jobs s.shows c.in-Ok.rows c.in-Ok.ensures))

@@ -30,8 +30,10 @@ returns-then-not-are_of_store g c =
     (λ of. both_ways c.are_of_store.result c.if-not-are_of_store.true (c.are_of_store.ensures.1 of)))
 
 pub invariant_of-result : goal.invariant_of-result
-invariant_of-result g c =
-    kept_of_store c.changes_stay_encodable.ensures.are c.in-Ok.opened c.are_tables.ensures c.in-Ok.ensures.room (c.are_of_store.ensures.0 c.if-not-are_of_store.false)
+invariant_of-result g c = (
+  kept_of_store c.changes_stay_encodable.ensures.are c.in-Ok.opened c.are_tables.ensures c.in-Ok.ensures.room (c.are_of_store.ensures.0 c.if-not-are_of_store.false),
+  c.in-Ok-new.ensures,
+)
 
 pub returns : goal.returns
 returns g c =

@@ -24,7 +24,7 @@ returns-in-Err g c =
     (g.met.D.Disk.seen_left c.args.disk.now) c.requires.moment tt c.in-Err.reply
     (subst (λ (n : ℕ). n ≤ NUMBER_LIMIT) (sym (c.in-Err.ensures.still c.args.now))
     c.requires.moment)
-    (counts_none c.in-Err.ensures.no_target)
+    (counts_none c.in-Err.ensures.no_target) (λ e. tt)
     (λ old s. c.in-Err.ensures.refused (keeps_view s.shows c.args.lease s.valid.ordered) old))
 
 pub returns-then-putting : goal.returns-then-putting
@@ -36,7 +36,7 @@ returns-then-putting g c =
     u c.args.disk.now c.args._links.now c.args._links.now
     (g.met.D.Disk.seen_left c.args.disk.now) c.requires.moment
     (unlinked g.L.Links command u c.args._links.now) says.Put c.requires.moment
-    (counts_none refl)
+    (counts_none refl) (λ e. tt)
     (λ old s. put_rests c.args.now c.args.lease u.room c.args.name.now
     c.args.bytes.now u.state _ _ _ old s.jobs s.shows s.valid c.requires.words
     c.requires.moment c.in-Ok.putting (c.in-Ok.ensures.putting _) c.if-putting.true))
@@ -46,7 +46,7 @@ returns-in-Err-Memory g c =
     memory_missed g.D.Disk g.L.Links c.args.now
     (command.Put c.args.lease c.args.name.now c.args.bytes.now)
     c.args.self.now c.args.disk.now c.args._links.now
-    (g.met.D.Disk.seen_left c.args.disk.now) c.requires.moment tt
+    (g.met.D.Disk.seen_left c.args.disk.now) c.requires.moment tt tt
 
 pub keep-requires : goal.keep-requires
 keep-requires g c =
@@ -76,13 +76,13 @@ returns g c =
     (g.met.D.Disk.seen_left c.args.disk.now) c.requires.moment
     (unlinked g.L.Links command u c.args._links.now)
     (change.Put c.in-Ok.putting.view c.in-Ok-local_file.file) says.Put c.requires.moment
-    (counts_none refl)
+    (counts_none refl) (λ e. tt)
     (λ old s. put_does c.args.now c.args.lease u.room c.args.name.now
     c.args.bytes.now u.state _ _ _ old s.jobs s.shows s.valid c.requires.words
     c.requires.moment c.in-Ok.putting (c.in-Ok.ensures.putting _) c.in-Ok-local_file.file
     c.in-Ok-local_file.ensures c.puts_show_the_file.ensures
     c.one_data_file_is_changed.ensures.put c.if-putting.false)
-    (memory_missed g.D.Disk g.L.Links c.args.now command
+    (λ takes. memory_missed g.D.Disk g.L.Links c.args.now command
     u c.args.disk.now c.args._links.now
-    (g.met.D.Disk.seen_left c.args.disk.now) c.requires.moment tt)
+    (g.met.D.Disk.seen_left c.args.disk.now) c.requires.moment tt tt)
     c.keep.new.self c.keep.new.disk c.keep.result c.answer.result keeps c.answer.ensures)

@@ -19,7 +19,7 @@ returns-in-Err g c =
     u c.args._disk.now c.args._links.now
     (g.met.D.Disk.seen_left c.args._disk.now) c.requires tt c.in-Err.reply
     (subst (λ (n : ℕ). n ≤ NUMBER_LIMIT) (sym (c.in-Err.ensures.still c.args.now)) c.requires)
-    (counts_none c.in-Err.ensures.no_target)
+    (counts_none c.in-Err.ensures.no_target) (λ e. tt)
     (λ old s. c.in-Err.ensures.refused (keeps_view s.shows c.args.lease s.valid.ordered)
     c.args.now u.room c.args.from c.args.count old))
 
@@ -33,7 +33,7 @@ returns-in-Ok-part_of g c =
     (g.met.D.Disk.seen_left c.args._disk.now) c.requires
     (unlinked g.L.Links command u c.args._links.now)
     (says.Read (length c.as_slice.result.now) c.in-Ok-part_of.bytes) c.requires
-    (counts_none refl)
+    (counts_none refl) (λ e. tt)
     (λ old s. read_rests c.args.lease c.args.name.now u.state
     c.args.now u.room c.args.from c.args.count _ _ _ old s.jobs s.shows
     c.in-Ok.file.now c.in-Ok-part_of.bytes (length c.as_slice.result.now)

@@ -22,7 +22,7 @@ returns-in-Err g c =
     (g.met.D.Disk.seen_left c.args.disk.now) c.requires.moment tt c.in-Err.reply
     (subst (λ (n : ℕ). n ≤ NUMBER_LIMIT) (sym (c.in-Err.ensures.still c.args.now))
     c.requires.moment)
-    (counts_none c.in-Err.ensures.no_target)
+    (counts_none c.in-Err.ensures.no_target) (λ e. tt)
     (λ old s. c.in-Err.ensures.refused (keeps_view s.shows c.args.lease s.valid.ordered)
     u.room old))
 
@@ -30,7 +30,7 @@ pub returns-in-Err-Memory : goal.returns-in-Err-Memory
 returns-in-Err-Memory g c =
     memory_missed g.D.Disk g.L.Links c.args.now (command.Remove c.args.lease c.args.name.now)
     c.args.self.now c.args.disk.now c.args._links.now
-    (g.met.D.Disk.seen_left c.args.disk.now) c.requires.moment tt
+    (g.met.D.Disk.seen_left c.args.disk.now) c.requires.moment tt tt
 
 pub keep_lighter-requires-clause-may : goal.keep_lighter-requires-clause-may
 keep_lighter-requires-clause-may g c = (
@@ -56,7 +56,7 @@ returns g c =
     (g.met.D.Disk.seen_left c.args.disk.now) c.requires.moment
     (unlinked g.L.Links command u c.args._links.now)
     (change.Remove c.in-Ok.view c.in-Ok-copy.name) says.Removed c.requires.moment
-    (counts_none refl)
+    (counts_none refl) (λ e. tt)
     (λ old s. subst
     (λ (name : List ℕ). Does c.args.now [] command (g.L.Links.links c.args._links.now)
     (g.L.Links.links c.args._links.now) (change.Remove c.in-Ok.view name) u.state old
@@ -65,7 +65,7 @@ returns g c =
     u.state _ _ _ old s.jobs s.shows s.valid c.requires.words c.requires.moment
     c.in-Ok.view c.in-Ok.ensures.removal c.removals_show_the_rest.ensures
     c.one_data_file_is_changed.ensures.removed))
-    (memory_missed g.D.Disk g.L.Links c.args.now command
+    (λ takes. memory_missed g.D.Disk g.L.Links c.args.now command
     u c.args.disk.now c.args._links.now
-    (g.met.D.Disk.seen_left c.args.disk.now) c.requires.moment tt)
+    (g.met.D.Disk.seen_left c.args.disk.now) c.requires.moment tt tt)
     c.keep_lighter.new.self c.keep_lighter.new.disk c.keep_lighter.result c.answer.result keeps c.answer.ensures)

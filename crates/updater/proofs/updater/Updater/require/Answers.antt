@@ -19,7 +19,7 @@ returns-in-Some g c =
     rested_as c.self.view_is
     (refused g.D.Disk g.L.Links c.args.now (command.Require c.args.key.now c.args.version) u c.args.disk.now c.args.links.now (g.met.D.Disk.seen_left c.args.disk.now) c.requires.moment tt c.in-Some.reply
     (subst (λ (n : ℕ). n ≤ NUMBER_LIMIT) (sym (c.in-Some.ensures.still c.args.now)) c.requires.moment)
-    (counts_none c.in-Some.ensures.no_target)
+    (counts_none c.in-Some.ensures.no_target) (λ e. tt)
     (λ old s. c.in-Some.ensures.some c.args.now c.args.version old))
 
 pub returns-in-Some-minimum_that_stays : goal.returns-in-Some-minimum_that_stays
@@ -29,7 +29,7 @@ returns-in-Some-minimum_that_stays g c =
     rested_as c.self.view_is
     (rested g.D.Disk g.L.Links c.args.now [] command u c.args.disk.now c.args.links.now c.args.links.now (g.met.D.Disk.seen_left c.args.disk.now) c.requires.moment
     (unlinked g.L.Links command u c.args.links.now) (says.Minimum c.in-Some-minimum_that_stays.minimum) c.requires.moment
-    (counts_none refl)
+    (counts_none refl) (λ e. tt)
     (λ old s. required_rests c.args.now c.args.key.now c.args.version _ u.state _ _ _ old s.jobs s.shows (c.in_default.ensures.none refl c.args.now c.args.version) c.in-Some-minimum_that_stays.minimum c.in-Some-minimum_that_stays.ensures.some))
 
 pub raise-requires-clause-passed : goal.raise-requires-clause-passed

@@ -4,7 +4,7 @@ use Rattle.machine.specs.declared.command.Command.TheVariants as command
 use Rattle.machine.specs.declared.reply.Reply.TheVariants as says
 use Rattle.store_state.specs.declared.change.Change.TheVariants as change
 use Rattle.install_plan.proofs.Downs.{counts_none}
-use Rattle.updater.proofs.Commanding.{kept, memory_missed, refused, unlinked}
+use Rattle.updater.proofs.Commanding.{kept, refused, unlinked}
 use Rattle.updater.proofs.GoingBack.{rolled_back_does}
 use Rattle.updater.proofs.ShownViews.{keeps_current, keeps_previous}
 use Rattle.updater.proofs.Seen.{kept_as, rested_as, seen}
@@ -19,7 +19,7 @@ returns-in-Err g c =
     (g.met.D.Disk.seen_left c.args.disk.now) c.requires.moment tt c.in-Err.reply
     (subst (λ (n : ℕ). n ≤ NUMBER_LIMIT) (sym (c.in-Err.ensures.still c.args.now))
     c.requires.moment)
-    (counts_none c.in-Err.ensures.no_target)
+    (counts_none c.in-Err.ensures.no_target) c.in-Err.ensures.not_memory
     (λ old s. c.in-Err.ensures.refused (keeps_current s.shows c.args.key.now s.valid.ordered)
     (keeps_previous s.shows c.args.key.now s.valid.ordered) c.args.now
     u.room old))
@@ -34,11 +34,9 @@ returns g c =
     (g.met.D.Disk.seen_left c.args.disk.now) c.requires.moment
     (unlinked g.L.Links command u c.args._links.now)
     (change.Rollback c.in-Ok.going.app) (says.Current c.in-Ok.going.version) c.requires.moment
-    (counts_none refl)
+    (counts_none refl) (λ e. absurd (cc))
     (λ old s. rolled_back_does c.args.now c.args.key.now u.room
     u.state _ _ _ old s.jobs s.shows s.valid c.requires.words c.requires.moment
     c.in-Ok.going c.in-Ok.ensures.going)
-    (memory_missed g.D.Disk g.L.Links c.args.now command
-    u c.args.disk.now c.args._links.now
-    (g.met.D.Disk.seen_left c.args.disk.now) c.requires.moment tt)
+    (λ takes. absurd takes)
     c.keep_lighter.new.self c.keep_lighter.new.disk c.keep_lighter.result c.answer.result keeps c.answer.ensures)

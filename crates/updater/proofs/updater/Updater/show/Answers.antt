@@ -15,7 +15,7 @@ returns-in_default g c =
     (refused g.D.Disk g.L.Links c.args.now (command.Show c.args.key.now)
     u c.args._disk.now c.args._links.now
     (g.met.D.Disk.seen_left c.args._disk.now) c.requires tt says.NotInstalled c.requires
-    (counts_none refl)
+    (counts_none refl) (λ e. tt)
     (λ old s. not_shown c.args.key.now u.room u.state old
     (sym {b = entry_of c.args.key.now c.self.inside.state.apps} c.in_default.ensures)))
 
@@ -28,7 +28,7 @@ returns-in-Ok g c =
     (g.met.D.Disk.seen_left c.args._disk.now) c.requires
     (unlinked g.L.Links (command.Show c.args.key.now) u c.args._links.now)
     (says.Shown c.in-Ok.row) c.requires
-    (counts_none refl)
+    (counts_none refl) (λ e. tt)
     (λ old s. shown_rests c.args.now u.room u.state
     _ _ _ old s.jobs s.shows c.args.key.now c.in-Some.app.now c.in-Ok.row
     (sym {b = entry_of c.args.key.now c.self.inside.state.apps} c.in-Some.ensures) c.in-Ok.ensures))
