@@ -1,5 +1,5 @@
 -- Changes of the tables lead from one valid store that they show to another.
-use Rattle.std.proofs.Common.{◌≡◌, ◌≤◌, ◌<◌, ◌-◌, ◌^◌, ◌∙◌, min, ℕ, List, None, length, map, refl, sym, ap, subst, arith}
+use Rattle.std.proofs.Common.{◌≡◌, ◌≤◌, ◌<◌, ◌-◌, ◌^◌, min, ℕ, List, None, length, map, refl, sym, ap, subst, arith}
 use Rattle.small_types.specs.declared.room.Room.{Room}
 use Rattle.small_types.specs.declared.limits.TheConstants.{APPLICATION_LIMIT, NUMBER_LIMIT}
 use Rattle.identity.specs.declared.key.Key.{Key}
@@ -14,7 +14,7 @@ use Rattle.machine.specs.Valid.{Valid}
 use Rattle.machine.specs.Weight.{IsTooHeavy, weight_of}
 use Rattle.machine.proofs.Keeping.{booted_valid, required_valid}
 use Rattle.store_state.specs.declared.change.Change.TheVariants.{Boot, Require}
-use Rattle.store_state.specs.Change.{Fits, effect}
+use Rattle.store_state.specs.Change.{Fits}
 use Rattle.store_state.specs.Shows.{Shows}
 use Rattle.store_state.specs.Tables.{Tables, bare_row}
 use Rattle.store_state.proofs.Showing.{shape_shown, shows_booted, shows_required}

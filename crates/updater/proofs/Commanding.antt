@@ -1,5 +1,5 @@
 -- How commands end.
-use Rattle.std.proofs.Common.{◌≡◌, ◌≢◌, ◌+◌, ◌≤◌, ◌++◌, ◌∙◌, ℕ, List, [], length, append-nil, Some, Result, Ok, Err, inl, inr, refl, sym, ap, subst, arith}
+use Rattle.std.proofs.Common.{◌≡◌, ◌≢◌, ◌≤◌, ◌∙◌, ℕ, List, [], Some, Result, Ok, Err, inl, inr, refl, sym, subst, arith}
 use Rattle.small_types.specs.declared.room.Room.{Room}
 use Rattle.small_types.specs.declared.limits.TheConstants.{NUMBER_LIMIT}
 use Rattle.outside.specs.declared.failed.Failed.{Failed}
@@ -17,7 +17,7 @@ use Rattle.machine.specs.declared.reply.Reply.TheVariants as says
 use Rattle.machine.specs.Machine.{Answers, Hears, effect, moment_after, refusals}
 use Rattle.machine.specs.Rows.{PassesAll, Refuses}
 use Rattle.machine.specs.Shape.{Shape, shape_of}
-use Rattle.machine.specs.Store.{Session, Store}
+use Rattle.machine.specs.Store.{Session}
 use Rattle.machine.specs.Valid.{Valid}
 use Rattle.machine.specs.Words.{IsCommand}
 use Rattle.machine.proofs.Sessions.{step_jobs}

@@ -1,5 +1,5 @@
 -- How groups end.
-use Rattle.std.proofs.Common.{◌≡◌, ◌≤◌, ℕ, List, [], Some, Result, Ok, inl, refl, sym, subst}
+use Rattle.std.proofs.Common.{◌≤◌, ℕ, List, [], Some, Result, Ok, inl, refl, sym, subst}
 use Rattle.small_types.specs.declared.room.Room.{Room}
 use Rattle.small_types.specs.declared.limits.TheConstants.{NUMBER_LIMIT}
 use Rattle.outside.specs.declared.failed.Failed.{Failed}
@@ -10,13 +10,10 @@ use Rattle.machine.specs.declared.command.Command.TheVariants.{Group}
 use Rattle.machine.specs.declared.event.Event.TheVariants.{Line}
 use Rattle.machine.specs.declared.reply.Reply.{Reply}
 use Rattle.machine.specs.declared.reply.Reply.TheVariants as says
-use Rattle.machine.specs.Machine.{moment_after}
 use Rattle.machine.specs.Store.{Session}
 use Rattle.machine.specs.Words.{IsGroup}
 use Rattle.machine.proofs.Stepping.{step_valid}
 use Rattle.store_state.specs.declared.change.Change.{Change}
-use Rattle.store_state.specs.Change.{effect}
-use Rattle.store_state.specs.Shows.{Shows}
 use Rattle.install_plan.specs.Checks.{LedBy}
 use Rattle.install_plan.specs.GroupReady.{GroupStep, IsGroupOver, IsGroupReady}
 use Rattle.install_plan.proofs.Downs.{counts_none}

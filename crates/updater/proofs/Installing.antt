@@ -16,10 +16,7 @@ use Rattle.machine.specs.Shape.{Shape, shape_of}
 use Rattle.machine.specs.Store.{Session, Store}
 use Rattle.machine.proofs.InstallSteps.{left_valid}
 use Rattle.store_state.specs.declared.change.Change.{Change}
-use Rattle.store_state.specs.Change.{effect}
-use Rattle.store_state.specs.Shows.{Shows}
 use Rattle.store_state.specs.Tables.{table_shape}
-use Rattle.install_plan.specs.Brought.{IsBrought}
 use Rattle.install_plan.specs.Downs.{CountsDowns}
 use Rattle.install_plan.specs.Hearing.{Served}
 use Rattle.install_plan.specs.Plans.{IsRefused}

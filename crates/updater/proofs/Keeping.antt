@@ -1,5 +1,5 @@
 -- A change that is made durable leads from one store that the tables show to another.
-use Rattle.std.proofs.Common.{◌≡◌, ◌≢◌, ◌⊎◌, ◌<◌, ◌≤◌, ◌+◌, ℕ, List, length, Result, Ok, Err, inl, inr, refl, sym, ap, subst, ◌∙◌, arith}
+use Rattle.std.proofs.Common.{◌≡◌, ◌≢◌, ◌⊎◌, ◌<◌, ◌≤◌, ◌+◌, ℕ, List, Result, Ok, Err, inl, inr, refl, sym, ap, subst, ◌∙◌, arith}
 use Rattle.std.specs.Prelude.{OnOk}
 use Rattle.std.proofs.lemmas.Bool.{cases_lt}
 use Rattle.small_types.specs.declared.room.Room.{Room}
@@ -14,7 +14,7 @@ use Rattle.machine.proofs.Lightness.{lighter}
 use Rattle.journal.specs.declared.log.Log.{Log}
 use Rattle.journal.specs.declared.piece.TheConstants.{AROUND, AROUND_TABLES, BEFORE}
 use Rattle.journal.specs.Log.{FitsHalf, half_of, used_of}
-use Rattle.record_codec.specs.Codec.{IsChange, change_text}
+use Rattle.record_codec.specs.Codec.{IsChange}
 use Rattle.store_state.specs.declared.change.Change.{Change}
 use Rattle.store_state.specs.Change.{Fits, effect}
 use Rattle.store_state.specs.Kept.{AreTables}

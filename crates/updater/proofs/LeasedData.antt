@@ -1,13 +1,13 @@
 -- The data files of a leased view, in tables and in the store that they show.
-use Rattle.std.proofs.Common.{◌≡◌, ◌∙◌, ◌≤◌, inl, inr, refl, sym, ap, subst, ℕ, List, [], map, length, bytes_eq, Option, Some, None, IsSome, arith}
-use Rattle.std.specs.Prelude.{option_and_then, option_map}
+use Rattle.std.proofs.Common.{◌≡◌, ◌∙◌, inl, inr, refl, sym, ap, ℕ, List, [], map, length, bytes_eq, Option, Some, None, IsSome}
+use Rattle.std.specs.Prelude.{option_map}
 use Rattle.std.proofs.lemmas.Option.{none-some}
 use Rattle.small_types.specs.declared.room.Room.{Room}
 use Rattle.machine.specs.declared.command.Command.TheVariants as command
 use Rattle.machine.specs.declared.lease.Lease.{Lease}
 use Rattle.machine.specs.declared.reply.Reply.TheVariants as says
 use Rattle.machine.specs.DataFiles.{bare_data_named, data_named}
-use Rattle.machine.specs.Leases.{lease_of, leased_bare, leased_view}
+use Rattle.machine.specs.Leases.{lease_of, leased_bare}
 use Rattle.machine.specs.LocalRow.{LacksData, local_refusals}
 use Rattle.machine.specs.ReadRow.{part}
 use Rattle.machine.specs.Rows.{PassesAll, Refuses}

@@ -1,5 +1,5 @@
 -- How an opening ends, from what reading the store found and from what became of the boot number.
-use Rattle.std.proofs.Common.{◌≡◌, ◌≢◌, ◌+◌, ◌≤◌, ◌==◌, ℕ, List, [], Bool, true, false, cond, length, Result, Ok, Err, inl, inr, refl, sym, ap, subst, ◌∙◌, arith}
+use Rattle.std.proofs.Common.{◌≡◌, ◌≢◌, ◌+◌, ◌≤◌, ◌==◌, ℕ, List, [], Bool, true, false, cond, Result, Ok, Err, inl, inr, refl, sym, ap, subst, ◌∙◌, arith}
 use Rattle.std.proofs.lemmas.Bool.{eq-eqb}
 use Rattle.std.specs.Prelude.{IfOk, OnOk}
 use Rattle.small_types.specs.declared.limits.TheConstants.{NUMBER_LIMIT}

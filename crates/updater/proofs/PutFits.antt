@@ -1,9 +1,9 @@
 -- A put that is not refused fits the tables.
-use Rattle.std.proofs.Common.{◌≡◌, ◌≤◌, ◌<◌, inl, inr, refl, sym, ap, subst, ℕ, Bool, true, false, cond, not, List, map, length, Option, Some, None, arith}
+use Rattle.std.proofs.Common.{◌≡◌, ◌≤◌, ◌<◌, inr, refl, sym, ap, subst, ℕ, Bool, true, false, cond, not, List, length, Option, Some, None, arith}
 use Rattle.std.specs.Prelude.{IsSomeAnd}
 use Rattle.small_types.specs.declared.room.Room.{Room}
 use Rattle.small_types.specs.declared.limits.TheConstants.{LOCAL_COUNT_LIMIT, LOCAL_NAME_LIMIT}
-use Rattle.small_types.specs.Name.{IsBelowPre, IsName}
+use Rattle.small_types.specs.Name.{IsName}
 use Rattle.manifests.specs.Applications.{is_below_pre}
 use Rattle.machine.specs.DataFiles.{with_named}
 use Rattle.machine.specs.Weight.{IsLight}
@@ -13,7 +13,7 @@ use Rattle.machine.proofs.NamedItems.{sum-with_known, sum-with_named}
 use Rattle.store_state.specs.declared.change.Change.TheVariants as change
 use Rattle.store_state.specs.declared.view.LocalFile.{LocalFile}
 use Rattle.store_state.specs.declared.view.View.{View}
-use Rattle.store_state.specs.Change.{Fits, FitsPut, IsLocal, IsRow, MayPut, effect}
+use Rattle.store_state.specs.Change.{Fits, FitsPut, IsRow, MayPut, effect}
 use Rattle.store_state.specs.Kept.{AreTables}
 use Rattle.store_state.specs.Locals.{local_name, local_named, outside_locals}
 use Rattle.store_state.specs.Tables.{Tables, bare_row}

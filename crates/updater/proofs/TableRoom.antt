@@ -1,5 +1,5 @@
 -- Tables that have room, or the reply that they have none.
-use Rattle.std.proofs.Common.{◌≡◌, ◌∙◌, ℕ, Bool, false, Option, Some, None, ap}
+use Rattle.std.proofs.Common.{◌≡◌, ℕ, false, Option, Some, None, ap}
 use Rattle.std.specs.Prelude.{IfSome, MatchOption}
 use Rattle.small_types.specs.declared.room.Room.{Room}
 use Rattle.machine.specs.declared.reply.Reply.{Reply}

@@ -1,4 +1,4 @@
-use Rattle.std.proofs.Common.{◌<◌, length, refl, sym, arith}
+use Rattle.std.proofs.Common.{◌<◌, length, sym, arith}
 use Rattle.small_types.specs.declared.limits.TheConstants.{APPLICATION_LIMIT}
 use Rattle.identity.specs.declared.version.Version.{Version}
 use Rattle.updater.proofs.TableRoom.{still_full, target_full}

@@ -1,5 +1,4 @@
-use Rattle.std.proofs.Common.{◌≡◌, ◌∙◌, [], ◌≤◌, ℕ, length, ap, subst, sym, refl}
-use Rattle.small_types.specs.declared.limits.TheConstants.{NUMBER_LIMIT}
+use Rattle.std.proofs.Common.{◌∙◌, [], length, ap, refl}
 use Rattle.machine.specs.declared.command.Command.TheVariants as command
 use Rattle.machine.specs.declared.reply.Reply.TheVariants as says
 use Rattle.store_state.specs.declared.change.Change.TheVariants as change

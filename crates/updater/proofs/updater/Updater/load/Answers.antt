@@ -1,5 +1,4 @@
-use Rattle.std.proofs.Common.{◌≡◌, ◌∙◌, Err, Result, ap}
-use Rattle.table_log.specs.declared.fault.RecoverFault.TheVariants as tables
+use Rattle.std.proofs.Common.{◌∙◌, Err, ap}
 use Rattle.updater.specs.declared.fault.RecoverFault.TheVariants.{Memory, NotAStore}
 use Rattle.std.proofs.lemmas.Bool.{both_ways}
 use Rattle.updater.proofs.Recovering.{all_read, disk_failed, kept_of_store, of_no_store, of_none, shows_valid, store_found}
