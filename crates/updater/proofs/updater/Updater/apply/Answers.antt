@@ -1,4 +1,4 @@
-use Rattle.std.proofs.Common.{◌≡◌, ◌<◌, ◌++◌, [], ℕ, List, append-nil, sym, ◌∙◌, arith, rules}
+use Rattle.std.proofs.Common.{◌<◌, [], arith, rules}
 use Rattle.updater.proofs.Applying.{memory_at_once}
 use Rattle.updater.proofs.updater.Updater.apply.Goals as goal
 
