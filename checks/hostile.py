@@ -7,7 +7,7 @@ may not crash, hang, take more memory than its right work takes, or hand out wha
 `docs/http.md` and gives no other file, the client installs no file that its manifest does not list, and each of them goes on with
 the next one. The number of a failure and SEED of the environment make the same bytes again.
 """
-import base64, hashlib, os, random, re, signal, socket, struct, subprocess, sys, threading, time
+import base64, hashlib, os, random, re, shutil, signal, socket, struct, subprocess, sys, threading, time
 
 from mutants import NUMBERS, PIECES, mutant
 from programs import (CLIENT, HOST, KEY, SESSION, command, copied, empty, finish, holds, seed, serve, servers, session, stop, work)
@@ -17,6 +17,7 @@ COUNT = int(sys.argv[1]) if len(sys.argv) > 1 else 10000
 # Kilobytes that a program may take beside what it takes for right work, and the seconds that it has for one piece of work.
 ROOM, LONGEST = 32768, int(os.environ.get("LONGEST", "100"))
 SITE = f"{work}/site"
+TIME = shutil.which("time")
 
 
 def chance_of(kind, number):
@@ -297,19 +298,20 @@ class Peer:
 
 def measured(words, text):
     """How a program ends that is given this text, what it writes and says, and how many kilobytes it took at most. One that hangs
-    is killed."""
-    with open(f"{work}/measured", "wb") as file:
-        file.write(text)
-    with open(f"{work}/measured", "rb") as file, open(f"{work}/wrote", "w+b") as out, open(f"{work}/said", "w+b") as why:
-        process = subprocess.Popen(words, stdin=file, stdout=out, stderr=why)
-        signal.signal(signal.SIGALRM, lambda *_: process.kill())
-        signal.setitimer(signal.ITIMER_REAL, LONGEST)
-        _, status, used = os.wait4(process.pid, 0)
-        signal.setitimer(signal.ITIMER_REAL, 0)
-        process.returncode = os.waitstatus_to_exitcode(status)
-        out.seek(0)
-        why.seek(0)
-        return process.returncode, out.read(), why.read(), used.ru_maxrss
+    is killed. What a child of this process takes is not told from what the process itself has, so `time` stands between."""
+    told = f"{work}/told"
+    wrote(f"{work}/measured", text)
+    wrote(told, b"0\n")
+    with open(f"{work}/measured", "rb") as file:
+        before = [TIME, "-q", "-f", "%M", "-o", told] if TIME else []
+        process = subprocess.Popen(before + words, stdin=file, stdout=subprocess.PIPE, stderr=subprocess.PIPE, start_new_session=True)
+        try:
+            out, why = process.communicate(timeout=LONGEST)
+        except subprocess.TimeoutExpired:
+            os.killpg(process.pid, signal.SIGKILL)
+            out, why = process.communicate()
+    with open(told) as lines:
+        return process.returncode, out, why, int(lines.read().split()[-1])
 
 
 def lines_of(numbers, address):
@@ -416,6 +418,8 @@ def manifests(release):
 
 def main():
     print(f"SEED={seed}", flush=True)
+    if not TIME:
+        print("skipped: there is no time(1) here, so memory is not measured but of the host")
     release = Release()
     for part in (requests, answers, manifests):
         began = time.monotonic()
