@@ -124,7 +124,7 @@ Where the status is neither 0 nor 7, one line on the standard error says why.
 ";
 
 const VERSION: &[u8] = b"clickstore 0.1.0
-stores: the first form, CLKSTOR0
+stores: the second form, CLKSTOR1
 ";
 
 // Whether an option asks for a page.

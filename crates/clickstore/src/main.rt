@@ -15,7 +15,7 @@ use crate::help::{Page, begins_help, page_of, write_page};
 use crate::other_words::what_is_wrong;
 use crate::reasons::Misread;
 use crate::shipped::run_over_file;
-use disks::{Start, Unknown};
+use disks::{Disk, Start, Unknown};
 use http_link::HttpLink;
 use links::{Link, Links};
 use mirrors::Mirrors;
@@ -35,6 +35,9 @@ const INPUT: &str = "standard input";
 const OUTPUT: &str = "standard output";
 
 const NO_MEMORY: &str = "no memory";
+
+// How a store of the form before this one begins.
+const FIRST_FORM: [u8; 8] = *b"CLKSTOR0";
 
 // How the command line is read.
 enum Asked {
@@ -133,6 +136,32 @@ fn explain_early(rt: &HostRuntime, note: Option<DemoFault>) {
     }
 }
 
+// Whether the disk has a store of the form before this one.
+fn is_first_form<D: Disk>(disk: &mut D) -> bool {
+    let mut sign = [0u8; 8];
+    disk.read(0, &mut sign) == Ok(8) && sign == FIRST_FORM
+}
+
+// Says that the file is no store, and what to do; of a store of the form before this one, that it is
+// that.
+fn explain_no_store(rt: &HostRuntime, is_first_form: bool, disk: &Failure) {
+    let path = disk.name();
+    if is_first_form {
+        say(
+            rt,
+            format_args!(
+                "{path}: a store of the first form, CLKSTOR0, which only an older clickstore reads; \
+                 'format' erases it and makes a new one, to install into again"
+            ),
+        );
+        return;
+    }
+    say(
+        rt,
+        format_args!("{path}: no store, or a damaged one; 'format' erases it and makes a new one"),
+    );
+}
+
 // Says why a run of these words ended with this status, if it was not done. Of a generated run that
 // ended early it is noted why.
 fn explain(
@@ -140,6 +169,7 @@ fn explain(
     status: u8,
     words: &[Word],
     note: Option<DemoFault>,
+    is_first_form: bool,
     failures: &Failures,
 ) {
     match status {
@@ -147,15 +177,7 @@ fn explain(
         2 => say(rt, failures.source.or(failures.folder)),
         3 => say(rt, failures.sink.or(failures.folder)),
         4 => say(rt, failures.disk),
-        5 => {
-            let path = failures.disk.name();
-            say(
-                rt,
-                format_args!(
-                    "{path}: no store, or a damaged one; 'format' erases it and makes a new one"
-                ),
-            );
-        }
+        5 => explain_no_store(rt, is_first_form, &failures.disk),
         6 => explain_early(rt, note),
         8 => say(rt, "more input than a session takes"),
         _ => {}
@@ -193,13 +215,14 @@ fn run_over_links<S: Start, L: Links>(
         &mut report,
         &mut note,
     );
+    let is_first_form = status == 5 && is_first_form(&mut disk);
     let failures = Failures {
         source: Failure::new(INPUT, source.why()),
         sink: Failure::new(OUTPUT, sink.why()),
         disk: Failure::new(disk.path(), disk.why()),
         folder: Failure::new(folder.path(), folder.why()),
     };
-    explain(rt, status, words, note, &failures);
+    explain(rt, status, words, note, is_first_form, &failures);
     Ok(status)
 }
 

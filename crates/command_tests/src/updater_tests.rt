@@ -6,14 +6,19 @@ ghost use Rattle.machine.specs.Words.{IsCommand};
 
 use disks::{Disk, MemDisk};
 use identity::{Key, Version};
+use journal::Log;
 use links::{MemLink, Page, Single, are_distinct};
 use machine::{Command, Heard, Reply};
 use outside::Failed;
-use small_types::{Bytes, List};
+use small_types::{Bytes, List, Room};
 use std::alloc::Global;
 use std::test::Fail;
-use store_log::Log;
 use updater::{RecoverFault, Updater};
+
+const ROOM: Room = Room {
+    blocks: 16,
+    half: 1_048_576,
+};
 
 // A disk of these bytes, whose call of the number `failing`, counted from 1, fails.
 fn disk_of(alloc: Global, bytes: &[u8], failing: u64) -> Result<MemDisk, Fail> {
@@ -25,7 +30,7 @@ fn disk_of(alloc: Global, bytes: &[u8], failing: u64) -> Result<MemDisk, Fail> {
 // A disk with a new store.
 fn new_disk(alloc: Global) -> Result<MemDisk, Fail> {
     let mut disk = disk_of(alloc, &[], 0)?;
-    Log::format(alloc, &mut disk, 16, 0, &[])?;
+    table_log::format(alloc, &mut disk, ROOM)?;
     Ok(disk)
 }
 
@@ -267,12 +272,13 @@ fn run_and_see(alloc: Global, bytes: &[u8], failing: u64) -> Result<(bool, Seen)
 #[test]
 fn a_call_that_fails_leaves_the_store_before_or_after(rt: HostRuntime) -> Result<(), Fail> {
     let bytes = opened(rt.alloc())?;
-    // A sync, a read of the bytes and one of the end, and four calls each of the boot number and of the minimum.
-    // With 0 none fails.
-    for failing in 0..12u64 {
+    // A sync, reads of the head, of the first half's gate, of the second one's, of the end behind it
+    // and of the first half, and four calls each of the boot number and of the minimum. With 0 none
+    // fails.
+    for failing in 0..15u64 {
         // A change is there once its gate is written, also where the last sync failed.
-        let has_boot = failing == 0 || failing >= 7;
-        let has_minimum = failing == 0 || failing >= 11;
+        let has_boot = failing == 0 || failing >= 10;
+        let has_minimum = failing == 0 || failing >= 14;
         let want = Seen {
             other: !has_boot,
             boot: 2,

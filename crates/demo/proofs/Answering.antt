@@ -20,7 +20,7 @@ use Rattle.machine.specs.Valid.{Valid}
 use Rattle.machine.specs.Words.{IsCommand}
 use Rattle.machine.proofs.Stepping.{step_sound}
 use Rattle.store_state.specs.Shows.{Shows}
-use Rattle.updater.specs.declared.updater.Updater.{Updater}
+use Rattle.updater.specs.Shown.{Updater}
 use Rattle.updater.specs.Commanded.{Answered, Commanded, CommandedBehind, SoundFor}
 use Rattle.updater.specs.Updater.{tables_of}
 use Rattle.generated_release.specs.declared.release.GeneratedRelease.{GeneratedRelease}

@@ -9,7 +9,7 @@ use Rattle.machine.specs.Shape.{bare_view}
 use Rattle.machine.specs.Store.{Store}
 use Rattle.machine.specs.Valid.{Valid}
 use Rattle.store_state.specs.Shows.{Shows}
-use Rattle.updater.specs.declared.updater.Updater.{Updater}
+use Rattle.updater.specs.Shown.{Updater}
 use Rattle.updater.specs.Updater.{tables_of}
 use Rattle.updater.proofs.Standing.{stored_stands}
 use Rattle.generated_release.specs.declared.release.GeneratedRelease.TheVariants.{One, Two, Three}

@@ -1,21 +1,26 @@
 -- A new store is opened by a boot.
-use Rattle.std.proofs.Common.{◌≡◌, ◌≢◌, ℕ, List, [], Bool, None, Result, Ok, Err, refl, arith}
+use Rattle.std.proofs.Common.{◌≡◌, ◌≢◌, ℕ, List, [], Bool, None, Result, Ok, Err, refl, subst, arith}
 use Rattle.small_types.specs.declared.room.Room.{Room}
+use Rattle.small_types.specs.Room.{new_room}
 use Rattle.disks.specs.declared.disk.Disk.{Ghosts}
 use Rattle.disks.specs.Spends.{Spends}
 use Rattle.machine.specs.declared.event.Event.TheVariants.{Boot}
 use Rattle.machine.specs.Machine.{Step}
-use Rattle.machine.specs.Store.{booted, empty, plain_room, session_over}
-use Rattle.machine.specs.Weight.{weight_of}
+use Rattle.journal.specs.declared.fault.LogFault.{LogFault}
+use Rattle.journal.specs.declared.fault.LogFault.TheVariants as log
+use Rattle.journal.specs.Layout.{AreLimits, IsHalvedJournal}
+use Rattle.machine.specs.Store.{booted, empty, session_over}
 use Rattle.machine.proofs.Keeping.{empty_sound}
-use Rattle.machine.proofs.Lightness.{no_halves}
+use Rattle.machine.proofs.Lightness.{least_light}
 use Rattle.machine.proofs.Stepping.{step_sound}
-use Rattle.store_log.specs.declared.fault.LogFault.{LogFault}
-use Rattle.store_log.specs.declared.fault.LogFault.TheVariants as log
-use Rattle.store_log.specs.Log.{IsStore}
+use Rattle.store_state.specs.Tables as tables
+use Rattle.table_codec.specs.Spelling.{state_text}
+use Rattle.table_log.specs.ReadsAs.{ReadsAs}
+use Rattle.table_log.proofs.Images.{new_reads}
+use Rattle.table_log.proofs.NewRooms.{new_limits}
 use Rattle.updater.specs.declared.fault.RecoverFault.{RecoverFault}
 use Rattle.updater.specs.declared.fault.RecoverFault.TheVariants as recover
-use Rattle.updater.specs.declared.updater.Updater.{Updater}
+use Rattle.updater.specs.Shown.{Updater}
 use Rattle.updater.specs.Opened.{Opened}
 use Rattle.updater.specs.StandsFor.{StandsFor}
 use Rattle.updater.proofs.Standing.{new_stands}
@@ -27,11 +32,22 @@ use Rattle.demo.specs.Run.{start}
 
 -- the new room
 abbrev room : Room
-room = plain_room STORE_BLOCKS
+room = new_room STORE_BLOCKS
 
--- the new journal stands for the empty store
-fresh : (image : List ℕ) → IsStore STORE_BLOCKS [] image → StandsFor image (empty room)
-fresh image journal = new_stands image room (record { store = journal; half = refl })
+-- a journal may have it
+room_limits : AreLimits room.blocks room.half
+room_limits = new_limits STORE_BLOCKS (omega arith) (omega arith)
+
+-- its new journal reads as the empty tables
+pub reads_new : (made : Room) (image : List ℕ) → made ≡ room
+    → IsHalvedJournal made.blocks made.half (state_text tables.empty) [] image
+    → ReadsAs room image tables.empty
+reads_new made image is journal = subst (λ (r : Room). ReadsAs r image tables.empty) is
+    (new_reads made image journal)
+
+-- and so stands for the empty store
+fresh : (image : List ℕ) → ReadsAs room image tables.empty → StandsFor image (empty room)
+fresh image reads = new_stands image room reads (omega arith) room_limits
 
 module _ {D : Type 0} (on : Ghosts D) (disk disk_new : D) where
   -- an opening touches the disk as it says
@@ -52,18 +68,18 @@ module _ {D : Type 0} (on : Ghosts D) (disk disk_new : D) where
 
   -- the new store is opened
   pub begins : (r : Updater × Bool) → Opened on 1 disk (Ok r) disk_new
-      → IsStore STORE_BLOCKS [] (on.seen disk) → OpensNew on disk (Ok r.0) disk_new
-  begins r opened journal = record {
+      → ReadsAs room (on.seen disk) tables.empty → OpensNew on disk (Ok r.0) disk_new
+  begins r opened reads = record {
     begins = λ tells.
         let last = session_over (booted 1 (empty room)) in
         let step : Step 0 start (Boot 1) None last = (refl, refl) in
         record {
           session = last;
           is = step;
-          holds = opened.holds.stored tells (empty room) (fresh (on.seen disk) journal);
+          holds = opened.holds.stored tells (empty room) (fresh (on.seen disk) reads);
           sound = step_sound 0 start (Boot 1) None last (omega arith) step
               (empty_sound room (omega arith) (omega arith)
-              (no_halves room (weight_of [] []) refl));
+              (least_light room (λ some. room_limits.least)));
         };
     touches = touches (Ok r) (Ok r.0) opened (λ is. cc (is)) (λ is. cc (is)) (λ tells is. cc (is));
   }
@@ -77,11 +93,11 @@ module _ {D : Type 0} (on : Ghosts D) (disk disk_new : D) where
   }
 
   pub reads_none : Opened on 1 disk (Err recover.NotAStore) disk_new
-      → IsStore STORE_BLOCKS [] (on.seen disk) → OpensNew on disk (Err NotAStore) disk_new
-  reads_none opened journal = record {
+      → ReadsAs room (on.seen disk) tables.empty → OpensNew on disk (Err NotAStore) disk_new
+  reads_none opened reads = record {
     begins = λ tells. tt;
     touches = touches (Err recover.NotAStore) (Err NotAStore) opened (λ is. cc (is)) (λ is. cc (is))
-        (λ tells is. opened.holds.not_a_store tells refl (empty room) (fresh (on.seen disk) journal));
+        (λ tells is. opened.holds.not_a_store tells refl (empty room) (fresh (on.seen disk) reads));
   }
 
   pub lacks : Opened on 1 disk (Err recover.Memory) disk_new → OpensNew on disk (Err Memory) disk_new
@@ -93,7 +109,7 @@ module _ {D : Type 0} (on : Ghosts D) (disk disk_new : D) where
 
   -- a format touches the disk as it says
   pub format_touches : {S T : Type 0} (result : Result S LogFault) (ends : Result T DemoFault)
-      (bytes : ℕ) → Spends on 6 bytes disk disk_new (result ≡ Err log.DiskFault)
+      (bytes : ℕ) → Spends on 7 bytes disk disk_new (result ≡ Err log.DiskFault)
       → (result ≡ Err log.DiskFault → ends ≡ Err DiskFault)
       → (ends ≡ Err DiskFault → result ≡ Err log.DiskFault)
       → ends ≢ Err NotAStore

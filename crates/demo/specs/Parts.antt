@@ -11,7 +11,7 @@ use Rattle.machine.specs.declared.event.Event.TheVariants.{Boot}
 use Rattle.machine.specs.Machine.{Step}
 use Rattle.machine.specs.Sound.{Sound}
 use Rattle.machine.specs.Store.{Session}
-use Rattle.updater.specs.declared.updater.Updater.{Updater}
+use Rattle.updater.specs.Shown.{Updater}
 use Rattle.updater.specs.Commanded.{Answered}
 use Rattle.updater.specs.Updater.{Holds}
 use Rattle.demo.specs.declared.fault.DemoFault.{DemoFault}

@@ -1,5 +1,6 @@
 -- A generated run.
 use Rattle.std.specs.Prelude.{◌≡◌, ℕ, false, List, [], ◌∷◌, Option, Some, None}
+use Rattle.small_types.specs.Room.{new_room}
 use Rattle.disks.specs.declared.disk.Disk.{Ghosts}
 use Rattle.machine.specs.declared.command.Command.TheVariants.{Clean, Finish, Install, Launch}
 use Rattle.machine.specs.declared.event.Event.{Event}
@@ -7,7 +8,7 @@ use Rattle.machine.specs.declared.event.Event.TheVariants.{Boot}
 use Rattle.machine.specs.declared.reply.Reply.{Reply}
 use Rattle.machine.specs.declared.reply.Reply.TheVariants as says
 use Rattle.machine.specs.Machine.{Run, Step}
-use Rattle.machine.specs.Store.{Session, empty, plain_room, session_over}
+use Rattle.machine.specs.Store.{Session, empty, session_over}
 use Rattle.updater.specs.StandsFor.{StandsFor}
 use Rattle.generated_release.specs.declared.release.GeneratedRelease.TheVariants.{One, Two, Three}
 use Rattle.demo.specs.declared.run.TheConstants.{STORE_BLOCKS}
@@ -20,7 +21,7 @@ use Rattle.demo.specs.Steps.{Cleans, Finishes, Installs, Launches, blocks_in, ev
 
 -- a session over the new store of 65,536 blocks
 abbrev pub start : Session
-start = session_over (empty (plain_room STORE_BLOCKS))
+start = session_over (empty (new_room STORE_BLOCKS))
 
 -- The seven lines behind the boot event, all at moment 0. Each install hears two texts.
 abbrev pub events_of : List (List ℕ) → List (List ℕ) → List (List ℕ) → List Event

@@ -2,7 +2,9 @@
 ghost use Rattle.std.specs.Prelude.{◌≡◌, ℕ, [], IfOk, None};
 ghost use Rattle.machine.specs.declared.event.Event.TheVariants.{Boot};
 ghost use Rattle.machine.specs.Machine.{Step};
-ghost use Rattle.store_log.specs.Log.{IsStore};
+ghost use Rattle.small_types.specs.Room.{new_room};
+ghost use Rattle.store_state.specs.Tables.{empty};
+ghost use Rattle.table_log.specs.ReadsAs.{ReadsAs};
 ghost use Rattle.demo.specs.Parts.{FirstLaunched, FirstLeft, Goes, OpensNew, ReachesHeld, ThirdInstalled, Touches};
 ghost use Rattle.demo.specs.Run.{Demonstrates, start};
 ghost use Rattle.demo.specs.Steps.{Installs, IsSite};
@@ -15,8 +17,9 @@ use crate::site::{Site, open_site};
 use crate::{DemoFault, Installed, Summary};
 use disks::Disk;
 use generated_release::GeneratedRelease;
+use journal::LogFault;
+use small_types::new_room;
 use std::alloc::{AllocError, Global};
-use store_log::{Log, LogFault};
 use updater::{RecoverFault, Updater};
 
 /// How many blocks the store has.
@@ -27,7 +30,7 @@ const BOOT: u64 = 1;
 
 // Opens the new store, which is there.
 fn open_new<D: Disk>(alloc: Global, disk: &mut D) -> Result<Updater, DemoFault>
-    requires { IsStore STORE_BLOCKS [] (D.seen disk.old) }
+    requires { ReadsAs (new_room STORE_BLOCKS) (D.seen disk.old) empty }
     ensures { OpensNew D.Disk disk.old result disk.new }
 {
     match Updater::recover(alloc, disk, BOOT) {
@@ -45,7 +48,7 @@ fn open_new<D: Disk>(alloc: Global, disk: &mut D) -> Result<Updater, DemoFault>
 fn open<D: Disk>(alloc: Global, disk: &mut D) -> Result<Updater, DemoFault>
     ensures { OpensNew D.Disk disk.old result disk.new }
 {
-    match Log::format(alloc, disk, STORE_BLOCKS, 0, &[]) {
+    match table_log::format(alloc, disk, new_room(STORE_BLOCKS)) {
         Ok(()) => open_new(alloc, disk),
         Err(LogFault::DiskFault) => Err(DemoFault::DiskFault),
         Err(LogFault::Memory) => Err(DemoFault::Memory),

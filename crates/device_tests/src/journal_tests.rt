@@ -564,7 +564,7 @@ const HEADS: &[Spoilt] = &[
     ),
     (
         "a half above the limit",
-        &[(20, 4), (21, 0), (22, 16)],
+        &[(20, 32), (21, 0), (22, 16)],
         WHOLE,
         NONE,
     ),
@@ -651,5 +651,36 @@ fn a_call_that_fails_keeps_the_journal(rt: HostRuntime) -> Result<(), Fail> {
     let checkpoint = Step::Checkpoint(b"1234", Err(LogFault::DiskFault));
     assert!(rt; first_failing(rt.alloc(), &append, 10, (2, 2))? == None);
     assert!(rt; first_failing(rt.alloc(), &checkpoint, 12, (4, 0))? == None);
+    Ok(())
+}
+
+// Whether a format of the journal fails where the call of that number does, and what is then found.
+fn format_fails(
+    alloc: Global,
+    journal: &[u8],
+    failing: u64,
+) -> Result<(bool, Result<Shape, LogFault>), LogFault> {
+    let mut disk = disk_of(alloc, journal, failing)?;
+    let fails = Log::format(alloc, &mut disk, 1, HALF, b"123") == Err(LogFault::DiskFault);
+    let found = found_in(alloc, &mut disk);
+    drop(disk);
+    Ok((fails, found))
+}
+
+#[test]
+fn a_format_that_fails_says_so(rt: HostRuntime) -> Result<(), Fail> {
+    let journal = both_open(rt.alloc())?;
+    for failing in 1..8u64 {
+        // The cut leaves the old journal, the last sync the new one.
+        let want = match failing {
+            1 => NEWER,
+            7 => Ok((3, 0)),
+            _ => NONE,
+        };
+        assert!(rt;
+            format_fails(rt.alloc(), &journal, failing)? == (true, want),
+            "at {failing}"
+        );
+    }
     Ok(())
 }

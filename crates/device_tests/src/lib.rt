@@ -1,5 +1,5 @@
-//! Tests of the devices in memory, of what a device notes, of the file store and of both logs: that calls succeed and fail
-//! by their numbers.
+//! Tests of the devices in memory, of what a device notes, of the file store and of the journal:
+//! that calls succeed and fail by their numbers.
 #![tactic(auto)]
 
 #[cfg(test)]
@@ -22,5 +22,3 @@ mod made;
 mod mirrors_tests;
 #[cfg(test)]
 mod outside_tests;
-#[cfg(test)]
-mod store_log_tests;

@@ -13,7 +13,6 @@ use Rattle.machine.specs.Shape.{Shape}
 use Rattle.machine.specs.Wanted.{wanted}
 use Rattle.install_plan.specs.declared.plan.Plan.{Plan}
 use Rattle.install_plan.specs.Plans.{IsPlan, targets_of}
-use Rattle.install_plan.proofs.Rows.{all_passed}
 use Rattle.install_plan.proofs.Told.{base_is, deployment_is, deployment_of_release, ok_one, release_is, release_map}
 
 pub same_oks : (xs ys : List Target) → ◌≡◌ {A = List (Result Target UrlFault)} (map Ok xs) (map Ok ys) → xs ≡ ys
@@ -31,7 +30,7 @@ abbrev pub file_targets : Shape → Target → Deployment → Application → Li
 file_targets shape base d a = map (λ entry. file_target_of base d.mapped entry.name) (wanted shape.views a)
 
 module _ (shape : Shape) (url : List ℕ) (texts : List (List ℕ)) (plan : Plan)
-    (is : IsPlan shape url texts plan) (plain : shape.room.half ≡ 0) where
+    (is : IsPlan shape url texts plan) where
   base_of_plan : (d : Deployment) → d ≡ plan.deployment → base_of url d ≡ Ok plan.base
   base_of_plan d same = ap (λ (x : Deployment). base_of url x) same ∙ base_is url plan.deployment plan.url (Ok plan.base) is.read is.joined
 
@@ -41,7 +40,7 @@ module _ (shape : Shape) (url : List ℕ) (texts : List (List ℕ)) (plan : Plan
       ∙ ap (λ (x : Application). file_targets shape plan.base plan.deployment x) same_a ∙ is.targets
 
   asks_files : AsksFiles url texts shape (targets_of plan)
-  asks_files = inr (all_passed shape url texts plain is.release, release_map texts (λ d a same. (plan.base, base_of_plan d same.0, files_of_plan d a same.0 same.1)) is.told)
+  asks_files = inr (is.release, release_map texts (λ d a same. (plan.base, base_of_plan d same.0, files_of_plan d a same.0 same.1)) is.told)
 
   pub plan_asks : AsksInstall url texts shape (plan.url ∷ plan.base ∷ targets_of plan)
   plan_asks = inr (plan.url, plan.base ∷ targets_of plan, refl, is.read, inr (is.deployment, (plan.base, targets_of plan, refl, deployment_of_release texts (λ d a same. base_of_plan d same.0) is.told, asks_files)))
@@ -49,7 +48,7 @@ module _ (shape : Shape) (url : List ℕ) (texts : List (List ℕ)) (plan : Plan
   -- ---- and nothing else
 
   files_only : (asked : List Target) → AsksFiles url texts shape asked → asked ≡ targets_of plan
-  files_only asked (inl refused) = absurd (refused.0 (all_passed shape url texts plain is.release))
+  files_only asked (inl refused) = absurd (refused.0 is.release)
   files_only asked (inr asks) =
       let both = release_is texts is.told asks.1 in
       let found = both.3 in

@@ -121,11 +121,11 @@ module _ (old : List LocalFile) (old_files : List FileEntry) (a : Application) (
 
 -- ---- the view that was current, in the store that is shown
 
-data_shown : (room : Room) (image : List ℕ) (contents : List Content) (row : Option View) → data_of (option_map (shown_view room image contents) row) ≡ map (shown_data room image) (row_locals row)
+pub data_shown : (room : Room) (image : List ℕ) (contents : List Content) (row : Option View) → data_of (option_map (shown_view room image contents) row) ≡ map (shown_data room image) (row_locals row)
 data_shown room image contents None = refl
 data_shown room image contents (Some view) = refl
 
-files_shown : (room : Room) (image : List ℕ) (contents : List Content) (row : Option View) → listed_by (option_map (shown_view room image contents) row) ≡ row_files row
+pub files_shown : (room : Room) (image : List ℕ) (contents : List Content) (row : Option View) → listed_by (option_map (shown_view room image contents) row) ≡ row_files row
 files_shown room image contents None = refl
 files_shown room image contents (Some view) = refl
 

@@ -13,9 +13,7 @@ use Rattle.manifests.specs.Applications.{application_of}
 use Rattle.manifests.specs.Deployments.{deployment_of}
 use Rattle.manifests.specs.Facts.{IsProvider}
 use Rattle.machine.specs.declared.reply.Reply.{Reply}
-use Rattle.machine.specs.declared.reply.Reply.TheVariants as says
 use Rattle.machine.specs.Fields.{IsApplication}
-use Rattle.machine.specs.InstallRow.{base_of}
 use Rattle.machine.specs.Installed.{IsProvidedBy}
 use Rattle.machine.specs.Rows.{PassesAll}
 use Rattle.machine.specs.Shape.{Shape}
@@ -32,7 +30,6 @@ use Rattle.install_plan.specs.Judges.{Refused, address_checks, deployment_checks
 use Rattle.install_plan.specs.Plans.{IsPlanned, IsRefused}
 use Rattle.install_plan.specs.Stages.{HearsOne, StopsOne}
 use Rattle.install_plan.proofs.Ends.{address_end, application_end, deployment_end, ended, judged_end, plan_end, release_end}
-use Rattle.install_plan.proofs.Told.{base_is}
 
 oks : (ws : List WantedFile) → ◌≡◌ {A = List (Result Target UrlFault)} (map Ok (map (λ file. file.target) ws)) (map (λ file. Ok file.target) ws)
 oks [] = refl
@@ -71,15 +68,15 @@ module _ {shape : Shape} {url : List ℕ} {a : LinksState} {none : List (List �
             (subst (λ (ts : List (List ℕ)). StopsOne application_of (IsFileCause d.app_list d.app_size base) (Matches d.app_list d.app_size) base b c ts both reply) (grown hears.text hears.noted empty) stops))
 
         module _ {app : Application} (second : HearsOne application_of (Matches d.app_list d.app_size) base b c first both app) where
-          pub at_release : {reply : Reply} → (base_of url d ≡ Ok base → IsApplication app → Refused (release_checks url shape d app) reply) → IsRefused shape url both a c reply
+          pub at_release : {reply : Reply} → (target_of_text url ≡ Ok target → app_target_of target d.codebase ≡ Ok base → IsApplication app → Refused (release_checks url shape d app) reply) → IsRefused shape url both a c reply
           at_release {reply = reply} refused = subst (λ (ts : List (List ℕ)). IsRefused shape url ts a c reply) (sym (grown second.text second.noted (grown hears.text hears.noted empty)))
-              (ended (release_end shape url target read a b one hears.text d hears.got hears.tells base joined passed c two second.text second.got app second.tells reply (refused (base_is url d target (Ok base) read joined) (application_read second.text app second.tells))))
+              (ended (release_end shape url target read a b one hears.text d hears.got hears.tells base joined passed c two second.text second.got app second.tells reply (refused read joined (application_read second.text app second.tells))))
 
           pub at_plan : {provider : Target} {files : List WantedFile} → IsProvidedBy target d.provider provider
               → map (λ file. slice_get app.files file.place) files ≡ map Some (wanted shape.views app)
               → map (λ entry. file_target_of base d.mapped entry.name) (wanted shape.views app) ≡ map (λ file. Ok file.target) files
-              → (base_of url d ≡ Ok base → IsApplication app → PassesAll (release_checks url shape d app)) → IsPlanned shape url both a c (record { deployment = d; application = app; url = target; base = base; provider = provider; wanted = files })
+              → (target_of_text url ≡ Ok target → app_target_of target d.codebase ≡ Ok base → IsApplication app → PassesAll (release_checks url shape d app)) → IsPlanned shape url both a c (record { deployment = d; application = app; url = target; base = base; provider = provider; wanted = files })
           at_plan {provider = provider} {files = files} provided places targets last =
               let plan : Plan = record { deployment = d; application = app; url = target; base = base; provider = provider; wanted = files } in
               subst (λ (ts : List (List ℕ)). IsPlanned shape url ts a c plan) (sym (grown second.text second.noted (grown hears.text hears.noted empty)))
-              (plan_end shape url target read a b one hears.text d hears.got hears.tells base joined passed c two second.text second.got app second.tells plan refl refl refl refl provided places (targets ∙ sym (oks files)) (last (base_is url d target (Ok base) read joined) (application_read second.text app second.tells)))
+              (plan_end shape url target read a b one hears.text d hears.got hears.tells base joined passed c two second.text second.got app second.tells plan refl refl refl refl provided places (targets ∙ sym (oks files)) (last read joined (application_read second.text app second.tells)))

@@ -80,8 +80,8 @@ ended {shape = shape} {url = url} {texts = texts} {before = before} {after = aft
   hears = end.hears;
   kept = end.served.hearing.kept;
   still = still_of shape url texts reply end.refused;
-  refused = λ plain. end.refused;
-  served = λ plain. end.served;
+  refused = end.refused;
+  served = end.served;
   downs = install_counts shape url texts before after reply end.served;
 }
 
@@ -310,7 +310,7 @@ module _ (shape : Shape) (url : List ℕ) (target : Target) (read : target_of_te
         plain_release : AllPlain (release_checks url shape d app)
         plain_release = (
           (λ reply given. subst IsPlain (sym given.2) tt),
-          ((λ reply given. subst IsPlain (sym given.1) tt), ((λ reply given. subst IsPlain (sym given.1) tt), ((λ reply given. subst IsPlain (sym given.1) tt), ((λ reply given. subst IsPlain (sym given.2) tt), tt)))),
+          ((λ reply given. subst IsPlain (sym given.1) tt), ((λ reply given. subst IsPlain (sym given.1) tt), ((λ reply given. subst IsPlain (sym given.1) tt), ((λ reply given. subst IsPlain (sym given.2) tt), ((λ reply given. subst IsPlain (sym given.2) tt), tt))))),
         )
 
         pub release_end : (reply : Reply) → Refused (release_checks url shape d app) reply → Ended shape url (text ∷ other ∷ []) a c reply

@@ -21,6 +21,7 @@ use Rattle.machine.specs.Rows.{PassesAll, Refuses}
 use Rattle.machine.specs.Shape.{BareView, Shape}
 use Rattle.machine.specs.Sound.{Sound}
 use Rattle.machine.specs.Store.{Session}
+use Rattle.machine.specs.Weight.{IsTooHeavy, table_room, told_weight}
 use Rattle.machine.proofs.Members.{all_in, filter_in}
 use Rattle.machine.proofs.Missing.{are_missing, missing_in}
 use Rattle.machine.proofs.Ungrouped.{need_ungrouped}
@@ -33,7 +34,7 @@ use Rattle.links.specs.Links.{LinksState}
 use Rattle.fetcher.specs.Fetched.{Kept}
 use Rattle.install_plan.specs.Downs.{CountsDowns}
 use Rattle.install_plan.specs.GroupAsked.{AccountsGroup, GroupServed}
-use Rattle.install_plan.specs.GroupReady.{AreUnasked, IsGroupOver, IsNoFiles, address_in, lacking, ungrouped}
+use Rattle.install_plan.specs.GroupReady.{AreUnasked, IsGroupOver, IsNoFiles, address_in, lacking, need_of, space_checks, ungrouped, weight_in}
 use Rattle.install_plan.specs.Judges.{Refused, room_checks}
 use Rattle.install_plan.proofs.Downs.{counts_none}
 use Rattle.install_plan.proofs.Exits.{some_session}
@@ -84,15 +85,15 @@ module _ (room : Room) (tables : Tables) (lease : ℕ) (group : List ℕ) where
   pub over_by : (a c : LinksState) (reply : Reply) → Kept a c
       → ((now : ℕ) → moment_after now (Some reply) ≡ now)
       → CountsDowns a c reply
-      → (room.half ≡ 0 → (now : ℕ) (image : List ℕ) (old : Session) → old.jobs ≡ []
+      → ((now : ℕ) (image : List ℕ) (old : Session) → old.jobs ≡ []
       → Shows room tables image old.store → Sound old.store → IsDue a c reply now old)
       → IsGroupOver room tables lease group a c reply
   over_by a c reply kept still downs due = record {
     kept = kept;
     still = still;
     downs = downs;
-    step = λ plain now image old idle shows sound. (
-        let is = due plain now image old idle shows sound in
+    step = λ now image old idle shows sound. (
+        let is = due now image old idle shows sound in
         record {
           new = old;
           step = is.answers;
@@ -120,13 +121,13 @@ module _ (room : Room) (tables : Tables) (lease : ℕ) (group : List ℕ) where
   pub memory_over : (a c : LinksState) → AreUnasked a c
       → IsGroupOver room tables lease group a c says.Memory
   memory_over a c unasked = over_by a c says.Memory unasked.kept (λ now. refl) (counts_none refl)
-      (λ plain now image old idle shows sound.
+      (λ now image old idle shows sound.
       record { answers = inl (inl (refl, refl)); served = served_none a c says.Memory unasked tt })
 
   pub no_lease_over : (a c : LinksState) → AreUnasked a c → leased_row lease tables ≡ None
       → IsGroupOver room tables lease group a c says.NoLease
   no_lease_over a c unasked none = over_by a c says.NoLease unasked.kept (λ now. refl) (counts_none refl)
-      (λ plain now image old idle shows sound. (
+      (λ now image old idle shows sound. (
       let gone = no_lease shows lease sound.valid.ordered none in
       record {
         answers = by_refusal now image old says.NoLease idle shows (inl ((gone, refl), refl));
@@ -146,7 +147,7 @@ module _ (room : Room) (tables : Tables) (lease : ℕ) (group : List ℕ) where
         → group_files group view.application ≡ []
         → IsGroupOver room tables lease group a c says.NoGroup
     no_group_over a c unasked none = over_by a c says.NoGroup unasked.kept (λ now. refl) (counts_none refl)
-        (λ plain now image old idle shows sound. record {
+        (λ now image old idle shows sound. record {
           answers = by_refusal now image old says.NoGroup idle shows
               (inr (lives, inl (((bare_row view, leased.bare, none), refl), refl)));
           served = served_none a c says.NoGroup unasked
@@ -180,7 +181,7 @@ module _ (room : Room) (tables : Tables) (lease : ℕ) (group : List ℕ) where
           (says.Group (length (group_files group view.application)))
       stands_over a c unasked stands =
           let reply = says.Group (length (group_files group view.application)) in
-          over_by a c reply unasked.kept (λ now. refl) (counts_none refl) (λ plain now image old idle shows sound. record {
+          over_by a c reply unasked.kept (λ now. refl) (counts_none refl) (λ now image old idle shows sound. record {
             answers = by_effect now image old reply old idle shows (
               lives,
               (
@@ -225,7 +226,7 @@ module _ (room : Room) (tables : Tables) (lease : ℕ) (group : List ℕ) where
         bad_url_over a c unasked any =
             let bad = bad_wanted tables view group any in
             over_by a c says.BadUrl unasked.kept (λ now. refl) (counts_none refl)
-            (λ plain now image old idle shows sound. record {
+            (λ now image old idle shows sound. record {
               answers = by_refusal now image old says.BadUrl idle shows
                   (inr (
                     lives,
@@ -275,56 +276,104 @@ module _ (room : Room) (tables : Tables) (lease : ℕ) (group : List ℕ) where
             let bound = within is in
             omega (arith, same, all, own, bound)
 
-        pub full_over : (a c : LinksState) (needed : ℕ) (reply : Reply) → AreUnasked a c
-            → AreReached
-            → needed
-            ≡ min (sum_by (λ (entry : FileEntry). blocks_of entry.size) (lacking tables files))
-            (2 ^ 64 - 1)
-            → Refused (room_checks needed (free_blocks (table_shape room tables))) reply
-            → IsGroupOver room tables lease group a c reply
-        full_over a c needed reply unasked each is (inl memory) =
-            subst (IsGroupOver room tables lease group a c) (sym memory) (memory_over a c unasked)
-        full_over a c needed reply unasked each is (inr refuses) = by (refuses some_session)
-          where
-            full : (need : ℕ) → need ≡ needed → free_blocks (table_shape room tables) < need
-                → IsGroupOver room tables lease group a c
-                (says.Full need (free_blocks (table_shape room tables)))
-            full need own less =
-                let reply = says.Full need (free_blocks (table_shape room tables)) in
-                over_by a c reply unasked.kept (λ now. refl) (counts_none refl) (λ plain now image old idle shows sound. (
-                let same = need_is need (view_valid shows leased sound) (own ∙ is) in
-                record {
-                  answers = by_refusal now image old reply idle shows
-                      (inr (
-                        lives,
+        -- there are as many blocks
+        abbrev HasBlocks : Type 0
+        HasBlocks =
+            PassesAll (room_checks (need_of tables (map ungrouped
+            (group_files group view.application))) (free_blocks (table_shape room tables)))
+
+        pub blocks_pass : HasBlocks → IsApplication view.application → (need : ℕ)
+            → OfComing lease group (table_shape room tables) (λ v.
+            (need ≡ group_need (map bare_row tables.views) group v.application)
+            × (free_blocks (table_shape room tables) < need)) → ⊥
+        blocks_pass has is need coming =
+            let of = of_view {P = λ (v : BareView). (need ≡ group_need views group v.application)
+            × (free_blocks (table_shape room tables) < need)} coming in
+            has.0 need (of.0 ∙ sym (need_is (need_of tables files) is refl), of.1)
+
+        module _ (a c : LinksState) (unasked : AreUnasked a c) (each : AreReached) where
+          full_over : (need : ℕ) → need ≡ need_of tables files
+              → free_blocks (table_shape room tables) < need
+              → IsGroupOver room tables lease group a c
+              (says.Full need (free_blocks (table_shape room tables)))
+          full_over need own less =
+              let reply = says.Full need (free_blocks (table_shape room tables)) in
+              over_by a c reply unasked.kept (λ now. refl) (counts_none refl)
+              (λ now image old idle shows sound. (
+              let same = need_is need (view_valid shows leased sound) own in
+              record {
+                answers = by_refusal now image old reply idle shows
+                    (inr (
+                      lives,
+                      inr (
+                        has_group,
                         inr (
-                          has_group,
+                          reached each,
+                          inl (
+                            (need, (bare_row view, leased.bare, absent, (same, less)), refl),
+                            refl,
+                          ),
+                        ),
+                      ),
+                    ));
+                served = served_none a c reply unasked
+                    (inl (
+                      (λ passes. passes.1.1.1.0 need
+                          (bare_row view, leased.bare, absent, (same, less))),
+                      refl,
+                    ));
+              }
+              ))
+
+          -- the tables would have no room
+          heavy_over : HasBlocks → (weight : ℕ) → weight ≡ weight_in room tables view group
+              → IsTooHeavy room weight
+              → IsGroupOver room tables lease group a c
+              (says.TableFull (told_weight weight) (table_room room))
+          heavy_over has weight own heavy =
+              let reply = says.TableFull (told_weight weight) (table_room room) in
+              over_by a c reply unasked.kept (λ now. refl) (counts_none refl)
+              (λ now image old idle shows sound. record {
+                answers = by_refusal now image old reply idle shows
+                    (inr (
+                      lives,
+                      inr (
+                        has_group,
+                        inr (
+                          reached each,
                           inr (
-                            reached each,
+                            blocks_pass has (view_valid shows leased sound),
                             inl (
-                              (
-                                need,
-                                (bare_row view, leased.bare, absent, (same, less)),
-                                refl,
-                              ),
+                              (weight, (bare_row view, leased.bare, absent, (own, heavy)), refl),
                               refl,
                             ),
                           ),
                         ),
-                      ));
-                  served = served_none a c reply unasked
-                      (inl (
-                        (λ passes. passes.1.1.1.0 need
-                            (bare_row view, leased.bare, absent, (same, less))),
-                        refl,
-                      ));
-                }
-                ))
+                      ),
+                    ));
+                served = served_none a c reply unasked
+                    (inl (
+                      (λ passes. passes.1.1.1.1.0 weight
+                          (bare_row view, leased.bare, absent, (own, heavy))),
+                      refl,
+                    ));
+              })
 
-            by : Refuses (room_checks needed (free_blocks (table_shape room tables)))
-                some_session reply some_session
-                → IsGroupOver room tables lease group a c reply
-            by (inl given) =
-                subst (IsGroupOver room tables lease group a c) (sym given.0.2)
-                (full given.0.0 given.0.1.0 given.0.1.1)
-            by (inr none) = absurd none.1
+          pub space_over : (reply : Reply)
+              → Refused (space_checks room tables view group (map ungrouped
+              (group_files group view.application))) reply
+              → IsGroupOver room tables lease group a c reply
+          space_over reply (inl memory) =
+              subst (IsGroupOver room tables lease group a c) (sym memory) (memory_over a c unasked)
+          space_over reply (inr refuses) = by (refuses some_session)
+            where
+              by : Refuses (space_checks room tables view group files) some_session reply
+                  some_session
+                  → IsGroupOver room tables lease group a c reply
+              by (inl given) =
+                  subst (IsGroupOver room tables lease group a c) (sym given.0.2)
+                  (full_over given.0.0 given.0.1.0 given.0.1.1)
+              by (inr (has, inl given)) =
+                  subst (IsGroupOver room tables lease group a c) (sym given.0.2)
+                  (heavy_over (has, tt) given.0.0 given.0.1.0 given.0.1.1)
+              by (inr (has, inr none)) = absurd none.1

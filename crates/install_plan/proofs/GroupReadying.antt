@@ -14,6 +14,8 @@ use Rattle.machine.specs.Groups.{group_files, group_stands}
 use Rattle.machine.specs.Shape.{Shape}
 use Rattle.machine.specs.Sound.{Sound}
 use Rattle.machine.specs.Store.{Session, Store}
+use Rattle.machine.specs.Weight.{IsLight}
+use Rattle.machine.proofs.Lightness.{is_light}
 use Rattle.machine.proofs.Members.{all_in}
 use Rattle.store_state.specs.declared.change.Change.{Change}
 use Rattle.store_state.specs.declared.change.Change.TheVariants as change
@@ -27,12 +29,14 @@ use Rattle.store_state.specs.Shows.{Shows, shown_view}
 use Rattle.store_state.specs.Tables.{Tables, bare_row, table_shape}
 use Rattle.store_state.proofs.Images.{images_have, images_hold, same_image}
 use Rattle.store_state.proofs.Showing.{shape_shown, shows_same}
+use Rattle.table_weight.specs.Laws.{WeighWithGroup}
+use Rattle.table_weight.specs.Weight.{tables_weight}
 use Rattle.links.specs.Links.{LinksState}
 use Rattle.install_plan.specs.Brought.{AreContentsFor}
 use Rattle.install_plan.specs.Checks.{LedBy}
 use Rattle.install_plan.specs.FetchedFiles.{addresses}
 use Rattle.install_plan.specs.GroupAsked.{AreBrought, GroupServed}
-use Rattle.install_plan.specs.GroupReady.{GroupStep, HasBrought, IsGroupOver, IsGroupReady, address_in, ungrouped}
+use Rattle.install_plan.specs.GroupReady.{GroupStep, HasBrought, IsGroupOver, IsGroupReady, address_in, ungrouped, weight_in}
 use Rattle.install_plan.proofs.Aligning.{contents_for, count_for, keys_for, whole_for}
 use Rattle.install_plan.proofs.Coming.{brings_group}
 use Rattle.install_plan.proofs.Downs.{counts_none}
@@ -54,8 +58,8 @@ module _ (room : Room) (tables : Tables) (lease : ℕ) (group : List ℕ) (view 
     (leased : IsLeased room tables lease view)
     (some : ◌≢◌ {A = List FileEntry} (group_files group view.application) [])
     (absent : group_stands group view.groups ≡ false) (a c : LinksState) (contents : List Content)
-    (got : HasBrought room tables view (map ungrouped (group_files group view.application)) a c
-    contents) where
+    (got : HasBrought room tables view group (map ungrouped (group_files group view.application)) a
+    c contents) where
   abbrev wants : List FileEntry
   wants = entries room tables lease group view leased some absent
 
@@ -77,7 +81,7 @@ module _ (room : Room) (tables : Tables) (lease : ℕ) (group : List ℕ) (view 
   whole : All IsWholeContent contents
   whole = whole_for a c wants (addresses got.wanted) contents contents_are
 
-  module _ (are : AreTables tables) (law : GroupsShowTheFiles) where
+  module _ (are : AreTables tables) (law : GroupsShowTheFiles) (weigh : WeighWithGroup) where
     few_contents : length contents ≤ FILE_COUNT_LIMIT
     few_contents =
         let few = few_of_group group view.application (standing_files (map bare_row tables.views))
@@ -104,9 +108,14 @@ module _ (room : Room) (tables : Tables) (lease : ℕ) (group : List ℕ) (view 
     abbrev reply : Reply
     reply = says.Group (length (group_files group view.application))
 
+    light : IsLight room (tables_weight (effect grows tables))
+    light =
+        subst (IsLight room) (sym (weigh tables view.number group contents are fits))
+        (is_light room (weight_in room tables view group)
+        (λ heavy. got.are.enough.1.0 (weight_in room tables view group) (refl, heavy)))
+
     module _ (image : List ℕ) (old : Session) (idle : old.jobs ≡ [])
-        (shows : Shows room tables image old.store) (sound : Sound old.store)
-        (plain : room.half ≡ 0) where
+        (shows : Shows room tables image old.store) (sound : Sound old.store) where
       abbrev led_store : Store
       led_store = grouped view.number group (stand_files room image tables contents group view)
           old.store
@@ -143,16 +152,16 @@ module _ (room : Room) (tables : Tables) (lease : ℕ) (group : List ℕ) (view 
       served : GroupServed lease group (table_shape room tables) a c reply
       served =
           served_of room tables lease group view leased some absent got.wanted got.are a c reply
-          (addresses got.wanted) [] got.fetched.kept is plain got.fetched.grown
+          (addresses got.wanted) [] got.fetched.kept is got.fetched.grown
           (sym (append-nil (addresses got.wanted)))
-          (asks room tables lease group view leased some absent got.wanted got.are is plain)
+          (asks room tables lease group view leased some absent got.wanted got.are is)
 
       step : (now : ℕ) → GroupStep lease group a c now reply old
           (LedBy room tables (change.Group view.number group contents) old.store)
       step now = record {
         new = led;
         step = by_effect room tables lease group now image old reply led idle shows
-            (passes_all room tables lease group view leased some absent got.wanted got.are is plain)
+            (passes_all room tables lease group view leased some absent got.wanted got.are is)
             done;
         served = subst (λ (s : Shape). GroupServed lease group s a c reply)
             (sym (shape_shown old idle shows)) served;
@@ -177,7 +186,8 @@ module _ (room : Room) (tables : Tables) (lease : ℕ) (group : List ℕ) (view 
       downs = counts_none refl;
       of = (refl, few_contents);
       fits = fits;
-      step = λ plain now image old idle shows sound. step image old idle shows sound plain now;
+      light = light;
+      step = λ now image old idle shows sound. step image old idle shows sound now;
     }
 
     -- the change and the reply as they are made

@@ -1,5 +1,5 @@
 -- What a group asked of its links, where files are wanted.
-use Rattle.std.proofs.Common.{◌≡◌, ◌≢◌, ◌∙◌, ◌++◌, ◌<◌, inl, inr, refl, sym, ap, subst, ℕ, false, List, [], ◌∷◌, map, Option, Some, Result, Ok, Err, append_assoc}
+use Rattle.std.proofs.Common.{◌≡◌, ◌≢◌, ◌∙◌, ◌++◌, inl, inr, refl, sym, ap, subst, ℕ, false, List, [], ◌∷◌, map, Option, Some, Result, Ok, Err, append_assoc}
 use Rattle.std.specs.Prelude.{Any, IfSome, slice_get}
 use Rattle.std.proofs.lemmas.Bool.{false≢true}
 use Rattle.std.proofs.lemmas.List.{map-append}
@@ -15,12 +15,12 @@ use Rattle.manifests.specs.declared.facts.FileEntry.{FileEntry}
 use Rattle.machine.specs.declared.reply.Reply.{Reply}
 use Rattle.machine.specs.declared.reply.Reply.TheVariants as says
 use Rattle.machine.specs.Asked.{AsksGroup}
-use Rattle.machine.specs.Blocks.{free_blocks}
 use Rattle.machine.specs.Fields.{IsApplication}
-use Rattle.machine.specs.GroupRow.{OfComing, group_refusals, room_refusals}
-use Rattle.machine.specs.Groups.{group_files, group_need, group_stands, group_wanted}
+use Rattle.machine.specs.GroupRow.{OfComing, group_refusals, room_refusals, weight_grown}
+use Rattle.machine.specs.Groups.{group_files, group_stands, group_wanted}
 use Rattle.machine.specs.Rows.{PassesAll}
 use Rattle.machine.specs.Shape.{BareView}
+use Rattle.machine.specs.Weight.{IsTooHeavy}
 use Rattle.machine.proofs.Members.{In, in_right}
 use Rattle.machine.proofs.Ungrouped.{group_ungrouped}
 use Rattle.store_state.specs.declared.view.View.{View}
@@ -38,7 +38,7 @@ use Rattle.install_plan.proofs.Aligning.{IsAmong, among, contents_for, given_for
 use Rattle.install_plan.proofs.Asking.{same_oks}
 use Rattle.install_plan.proofs.Downs.{counts_none, group_counts}
 use Rattle.install_plan.proofs.Extends.{ungiven_end}
-use Rattle.install_plan.proofs.GroupOver.{bad_url_over, by_refusal, full_over, has_group, memory_over, need_is, of_view, over_by, reached}
+use Rattle.install_plan.proofs.GroupOver.{bad_url_over, blocks_pass, by_refusal, has_group, memory_over, of_view, over_by, reached, space_over}
 use Rattle.install_plan.proofs.LeasedRows.{IsLeased, lease_lives, view_valid}
 use Rattle.install_plan.proofs.Ungrouping.{IsSplit, same_addresses, same_contents, split}
 use Rattle.install_plan.proofs.Wants.{in_any, none_refused}
@@ -70,7 +70,7 @@ module _ (room : Room) (tables : Tables) (lease : ℕ) (group : List ℕ) (view 
   are_lacking = group_ungrouped views group view.application
 
   -- there is no refusal but one at a file
-  module _ (wanted : List WantedFile) (are : AreLacking room tables view files wanted) where
+  module _ (wanted : List WantedFile) (are : AreLacking room tables view group files wanted) where
     pub at_places : map (λ (file : WantedFile). slice_get files file.place) wanted
         ≡ map Some (map ungrouped entries)
     at_places = are.places ∙ ap (map Some) are_lacking
@@ -86,56 +86,54 @@ module _ (room : Room) (tables : Tables) (lease : ℕ) (group : List ℕ) (view 
         none_refused view.base view.deployment.mapped entries wanted
         (at_addresses ∙ sym (oks_of wanted))
 
-    pub passes_room : IsApplication view.application → room.half ≡ 0
+    pub passes_room : IsApplication view.application
         → PassesAll (room_refusals lease group (table_shape room tables))
-    passes_room is plain = (
+    passes_room is = (
       lease_lives leased,
       (
         has_group room tables lease group view leased some,
         (
           reached room tables lease group view leased some absent each_reached,
-          (no_full, ((λ weight coming. coming.3.1.0 plain), tt)),
+          (
+            blocks_pass room tables lease group view leased some absent (are.enough.0, tt) is,
+            (light, tt),
+          ),
         ),
       ),
     )
       where
-        no_full : (need : ℕ) → OfComing lease group (table_shape room tables) (λ v.
-            (need ≡ group_need views group v.application)
-            × (free_blocks (table_shape room tables) < need)) → ⊥
-        no_full need coming =
-            let of = of_view room tables lease group view leased some absent
-            {P = λ (v : BareView). (need ≡ group_need views group v.application)
-            × (free_blocks (table_shape room tables) < need)} coming in
-            are.enough.0 need (
-              of.0 ∙ sym (need_is room tables lease group view leased some absent are.need is
-                  are.needed),
-              of.1,
-            )
+        light : (weight : ℕ) → OfComing lease group (table_shape room tables) (λ v.
+            (weight ≡ weight_grown v.number group (table_shape room tables))
+            × IsTooHeavy room weight) → ⊥
+        light weight coming =
+            are.enough.1.0 weight (of_view room tables lease group view leased some absent
+            {P = λ (v : BareView). (weight ≡ weight_grown v.number group (table_shape room tables))
+            × IsTooHeavy room weight} coming)
 
-    pub passes_all : IsApplication view.application → room.half ≡ 0
+    pub passes_all : IsApplication view.application
         → PassesAll (group_refusals lease group (table_shape room tables))
-    passes_all is plain =
-        let passed = passes_room is plain in (
+    passes_all is =
+        let passed = passes_room is in (
           passed.0,
           (passed.1.0, (passed.1.1.0, (passed.1.1.1.0, (passed.1.1.1.1.0, (tt, tt))))),
         )
 
     -- ---- what was asked
 
-    pub asks : IsApplication view.application → room.half ≡ 0
+    pub asks : IsApplication view.application
         → AsksGroup lease group (table_shape room tables) (addresses wanted)
-    asks is plain =
-        inr (inr (passes_room is plain, (bare_row view, leased.bare, absent, at_addresses)))
+    asks is =
+        inr (inr (passes_room is, (bare_row view, leased.bare, absent, at_addresses)))
 
-    asks_only : IsApplication view.application → room.half ≡ 0 → (all : List Target)
+    asks_only : IsApplication view.application → (all : List Target)
         → AsksGroup lease group (table_shape room tables) all → all ≡ addresses wanted
-    asks_only is plain all (inl refused) = absurd (refused.0 (passes_room is plain))
-    asks_only is plain all (inr (inl stands)) =
+    asks_only is all (inl refused) = absurd (refused.0 (passes_room is))
+    asks_only is all (inr (inl stands)) =
         let same : stands.0.0 ≡ bare_row view =
         same_Some stands.0.0 (bare_row view) (sym stands.0.1 ∙ leased.bare) in
         absurd (false≢true (sym absent
         ∙ ap (λ (v : BareView). group_stands group v.groups) (sym same) ∙ stands.0.2))
-    asks_only is plain all (inr (inr asked)) =
+    asks_only is all (inr (inr asked)) =
         same_oks all (addresses wanted)
         (sym (of_view room tables lease group view leased some absent
         {P = λ (v : BareView).
@@ -143,15 +141,15 @@ module _ (room : Room) (tables : Tables) (lease : ℕ) (group : List ℕ) (view 
         (group_wanted views group v.application) ≡ map Ok all} asked.1) ∙ at_addresses)
 
     pub served_of : (a c : LinksState) (reply : Reply) (asked rest : List Target) → Kept a c
-        → IsApplication view.application → room.half ≡ 0 → c.asked ≡ a.asked ++ asked
+        → IsApplication view.application → c.asked ≡ a.asked ++ asked
         → addresses wanted ≡ asked ++ rest
         → AccountsGroup lease group (table_shape room tables) a c asked reply
         → GroupServed lease group (table_shape room tables) a c reply
-    served_of a c reply asked rest kept is plain grown front accounts = record {
+    served_of a c reply asked rest kept is grown front accounts = record {
       kept = kept;
       asked = asked;
       grown = grown;
-      front = λ all asks. (rest, asks_only is plain all asks ∙ front);
+      front = λ all asks. (rest, asks_only is all asks ∙ front);
       accounts = accounts;
     }
 
@@ -164,10 +162,10 @@ module _ (room : Room) (tables : Tables) (lease : ℕ) (group : List ℕ) (view 
           → IsGroupOver room tables lease group a c says.Memory
       memory_behind asked rest grown front =
           over_by room tables lease group a c says.Memory kept (λ now. refl) (counts_none refl)
-          (λ plain now image old idle shows sound. record {
+          (λ now image old idle shows sound. record {
             answers = inl (inl (refl, refl));
-            served = served_of a c says.Memory asked rest kept (view_valid shows leased sound) plain
-                grown front tt;
+            served = served_of a c says.Memory asked rest kept (view_valid shows leased sound) grown
+                front tt;
           })
 
       -- no link gave a file
@@ -247,9 +245,9 @@ module _ (room : Room) (tables : Tables) (lease : ℕ) (group : List ℕ) (view 
             over_by room tables lease group a c (says.AllLinks named reasons) kept (λ now. refl)
             (group_counts a c kept (table_shape room tables) group asked named reasons (bare_row view)
             lacks)
-            (λ plain now image old idle shows sound. (
+            (λ now image old idle shows sound. (
             let is = view_valid shows leased sound in
-            let passed = passes_room is plain in
+            let passed = passes_room is in
             record {
               answers = by_refusal room tables lease group now image old
                   (says.AllLinks named reasons) idle shows
@@ -278,7 +276,7 @@ module _ (room : Room) (tables : Tables) (lease : ℕ) (group : List ℕ) (view 
                     ),
                   ));
               served = served_of a c (says.AllLinks named reasons) asked (addresses stop.later) kept
-                  is plain stop.grown front (bare_row view, leased.bare, absent, lacks);
+                  is stop.grown front (bare_row view, leased.bare, absent, lacks);
             }
             ))
 
@@ -298,7 +296,7 @@ module _ (room : Room) (tables : Tables) (lease : ℕ) (group : List ℕ) (view 
   -- ---- where the files do not come
 
   unasked_over : (a c : LinksState) (reply : Reply) → AreUnasked a c
-      → IsUnasked room tables view files reply
+      → IsUnasked room tables view group files reply
       → IsGroupOver room tables lease group a c reply
   unasked_over a c reply none (inl memory) =
       subst (IsGroupOver room tables lease group a c) (sym memory)
@@ -307,13 +305,13 @@ module _ (room : Room) (tables : Tables) (lease : ℕ) (group : List ℕ) (view 
       subst (IsGroupOver room tables lease group a c) (sym bad.0)
       (bad_url_over room tables lease group view leased some absent a c none bad.1)
   unasked_over a c reply none (inr (inr full)) =
-      full_over room tables lease group view leased some absent a c _ reply none
+      space_over room tables lease group view leased some absent a c none
       (none_refused view.base view.deployment.mapped entries full.0
       (sym (same_addresses view entries) ∙ ap (map (address_in view)) (sym are_lacking) ∙ full.1))
-      refl full.2
+      reply full.2
 
   pub not_brought_over : (a c : LinksState) (reply : Reply)
-      → IsNotBrought room tables view files a c reply
+      → IsNotBrought room tables view group files a c reply
       → IsGroupOver room tables lease group a c reply
   not_brought_over a c reply (inl unasked) = unasked_over a c reply unasked.1 unasked.0
   not_brought_over a c reply (inr stopped) =

@@ -19,12 +19,14 @@ pub mod Fitting
 pub mod GroupOver
 pub mod GroupReadying
 pub mod GroupServing
+pub mod GroupSpace
 pub mod GroupStanding
 pub mod Joining
 pub mod Judged
 pub mod Keyed
 pub mod Knowing
 pub mod LeasedRows
+pub mod Light
 pub mod Listed
 pub mod NewFiles
 pub mod Noted
@@ -39,6 +41,7 @@ pub mod Showing
 pub mod Sources
 pub mod Stops
 pub mod Sufficing
+pub mod TableRoom
 pub mod Told
 pub mod Ungrouping
 pub mod Wants

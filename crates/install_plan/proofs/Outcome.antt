@@ -49,7 +49,6 @@ use Rattle.install_plan.specs.Plans.{IsPlan}
 use Rattle.install_plan.proofs.Carried.{made_are, made_order, made_outside, migrated, plan_names}
 use Rattle.install_plan.proofs.Fetched.{ArePartsOf, whole_originals}
 use Rattle.install_plan.proofs.Planned.{IsInOrder, counted, row_are}
-use Rattle.install_plan.proofs.Rows.{all_passed}
 use Rattle.install_plan.proofs.Showing.{fetched}
 use Rattle.install_plan.proofs.Sufficing.{brings}
 use Rattle.install_plan.proofs.Told.{deployment_of_release, release_map}
@@ -145,11 +144,11 @@ module _ (room : Room) (tables : Tables) (url : List ℕ) (texts : List (List �
 
   -- ---- all refusals are passed
 
-  pub plan_passes : room.half ≡ 0 → PassesAll (install_refusals url texts shape)
-  plan_passes plain =
+  pub plan_passes : PassesAll (install_refusals url texts shape)
+  plan_passes =
       joined_passes (address_refusals url) (deployment_refusals url texts shape ++ release_refusals url texts shape ++ file_refusals url texts shape) is.address
       (joined_passes (deployment_refusals url texts shape) (release_refusals url texts shape ++ file_refusals url texts shape) is.deployment
-      (joined_passes (release_refusals url texts shape) (file_refusals url texts shape) (all_passed shape url texts plain is.release) (tt, tt)))
+      (joined_passes (release_refusals url texts shape) (file_refusals url texts shape) is.release (tt, tt)))
 
   -- ---- what it leads to
 
@@ -202,8 +201,8 @@ module _ (room : Room) (tables : Tables) (url : List ℕ) (texts : List (List �
       replied = ap (λ (n : ℕ). IsInstalled d.identity.key d.identity.version n) (sym next_is);
     }
 
-    pub plan_step : room.half ≡ 0 → Sound old.store → Answers now texts old (InstallCommand url) (IsInstalled d.identity.key d.identity.version tables.next_view) led
-    plan_step plain sound = inr ((tt, subst (λ (s : Shape). PassesAll (install_refusals url texts s)) (sym same_shape) (plan_passes plain)), plan_effect sound)
+    pub plan_step : Sound old.store → Answers now texts old (InstallCommand url) (IsInstalled d.identity.key d.identity.version tables.next_view) led
+    plan_step sound = inr ((tt, subst (λ (s : Shape). PassesAll (install_refusals url texts s)) (sym same_shape) plan_passes), plan_effect sound)
 
     pub plan_shows : InstallsShowTheView → (later : List ℕ) → Shows room (effect (change_of_plan tables plan plans contents now) tables) later led_store
     plan_shows law later =

@@ -148,7 +148,7 @@ module _ (key : Key) (tables : Tables) (are : AreTables tables) where
   row_few (Some view) e = (all_in IsRow tables.views view are.rows (current_in key tables view e)).few
 
   module _ (a : Application) (is : IsApplication a) where
-    apart : AreApart (row_locals (current_row key tables)) a.files
+    pub apart : AreApart (row_locals (current_row key tables)) a.files
     apart = record {
       old_names = row_apart (current_row key tables) refl;
       new_names = AllPairs-filter (λ (e f : FileEntry). ◌≢◌ {A = List ℕ} e.name f.name) (λ (entry : FileEntry). entry.local) a.files is.facts.files.differ;

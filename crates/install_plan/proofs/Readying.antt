@@ -25,6 +25,7 @@ use Rattle.store_state.specs.Shows.{Shows}
 use Rattle.store_state.specs.Tables.{Tables, bare_row, table_shape}
 use Rattle.data_migration.specs.declared.plan.LocalPlan.{LocalPlan}
 use Rattle.data_migration.specs.Migration.{made}
+use Rattle.table_weight.specs.Laws.{MigratedDataWeigh, WeighAsInstalled}
 use Rattle.links.specs.Links.{LinksState}
 use Rattle.fetcher.proofs.Sequence.{kept_then}
 use Rattle.install_plan.specs.declared.plan.Plan.{Plan}
@@ -37,8 +38,9 @@ use Rattle.install_plan.specs.Plans.{IsPlan, IsPlanned, IsRefused, targets_of}
 use Rattle.install_plan.specs.Ready.{IsReady, IsStep}
 use Rattle.install_plan.proofs.Aligning.{are_places, contents_for, count_for}
 use Rattle.install_plan.proofs.Delivering.{brought_last}
-use Rattle.install_plan.proofs.Fetched.{ArePartsOf, parts_are}
+use Rattle.install_plan.proofs.Fetched.{ArePartsOf, parts_are, whole_originals}
 use Rattle.install_plan.proofs.Fetches.{all_from}
+use Rattle.install_plan.proofs.Light.{changed_light}
 use Rattle.install_plan.proofs.NewFiles.{leads_over}
 use Rattle.install_plan.proofs.Outcome.{held_application, led, led_data, led_migrated, plan_effect, plan_fits, plan_passes, plan_shows}
 use Rattle.install_plan.proofs.Planned.{IsInOrder, in_order}
@@ -84,7 +86,7 @@ module _ (room : Room) (tables : Tables) (url : List ℕ) (texts : List (List �
   parts : ArePartsOf a c place_of (map bare_row tables.views) plan.application contents places
   parts = parts_are a c place_of (map bare_row tables.views) plan.application contents places (targets_of plan) planned.is.places contents_are planned.is.targets
 
-  module _ (now : ℕ) (are : AreTables tables) (moment : now ≤ NUMBER_LIMIT) (shapes : ShapesAreShown) (law : InstallsShowTheView) (plans : List LocalPlan) (known : ArePlansFor tables plan plans) (short : AreShort (plan_locals tables plan plans contents)) where
+  module _ (now : ℕ) (are : AreTables tables) (moment : now ≤ NUMBER_LIMIT) (shapes : ShapesAreShown) (law : InstallsShowTheView) (weighs : WeighAsInstalled) (data_weigh : MigratedDataWeigh) (plans : List LocalPlan) (known : ArePlansFor tables plan plans) (short : AreShort (plan_locals tables plan plans contents)) where
     has : IsInOrder tables plan plans
     has = in_order plan.deployment.identity.key tables are plan.application (held_application room tables url texts plan planned.is) plans known
 
@@ -114,8 +116,10 @@ module _ (room : Room) (tables : Tables) (url : List ℕ) (texts : List (List �
       kept = kept_then a b c planned.hearing.kept got.kept;
       passes = plan_passes room tables url texts plan planned.is;
       replied = (plan.deployment.identity.key, plan.deployment.identity.version, tables.next_view, refl);
-      served = λ plain. served_all (table_shape room tables) url texts a b c plan planned got.kept plain plan.deployment.identity.key plan.deployment.identity.version tables.next_view got.grown;
+      served = served_all (table_shape room tables) url texts a b c plan planned got.kept plan.deployment.identity.key plan.deployment.identity.version tables.next_view got.grown;
       fits = fits;
+      light = changed_light room tables url texts plan planned.is plans contents now are known fits parts.deployed
+          (whole_originals a c place_of entries (plan_originals plan contents) parts.originals) weighs data_weigh;
       few = (few_programs, few_locals, short);
       step = step;
     }
@@ -126,9 +130,9 @@ module _ (room : Room) (tables : Tables) (url : List ℕ) (texts : List (List �
         (subst (λ (r : Reply). IsReady room tables url texts a c now (change_of_plan tables plan plans contents now) r) (sym due) ready)
 
   -- the change and the reply as they are made
-  pub ready_of : (now : ℕ) → AreTables tables → now ≤ NUMBER_LIMIT → ShapesAreShown → InstallsShowTheView → (change : Change) (reply : Reply) → IsChangeOf tables plan contents now change → reply ≡ installed_of tables plan
+  pub ready_of : (now : ℕ) → AreTables tables → now ≤ NUMBER_LIMIT → ShapesAreShown → InstallsShowTheView → WeighAsInstalled → MigratedDataWeigh → (change : Change) (reply : Reply) → IsChangeOf tables plan contents now change → reply ≡ installed_of tables plan
       → IsReady room tables url texts a c now change reply
-  ready_of now are moment shapes law change reply made due = ready_with now are moment shapes law made.plans made.are made.short change reply made.is due
+  ready_of now are moment shapes law weighs data_weigh change reply made due = ready_with now are moment shapes law weighs data_weigh made.plans made.are made.short change reply made.is due
 
   -- of each wanted file there is a content
   pub has_contents : HasContents tables plan contents

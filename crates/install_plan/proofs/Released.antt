@@ -1,4 +1,4 @@
--- The judgement of a release, call by call.
+-- The judgement of a release before its weight, call by call.
 use Rattle.std.proofs.Common.{◌≡◌, ◌⊎◌, ◌++◌, ◌<◌, ℕ, inl, inr, refl, subst, List, Ok, Err, map}
 use Rattle.std.specs.Prelude.{Any}
 use Rattle.small_types.specs.declared.limits.TheConstants.{FILE_COUNT_LIMIT}
@@ -16,7 +16,7 @@ use Rattle.machine.specs.Rows.{PassesAll}
 use Rattle.machine.specs.Shape.{Shape}
 use Rattle.machine.specs.Wanted.{install_need, wanted}
 use Rattle.install_plan.specs.declared.plan.WantedFile.{WantedFile}
-use Rattle.install_plan.specs.Judges.{Refused, file_checks, identity_checks, local_checks, release_checks, room_checks, target_checks}
+use Rattle.install_plan.specs.Judges.{Refused, file_checks, identity_checks, local_checks, place_checks, room_checks, target_checks}
 use Rattle.install_plan.proofs.Listed.{passes_both, refused_left, refused_right}
 use Rattle.install_plan.proofs.Told.{ok_one}
 use Rattle.install_plan.proofs.Wants.{none_refused}
@@ -28,7 +28,7 @@ behind_count shape d a few reply (inr refuses) = inr (λ old. inr (few, refuses 
 
 module _ (shape : Shape) (url : List ℕ) (d : Deployment) (a : Application) (base : Target)
     (at : base_of url d ≡ Ok base) where
-  pub by_identity : (reply : Reply) → Refused (identity_checks d a) reply → Refused (release_checks url shape d a) reply
+  pub by_identity : (reply : Reply) → Refused (identity_checks d a) reply → Refused (place_checks url shape d a) reply
   by_identity reply refused =
       let i = identity_checks d a in
       let f = file_checks shape d a in
@@ -36,7 +36,7 @@ module _ (shape : Shape) (url : List ℕ) (d : Deployment) (a : Application) (ba
       refused_left (i ++ f ++ t) (room_checks (install_need shape d a) (free_blocks shape)) reply (refused_left (i ++ f) t reply (refused_left i f reply refused))
 
   module _ (identity : PassesAll (identity_checks d a)) where
-    pub by_files : (reply : Reply) → Refused (file_checks shape d a) reply → Refused (release_checks url shape d a) reply
+    pub by_files : (reply : Reply) → Refused (file_checks shape d a) reply → Refused (place_checks url shape d a) reply
     by_files reply refused =
         let i = identity_checks d a in
         let f = file_checks shape d a in
@@ -48,7 +48,7 @@ module _ (shape : Shape) (url : List ℕ) (d : Deployment) (a : Application) (ba
       bad_target reply (inl memory) = inl memory
       bad_target reply (inr bad) = inr (λ old. inl (((base, at, bad.1), bad.0), refl))
 
-      pub by_wants : (reply : Reply) → (reply ≡ says.Memory) ⊎ ((reply ≡ says.BadUrl) × Any (λ entry. file_target_of base d.mapped entry.name ≡ Err BadUrl) (wanted shape.views a)) → Refused (release_checks url shape d a) reply
+      pub by_wants : (reply : Reply) → (reply ≡ says.Memory) ⊎ ((reply ≡ says.BadUrl) × Any (λ entry. file_target_of base d.mapped entry.name ≡ Err BadUrl) (wanted shape.views a)) → Refused (place_checks url shape d a) reply
       by_wants reply refused =
           let i = identity_checks d a in
           let f = file_checks shape d a in
@@ -66,10 +66,10 @@ module _ (shape : Shape) (url : List ℕ) (d : Deployment) (a : Application) (ba
         before : PassesAll (identity_checks d a ++ file_checks shape d a ++ target_checks url shape d a)
         before = passes_both (identity_checks d a ++ file_checks shape d a) (target_checks url shape d a) (passes_both (identity_checks d a) (file_checks shape d a) identity files) (no_target, tt)
 
-        pub by_room : (reply : Reply) → Refused (room_checks need (free_blocks shape)) reply → Refused (release_checks url shape d a) reply
+        pub by_room : (reply : Reply) → Refused (room_checks need (free_blocks shape)) reply → Refused (place_checks url shape d a) reply
         by_room reply refused = refused_right (identity_checks d a ++ file_checks shape d a ++ target_checks url shape d a) (room_checks (install_need shape d a) (free_blocks shape)) reply before
             (subst (λ (n : ℕ). Refused (room_checks n (free_blocks shape)) reply) is refused)
 
-        pub released : PassesAll (room_checks need (free_blocks shape)) → PassesAll (release_checks url shape d a)
+        pub released : PassesAll (room_checks need (free_blocks shape)) → PassesAll (place_checks url shape d a)
         released room = passes_both (identity_checks d a ++ file_checks shape d a ++ target_checks url shape d a) (room_checks (install_need shape d a) (free_blocks shape)) before
             (subst (λ (n : ℕ). PassesAll (room_checks n (free_blocks shape))) is room)

@@ -24,14 +24,15 @@ use Rattle.manifests.specs.Releases.{RefusesIdentity}
 use Rattle.machine.specs.declared.reply.Reply.{Reply}
 use Rattle.machine.specs.declared.reply.Reply.TheVariants as says
 use Rattle.machine.specs.Blocks.{free_blocks}
-use Rattle.machine.specs.InstallRow.{IsBelowMinimum, IsNotNewer, IsRefused, LacksEntry, OfDeployment, OfRelease, OfWanted, base_of, deployment_refusals, files_after, locals_after, place_refusals, release_refusals, weight_refusals}
+use Rattle.machine.specs.InstallRow.{IsBelowMinimum, IsNotNewer, IsRefused, IsWeightOf, LacksEntry, OfDeployment, OfRelease, OfWanted, base_of, deployment_refusals, files_after, locals_after, release_refusals}
 use Rattle.machine.specs.Rows.{PassesAll, Refusal}
 use Rattle.machine.specs.Shape.{Shape}
 use Rattle.machine.specs.Store.{Session}
 use Rattle.machine.specs.Wanted.{install_need}
+use Rattle.machine.specs.Weight.{IsTooHeavy, table_room, told_weight}
 use Rattle.machine.proofs.Told.{same_text, tells_one}
 use Rattle.install_plan.specs.Judges.{Refused, deployment_checks, release_checks}
-use Rattle.install_plan.proofs.Listed.{AreAlike, exactly_alike, exactly_with_alike, passes_alike, passes_both, refuses_alike, refuses_left}
+use Rattle.install_plan.proofs.Listed.{AreAlike, exactly_alike, exactly_with_alike, passes_alike, refuses_alike}
 use Rattle.install_plan.proofs.Told.{deployment_is, release_is, release_map}
 
 some_is_not_none : {P X : Type 0} (found : Option X) (x : X) → found ≡ Some x → found ≡ None → P
@@ -128,7 +129,7 @@ module _ (shape : Shape) (url : List ℕ) (heard : List (List ℕ)) (d : Deploym
   all_checks = release_checks url shape d a
 
   abbrev others : List (Refusal Reply Session)
-  others = drop 2 (place_refusals url heard shape)
+  others = drop 2 (release_refusals url heard shape)
 
   similar : AreAlike all_checks others
   similar =
@@ -139,7 +140,9 @@ module _ (shape : Shape) (url : List ℕ) (heard : List (List ℕ)) (d : Deploym
       let targets = exactly_alike (OfWanted url shape d a (λ found. found ≡ Err BadUrl)) (OfRelease heard (λ x y. OfWanted url shape x y (λ found. found ≡ Err BadUrl))) says.BadUrl (of_both (λ x y. OfWanted url shape x y (λ found. found ≡ Err BadUrl))) (is_both (λ x y. OfWanted url shape x y (λ found. found ≡ Err BadUrl))) in
       let room = exactly_with_alike (λ need. (need ≡ install_need shape d a) × (free_blocks shape < need)) (λ need. OfRelease heard (λ x y. (need ≡ install_need shape x y) × (free_blocks shape < need))) (λ need. says.Full need (free_blocks shape))
       (λ need. of_both (λ x y. (need ≡ install_need shape x y) × (free_blocks shape < need))) (λ need. is_both (λ x y. (need ≡ install_need shape x y) × (free_blocks shape < need))) in
-      (identity, (files, (locals, (targets, (room, tt)))))
+      let tables = exactly_with_alike (λ weight. IsWeightOf url shape d a weight × IsTooHeavy shape.room weight) (λ weight. OfRelease heard (λ x y. IsWeightOf url shape x y weight × IsTooHeavy shape.room weight)) (λ weight. says.TableFull (told_weight weight) (table_room shape.room))
+      (λ weight. of_both (λ x y. IsWeightOf url shape x y weight × IsTooHeavy shape.room weight)) (λ weight. is_both (λ x y. IsWeightOf url shape x y weight × IsTooHeavy shape.room weight)) in
+      (identity, (files, (locals, (targets, (room, (tables, tt))))))
 
   heard_other : (t : Target) → OfDeployment heard (λ y. base_of url y ≡ Ok t) × (slice_get heard 1 ≡ None) → ⊥
   heard_other t lacks = some_is_not_none (slice_get heard 1) told.4.0 told.4.2 lacks.1
@@ -147,18 +150,9 @@ module _ (shape : Shape) (url : List ℕ) (heard : List (List ℕ)) (d : Deploym
   read_other : (x : ManifestFault) → IsRefused application_of 1 heard x → ⊥
   read_other x refused = unrefused application_of told.4.0 told.4.1 told.4.3 1 heard told.4.2 x refused
 
-  pub release_passed : PassesAll all_checks → PassesAll (place_refusals url heard shape)
+  pub release_passed : PassesAll all_checks → PassesAll (release_refusals url heard shape)
   release_passed passes = (heard_other, (read_other, passes_alike all_checks others similar passes))
 
   pub release_refused : (reply : Reply) → Refused all_checks reply → Refused (release_refusals url heard shape) reply
   release_refused reply (inl memory) = inl memory
-  release_refused reply (inr refuses) = inr (λ old. refuses_left (place_refusals url heard shape) (weight_refusals url heard shape) old reply old (inr (heard_other, inr (read_other, refuses_alike all_checks others old reply old similar (refuses old)))))
-
--- ---- the room of tables
-
--- without halves any tables have room
-pub weight_passed : (shape : Shape) (url : List ℕ) (heard : List (List ℕ)) → shape.room.half ≡ 0 → PassesAll (weight_refusals url heard shape)
-weight_passed shape url heard plain = ((λ weight over. over.4.4.1.0 plain), tt)
-
-pub all_passed : (shape : Shape) (url : List ℕ) (heard : List (List ℕ)) → shape.room.half ≡ 0 → PassesAll (place_refusals url heard shape) → PassesAll (release_refusals url heard shape)
-all_passed shape url heard plain passes = passes_both (place_refusals url heard shape) (weight_refusals url heard shape) passes (weight_passed shape url heard plain)
+  release_refused reply (inr refuses) = inr (λ old. inr (heard_other, inr (read_other, refuses_alike all_checks others old reply old similar (refuses old))))

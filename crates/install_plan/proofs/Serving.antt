@@ -36,7 +36,6 @@ use Rattle.install_plan.proofs.Aligning.{IsAmong, among, contents_for, given_for
 use Rattle.install_plan.proofs.Asking.{plan_asks, plan_asks_only}
 use Rattle.install_plan.proofs.Extends.{from_on, ungiven_end}
 use Rattle.install_plan.proofs.Fetches.{all_from, lack_from}
-use Rattle.install_plan.proofs.Rows.{all_passed}
 use Rattle.install_plan.proofs.Told.{base_is, release_map}
 
 some_map : {X : Type 0} (P Q : X → Type 0) (o : Option X) → ((x : X) → P x → Q x) → IfSome o P → IfSome o Q
@@ -74,23 +73,23 @@ module _ (shape : Shape) (url : List ℕ) (texts : List (List ℕ)) (a b c : Lin
 
   -- ---- what was asked
 
-  pub hearing_on : shape.room.half ≡ 0 → (files rest : List Target) → c.asked ≡ b.asked ++ files → targets_of plan ≡ files ++ rest → Hearing shape url texts a c
-  hearing_on plain files rest more front = record {
+  pub hearing_on : (files rest : List Target) → c.asked ≡ b.asked ++ files → targets_of plan ≡ files ++ rest → Hearing shape url texts a c
+  hearing_on files rest more front = record {
     kept = kept_then a b c one kept;
     deployment = some_map (IsDeploymentText url a b) (IsDeploymentText url a c) (slice_get texts 0) deployment_on planned.hearing.deployment;
     application = some_map (IsApplicationText url texts a b) (IsApplicationText url texts a c) (slice_get texts 1) application_on planned.hearing.application;
     asked = plan.url ∷ plan.base ∷ files;
     grown = more ∙ ap (λ (ts : List Target). ts ++ files) planned.hearing.grown ∙ append_assoc a.asked planned.hearing.asked files
         ∙ ap (λ (ts : List Target). a.asked ++ (ts ++ files)) planned.asked;
-    front = λ all asks. (rest, plan_asks_only shape url texts plan planned.is plain all asks ∙ ap (λ (ts : List Target). plan.url ∷ plan.base ∷ ts) front);
+    front = λ all asks. (rest, plan_asks_only shape url texts plan planned.is all asks ∙ ap (λ (ts : List Target). plan.url ∷ plan.base ∷ ts) front);
   }
 
   -- all were fetched
-  pub served_all : shape.room.half ≡ 0 → (key : Key) (version : Version) (view : ℕ) → c.asked ≡ b.asked ++ targets_of plan → Served shape url texts a c (Installed key version view)
+  pub served_all : (key : Key) (version : Version) (view : ℕ) → c.asked ≡ b.asked ++ targets_of plan → Served shape url texts a c (Installed key version view)
   unfolding hearing_on
-  served_all plain key version view more = record {
-    hearing = hearing_on plain (targets_of plan) [] more (sym (append-nil (targets_of plan)));
-    accounts = plan_asks shape url texts plan planned.is plain;
+  served_all key version view more = record {
+    hearing = hearing_on (targets_of plan) [] more (sym (append-nil (targets_of plan)));
+    accounts = plan_asks shape url texts plan planned.is;
   }
 
   -- ---- a file that no link gave
@@ -139,10 +138,10 @@ module _ (shape : Shape) (url : List ℕ) (texts : List (List ℕ)) (a b c : Lin
           (lack_from a b c one kept part.entry named reasons (subst (λ (o : Option FileEntry). IfSome o (λ e. IsFileUngiven e named b c reasons)) part.place stop.ungiven));
     }
 
-    pub unserved : shape.room.half ≡ 0 → Served shape url texts a c (AllLinks named reasons)
+    pub unserved : Served shape url texts a c (AllLinks named reasons)
     unfolding hearing_on
-    unserved plain = record {
-      hearing = hearing_on plain targets_asked (addresses stop.later) stop.grown front;
+    unserved = record {
+      hearing = hearing_on targets_asked (addresses stop.later) stop.grown front;
       accounts = lacks_file shape url texts a c (plan.url ∷ plan.base ∷ targets_asked) named reasons (of_release {P = LacksFile shape url a c (plan.url ∷ plan.base ∷ targets_asked) named reasons} lacks);
     }
 
@@ -151,11 +150,11 @@ module _ (shape : Shape) (url : List ℕ) (texts : List (List ℕ)) (a b c : Lin
         let there = contains_in (wanted shape.views plan.application) part.entry (subst (λ (es : List FileEntry). In part.entry es) (sym part.are) (in_right part.earlier (part.entry ∷ part.later) part.entry (inl refl))) in
         (there.0, part.entry, there.1, there.2, at_named)
 
-    pub refuses : shape.room.half ≡ 0 → (old : Session) → Refuses (install_refusals url texts shape) old (AllLinks named reasons) old
-    refuses plain old =
+    pub refuses : (old : Session) → Refuses (install_refusals url texts shape) old (AllLinks named reasons) old
+    refuses old =
         passed_over (address_refusals url) (deployment_refusals url texts shape ++ release_refusals url texts shape ++ file_refusals url texts shape) old (AllLinks named reasons) old planned.is.address
         (passed_over (deployment_refusals url texts shape) (release_refusals url texts shape ++ file_refusals url texts shape) old (AllLinks named reasons) old planned.is.deployment
-        (passed_over (release_refusals url texts shape) (file_refusals url texts shape) old (AllLinks named reasons) old (all_passed shape url texts plain planned.is.release)
+        (passed_over (release_refusals url texts shape) (file_refusals url texts shape) old (AllLinks named reasons) old planned.is.release
         (inl ((named, reasons, of_release {P = λ d x. OfWanted url shape d x (λ target. target ≡ Ok named)} (plan.base, base_is url plan.deployment plan.url (Ok plan.base) planned.is.read planned.is.joined, among_wanted), refl), refl))))
 
   -- ---- where not all files were fetched
@@ -166,8 +165,8 @@ module _ (shape : Shape) (url : List ℕ) (texts : List (List ℕ)) (a b c : Lin
     hears = planned.hears;
     kept = kept_then a b c one kept;
     still = λ now. refl;
-    refused = λ plain. inl refl;
-    served = λ plain. record { hearing = hearing_on plain files rest more front; accounts = tt };
+    refused = inl refl;
+    served = record { hearing = hearing_on files rest more front; accounts = tt };
     downs = counts_none refl;
   }
 
@@ -176,7 +175,7 @@ module _ (shape : Shape) (url : List ℕ) (texts : List (List ℕ)) (a b c : Lin
     hears = planned.hears;
     kept = kept_then a b c one kept;
     still = λ now. refl;
-    refused = λ plain. inr (refuses named reasons stop plain);
+    refused = inr (refuses named reasons stop);
     served = unserved named reasons stop;
     downs = file_counts a c (kept_then a b c one kept) shape url (plan.url ∷ plan.base ∷ targets_asked named reasons stop) named reasons plan.deployment plan.application (lacks named reasons stop);
   }

@@ -1,5 +1,5 @@
 -- What a group comes to: a change of the tables and a reply, or a reply alone.
-use Rattle.std.specs.Prelude.{◌≡◌, ◌⊎◌, ◌≤◌, ◌-◌, ◌^◌, ℕ, List, [], Any, length, map, min, slice_get, sum_by, Some, None, Result, Ok, Err}
+use Rattle.std.specs.Prelude.{◌≡◌, ◌⊎◌, ◌≤◌, ◌-◌, ◌^◌, ◌++◌, ℕ, List, [], Any, length, map, min, slice_get, sum_by, Some, None, Result, Ok, Err}
 use Rattle.small_types.specs.declared.room.Room.{Room}
 use Rattle.small_types.specs.declared.limits.TheConstants.{FILE_COUNT_LIMIT}
 use Rattle.small_types.specs.declared.target.Target.{Target}
@@ -12,20 +12,23 @@ use Rattle.machine.specs.declared.command.Command.TheVariants as command
 use Rattle.machine.specs.declared.reply.Reply.{Reply}
 use Rattle.machine.specs.declared.reply.Reply.TheVariants as says
 use Rattle.machine.specs.Blocks.{blocks_of, free_blocks, standing_files}
+use Rattle.machine.specs.GroupRow.{weight_grown}
 use Rattle.machine.specs.Groups.{group_files}
 use Rattle.machine.specs.Machine.{Answers, moment_after}
-use Rattle.machine.specs.Rows.{PassesAll}
+use Rattle.machine.specs.Rows.{PassesAll, Refusal}
 use Rattle.machine.specs.Shape.{shape_of}
 use Rattle.machine.specs.Sound.{Sound}
 use Rattle.machine.specs.Store.{Session, Store}
 use Rattle.machine.specs.Wanted.{wanted_beside}
+use Rattle.machine.specs.Weight.{IsLight}
 use Rattle.store_state.specs.declared.change.Change.{Change}
 use Rattle.store_state.specs.declared.change.Change.TheVariants as change
 use Rattle.store_state.specs.declared.view.Content.{Content}
 use Rattle.store_state.specs.declared.view.View.{View}
-use Rattle.store_state.specs.Change.{Fits}
+use Rattle.store_state.specs.Change.{Fits, effect}
 use Rattle.store_state.specs.Shows.{Shows}
 use Rattle.store_state.specs.Tables.{Tables, bare_row, table_shape}
+use Rattle.table_weight.specs.Weight.{tables_weight}
 use Rattle.file_groups.specs.declared.fault.GroupFault.{GroupFault}
 use Rattle.file_groups.specs.declared.fault.GroupFault.TheVariants as fault
 use Rattle.links.specs.Links.{LinksState}
@@ -35,7 +38,7 @@ use Rattle.install_plan.specs.Checks.{LedBy}
 use Rattle.install_plan.specs.Downs.{CountsDowns}
 use Rattle.install_plan.specs.FetchedFiles.{HasFetched, IsStopped}
 use Rattle.install_plan.specs.GroupAsked.{AreBrought, GroupServed}
-use Rattle.install_plan.specs.Judges.{Refused, room_checks}
+use Rattle.install_plan.specs.Judges.{Refused, room_checks, weight_checks}
 
 -- ---- files without their group, which are wanted as required ones are
 
@@ -62,34 +65,45 @@ lacking tables files = wanted_beside (standing_files (map bare_row tables.views)
 abbrev pub address_in : View → FileEntry → Result Target UrlFault
 address_in view entry = file_target_of view.base view.deployment.mapped entry.name
 
+-- the blocks that they need, as far as a number goes
+abbrev pub need_of : Tables → List FileEntry → ℕ
+need_of tables files =
+    min (sum_by (λ entry. blocks_of entry.size) (lacking tables files)) (2 ^ 64 - 1)
+
+-- what the tables weigh once the group stands in the view
+abbrev pub weight_in : Room → Tables → View → List ℕ → ℕ
+weight_in room tables view group = weight_grown view.number group (table_shape room tables)
+
+-- there are fewer blocks, or the tables would have no room
+abbrev pub space_checks :
+    Room → Tables → View → List ℕ → List FileEntry → List (Refusal Reply Session)
+space_checks room tables view group files =
+    room_checks (need_of tables files) (free_blocks (table_shape room tables))
+    ++ weight_checks room (weight_in room tables view group)
+
 -- Each of them has an address, and there is room. They are those at the places.
-pub record AreLacking (room : Room) (tables : Tables) (view : View) (files : List FileEntry)
-    (wanted : List WantedFile) : Type 0 where
+pub record AreLacking (room : Room) (tables : Tables) (view : View) (group : List ℕ)
+    (files : List FileEntry) (wanted : List WantedFile) : Type 0 where
   pub places : map (λ file. slice_get files file.place) wanted ≡ map Some (lacking tables files)
   pub targets : map (address_in view) (lacking tables files) ≡ map (λ file. Ok file.target) wanted
-  pub need : ℕ
-  pub needed : need
-      ≡ min (sum_by (λ entry. blocks_of entry.size) (lacking tables files)) (2 ^ 64 - 1)
-  pub enough : PassesAll (room_checks need (free_blocks (table_shape room tables)))
+  pub enough : PassesAll (space_checks room tables view group files)
 
 -- their contents were fetched
-pub record HasBrought (room : Room) (tables : Tables) (view : View) (files : List FileEntry)
-    (before after : LinksState) (contents : List Content) : Type 0 where
+pub record HasBrought (room : Room) (tables : Tables) (view : View) (group : List ℕ)
+    (files : List FileEntry) (before after : LinksState) (contents : List Content) : Type 0 where
   pub wanted : List WantedFile
-  pub are : AreLacking room tables view files wanted
+  pub are : AreLacking room tables view group files wanted
   pub fetched : HasFetched files wanted before after contents
 
 -- nothing was asked: there was no memory, one has no address, or there is no room
-abbrev pub IsUnasked : Room → Tables → View → List FileEntry → Reply → Type 0
-IsUnasked room tables view files reply =
+abbrev pub IsUnasked : Room → Tables → View → List ℕ → List FileEntry → Reply → Type 0
+IsUnasked room tables view group files reply =
     (reply ≡ says.Memory)
     ⊎ ((reply ≡ says.BadUrl)
     × Any (λ entry. address_in view entry ≡ Err no_address.BadUrl) (lacking tables files))
     ⊎ ((wanted : List WantedFile)
     × (map (address_in view) (lacking tables files) ≡ map (λ file. Ok file.target) wanted)
-    × Refused (room_checks
-    (min (sum_by (λ entry. blocks_of entry.size) (lacking tables files)) (2 ^ 64 - 1))
-    (free_blocks (table_shape room tables))) reply)
+    × Refused (space_checks room tables view group files) reply)
 
 -- no link was asked
 pub record AreUnasked (before after : LinksState) : Type 0 where
@@ -97,11 +111,11 @@ pub record AreUnasked (before after : LinksState) : Type 0 where
   pub same : after.asked ≡ before.asked
 
 -- or not all were fetched
-abbrev pub IsNotBrought :
-    Room → Tables → View → List FileEntry → LinksState → LinksState → Reply → Type 0
-IsNotBrought room tables view files before after reply =
-    (IsUnasked room tables view files reply × AreUnasked before after)
-    ⊎ ((wanted : List WantedFile) × AreLacking room tables view files wanted
+abbrev pub IsNotBrought : Room → Tables → View → List ℕ → List FileEntry → LinksState → LinksState
+    → Reply → Type 0
+IsNotBrought room tables view group files before after reply =
+    (IsUnasked room tables view group files reply × AreUnasked before after)
+    ⊎ ((wanted : List WantedFile) × AreLacking room tables view group files wanted
     × IsStopped files wanted before after reply)
 
 -- ---- steps
@@ -115,12 +129,11 @@ pub record GroupStep (lease : ℕ) (group : List ℕ) (before after : LinksState
   pub brought : AreBrought lease group (shape_of old) before after new.store
   pub leaves : Leaves new.store
 
--- for each session without jobs over a sound store that the tables show there is one, where the
--- journal has no halves
+-- for each session without jobs over a sound store that the tables show there is one
 abbrev pub GroupsTo : Room → Tables → ℕ → List ℕ → LinksState → LinksState → Reply
     → (Store → Store → Type 0) → Type 0
 GroupsTo room tables lease group before after reply Leaves =
-    room.half ≡ 0 → (now : ℕ) (image : List ℕ) (old : Session) → old.jobs ≡ []
+    (now : ℕ) (image : List ℕ) (old : Session) → old.jobs ≡ []
     → Shows room tables image old.store → Sound old.store
     → GroupStep lease group before after now reply old (Leaves old.store)
 
@@ -130,7 +143,7 @@ IsOfGroup group (change.Group view other contents) =
     (other ≡ group) × (length contents ≤ FILE_COUNT_LIMIT)
 IsOfGroup group _ = ⊥
 
--- A change is to be made, which fits.
+-- A change is to be made, which fits. The changed tables have room in a half of the journal.
 pub record IsGroupReady (room : Room) (tables : Tables) (lease : ℕ) (group : List ℕ)
     (before after : LinksState) (change : Change) (reply : Reply) : Type 0 where
   pub kept : Kept before after
@@ -138,6 +151,7 @@ pub record IsGroupReady (room : Room) (tables : Tables) (lease : ℕ) (group : L
   pub downs : CountsDowns before after reply
   pub of : IsOfGroup group change
   pub fits : Fits tables change
+  pub light : IsLight room (tables_weight (effect change tables))
   pub step : GroupsTo room tables lease group before after reply (LedBy room tables change)
 
 -- Nothing is to be changed.

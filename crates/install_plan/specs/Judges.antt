@@ -2,6 +2,7 @@
 use Rattle.std.specs.Prelude.{◌≡◌, ◌≢◌, ◌⊎◌, ◌<◌, ◌≤◌, ℕ, List, [], ◌∷◌, ◌++◌, Result, Ok, Err, length}
 use Rattle.small_types.specs.declared.limit.Limit.TheVariants.{Applications, Views, Files, Locals}
 use Rattle.small_types.specs.declared.limits.TheConstants.{APPLICATION_LIMIT, FILE_COUNT_LIMIT, LOCAL_COUNT_LIMIT, NUMBER_LIMIT, VIEW_LIMIT}
+use Rattle.small_types.specs.declared.room.Room.{Room}
 use Rattle.small_types.specs.declared.target.Target.{Target}
 use Rattle.addresses.specs.declared.fault.UrlFault.{UrlFault}
 use Rattle.addresses.specs.declared.fault.UrlFault.TheVariants as no_address
@@ -12,11 +13,12 @@ use Rattle.manifests.specs.Releases.{RefusesIdentity}
 use Rattle.machine.specs.declared.reply.Reply.{Reply}
 use Rattle.machine.specs.declared.reply.Reply.TheVariants as says
 use Rattle.machine.specs.Blocks.{free_blocks}
-use Rattle.machine.specs.InstallRow.{IsBelowMinimum, IsNotNewer, LacksEntry, OfWanted, files_after, locals_after}
+use Rattle.machine.specs.InstallRow.{IsBelowMinimum, IsNotNewer, IsWeightOf, LacksEntry, OfWanted, files_after, locals_after}
 use Rattle.machine.specs.Rows.{PassesAll, Refusal, Refuses, exactly, exactly_with}
 use Rattle.machine.specs.Shape.{Shape}
 use Rattle.machine.specs.Store.{Session}
 use Rattle.machine.specs.Wanted.{install_need}
+use Rattle.machine.specs.Weight.{IsTooHeavy, table_room, told_weight}
 
 -- ---- judgements
 
@@ -74,6 +76,13 @@ abbrev pub room_checks : ℕ → ℕ → List (Refusal Reply Session)
 room_checks needed free =
     exactly_with (λ need. (need ≡ needed) × (free < need)) (λ need. says.Full need free) ∷ []
 
+-- tables that weigh so much have no room
+abbrev pub weight_checks : Room → ℕ → List (Refusal Reply Session)
+weight_checks room weighed =
+    exactly_with (λ weight. (weight ≡ weighed) × IsTooHeavy room weight)
+    (λ weight. says.TableFull (told_weight weight) (table_room room))
+    ∷ []
+
 -- a wanted file has no address
 abbrev pub target_checks : List ℕ → Shape → Deployment → Application → List (Refusal Reply Session)
 target_checks url shape d a =
@@ -87,9 +96,21 @@ abbrev pub deployment_checks :
 deployment_checks shape d found =
     version_checks shape d ++ count_checks shape d ++ address_checks found
 
--- those of a release that was heard
-abbrev pub release_checks :
+-- those of a release that was heard: there is no place for it
+abbrev pub place_checks :
     List ℕ → Shape → Deployment → Application → List (Refusal Reply Session)
-release_checks url shape d a =
+place_checks url shape d a =
     identity_checks d a ++ file_checks shape d a ++ target_checks url shape d a
     ++ room_checks (install_need shape d a) (free_blocks shape)
+
+-- the tables would have no room
+abbrev pub table_checks : List ℕ → Shape → Deployment → Application → List (Refusal Reply Session)
+table_checks url shape d a =
+    exactly_with (λ weight. IsWeightOf url shape d a weight × IsTooHeavy shape.room weight)
+    (λ weight. says.TableFull (told_weight weight) (table_room shape.room))
+    ∷ []
+
+-- it may not come
+abbrev pub release_checks :
+    List ℕ → Shape → Deployment → Application → List (Refusal Reply Session)
+release_checks url shape d a = place_checks url shape d a ++ table_checks url shape d a

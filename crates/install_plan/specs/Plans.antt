@@ -5,7 +5,7 @@ use Rattle.addresses.specs.Address.{target_of_text}
 use Rattle.addresses.specs.Join.{app_target_of, file_target_of}
 use Rattle.machine.specs.declared.reply.Reply.{Reply}
 use Rattle.machine.specs.declared.reply.Reply.TheVariants.{Memory}
-use Rattle.machine.specs.InstallRow.{HearsRelease, OfRelease, address_refusals, deployment_refusals, install_refusals, place_refusals}
+use Rattle.machine.specs.InstallRow.{HearsRelease, OfRelease, address_refusals, deployment_refusals, install_refusals, release_refusals}
 use Rattle.machine.specs.Installed.{IsProvidedBy}
 use Rattle.machine.specs.Machine.{moment_after}
 use Rattle.machine.specs.Rows.{PassesAll, Refuses}
@@ -22,9 +22,8 @@ use Rattle.install_plan.specs.Hearing.{Hearing, Served}
 abbrev pub targets_of : Plan → List Target
 targets_of plan = map (λ file. file.target) plan.wanted
 
--- The texts tell the release, whose addresses these are, and no refusal holds but one at a file, or
--- that the tables would have no room. The wanted files are those at the places, each with its
--- address.
+-- The texts tell the release, whose addresses these are, and no refusal holds but one at a file. The
+-- wanted files are those at the places, each with its address.
 pub record IsPlan (shape : Shape) (url : List ℕ) (texts : List (List ℕ)) (plan : Plan)
     : Type 0 where
   pub told : OfRelease texts (λ d a. (d ≡ plan.deployment) × (a ≡ plan.application))
@@ -39,7 +38,7 @@ pub record IsPlan (shape : Shape) (url : List ℕ) (texts : List (List ℕ)) (pl
       ≡ map Ok (targets_of plan)
   pub address : PassesAll (address_refusals url)
   pub deployment : PassesAll (deployment_refusals url texts shape)
-  pub release : PassesAll (place_refusals url texts shape)
+  pub release : PassesAll (release_refusals url texts shape)
 
 -- both manifests were heard, and there is a plan; nothing else was asked for
 pub record IsPlanned (shape : Shape) (url : List ℕ) (texts : List (List ℕ))
@@ -49,14 +48,13 @@ pub record IsPlanned (shape : Shape) (url : List ℕ) (texts : List (List ℕ))
   pub hearing : Hearing shape url texts before after
   pub asked : hearing.asked ≡ plan.url ∷ plan.base ∷ []
 
--- It found no memory, or the reply is its first refusal; that, and what it asked, is said where the
--- journal has no halves.
+-- It found no memory, or the reply is its first refusal.
 pub record IsRefused (shape : Shape) (url : List ℕ) (texts : List (List ℕ))
     (before after : LinksState) (reply : Reply) : Type 0 where
   pub hears : HearsRelease url shape texts
   pub kept : Kept before after
   pub still : (now : ℕ) → moment_after now (Some reply) ≡ now
-  pub refused : shape.room.half ≡ 0 → (reply ≡ Memory) ⊎ ((old : Session)
+  pub refused : (reply ≡ Memory) ⊎ ((old : Session)
       → Refuses (install_refusals url texts shape) old reply old)
-  pub served : shape.room.half ≡ 0 → Served shape url texts before after reply
+  pub served : Served shape url texts before after reply
   pub downs : CountsDowns before after reply

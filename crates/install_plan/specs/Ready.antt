@@ -11,13 +11,15 @@ use Rattle.machine.specs.Rows.{PassesAll}
 use Rattle.machine.specs.Sound.{Sound}
 use Rattle.machine.specs.Store.{Session}
 use Rattle.machine.specs.Views.{View}
+use Rattle.machine.specs.Weight.{IsLight}
 use Rattle.store_state.specs.declared.change.Change.{Change}
 use Rattle.store_state.specs.declared.change.Change.TheVariants.{Install}
 use Rattle.store_state.specs.declared.view.LocalFile.{LocalFile}
-use Rattle.store_state.specs.Change.{Fits}
+use Rattle.store_state.specs.Change.{Fits, effect}
 use Rattle.store_state.specs.Shows.{Shows}
 use Rattle.store_state.specs.Tables.{Tables, table_shape}
 use Rattle.links.specs.Links.{LinksState}
+use Rattle.table_weight.specs.Weight.{tables_weight}
 use Rattle.fetcher.specs.Fetched.{Kept}
 use Rattle.install_plan.specs.Brought.{IsBrought}
 use Rattle.install_plan.specs.Hearing.{Served}
@@ -41,18 +43,18 @@ pub record IsStep (room : Room) (tables : Tables) (url : List ℕ) (texts : List
   pub brought : (view : View) → new.store.views ≡ old.store.views ++ view ∷ []
       → IsBrought old before after view
 
--- A change is to be made, which fits. That nothing refuses the install, and what it asked, is said
--- where the journal has no halves.
+-- A change is to be made, which fits and leaves the tables room in a half of the journal. Nothing
+-- refuses the install.
 pub record IsReady (room : Room) (tables : Tables) (url : List ℕ) (texts : List (List ℕ))
     (before after : LinksState) (now : ℕ) (change : Change) (reply : Reply) : Type 0 where
   pub hears : HearsRelease url (table_shape room tables) texts
   pub kept : Kept before after
-  pub passes : room.half ≡ 0 → PassesAll (install_refusals url texts
-      (table_shape room tables))
+  pub passes : PassesAll (install_refusals url texts (table_shape room tables))
   pub replied : (key : Key) × (version : Version) × (view : ℕ)
       × (reply ≡ Installed key version view)
-  pub served : room.half ≡ 0 → Served (table_shape room tables) url texts before after reply
+  pub served : Served (table_shape room tables) url texts before after reply
   pub fits : Fits tables change
+  pub light : IsLight room (tables_weight (effect change tables))
   pub few : HasFew change
   pub step : (image : List ℕ) (old : Session) → old.jobs ≡ []
       → Shows room tables image old.store → Sound old.store

@@ -21,6 +21,7 @@ use std::alloc::Global;
 use store_state::{
     Change, Content, LocalFile, StoreState, View, installs_show_the_view, shapes_are_shown,
 };
+use table_weight::{changed_tables_weigh, migrated_data_weigh};
 
 // The data files of the view that is current for the key.
 fn old_locals<'a>(state: &'a StoreState, key: &Key) -> &'a [LocalFile]
@@ -219,5 +220,7 @@ pub fn prepare<L: Links>(
     state.are_tables();
     shapes_are_shown();
     installs_show_the_view();
+    changed_tables_weigh();
+    migrated_data_weigh();
     Prepared::Change { change, reply }
 }

@@ -1,4 +1,4 @@
-// Whether an application is the listed one, and whether there is a place for its files.
+// Whether an application is the listed one, and whether there is room for its files and the tables.
 ghost use Rattle.std.specs.Prelude.{◌≡◌, ◌↔◌, ◌<◌, ◌+◌, ◌-◌, ◌^◌, ◌⊎◌, ℕ, Any, Err, IfErr, IfOk, IsTrue, List, Ok, Some, length, map, min, slice_get, sum_by};
 ghost use Rattle.small_types.specs.declared.room.Room.{Room};
 ghost use Rattle.small_types.specs.declared.limits.TheConstants as limits;
@@ -6,11 +6,11 @@ ghost use Rattle.addresses.specs.declared.fault.UrlFault.TheVariants as no_addre
 ghost use Rattle.addresses.specs.Join.{file_target_of};
 ghost use Rattle.machine.specs.Blocks.{blocks_of, free_blocks, standing_files};
 ghost use Rattle.machine.specs.Fields.{IsApplication};
-ghost use Rattle.machine.specs.InstallRow.{base_of};
+ghost use Rattle.machine.specs.InstallRow.{base_of, weight_installed};
 ghost use Rattle.machine.specs.Wanted.{wanted, wanted_beside};
 ghost use Rattle.store_state.specs.Rows.{listed_files};
 ghost use Rattle.store_state.specs.Tables.{bare_row, table_shape};
-ghost use Rattle.install_plan.specs.Judges.{Judges, file_checks, identity_checks, release_checks, room_checks};
+ghost use Rattle.install_plan.specs.Judges.{Judges, file_checks, identity_checks, place_checks, room_checks, weight_checks};
 
 use crate::WantedFile;
 use crate::local_plans::{copied_blocks, judge_locals};
@@ -22,6 +22,7 @@ use small_types::limits::FILE_COUNT_LIMIT;
 use small_types::{CopyFault, Duplicate, Limit, List, Room, Target};
 use std::alloc::Global;
 use store_state::StoreState;
+use table_weight::{WeightFault, table_full, weight_with_release};
 
 // The refusal of an application of another key.
 fn other_key(alloc: Global, listed: &Key, found: &Key) -> Reply
@@ -100,10 +101,11 @@ pub(crate) fn judge_room(state: &StoreState, room: Room, need: u64) -> Result<()
     Ok(())
 }
 
-// The files that are wanted, with their addresses, and the blocks that they need.
+// The files that are wanted, with their addresses; their places; and the blocks that they need.
 #[derive(Drop)]
 pub(crate) struct FilesNeeded {
     pub(crate) files: List<WantedFile>,
+    pub(crate) places: Vec<usize>,
     pub(crate) need: u64,
 }
 
@@ -116,6 +118,8 @@ pub(crate) fn wants(
     files: &[FileEntry],
 ) -> Result<FilesNeeded, Reply>
     ensures places { IfOk result (λ w. map (λ file. slice_get files.now file.place) w.files
+        ≡ map Some (wanted_beside (standing_files (map bare_row state.now.views)) files.now)) }
+    ensures stand { IfOk result (λ w. map (slice_get files.now) w.places.items
         ≡ map Some (wanted_beside (standing_files (map bare_row state.now.views)) files.now)) }
     ensures targets { IfOk result (λ w. map (λ entry. file_target_of base.now mapped entry.name)
         (wanted_beside (standing_files (map bare_row state.now.views)) files.now)
@@ -132,27 +136,34 @@ pub(crate) fn wants(
     };
     let need = blocks_needed(files, places.as_slice());
     match wanted_files(alloc, base, mapped, files, places.as_slice()) {
-        Ok(files) => Ok(FilesNeeded { files, need }),
+        Ok(files) => Ok(FilesNeeded {
+            files,
+            places,
+            need,
+        }),
         Err(reply) => Err(reply),
     }
 }
 
-// Judges the release that was heard, and answers the files that are wanted.
-pub(crate) fn judge_release(
+// Judges whether there is a place for the release that was heard, and answers what is wanted of its
+// files.
+pub(crate) fn judge_places(
     alloc: Global,
     state: &StoreState,
     room: Room,
     base: &Target,
     d: &Deployment,
     a: &Application,
-) -> Result<List<WantedFile>, Reply>
-    ensures places { IfOk result (λ files. map (λ file. slice_get a.now.files file.place) files
+) -> Result<FilesNeeded, Reply>
+    ensures places { IfOk result (λ w. map (λ file. slice_get a.now.files file.place) w.files
         ≡ map Some (wanted (map bare_row state.now.views) a.now)) }
-    ensures targets { IfOk result (λ files.
+    ensures stand { IfOk result (λ w. map (slice_get a.now.files) w.places.items
+        ≡ map Some (wanted (map bare_row state.now.views) a.now)) }
+    ensures targets { IfOk result (λ w.
         map (λ entry. file_target_of base.now d.now.mapped entry.name)
-        (wanted (map bare_row state.now.views) a.now) ≡ map (λ file. Ok file.target) files) }
+        (wanted (map bare_row state.now.views) a.now) ≡ map (λ file. Ok file.target) w.files) }
     ensures judged { (url : List ℕ) → base_of url d.now ≡ Ok base.now → IsApplication a.now
-        → Judges (release_checks url (table_shape room state.now) d.now a.now) result }
+        → Judges (place_checks url (table_shape room state.now) d.now a.now) result }
 {
     if let Err(reply) = judge_identity(alloc, d, a) {
         return Err(reply);
@@ -167,7 +178,37 @@ pub(crate) fn judge_release(
     let copied = copied_blocks(state, &d.identity.key);
     let need = wants.need.saturating_add(copied);
     match judge_room(state, room, need) {
-        Ok(()) => Ok(wants.files),
+        Ok(()) => Ok(wants),
         Err(reply) => Err(reply),
+    }
+}
+
+// Whether the tables have room once the release is installed, where these are the places of its
+// files that are wanted. A journal without halves has room for any.
+pub(crate) fn judge_tables(
+    alloc: Global,
+    state: &StoreState,
+    room: Room,
+    provider: &Target,
+    base: &Target,
+    d: &Deployment,
+    a: &Application,
+    places: &[usize],
+) -> Result<(), Reply>
+    ensures { map (slice_get a.now.files) places.now
+        ≡ map Some (wanted (map bare_row state.now.views) a.now)
+        → Judges (weight_checks room (weight_installed provider.now base.now d.now a.now
+        (table_shape room state.now))) result }
+{
+    if room.half == 0 {
+        return Ok(());
+    }
+    let weight = match weight_with_release(alloc, state, provider, base, d, a, places) {
+        Ok(weight) => weight,
+        Err(WeightFault::Memory) => return Err(Reply::Memory),
+    };
+    match table_full(room, weight) {
+        Some(reply) => Err(reply),
+        None => Ok(()),
     }
 }

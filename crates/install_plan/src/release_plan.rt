@@ -1,11 +1,10 @@
 // The manifests of an install.
 ghost use Rattle.std.specs.Prelude.{◌≡◌, ℕ, List, [], IfErr, IfOk, IfSome, Ok, Some, map, slice_get};
 ghost use Rattle.addresses.specs.Address.{target_of_text};
-ghost use Rattle.addresses.specs.Join.{file_target_of};
+ghost use Rattle.addresses.specs.Join.{app_target_of, file_target_of};
 ghost use Rattle.manifests.specs.Facts.{IsProvider};
 ghost use Rattle.addresses.specs.declared.fault.UrlFault.TheVariants as no_address;
 ghost use Rattle.machine.specs.Fields.{IsApplication};
-ghost use Rattle.machine.specs.InstallRow.{base_of};
 ghost use Rattle.machine.specs.Installed.{IsProvidedBy};
 ghost use Rattle.machine.specs.Wanted.{wanted};
 ghost use Rattle.install_plan.specs.Plans.{IsPlanned, IsRefused};
@@ -13,7 +12,7 @@ ghost use Rattle.store_state.specs.Tables.{bare_row, table_shape};
 ghost use Rattle.install_plan.specs.Judges.{Judges, release_checks};
 
 use crate::deployment::{given_address, judge_deployment};
-use crate::release::judge_release;
+use crate::release::{judge_places, judge_tables};
 use crate::texts::{hear_application, hear_deployment};
 use crate::{Plan, WantedFile};
 use addresses::{UrlFault, target_of};
@@ -79,15 +78,32 @@ fn judge_heard(
     ensures targets { IfOk result (λ j.
         map (λ entry. file_target_of base.now d.now.mapped entry.name)
         (wanted (map bare_row state.now.views) a.now) ≡ map (λ file. Ok file.target) j.wanted) }
-    ensures judged { (url : List ℕ) → base_of url d.now ≡ Ok base.now → IsApplication a.now
+    ensures judged { (url : List ℕ) → target_of_text url ≡ Ok target.now
+        → app_target_of target.now d.now.codebase ≡ Ok base.now → IsApplication a.now
         → Judges (release_checks url (table_shape room state.now) d.now a.now) result }
 {
-    let wanted = match judge_release(alloc, state, room, base, d, a) {
-        Ok(wanted) => wanted,
+    let wants = match judge_places(alloc, state, room, base, d, a) {
+        Ok(wants) => wants,
         Err(reply) => return Err(reply),
     };
-    match provider_of(alloc, target, d) {
-        Ok(provider) => Ok(Judged { wanted, provider }),
+    let provider = match provider_of(alloc, target, d) {
+        Ok(provider) => provider,
+        Err(reply) => return Err(reply),
+    };
+    match judge_tables(
+        alloc,
+        state,
+        room,
+        &provider,
+        base,
+        d,
+        a,
+        wants.places.as_slice(),
+    ) {
+        Ok(()) => Ok(Judged {
+            wanted: wants.files,
+            provider,
+        }),
         Err(reply) => Err(reply),
     }
 }

@@ -53,7 +53,8 @@ local_le f is =
       length-append s (text_field f.held),
     )
 
-pub view_le : (v : View) → IsEncodableView v → length (view_field v) ≤ 70368769999999
+pub view_le : (v : View) → IsEncodableView FILE_COUNT_LIMIT v
+    → length (view_field v) ≤ 70368769999999
 unfolding view_field
 view_le v is =
     let n = to_be_bytes w64 v.number in

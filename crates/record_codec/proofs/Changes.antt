@@ -69,11 +69,11 @@ install_takes : (rest : List ℕ) (x : Change × ℕ) → IsBytes (INSTALL_KIND 
 unfolding install_at change_text install_text
 install_takes rest x fits e =
     let bytes : List ℕ = INSTALL_KIND ∷ rest in
-    let a = bind_ok (view_at bytes 1) (λ view. list_at FILE_COUNT_LIMIT content_at bytes view.1 >>= λ contents. target_at bytes contents.1 >>= λ provider. number_at w64 bytes provider.1 >>= λ now. Ok (Install view.0 contents.0 provider.0 now.0, now.1)) x e in
+    let a = bind_ok (view_at FILE_COUNT_LIMIT bytes 1) (λ view. list_at FILE_COUNT_LIMIT content_at bytes view.1 >>= λ contents. target_at bytes contents.1 >>= λ provider. number_at w64 bytes provider.1 >>= λ now. Ok (Install view.0 contents.0 provider.0 now.0, now.1)) x e in
     let b = bind_ok (list_at FILE_COUNT_LIMIT content_at bytes a.0.1) (λ contents. target_at bytes contents.1 >>= λ provider. number_at w64 bytes provider.1 >>= λ now. Ok (Install a.0.0 contents.0 provider.0 now.0, now.1)) x a.2 in
     let c = bind_ok (target_at bytes b.0.1) (λ provider. number_at w64 bytes provider.1 >>= λ now. Ok (Install a.0.0 b.0.0 provider.0 now.0, now.1)) x b.2 in
     let d = bind_ok (number_at w64 bytes c.0.1) (λ now. Ok (Install a.0.0 b.0.0 c.0.0 now.0, now.1)) x c.2 in
-    let ta = view_reads.takes bytes 1 a.0 fits (omega arith) a.1 in
+    let ta = (view_reads FILE_COUNT_LIMIT (omega arith)).takes bytes 1 a.0 fits (omega arith) a.1 in
     let tb = (list_reads content_reads FILE_COUNT_LIMIT (omega arith)).takes bytes a.0.1 b.0 fits ta.0.within b.1 in
     let tc = target_reads.takes bytes b.0.1 c.0 fits tb.0.within c.1 in
     let td = number64_reads.takes bytes c.0.1 d.0 fits tc.0.within d.1 in
@@ -88,7 +88,7 @@ unfolding install_at
 install_again rest view contents provider now next is stands =
     let bytes : List ℕ = INSTALL_KIND ∷ rest in
     let four = four_stand bytes (view_field view) (list_field content_field contents) (target_field provider) (to_be_bytes w64 now) 1 next stands in
-    rw (view_reads.again bytes 1 view _ is.view four.first, (list_reads content_reads FILE_COUNT_LIMIT (omega arith)).again bytes _ contents _ (is.few, is.contents) four.second, target_reads.again bytes _ provider _ is.provider four.third, number64_reads.again bytes _ now next is.now four.fourth) refl
+    rw ((view_reads FILE_COUNT_LIMIT (omega arith)).again bytes 1 view _ is.view four.first, (list_reads content_reads FILE_COUNT_LIMIT (omega arith)).again bytes _ contents _ (is.few, is.contents) four.second, target_reads.again bytes _ provider _ is.provider four.third, number64_reads.again bytes _ now next is.now four.fourth) refl
 
 heard_takes : (rest : List ℕ) (x : Change × ℕ) → IsBytes (HEARD_KIND ∷ rest) → heard_at (HEARD_KIND ∷ rest) 1 ≡ Ok x
     → Takes (HEARD_KIND ∷ rest) x

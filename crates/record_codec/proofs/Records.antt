@@ -1,5 +1,5 @@
 -- Views and their files are read just as they are spelled.
-use Rattle.std.proofs.Common.{◌≡◌, ◌<◌, ◌≤◌, ◌^◌, ◌++◌, length, Ok, refl, ap, arith}
+use Rattle.std.proofs.Common.{◌≡◌, ℕ, ◌<◌, ◌≤◌, ◌^◌, ◌++◌, length, Ok, refl, ap, arith}
 use Rattle.std.specs.Prelude.{All}
 use Rattle.std.specs.Int.{w64, to_be_bytes}
 use Rattle.small_types.specs.declared.limits.TheConstants.{FILE_COUNT_LIMIT, NAME_LIMIT}
@@ -11,7 +11,7 @@ use Rattle.store_state.specs.declared.view.View.{View}
 use Rattle.record_fields.specs.Fields.{text_field}
 use Rattle.record_fields.specs.Reading.{number_at, text_at}
 use Rattle.record_fields.specs.Parts.{bytes_at, digests_at, list_at, target_at}
-use Rattle.record_codec.specs.declared.numbers.TheConstants.{BYTES_LIMIT}
+use Rattle.record_codec.specs.declared.numbers.TheConstants.{BYTES_LIMIT, COUNT_LIMIT}
 use Rattle.record_fields.specs.Records.{deployment_at, application_at}
 use Rattle.record_codec.specs.Records.{content_at, local_at, view_at}
 use Rattle.record_fields.specs.Spelling.{list_field, target_field, digest_field, deployment_field, application_field}
@@ -44,14 +44,28 @@ local_reads = same_values IsEncodableLocal (
     (λ x is. record { name = is.0; size = is.1.0; bytes = (let most = is.1.1.0 in omega arith) })
     (λ x is. (is.name, (is.size, ((let small = is.bytes in omega arith), refl))))
 
-pub view_reads : ReadsField IsEncodableView view_field view_at
+pub view_reads : (most : ℕ) → most < 2 ^ 32
+    → ReadsField (IsEncodableView most) view_field (view_at most)
 unfolding view_at view_field
-view_reads = same_values IsEncodableView (
-    first {X = View} number64_reads (λ x. x.number) (λ a0 x. IsEncodableDeployment x.deployment × (IsEncodableApplication x.application × (IsTarget x.base × (((length x.groups ≤ FILE_COUNT_LIMIT) × All (IsShort NAME_LIMIT) x.groups) × (((length x.locals ≤ FILE_COUNT_LIMIT) × All IsEncodableLocal x.locals) × (x ≡ record { number = a0; deployment = x.deployment; application = x.application; base = x.base; groups = x.groups; locals = x.locals })))))) (λ x. deployment_field x.deployment ++ (application_field x.application ++ (target_field x.base ++ (list_field text_field x.groups ++ (list_field local_field x.locals))))) (λ a0 bytes place. deployment_at bytes place >>= λ p1. application_at bytes p1.1 >>= λ p2. target_at bytes p2.1 >>= λ p3. list_at FILE_COUNT_LIMIT (text_at NAME_LIMIT) bytes p3.1 >>= λ p4. list_at FILE_COUNT_LIMIT local_at bytes p4.1 >>= λ p5. Ok (record { number = a0; deployment = p1.0; application = p2.0; base = p3.0; groups = p4.0; locals = p5.0 }, p5.1)) (λ a0 x is. ap (λ (y : View). y.number) is.1.1.1.1.1) (λ a0.
-    first {X = View} deployment_reads (λ x. x.deployment) (λ a1 x. IsEncodableApplication x.application × (IsTarget x.base × (((length x.groups ≤ FILE_COUNT_LIMIT) × All (IsShort NAME_LIMIT) x.groups) × (((length x.locals ≤ FILE_COUNT_LIMIT) × All IsEncodableLocal x.locals) × (x ≡ record { number = a0; deployment = a1; application = x.application; base = x.base; groups = x.groups; locals = x.locals }))))) (λ x. application_field x.application ++ (target_field x.base ++ (list_field text_field x.groups ++ (list_field local_field x.locals)))) (λ a1 bytes place. application_at bytes place >>= λ p2. target_at bytes p2.1 >>= λ p3. list_at FILE_COUNT_LIMIT (text_at NAME_LIMIT) bytes p3.1 >>= λ p4. list_at FILE_COUNT_LIMIT local_at bytes p4.1 >>= λ p5. Ok (record { number = a0; deployment = a1; application = p2.0; base = p3.0; groups = p4.0; locals = p5.0 }, p5.1)) (λ a1 x is. ap (λ (y : View). y.deployment) is.1.1.1.1) (λ a1.
-    first {X = View} application_reads (λ x. x.application) (λ a2 x. IsTarget x.base × (((length x.groups ≤ FILE_COUNT_LIMIT) × All (IsShort NAME_LIMIT) x.groups) × (((length x.locals ≤ FILE_COUNT_LIMIT) × All IsEncodableLocal x.locals) × (x ≡ record { number = a0; deployment = a1; application = a2; base = x.base; groups = x.groups; locals = x.locals })))) (λ x. target_field x.base ++ (list_field text_field x.groups ++ (list_field local_field x.locals))) (λ a2 bytes place. target_at bytes place >>= λ p3. list_at FILE_COUNT_LIMIT (text_at NAME_LIMIT) bytes p3.1 >>= λ p4. list_at FILE_COUNT_LIMIT local_at bytes p4.1 >>= λ p5. Ok (record { number = a0; deployment = a1; application = a2; base = p3.0; groups = p4.0; locals = p5.0 }, p5.1)) (λ a2 x is. ap (λ (y : View). y.application) is.1.1.1) (λ a2.
-    first {X = View} target_reads (λ x. x.base) (λ a3 x. ((length x.groups ≤ FILE_COUNT_LIMIT) × All (IsShort NAME_LIMIT) x.groups) × (((length x.locals ≤ FILE_COUNT_LIMIT) × All IsEncodableLocal x.locals) × (x ≡ record { number = a0; deployment = a1; application = a2; base = a3; groups = x.groups; locals = x.locals }))) (λ x. list_field text_field x.groups ++ (list_field local_field x.locals)) (λ a3 bytes place. list_at FILE_COUNT_LIMIT (text_at NAME_LIMIT) bytes place >>= λ p4. list_at FILE_COUNT_LIMIT local_at bytes p4.1 >>= λ p5. Ok (record { number = a0; deployment = a1; application = a2; base = a3; groups = p4.0; locals = p5.0 }, p5.1)) (λ a3 x is. ap (λ (y : View). y.base) is.1.1) (λ a3.
-    first {X = View} (list_reads (text_reads NAME_LIMIT (omega arith)) FILE_COUNT_LIMIT (omega arith)) (λ x. x.groups) (λ a4 x. ((length x.locals ≤ FILE_COUNT_LIMIT) × All IsEncodableLocal x.locals) × (x ≡ record { number = a0; deployment = a1; application = a2; base = a3; groups = a4; locals = x.locals })) (λ x. list_field local_field x.locals) (λ a4 bytes place. list_at FILE_COUNT_LIMIT local_at bytes place >>= λ p5. Ok (record { number = a0; deployment = a1; application = a2; base = a3; groups = a4; locals = p5.0 }, p5.1)) (λ a4 x is. ap (λ (y : View). y.groups) is.1) (λ a4.
-    last {X = View} (list_reads local_reads FILE_COUNT_LIMIT (omega arith)) (λ x. x.locals) (λ a5. record { number = a0; deployment = a1; application = a2; base = a3; groups = a4; locals = a5 }) (λ a5. refl)))))))
+view_reads most small = same_values (IsEncodableView most) (
+    first {X = View} number64_reads (λ x. x.number) (λ a0 x. IsEncodableDeployment x.deployment × (IsEncodableApplication x.application × (IsTarget x.base × (((length x.groups ≤ most) × All (IsShort NAME_LIMIT) x.groups) × (((length x.locals ≤ most) × All IsEncodableLocal x.locals) × (x ≡ record { number = a0; deployment = x.deployment; application = x.application; base = x.base; groups = x.groups; locals = x.locals })))))) (λ x. deployment_field x.deployment ++ (application_field x.application ++ (target_field x.base ++ (list_field text_field x.groups ++ (list_field local_field x.locals))))) (λ a0 bytes place. deployment_at bytes place >>= λ p1. application_at bytes p1.1 >>= λ p2. target_at bytes p2.1 >>= λ p3. list_at most (text_at NAME_LIMIT) bytes p3.1 >>= λ p4. list_at most local_at bytes p4.1 >>= λ p5. Ok (record { number = a0; deployment = p1.0; application = p2.0; base = p3.0; groups = p4.0; locals = p5.0 }, p5.1)) (λ a0 x is. ap (λ (y : View). y.number) is.1.1.1.1.1) (λ a0.
+    first {X = View} deployment_reads (λ x. x.deployment) (λ a1 x. IsEncodableApplication x.application × (IsTarget x.base × (((length x.groups ≤ most) × All (IsShort NAME_LIMIT) x.groups) × (((length x.locals ≤ most) × All IsEncodableLocal x.locals) × (x ≡ record { number = a0; deployment = a1; application = x.application; base = x.base; groups = x.groups; locals = x.locals }))))) (λ x. application_field x.application ++ (target_field x.base ++ (list_field text_field x.groups ++ (list_field local_field x.locals)))) (λ a1 bytes place. application_at bytes place >>= λ p2. target_at bytes p2.1 >>= λ p3. list_at most (text_at NAME_LIMIT) bytes p3.1 >>= λ p4. list_at most local_at bytes p4.1 >>= λ p5. Ok (record { number = a0; deployment = a1; application = p2.0; base = p3.0; groups = p4.0; locals = p5.0 }, p5.1)) (λ a1 x is. ap (λ (y : View). y.deployment) is.1.1.1.1) (λ a1.
+    first {X = View} application_reads (λ x. x.application) (λ a2 x. IsTarget x.base × (((length x.groups ≤ most) × All (IsShort NAME_LIMIT) x.groups) × (((length x.locals ≤ most) × All IsEncodableLocal x.locals) × (x ≡ record { number = a0; deployment = a1; application = a2; base = x.base; groups = x.groups; locals = x.locals })))) (λ x. target_field x.base ++ (list_field text_field x.groups ++ (list_field local_field x.locals))) (λ a2 bytes place. target_at bytes place >>= λ p3. list_at most (text_at NAME_LIMIT) bytes p3.1 >>= λ p4. list_at most local_at bytes p4.1 >>= λ p5. Ok (record { number = a0; deployment = a1; application = a2; base = p3.0; groups = p4.0; locals = p5.0 }, p5.1)) (λ a2 x is. ap (λ (y : View). y.application) is.1.1.1) (λ a2.
+    first {X = View} target_reads (λ x. x.base) (λ a3 x. ((length x.groups ≤ most) × All (IsShort NAME_LIMIT) x.groups) × (((length x.locals ≤ most) × All IsEncodableLocal x.locals) × (x ≡ record { number = a0; deployment = a1; application = a2; base = a3; groups = x.groups; locals = x.locals }))) (λ x. list_field text_field x.groups ++ (list_field local_field x.locals)) (λ a3 bytes place. list_at most (text_at NAME_LIMIT) bytes place >>= λ p4. list_at most local_at bytes p4.1 >>= λ p5. Ok (record { number = a0; deployment = a1; application = a2; base = a3; groups = p4.0; locals = p5.0 }, p5.1)) (λ a3 x is. ap (λ (y : View). y.base) is.1.1) (λ a3.
+    first {X = View} (list_reads (text_reads NAME_LIMIT (omega arith)) most small) (λ x. x.groups) (λ a4 x. ((length x.locals ≤ most) × All IsEncodableLocal x.locals) × (x ≡ record { number = a0; deployment = a1; application = a2; base = a3; groups = a4; locals = x.locals })) (λ x. list_field local_field x.locals) (λ a4 bytes place. list_at most local_at bytes place >>= λ p5. Ok (record { number = a0; deployment = a1; application = a2; base = a3; groups = a4; locals = p5.0 }, p5.1)) (λ a4 x is. ap (λ (y : View). y.groups) is.1) (λ a4.
+    last {X = View} (list_reads local_reads most small) (λ x. x.locals) (λ a5. record { number = a0; deployment = a1; application = a2; base = a3; groups = a4; locals = a5 }) (λ a5. refl)))))))
     (λ x is. record { number = is.0; deployment = is.1.0; application = is.1.1.0; base = is.1.1.1.0; few_groups = is.1.1.1.1.0.0; groups = is.1.1.1.1.0.1; few_locals = is.1.1.1.1.1.0.0; locals = is.1.1.1.1.1.0.1 })
     (λ x is. (is.number, (is.deployment, (is.application, (is.base, ((is.few_groups, is.groups), ((is.few_locals, is.locals), refl)))))))
+
+-- a view with few enough groups and data files for a change has no more than a count can say
+pub wider : (v : View) → IsEncodableView FILE_COUNT_LIMIT v → IsEncodableView COUNT_LIMIT v
+wider v is = record {
+  number = is.number;
+  deployment = is.deployment;
+  application = is.application;
+  base = is.base;
+  few_groups = (let few = is.few_groups in omega arith);
+  groups = is.groups;
+  few_locals = (let few = is.few_locals in omega arith);
+  locals = is.locals;
+}

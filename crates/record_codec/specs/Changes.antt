@@ -25,7 +25,7 @@ require_at bytes place = do
 
 unfoldable pub install_at : Reader Change
 install_at bytes place = do
-  view ← view_at bytes place
+  view ← view_at FILE_COUNT_LIMIT bytes place
   contents ← list_at FILE_COUNT_LIMIT content_at bytes view.1
   provider ← target_at bytes contents.1
   now ← number_at w64 bytes provider.1

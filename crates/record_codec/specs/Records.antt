@@ -1,8 +1,8 @@
 -- Reading views and their files, from the left. The fault of a part is the first of its fields that
 -- cannot be read.
-use Rattle.std.specs.Prelude.{Ok}
+use Rattle.std.specs.Prelude.{ℕ, Ok}
 use Rattle.std.specs.Int.{w64}
-use Rattle.small_types.specs.declared.limits.TheConstants.{FILE_COUNT_LIMIT, NAME_LIMIT}
+use Rattle.small_types.specs.declared.limits.TheConstants.{NAME_LIMIT}
 use Rattle.small_types.specs.Reading.{◌>>=◌}
 use Rattle.store_state.specs.declared.view.Content.{Content}
 use Rattle.store_state.specs.declared.view.LocalFile.{LocalFile}
@@ -26,14 +26,15 @@ local_at bytes place = do
   held ← bytes_at BYTES_LIMIT bytes size.1
   Ok (record { name = name.0; length = size.0; held = held.0 }, held.1)
 
-unfoldable pub view_at : Reader View
-view_at bytes place = do
+-- with at most so many groups, and so many data files
+unfoldable pub view_at : ℕ → Reader View
+view_at most bytes place = do
   number ← number_at w64 bytes place
   deployment ← deployment_at bytes number.1
   application ← application_at bytes deployment.1
   base ← target_at bytes application.1
-  groups ← list_at FILE_COUNT_LIMIT (text_at NAME_LIMIT) bytes base.1
-  locals ← list_at FILE_COUNT_LIMIT local_at bytes groups.1
+  groups ← list_at most (text_at NAME_LIMIT) bytes base.1
+  locals ← list_at most local_at bytes groups.1
   Ok (
     record {
       number = number.0;

@@ -24,19 +24,20 @@ pub record IsEncodableLocal (f : LocalFile) : Type 0 where
   pub size : f.length < 2 ^ 64
   pub bytes : length f.held < 2 ^ 32
 
-pub record IsEncodableView (v : View) : Type 0 where
+-- with at most so many groups, and so many data files
+pub record IsEncodableView (most : ℕ) (v : View) : Type 0 where
   pub number : v.number < 2 ^ 64
   pub deployment : IsEncodableDeployment v.deployment
   pub application : IsEncodableApplication v.application
   pub base : IsTarget v.base
-  pub few_groups : length v.groups ≤ FILE_COUNT_LIMIT
+  pub few_groups : length v.groups ≤ most
   pub groups : All (IsShort NAME_LIMIT) v.groups
-  pub few_locals : length v.locals ≤ FILE_COUNT_LIMIT
+  pub few_locals : length v.locals ≤ most
   pub locals : All IsEncodableLocal v.locals
 
 pub record IsEncodableInstall (v : View) (brought : List Content) (from : Target) (moment : ℕ)
     : Type 0 where
-  pub view : IsEncodableView v
+  pub view : IsEncodableView FILE_COUNT_LIMIT v
   pub few : length brought ≤ FILE_COUNT_LIMIT
   pub contents : All IsEncodableContent brought
   pub provider : IsTarget from

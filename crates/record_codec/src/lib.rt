@@ -14,9 +14,9 @@ mod writing;
 pub use item_values::{ContentField, LocalField};
 pub use lengths::view_length;
 pub use numbers::{
-    BOOT_KIND, BYTES_LIMIT, CLEAN_KIND, FINISH_KIND, GROUP_KIND, HEARD_KIND, INSTALL_KIND,
-    LAUNCH_KIND, PUT_KIND, REMOVE_KIND, REQUIRE_KIND, ROLLBACK_KIND, SKIP_KIND, UNHEARD_KIND,
-    change_numbers_are,
+    BOOT_KIND, BYTES_LIMIT, CLEAN_KIND, COUNT_LIMIT, FINISH_KIND, GROUP_KIND, HEARD_KIND,
+    INSTALL_KIND, LAUNCH_KIND, PUT_KIND, REMOVE_KIND, REQUIRE_KIND, ROLLBACK_KIND, SKIP_KIND,
+    UNHEARD_KIND, change_numbers_are,
 };
 pub use reading::decode_change;
 pub use view_parts::{read_content, read_local, read_view};

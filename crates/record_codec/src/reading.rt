@@ -63,7 +63,7 @@ fn read_install(alloc: Global, bytes: &[u8], place: usize) -> Result<(Change, us
     ensures next { IfOk result (λ x. x.1 ≤ length bytes.now) }
     ensures fault { IfErr result (IsFaultWithin (length bytes.now)) }
 {
-    let (view, next) = view_here(alloc, bytes, place)?;
+    let (view, next) = view_here(alloc, bytes, place, FILE_COUNT_LIMIT)?;
     let (contents, next) = match read_list::<ContentField>(alloc, bytes, next, FILE_COUNT_LIMIT) {
         Ok(found) => found,
         Err(fault) => {

@@ -1,6 +1,6 @@
 // Views and their files. What is read at a place is within its limits, and stands there as it is
 // spelled; a value within its limits that stands there is read, unless memory runs out.
-ghost use Rattle.std.specs.Prelude.{◌≤◌, ℕ, length, Ok, IfOk, IfErr};
+ghost use Rattle.std.specs.Prelude.{◌<◌, ◌≤◌, ◌^◌, ℕ, length, Ok, IfOk, IfErr};
 ghost use Rattle.store_state.specs.declared.view.Content.{Content};
 ghost use Rattle.store_state.specs.declared.view.LocalFile.{LocalFile};
 ghost use Rattle.store_state.specs.declared.view.View.{View};
@@ -54,17 +54,23 @@ pub fn read_local(
     LocalField::read_here(alloc, bytes, place)
 }
 
-/// The view at the place, and the place behind it.
-/// The fault is that of the first field that cannot be read.
-pub fn read_view(alloc: Global, bytes: &[u8], place: usize) -> Result<(View, usize), CodecFault>
-    requires { place ≤ length bytes.now }
+/// The view at the place, with at most so many groups and so many data files, and the place behind
+/// it. The fault is that of the first field that cannot be read.
+pub fn read_view(
+    alloc: Global,
+    bytes: &[u8],
+    place: usize,
+    most: usize,
+) -> Result<(View, usize), CodecFault>
+    requires place { place ≤ length bytes.now }
+    requires count { most < 2 ^ 32 }
     ensures found { IfOk result (λ x. Stands bytes.now place (view_field x.0) x.1
-        × IsEncodableView x.0) }
-    ensures only { (x : View) (next : ℕ) → IsEncodableView x
+        × IsEncodableView most x.0) }
+    ensures only { (x : View) (next : ℕ) → IsEncodableView most x
         → Stands bytes.now place (view_field x) next → Gives result (Ok (x, next)) }
-    ensures exact { Gives result (view_at bytes.now place) }
+    ensures exact { Gives result (view_at most bytes.now place) }
     ensures next { IfOk result (λ x. x.1 ≤ length bytes.now) }
     ensures fault { IfErr result (IsFaultWithin (length bytes.now)) }
 {
-    view_here(alloc, bytes, place)
+    view_here(alloc, bytes, place, most)
 }

@@ -10,7 +10,6 @@ use record_fields::{
     read_list, read_name, read_target, read_u64,
 };
 use small_types::Text;
-use small_types::limits::FILE_COUNT_LIMIT;
 use std::alloc::Global;
 use store_state::{Content, LocalFile, View};
 
@@ -72,15 +71,17 @@ impl Readable for LocalField {
     fn reads_as_spelled() {}
 }
 
-// The view at the place, and the place behind it.
+// The view at the place, with at most so many groups and so many data files, and the place behind
+// it.
 #[tactic(auto, unfolding(crate::specs::Records::view_at))]
 pub(crate) fn view_here(
     alloc: Global,
     bytes: &[u8],
     place: usize,
+    most: usize,
 ) -> Result<(View, usize), CodecFault>
     requires { place ≤ length bytes.now }
-    ensures exact { Gives result (view_at bytes.now place) }
+    ensures exact { Gives result (view_at most bytes.now place) }
     ensures next { IfOk result (λ x. x.1 ≤ length bytes.now) }
     ensures fault { IfErr result (IsFaultWithin (length bytes.now)) }
 {
@@ -101,7 +102,7 @@ pub(crate) fn view_here(
             return Err(fault);
         }
     };
-    let (groups, next) = match read_list::<TextField>(alloc, bytes, next, FILE_COUNT_LIMIT) {
+    let (groups, next) = match read_list::<TextField>(alloc, bytes, next, most) {
         Ok(found) => found,
         Err(fault) => {
             drop(application);
@@ -109,7 +110,7 @@ pub(crate) fn view_here(
             return Err(fault);
         }
     };
-    let (locals, next) = match read_list::<LocalField>(alloc, bytes, next, FILE_COUNT_LIMIT) {
+    let (locals, next) = match read_list::<LocalField>(alloc, bytes, next, most) {
         Ok(found) => found,
         Err(fault) => {
             drop(application);

@@ -1,5 +1,6 @@
 // Writing views and their files.
 ghost use Rattle.std.specs.Prelude.{◌≡◌, ◌+◌, ◌<◌, ◌≤◌, ◌^◌, length};
+ghost use Rattle.record_codec.specs.declared.numbers.TheConstants.{COUNT_LIMIT};
 ghost use Rattle.record_fields.specs.Places.{WritesField};
 ghost use Rattle.record_codec.specs.Spelling.{content_field, local_field, view_field};
 ghost use Rattle.record_codec.specs.Values.{IsEncodableContent, IsEncodableLocal, IsEncodableView};
@@ -40,7 +41,7 @@ pub fn write_local(out: &mut [u8], place: usize, local: &LocalFile) -> usize
 /// Writes the view at the place, its fields in their order, and answers the place behind it.
 #[tactic(auto, using(record_fields::proofs::Long::lengths), unfolding(crate::specs::Spelling::view_field))]
 pub fn write_view(out: &mut [u8], place: usize, view: &View) -> usize
-    requires view { IsEncodableView view.now }
+    requires view { IsEncodableView COUNT_LIMIT view.now }
     requires room { place + length (view_field view.now) ≤ length out.old }
     ensures { WritesField out.old place (view_field view.now) out.new result }
 {

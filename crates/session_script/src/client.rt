@@ -3,7 +3,7 @@ use crate::next::{Next, number_of, numbered};
 use crate::releases::{inspect, publish};
 use crate::runs::{
     Site, disk_of, empty_disk, empty_folder, empty_report, print_calls, print_target, run_lines,
-    run_silently, run_unheard, site_of,
+    run_silently, run_unheard, site_of, store_of,
 };
 use crate::site::{folder_failing, folder_without};
 use disks::{Disk, MemDisk, Pick};
@@ -18,6 +18,8 @@ pub struct Client {
     /// The disk that is left aside while the client goes on with what a stop left of it, and the moment
     /// at which its last session had been opened.
     aside: Option<(MemDisk, u64)>,
+    /// How many bytes a half of a new store's journal has, where the program is not to make it.
+    half: Option<u64>,
     site: Site,
     /// What is set for its next run.
     pub next: Next,
@@ -65,6 +67,7 @@ impl Client {
         Client {
             disk: empty_disk(alloc),
             aside: None,
+            half: None,
             site: site_of(alloc, empty_folder(alloc)),
             next: Next::new(alloc),
             opened: 0,
@@ -114,10 +117,24 @@ impl Client {
         Ok(())
     }
 
+    /// Has the halves of new stores that many bytes long, and not as long as the program makes them.
+    pub fn set_half(&mut self, word: &str) -> io::Result<()> {
+        self.half = Some(number_of(word)?);
+        Ok(())
+    }
+
     /// Makes an empty store, on a new disk.
     pub fn format(&mut self, rt: &HostRuntime, words: &str) -> io::Result<()> {
-        self.disk = empty_disk(rt.alloc());
-        run_silently(rt, &self.next, words, &mut self.disk, &mut self.site)
+        let Some(half) = self.half else {
+            self.disk = empty_disk(rt.alloc());
+            return run_silently(rt, &self.next, words, &mut self.disk, &mut self.site);
+        };
+        let Some(("format --blocks", blocks)) = words.rsplit_once(' ') else {
+            return Err(ErrorKind::InvalidInput.into());
+        };
+        let disk = store_of(rt.alloc(), number_of(blocks)?, half)?;
+        self.disk = disk;
+        Ok(())
     }
 
     /// Publishes files of its site there, with the marks that are set.

@@ -3,11 +3,12 @@ use crate::next::Next;
 use disks::MemDisk;
 use fetcher::FolderLink;
 use folders::{Folder, MemFolder};
+use journal::are_limits;
 use links::Single;
 use outside::{MemSink, MemSource};
-use small_types::{Bytes, List, Target, Word};
+use small_types::{Bytes, List, Room, Target, Word};
 use std::alloc::{AllocError, Global};
-use std::io;
+use std::io::{self, ErrorKind};
 use updater_cli::{Report, run};
 
 /// The links of a client: one, to a folder.
@@ -55,6 +56,19 @@ pub fn empty_disk(alloc: Global) -> MemDisk {
 pub fn disk_of(alloc: Global, bytes: &[u8], failing: u64) -> Result<MemDisk, AllocError> {
     let bytes = Bytes::from_slice(alloc, bytes)?;
     Ok(MemDisk::new(alloc, bytes, only(alloc, failing)?))
+}
+
+/// A disk with a new store of so many blocks, whose journal has halves of so many bytes. The program
+/// makes longer ones, over which a script with many stops takes long, and which never fill here.
+pub fn store_of(alloc: Global, blocks: u64, half: u64) -> io::Result<MemDisk> {
+    if !are_limits(blocks, half) {
+        return Err(ErrorKind::InvalidInput.into());
+    }
+    let mut disk = empty_disk(alloc);
+    match table_log::format(alloc, &mut disk, Room { blocks, half }) {
+        Ok(()) => Ok(disk),
+        Err(_) => Err(ErrorKind::Other.into()),
+    }
 }
 
 /// A report of nothing.

@@ -95,7 +95,8 @@ fn set(rt: &HostRuntime, client: &mut Client, word: &str, rest: &str) -> io::Res
 // Does what the line says of the disk. Its first word says what: `stops` stops the last session at
 // each of its moments, `stop` after that call of it, and the next one runs over what is left;
 // `left` goes on with what a stop leaves, `aside` does so until `back`; `disk` goes on with zeros,
-// `failing` with the same bytes and a call that fails; and `calls` prints how many calls there were.
+// `failing` with the same bytes and a call that fails; `half` has the halves of the stores that
+// `format` makes from here on that many bytes long; and `calls` prints how many calls there were.
 fn change_disk(rt: &HostRuntime, client: &mut Client, word: &str, rest: &str) -> io::Result<()> {
     if word == "stops" {
         return client.stops(rt, rest);
@@ -117,6 +118,9 @@ fn change_disk(rt: &HostRuntime, client: &mut Client, word: &str, rest: &str) ->
     }
     if word == "failing" {
         return client.fail_disk(rt, rest);
+    }
+    if word == "half" {
+        return client.set_half(rest);
     }
     if word == "calls" {
         return client.print_count(rt, rest);

@@ -1,4 +1,6 @@
 // Tables as bytes, by encodings that were written from the format.
+ghost use Rattle.std.specs.Prelude.{◌<◌, ◌^◌, length};
+ghost use Rattle.table_codec.specs.Spelling.{state_text};
 ghost use Rattle.table_codec.specs.Values.{IsEncodableState};
 
 use record_fields::CodecFault;
@@ -74,7 +76,8 @@ fn are_sevens(bytes: &[u8]) -> bool {
 
 // Whether the tables are written as that, into a buffer whose other bytes stay.
 fn writes(state: &StoreState, wanted: &[u8]) -> bool
-    requires { IsEncodableState state.now }
+    requires state { IsEncodableState state.now }
+    requires short { length (state_text state.now) < 2 ^ 63 }
 {
     let length = encoded_length_of_state(state);
     if length > 1_024 || length != wanted.len() as u64 {
@@ -172,5 +175,53 @@ fn tables_with_another_byte_are_none(rt: HostRuntime) -> Result<(), Fail> {
         let said = with_byte(rt.alloc(), *place, *byte)?;
         assert!(rt; said == Said::Bad(*found), "case {number}");
     }
+    Ok(())
+}
+
+// The tables whose content holds two bytes, though its size says three.
+fn with_less_held(alloc: Global) -> Result<Said, AllocError> {
+    let mut other = Vec::from_slice(alloc, &FULL[..613])?;
+    other.extend_from_slice(&[2, 97, 98])?;
+    Ok(read(alloc, &other))
+}
+
+#[test]
+fn contents_hold_as_many_bytes_as_their_sizes_say(rt: HostRuntime) -> Result<(), Fail> {
+    let said = with_less_held(rt.alloc())?;
+    assert!(rt; said == Said::Bad(616));
+    Ok(())
+}
+
+// The tables with 16,385 groups in the view: one has a letter, and the others are empty texts.
+fn with_groups(alloc: Global) -> Result<Vec<u8>, AllocError> {
+    let mut other = Vec::from_slice(alloc, &FULL[..404])?;
+    other.extend_from_slice(&[0, 0, 64, 1])?;
+    other.extend_from_slice(&FULL[408..413])?;
+    for _ in 0..16_384 {
+        other.extend_from_slice(&[0, 0, 0, 0])?;
+    }
+    other.extend_from_slice(&FULL[413..])?;
+    Ok(other)
+}
+
+// Whether the bytes are tables, which are written as they were read. It promises nothing.
+fn is_written_again(alloc: Global, bytes: &[u8]) -> Result<bool, AllocError> {
+    match decode_state(alloc, bytes) {
+        Ok(state) => {
+            let mut out = vec![in alloc; 0; bytes.len()]?;
+            let length = encode_state(&state, &mut out);
+            drop(state);
+            Ok(length == bytes.len() && same(&out, bytes))
+        }
+        Err(_) => Ok(false),
+    }
+}
+
+#[test]
+fn a_view_has_more_groups_than_files_may_be_listed(rt: HostRuntime) -> Result<(), Fail> {
+    let bytes = with_groups(rt.alloc())?;
+    let is_same = is_written_again(rt.alloc(), &bytes)?;
+    drop(bytes);
+    assert!(rt; is_same);
     Ok(())
 }

@@ -1,9 +1,10 @@
 // What no clause says of tables in a journal: that its calls succeed, how a half turns over, and
 // which tables stops and other bytes leave.
-ghost use Rattle.std.specs.Prelude.{◌≡◌, ◌+◌, length, IfOk};
+ghost use Rattle.std.specs.Prelude.{◌≡◌, ◌+◌, ◌<◌, ◌^◌, length, IfOk};
 ghost use Rattle.journal.specs.Log.{half_of};
 ghost use Rattle.record_codec.specs.Codec.{IsChange};
 ghost use Rattle.store_state.specs.Change.{Fits};
+ghost use Rattle.table_codec.specs.Spelling.{state_text};
 ghost use Rattle.table_codec.specs.Values.{IsEncodableState};
 
 use disks::{Disk, MemDisk, Pick};
@@ -118,6 +119,7 @@ fn enter(
 ) -> Said
     requires half { half ≡ half_of log.old }
     requires state { IsEncodableState state.old }
+    requires short { length (state_text state.old) < 2 ^ 63 }
     requires change { IsChange change }
     requires fits { Fits state.old change }
 {
@@ -145,6 +147,7 @@ fn boot_from(
 ) -> Said
     requires half { half ≡ half_of log.old }
     requires state { IsEncodableState state.old }
+    requires short { length (state_text state.old) < 2 ^ 63 }
 {
     let change = Change::Boot { boot: boot as u64 };
     match state.fits(alloc, &change) {

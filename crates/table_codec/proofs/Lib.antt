@@ -1,5 +1,10 @@
-mod Bounds
+mod ChangedFields
+mod Encodable
+mod Fields
 mod Judged
+mod Lengths
 mod Tables
 mod Whole
 mod Within
+mod WithinChanges
+mod WithinTables

@@ -17,6 +17,7 @@ use Rattle.record_fields.proofs.Forms.{truth_reads}
 use Rattle.record_fields.proofs.Lists.{list_reads, option_reads}
 use Rattle.record_fields.proofs.Structs.{key_reads, number64_reads, target_reads, version_reads}
 use Rattle.record_fields.proofs.Together.{first, last, same_values}
+use Rattle.record_codec.specs.declared.numbers.TheConstants.{COUNT_LIMIT}
 use Rattle.record_codec.specs.Records.{content_at, view_at}
 use Rattle.record_codec.specs.Spelling.{content_field, view_field}
 use Rattle.record_codec.specs.Values.{IsEncodableContent, IsEncodableView}
@@ -25,7 +26,7 @@ use Rattle.table_codec.specs.declared.app_field.AppRest.{AppRest}
 use Rattle.table_codec.specs.declared.table_reading.Lists.{Lists}
 use Rattle.table_codec.specs.Reading.{app_at, lease_at, lists_at, rest_at, tables_at, tables_with, whole_app, wide_at}
 use Rattle.table_codec.specs.Spelling.{app_field, lease_field, lists_field, number_field, rest_field, state_text}
-use Rattle.table_codec.specs.Values.{IsEncodableApp, IsEncodableLease, IsEncodableState, IsWide}
+use Rattle.table_codec.specs.Values.{IsEncodableApp, IsEncodableLease, IsWide}
 
 -- ---- leases
 
@@ -96,7 +97,7 @@ record AreEncodableLists (lists : Lists) : Type 0 where
   few_leases : length lists.leases ≤ LEASE_LIMIT
   leases : All IsEncodableLease lists.leases
   few_views : length lists.views ≤ VIEW_LIMIT
-  views : All IsEncodableView lists.views
+  views : All (IsEncodableView COUNT_LIMIT) lists.views
   few_apps : length lists.apps ≤ APPLICATION_LIMIT
   apps : All IsEncodableApp lists.apps
   few_contents : length lists.contents ≤ FILE_COUNT_LIMIT
@@ -110,8 +111,8 @@ lists_text lists =
 lists_reads : ReadsField AreEncodableLists lists_text lists_at
 unfolding lists_at
 lists_reads = same_values AreEncodableLists (
-    first {X = Lists} (list_reads lease_reads LEASE_LIMIT (omega arith)) (λ x. x.leases) (λ a0 x. (((length x.views ≤ VIEW_LIMIT) × All IsEncodableView x.views) × (((length x.apps ≤ APPLICATION_LIMIT) × All IsEncodableApp x.apps) × (((length x.contents ≤ FILE_COUNT_LIMIT) × All IsEncodableContent x.contents) × (x ≡ record { leases = a0; views = x.views; apps = x.apps; contents = x.contents }))))) (λ x. list_field view_field x.views ++ (list_field app_field x.apps ++ (list_field content_field x.contents))) (λ a0 bytes place. list_at VIEW_LIMIT view_at bytes place >>= λ p1. list_at APPLICATION_LIMIT app_at bytes p1.1 >>= λ p2. list_at FILE_COUNT_LIMIT content_at bytes p2.1 >>= λ p3. Ok (record { leases = a0; views = p1.0; apps = p2.0; contents = p3.0 }, p3.1)) (λ a0 x is. ap (λ (y : Lists). y.leases) is.1.1.1) (λ a0.
-    first {X = Lists} (list_reads view_reads VIEW_LIMIT (omega arith)) (λ x. x.views) (λ a1 x. (((length x.apps ≤ APPLICATION_LIMIT) × All IsEncodableApp x.apps) × (((length x.contents ≤ FILE_COUNT_LIMIT) × All IsEncodableContent x.contents) × (x ≡ record { leases = a0; views = a1; apps = x.apps; contents = x.contents })))) (λ x. list_field app_field x.apps ++ (list_field content_field x.contents)) (λ a1 bytes place. list_at APPLICATION_LIMIT app_at bytes place >>= λ p2. list_at FILE_COUNT_LIMIT content_at bytes p2.1 >>= λ p3. Ok (record { leases = a0; views = a1; apps = p2.0; contents = p3.0 }, p3.1)) (λ a1 x is. ap (λ (y : Lists). y.views) is.1.1) (λ a1.
+    first {X = Lists} (list_reads lease_reads LEASE_LIMIT (omega arith)) (λ x. x.leases) (λ a0 x. (((length x.views ≤ VIEW_LIMIT) × All (IsEncodableView COUNT_LIMIT) x.views) × (((length x.apps ≤ APPLICATION_LIMIT) × All IsEncodableApp x.apps) × (((length x.contents ≤ FILE_COUNT_LIMIT) × All IsEncodableContent x.contents) × (x ≡ record { leases = a0; views = x.views; apps = x.apps; contents = x.contents }))))) (λ x. list_field view_field x.views ++ (list_field app_field x.apps ++ (list_field content_field x.contents))) (λ a0 bytes place. list_at VIEW_LIMIT (view_at COUNT_LIMIT) bytes place >>= λ p1. list_at APPLICATION_LIMIT app_at bytes p1.1 >>= λ p2. list_at FILE_COUNT_LIMIT content_at bytes p2.1 >>= λ p3. Ok (record { leases = a0; views = p1.0; apps = p2.0; contents = p3.0 }, p3.1)) (λ a0 x is. ap (λ (y : Lists). y.leases) is.1.1.1) (λ a0.
+    first {X = Lists} (list_reads (view_reads COUNT_LIMIT (omega arith)) VIEW_LIMIT (omega arith)) (λ x. x.views) (λ a1 x. (((length x.apps ≤ APPLICATION_LIMIT) × All IsEncodableApp x.apps) × (((length x.contents ≤ FILE_COUNT_LIMIT) × All IsEncodableContent x.contents) × (x ≡ record { leases = a0; views = a1; apps = x.apps; contents = x.contents })))) (λ x. list_field app_field x.apps ++ (list_field content_field x.contents)) (λ a1 bytes place. list_at APPLICATION_LIMIT app_at bytes place >>= λ p2. list_at FILE_COUNT_LIMIT content_at bytes p2.1 >>= λ p3. Ok (record { leases = a0; views = a1; apps = p2.0; contents = p3.0 }, p3.1)) (λ a1 x is. ap (λ (y : Lists). y.views) is.1.1) (λ a1.
     first {X = Lists} (list_reads app_reads APPLICATION_LIMIT (omega arith)) (λ x. x.apps) (λ a2 x. (((length x.contents ≤ FILE_COUNT_LIMIT) × All IsEncodableContent x.contents) × (x ≡ record { leases = a0; views = a1; apps = a2; contents = x.contents }))) (λ x. list_field content_field x.contents) (λ a2 bytes place. list_at FILE_COUNT_LIMIT content_at bytes place >>= λ p3. Ok (record { leases = a0; views = a1; apps = a2; contents = p3.0 }, p3.1)) (λ a2 x is. ap (λ (y : Lists). y.apps) is.1) (λ a2.
     last {X = Lists} (list_reads content_reads FILE_COUNT_LIMIT (omega arith)) (λ x. x.contents) (λ a3. record { leases = a0; views = a1; apps = a2; contents = a3 }) (λ a3. refl)))))
     (λ x is. record { few_leases = is.0.0; leases = is.0.1; few_views = is.1.0.0; views = is.1.0.1; few_apps = is.1.1.0.0; apps = is.1.1.0.1; few_contents = is.1.1.1.0.0; contents = is.1.1.1.0.1 })
@@ -122,9 +123,23 @@ lists_reads = same_values AreEncodableLists (
 abbrev lists_of : Tables → Lists
 lists_of t = record { leases = t.leases; views = t.views; apps = t.apps; contents = t.contents }
 
-pub tables_reads : ReadsField IsEncodableState state_text tables_at
+-- all of what an encoding asks but that contents hold as many bytes as their sizes
+pub record AreRead (t : Tables) : Type 0 where
+  pub boot : IsWide t.boot
+  pub next_view : IsWide t.next_view
+  pub next_lease : IsWide t.next_lease
+  pub few_leases : length t.leases ≤ LEASE_LIMIT
+  pub leases : All IsEncodableLease t.leases
+  pub few_views : length t.views ≤ VIEW_LIMIT
+  pub views : All (IsEncodableView COUNT_LIMIT) t.views
+  pub few_apps : length t.apps ≤ APPLICATION_LIMIT
+  pub apps : All IsEncodableApp t.apps
+  pub few_contents : length t.contents ≤ FILE_COUNT_LIMIT
+  pub contents : All IsEncodableContent t.contents
+
+pub tables_reads : ReadsField AreRead state_text tables_at
 unfolding tables_at state_text lists_field
-tables_reads = same_values IsEncodableState (
+tables_reads = same_values AreRead (
     first {X = Tables} number64_reads (λ x. x.boot) (λ a0 x. IsWide x.next_view × (IsWide x.next_lease × (AreEncodableLists (lists_of x) × (x ≡ tables_with a0 x.next_view x.next_lease (lists_of x))))) (λ x. number_field x.next_view ++ (number_field x.next_lease ++ lists_text (lists_of x))) (λ a0 bytes place. wide_at bytes place >>= λ p1. wide_at bytes p1.1 >>= λ p2. lists_at bytes p2.1 >>= λ p3. Ok (tables_with a0 p1.0 p2.0 p3.0, p3.1)) (λ a0 x is. ap (λ (y : Tables). y.boot) is.1.1.1) (λ a0.
     first {X = Tables} number64_reads (λ x. x.next_view) (λ a1 x. IsWide x.next_lease × (AreEncodableLists (lists_of x) × (x ≡ tables_with a0 a1 x.next_lease (lists_of x)))) (λ x. number_field x.next_lease ++ lists_text (lists_of x)) (λ a1 bytes place. wide_at bytes place >>= λ p2. lists_at bytes p2.1 >>= λ p3. Ok (tables_with a0 a1 p2.0 p3.0, p3.1)) (λ a1 x is. ap (λ (y : Tables). y.next_view) is.1.1) (λ a1.
     first {X = Tables} number64_reads (λ x. x.next_lease) (λ a2 x. AreEncodableLists (lists_of x) × (x ≡ tables_with a0 a1 a2 (lists_of x))) (λ x. lists_text (lists_of x)) (λ a2 bytes place. lists_at bytes place >>= λ p3. Ok (tables_with a0 a1 a2 p3.0, p3.1)) (λ a2 x is. ap (λ (y : Tables). y.next_lease) is.1) (λ a2.

@@ -30,9 +30,11 @@ use Rattle.record_fields.specs.Values.{AreDigests, IsEncodableApplication, IsEnc
 use Rattle.record_fields.proofs.Bounds.{digest_field_le, list_le, option_le, rule_le, version_le}
 use Rattle.record_fields.proofs.Long.{length-key_field, length-list_field, length-text_field, length-truth_field, length-version_field}
 use Rattle.record_codec.specs.Spelling.{content_field, local_field, view_field}
-use Rattle.record_codec.specs.Values.{IsEncodableContent, IsEncodableLocal, IsEncodableView}
+use Rattle.record_codec.specs.Values.{IsEncodableContent, IsEncodableLocal}
+use Rattle.table_codec.specs.Laws.{AreWithinWeights}
 use Rattle.table_codec.specs.Spelling.{app_field, lease_field, lists_field, number_field, rest_field, state_text}
-use Rattle.table_codec.specs.Values.{IsEncodableApp, IsEncodableLease, IsEncodableState, IsWide}
+use Rattle.table_codec.specs.Values.{HasFields, HaveFields, IsEncodableApp, IsEncodableLease, IsWide}
+use Rattle.table_codec.proofs.Fields.{have_fields}
 use Rattle.table_weight.specs.Weight.{content_weight, local_weight, spelled_cost, view_weight, weight_with}
 
 -- ---- lists and options
@@ -45,7 +47,7 @@ items_within f w P (x ∷ xs) each all =
     let rest = items_within f w P xs each (All-tail P x xs all) in
     omega (arith, head, rest, length-append (f x) (flat_map f xs), sum_by-cons w x xs)
 
-list_within : {A : Type 0} (f : A → List ℕ) (w : A → ℕ) (P : A → Type 0) (xs : List A)
+pub list_within : {A : Type 0} (f : A → List ℕ) (w : A → ℕ) (P : A → Type 0) (xs : List A)
     → ((x : A) → P x → length (f x) ≤ w x) → All P xs
     → length (list_field f xs) ≤ 4 + sum_by w xs
 list_within f w P xs each all =
@@ -62,7 +64,7 @@ option_within f count k (Some y) each = let most = each y in omega arith
 text_within : (text : List ℕ) → length (text_field text) ≤ 4 + length text
 text_within text = omega (arith, length-text_field text)
 
-target_within : (t : Target) → length (target_field t) ≤ 10 + target_bytes t
+pub target_within : (t : Target) → length (target_field t) ≤ 10 + target_bytes t
 unfolding target_field target_bytes
 target_within t =
     omega (
@@ -186,7 +188,7 @@ local_within f is =
       length-append s (text_field f.held),
     )
 
-content_within : (c : Content) → IsEncodableContent c
+pub content_within : (c : Content) → IsEncodableContent c
     → length (content_field c) ≤ content_weight spelled_cost c
 unfolding content_field content_weight
 content_within c is =
@@ -205,7 +207,7 @@ group_within : (group : List ℕ) → IsShort NAME_LIMIT group
     → length (text_field group) ≤ group_weight group
 group_within group is = omega (arith, length-text_field group)
 
-view_within : (v : View) → IsEncodableView v → length (view_field v) ≤ view_weight spelled_cost v
+pub view_within : (v : View) → HasFields v → length (view_field v) ≤ view_weight spelled_cost v
 unfolding view_field view_weight
 view_within v is =
     let n = to_be_bytes w64 v.number in
@@ -287,10 +289,10 @@ lease_long lease is = omega arith
 
 -- ---- tables
 
-pub state_within : (t : Tables) → IsEncodableState t
+pub fields_within : (t : Tables) → length t.leases ≤ LEASE_LIMIT → HaveFields t
     → length (state_text t) ≤ weight_with spelled_cost t
 unfolding state_text lists_field weight_with
-state_within t is =
+fields_within t few have =
     let a = number_field t.boot in
     let b = number_field t.next_view in
     let c = number_field t.next_lease in
@@ -300,11 +302,11 @@ state_within t is =
     let o = list_field content_field t.contents in
     omega (
       arith,
-      list_le lease_field IsEncodableLease 16 LEASE_LIMIT t.leases lease_long is.few_leases is.leases,
-      list_within view_field (view_weight spelled_cost) IsEncodableView t.views view_within is.views,
-      list_within app_field app_weight IsEncodableApp t.apps app_within is.apps,
+      list_le lease_field IsEncodableLease 16 LEASE_LIMIT t.leases lease_long few have.leases,
+      list_within view_field (view_weight spelled_cost) HasFields t.views view_within have.views,
+      list_within app_field app_weight IsEncodableApp t.apps app_within have.apps,
       list_within content_field (content_weight spelled_cost) IsEncodableContent t.contents content_within
-          is.contents,
+          have.contents,
       length-append a (b ++ (c ++ (l ++ (v ++ (p ++ o))))),
       length-append b (c ++ (l ++ (v ++ (p ++ o)))),
       length-append c (l ++ (v ++ (p ++ o))),
@@ -312,3 +314,6 @@ state_within t is =
       length-append v (p ++ o),
       length-append p o,
     )
+
+pub state_within : AreWithinWeights
+state_within t is = fields_within t is.few_leases (have_fields t is)

@@ -1,18 +1,21 @@
 -- Reading tables from the left. The fault of a part is the first of its fields that cannot be read.
-use Rattle.std.specs.Prelude.{◌≡◌, ℕ, List, Option, length, Result, Ok, Err, ◌==◌, if◌then◌else◌}
+use Rattle.std.specs.Prelude.{◌≡◌, ℕ, Bool, ◌&&◌, List, Option, length, Result, Ok, Err, ◌==◌, if◌then◌else◌}
 use Rattle.std.specs.Int.{w64}
+use Rattle.std.specs.List.{list_all}
 use Rattle.small_types.specs.declared.limits.TheConstants.{APPLICATION_LIMIT, FILE_COUNT_LIMIT, LEASE_LIMIT, VIEW_LIMIT}
 use Rattle.small_types.specs.declared.target.Target.{Target}
 use Rattle.small_types.specs.Reading.{◌>>=◌}
 use Rattle.identity.specs.declared.key.Key.{Key}
 use Rattle.machine.specs.declared.app.AppState.{AppState}
 use Rattle.machine.specs.declared.lease.Lease.{Lease}
+use Rattle.store_state.specs.declared.view.Content.{Content}
 use Rattle.store_state.specs.Kept.{AreTables}
 use Rattle.store_state.specs.Tables.{Tables}
 use Rattle.record_fields.specs.declared.fault.CodecFault.{CodecFault}
 use Rattle.record_fields.specs.declared.fault.CodecFault.TheVariants.{Bad, Memory}
 use Rattle.record_fields.specs.Reading.{Gives, key_at, number_at, version_at}
 use Rattle.record_fields.specs.Parts.{Reader, list_at, option_at, target_at, truth_at}
+use Rattle.record_codec.specs.declared.numbers.TheConstants.{COUNT_LIMIT}
 use Rattle.record_codec.specs.Records.{content_at, view_at}
 use Rattle.table_codec.specs.declared.app_field.AppRest.{AppRest}
 use Rattle.table_codec.specs.declared.table_reading.Lists.{Lists}
@@ -77,7 +80,7 @@ app_at bytes place = do
 unfoldable pub lists_at : Reader Lists
 lists_at bytes place = do
   leases ← list_at LEASE_LIMIT lease_at bytes place
-  views ← list_at VIEW_LIMIT view_at bytes leases.1
+  views ← list_at VIEW_LIMIT (view_at COUNT_LIMIT) bytes leases.1
   apps ← list_at APPLICATION_LIMIT app_at bytes views.1
   contents ← list_at FILE_COUNT_LIMIT content_at bytes apps.1
   Ok (
@@ -110,11 +113,19 @@ tables_at bytes place = do
   lists ← lists_at bytes next_lease.1
   Ok (tables_with boot.0 next_view.0 next_lease.0 lists.0, lists.1)
 
--- all of the bytes
+-- contents hold as many bytes as their sizes say
+abbrev pub is_measured : Content → Bool
+is_measured content = length content.held == content.size
+
+abbrev pub are_measured : List Content → Bool
+are_measured contents = list_all is_measured contents
+
+-- all of the bytes; contents that hold others than their sizes say are bad at their end
 unfoldable pub tables_of : List ℕ → Result Tables CodecFault
 tables_of bytes = do
   tables ← tables_at bytes 0
-  if tables.1 == length bytes then Ok tables.0 else Err (Bad tables.1)
+  if tables.1 == length bytes && are_measured tables.0.contents
+      then Ok tables.0 else Err (Bad tables.1)
 
 -- Where the bytes are no encoding, a call gives that fault. Where they spell tables, it gives
 -- these; and where they spell what is none, the fault is at their end.

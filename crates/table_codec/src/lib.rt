@@ -10,7 +10,11 @@ mod table_writing;
 mod view_field;
 
 pub use app_field::AppField;
-pub use laws::{encodings_are_within_weights, tables_are_spelled_once};
+pub use laws::{
+    CHANGE_LIMIT, changes_are_within_weights, changes_stay_encodable,
+    encodings_are_within_table_weights, encodings_are_within_weights, fields_stay_encodable,
+    tables_are_spelled_once,
+};
 pub use lease_field::LeaseField;
 pub use option_fields::{NumberField, TargetField};
 pub use table_reading::{decode_state, decode_tables};

@@ -1,9 +1,9 @@
 // Reading tables, from the left.
-ghost use Rattle.std.specs.Prelude.{◌≡◌, ◌≤◌, length, Ok, IfOk, IfErr, OnOk};
+ghost use Rattle.std.specs.Prelude.{◌≡◌, ◌≤◌, ◌==◌, ◌&&◌, length, Ok, IfOk, IfErr, OnOk};
 ghost use Rattle.store_state.specs.Kept.{AreTables};
 ghost use Rattle.store_state.specs.Tables.{Tables};
 ghost use Rattle.record_fields.specs.Reading.{Gives, IsFaultWithin};
-ghost use Rattle.table_codec.specs.Reading.{IsRefused, Judges, lists_at, tables_at, tables_of, tables_with};
+ghost use Rattle.table_codec.specs.Reading.{IsRefused, Judges, are_measured, is_measured, lists_at, tables_at, tables_of, tables_with};
 ghost use Rattle.table_codec.specs.Spelling.{state_text};
 ghost use Rattle.table_codec.specs.Values.{IsEncodableState};
 
@@ -108,6 +108,27 @@ fn tables_here(alloc: Global, bytes: &[u8], place: usize) -> Result<(TableParts,
     Ok((tables_with(boot, next_view, next_lease, lists), next))
 }
 
+// Whether the content holds as many bytes as its size says.
+fn is_measured(content: &Content) -> bool
+    ensures { result ≡ is_measured content.now }
+{
+    content.held.as_slice().len() as u64 == content.size
+}
+
+// Whether each content does.
+fn are_measured(contents: &[Content]) -> bool
+    ensures { result ≡ are_measured contents.now }
+{
+    contents.iter().all(|content| is_measured(content))
+}
+
+// Whether the tables go as far as that end, and their contents hold what their sizes say.
+fn are_whole(tables: &TableParts, next: usize, end: usize) -> bool
+    ensures { result ≡ (next == end && are_measured tables.now.contents) }
+{
+    next == end && are_measured(tables.contents.as_slice())
+}
+
 // The tables that are all of the bytes.
 #[tactic(auto, unfolding(crate::specs::Reading::tables_of))]
 fn read_all(alloc: Global, bytes: &[u8]) -> Result<TableParts, CodecFault>
@@ -115,7 +136,7 @@ fn read_all(alloc: Global, bytes: &[u8]) -> Result<TableParts, CodecFault>
     ensures fault { IfErr result (IsFaultWithin (length bytes.now)) }
 {
     let (tables, next) = tables_here(alloc, bytes, 0)?;
-    if next != bytes.len() {
+    if !are_whole(&tables, next, bytes.len()) {
         drop(tables);
         return Err(bad(next));
     }
@@ -125,7 +146,8 @@ fn read_all(alloc: Global, bytes: &[u8]) -> Result<TableParts, CodecFault>
 /// The tables that the bytes encode, in whatever order: what is read is within its limits, and the
 /// bytes are its encoding; bytes that encode tables within their limits are read, unless memory
 /// runs out. `Bad` names the place, at most their length, where the first field begins that cannot
-/// be read, or where bytes are left over.
+/// be read, or where bytes are left over; and the end of the bytes, where a content holds more or
+/// fewer bytes than its size says.
 pub fn decode_tables(alloc: Global, bytes: &[u8]) -> Result<TableParts, CodecFault>
     ensures found { IfOk result (λ t. IsEncodableState t × (bytes.now ≡ state_text t)) }
     ensures only { (t : Tables) → IsEncodableState t → bytes.now ≡ state_text t
@@ -152,8 +174,9 @@ fn made_of(alloc: Global, end: usize, parts: TableParts) -> Result<StoreState, C
 /// The tables in memory that the bytes encode: what is read is within its limits and is tables, and
 /// the bytes are its encoding; bytes that encode such tables are read, unless memory runs out.
 /// `Bad` names the place, at most their length, where the first field begins that cannot be read,
-/// or where bytes are left over; and the end of the bytes, where what they encode is no tables, as
-/// values out of their order are none.
+/// or where bytes are left over; and the end of the bytes, where a content holds more or fewer
+/// bytes than its size says, or what they encode is no tables, as values out of their order are
+/// none.
 pub fn decode_state(alloc: Global, bytes: &[u8]) -> Result<StoreState, CodecFault>
     ensures found { IfOk result (λ t. IsEncodableState t × AreTables t
         × (bytes.now ≡ state_text t)) }

@@ -22,11 +22,10 @@ fn lists_length(state: &StoreState) -> u64
         + list_length::<ContentField>(state.contents.as_slice())
 }
 
-/// How many bytes the encoding of the tables has: at most 2^57.
+/// How many bytes the encoding of the tables has, which are fewer than 2^63.
 pub fn encoded_length_of_state(state: &StoreState) -> u64
-    requires { IsEncodableState state.now }
-    ensures length { result ≡ length (state_text state.now) }
-    ensures bound { result ≤ 2 ^ 57 }
+    requires { length (state_text state.now) < 2 ^ 63 }
+    ensures { result ≡ length (state_text state.now) }
 {
     24 + lists_length(state)
 }

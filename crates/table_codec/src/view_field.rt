@@ -1,8 +1,9 @@
 // Views.
+ghost use Rattle.record_codec.specs.declared.numbers.TheConstants.{COUNT_LIMIT};
 ghost use Rattle.record_codec.specs.Spelling.{view_field};
 ghost use Rattle.record_codec.specs.Values.{IsEncodableView};
 
-use record_codec::{read_view, view_length, write_view};
+use record_codec::{COUNT_LIMIT, read_view, view_length, write_view};
 use record_fields::{CodecFault, Item, Readable};
 use std::alloc::Global;
 use store_state::View;
@@ -15,7 +16,7 @@ impl Item for ViewField {
 
     ghost field = { view_field };
 
-    ghost fits = { IsEncodableView };
+    ghost fits = { IsEncodableView COUNT_LIMIT };
 
     fn item_length(value: &View) -> u64 {
         view_length(value)
@@ -33,12 +34,12 @@ impl Readable for ViewField {
 
     ghost field = { view_field };
 
-    ghost fits = { IsEncodableView };
+    ghost fits = { IsEncodableView COUNT_LIMIT };
 
-    ghost at = { view_at };
+    ghost at = { view_at COUNT_LIMIT };
 
     fn read_here(alloc: Global, bytes: &[u8], place: usize) -> Result<(View, usize), CodecFault> {
-        read_view(alloc, bytes, place)
+        read_view(alloc, bytes, place, COUNT_LIMIT)
     }
 
     fn reads_as_spelled() {}

@@ -1,6 +1,6 @@
 -- What a durable step does, by what became of its pieces.
-use Rattle.std.proofs.Common.{◌≡◌, ◌+◌, ◌<◌, ◌≤◌, ℕ, List, Option, Some, None, length, Result, Ok, Err, refl, subst, arith}
-use Rattle.std.specs.Prelude.{IfErr, OnOk}
+use Rattle.std.proofs.Common.{◌≡◌, ◌+◌, ℕ, List, length, Result, Ok, Err, refl, arith}
+use Rattle.std.specs.Prelude.{IfErr}
 use Rattle.disks.specs.declared.disk.Disk.{Ghosts}
 use Rattle.disks.specs.Spends.{Spends}
 use Rattle.journal.specs.declared.log.Log.{Log}
@@ -17,10 +17,6 @@ use Rattle.table_log.specs.Pieces.{HasEntry, HasTables}
 use Rattle.table_log.proofs.Booking.{spends_bytes, spends_nothing}
 use Rattle.table_log.proofs.Storage.{stores_nothing}
 
-always : {T : Type 0} (result : Result T StepFault) (P : Type 0) → P → OnOk result P
-always (Ok done) P holds = holds
-always (Err fault) P holds = tt
-
 no_memory : {T : Type 0} (result : Result T StepFault) → IfErr result (λ e. e ≡ DiskFault) → result ≡ Err Memory → ⊥
 no_memory (Ok done) fault e = cc
 no_memory (Err told) fault e = cc
@@ -30,22 +26,10 @@ module _ {D : Type 0} (on : Ghosts D) (change : Change) (tables : Tables) (log :
   pub nothing_made : {T : Type 0} (tables_new : Tables) → tables_new ≡ tables → MakesDurable {T = T} on change log tables disk (Err Memory) log tables_new disk
   nothing_made tables_new same = record {
     stores = stores_nothing on change tables log disk Memory;
-    made = tt;
+    made = λ other. absurd (other refl);
     memory = λ e. (refl, same, refl);
     spends = λ fits. spends_nothing on 4 (AROUND + change_size change) disk;
     spends_more = λ none. spends_nothing on 10 (AROUND + change_size change + AROUND_TABLES + 1 + tables_size tables) disk;
-  }
-
-  -- the entry was added
-  pub made_by_append : {T : Type 0} (result : Result T StepFault) (log_new : Log) (tables_new : Tables) (disk_new : D) (piece : List ℕ) → HasEntry (change_text change) piece → FitsHalf log (change_size change)
-      → Stores on change tables log disk result log_new disk_new → tables_new ≡ effect change tables → IfErr result (λ e. e ≡ DiskFault) → Spends on 4 (length piece) disk disk_new (result ≡ Err DiskFault)
-      → MakesDurable on change log tables disk result log_new tables_new disk_new
-  made_by_append result log_new tables_new disk_new piece has fits stores same fault spends = record {
-    stores = stores;
-    made = always result _ same;
-    memory = λ e. absurd (no_memory result fault e);
-    spends = λ few. spends_bytes on 4 (length piece) (AROUND + change_size change) disk disk_new _ has.size spends;
-    spends_more = λ none. absurd (none fits);
   }
 
   -- the other half was begun with the tables, and the entry was added there
@@ -54,7 +38,7 @@ module _ {D : Type 0} (on : Ghosts D) (change : Change) (tables : Tables) (log :
       → MakesDurable on change log tables disk result log_new tables_new disk_new
   made_by_turn result log_new tables_new disk_new base piece has_tables has none stores same fault spends = record {
     stores = stores;
-    made = always result _ same;
+    made = λ other. same;
     memory = λ e. absurd (no_memory result fault e);
     spends = λ few. absurd (none few);
     spends_more = λ much. spends_bytes on 10 (length base + 1 + length piece) (AROUND + change_size change + AROUND_TABLES + 1 + tables_size tables) disk disk_new _ (omega (arith, has_tables.size, has.size)) spends;

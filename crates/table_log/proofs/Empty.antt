@@ -1,5 +1,5 @@
 -- The encoding of the empty tables.
-use Rattle.std.proofs.Common.{◌≡◌, ◌⊎◌, ◌+◌, ◌<◌, ◌≤◌, ℕ, List, [], length, inl, inr, refl, ap, arith}
+use Rattle.std.proofs.Common.{◌≡◌, ◌⊎◌, ◌+◌, ◌<◌, ◌∙◌, ℕ, List, length, inl, inr, refl, ap, arith}
 use Rattle.std.proofs.lemmas.List.Elements.{All-nil}
 use Rattle.journal.specs.declared.fault.LogFault.{LogFault}
 use Rattle.journal.specs.declared.fault.LogFault.TheVariants.{DiskFault, Memory, NoRoom}
@@ -25,6 +25,7 @@ empty_has = record {
   apps = All-nil _;
   few_contents = omega arith;
   contents = All-nil _;
+  measured = All-nil _;
 }
 
 -- and are tables
@@ -50,6 +51,10 @@ empty_spells = record { has = empty_has; are = empty_are; is = refl }
 pub empty_short : length (state_text empty) ≡ 40
 unfolding state_text lists_field list_field
 empty_short = refl
+
+-- so is each that equals it
+pub short_as : (tables : Tables) → tables ≡ empty → length (state_text tables) ≡ 40
+short_as tables is = ap (λ (t : Tables). length (state_text t)) is ∙ empty_short
 
 -- so each half has room for it
 pub fits_each : (text : List ℕ) (blocks half : ℕ) (fault : LogFault) → text ≡ state_text empty → AreLimits blocks half

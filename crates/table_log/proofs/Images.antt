@@ -1,5 +1,5 @@
 -- What an image reads as, and what a log is open as.
-use Rattle.std.proofs.Common.{◌≡◌, ◌≤◌, ◌∙◌, ◌++◌, ℕ, List, [], ◌∷◌, inl, inr, refl, sym, ap, subst}
+use Rattle.std.proofs.Common.{◌≡◌, ◌≤◌, ◌∙◌, ℕ, List, [], refl, sym, ap, subst}
 use Rattle.small_types.specs.declared.room.Room.{Room}
 use Rattle.disks.specs.declared.disk.Disk.{Ghosts}
 use Rattle.disks.specs.Moments.{LeavesOnly, Each, Untouched}
@@ -7,7 +7,7 @@ use Rattle.disks.specs.Outside.{AgreesOutside, IsOldOutside}
 use Rattle.disks.proofs.MomentLemmas.{weaker}
 use Rattle.journal.specs.declared.log.Log.{Log}
 use Rattle.journal.specs.Layout.{blocks_start, IsHalvedJournal, NoJournal}
-use Rattle.journal.specs.Log.{IsOpen, half_of}
+use Rattle.journal.specs.Log.{half_of}
 use Rattle.journal.proofs.Blocks.{each_journal, journal_outside, journal_stays, open_outside, still_open}
 use Rattle.journal.proofs.Store.{unique}
 use Rattle.store_state.specs.Tables.{Tables, empty}

@@ -3,6 +3,7 @@ pub mod Durable
 pub mod Empty
 pub mod Images
 pub mod Loading
+pub mod NewRooms
 pub mod Outside
 pub mod Recovering
 pub mod Sizes

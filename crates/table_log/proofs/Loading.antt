@@ -12,8 +12,10 @@ use Rattle.store_state.specs.declared.change.Change.{Change}
 use Rattle.store_state.specs.declared.change.Change.TheVariants.{Boot, Require, Install, Heard, Unheard, Skip, Rollback, Launch, Finish, Group, Put, Remove, Clean}
 use Rattle.store_state.specs.Change.{Fits, effect}
 use Rattle.store_state.specs.Tables.{Tables}
+use Rattle.table_codec.specs.Laws.{FieldsStay}
+use Rattle.table_codec.specs.Values.{HaveFields}
 use Rattle.table_log.specs.Texts.{Encodes, Loads}
-use Rattle.table_log.specs.Replay.{FitsNone, IsMade, LoadsNone, Makes, Replays, Tests, Tries}
+use Rattle.table_log.specs.Replay.{FitsNone, IsMade, LoadsNone, Makes, Tests, Tries}
 
 -- a change has some text
 pub some_text : (change : Change) → 1 ≤ length (change_text change)
@@ -63,6 +65,11 @@ loads_same old a b [] first second = first ∙ sym second
 loads_same old a b (text ∷ texts) first second =
     let same : second.0 ≡ first.0 = one_encoded second.0 first.0 text second.1 first.1 in
     loads_same (effect first.0 old) a b texts first.3 (subst (λ (c : Change). Loads (effect c old) texts b) same second.3)
+
+-- where the fields of tables have encodings, so have those to which changes lead
+pub loads_fields : FieldsStay → (old new : Tables) (texts : List (List ℕ)) → HaveFields old → Loads old texts new → HaveFields new
+loads_fields stay old new [] have loads = subst HaveFields (sym loads) have
+loads_fields stay old new (text ∷ texts) have loads = loads_fields stay (effect loads.0 old) new texts (stay old loads.0 have loads.2 loads.1.has) loads.3
 
 -- one change more
 pub loads-push : (old mid : Tables) (texts : List (List ℕ)) (change : Change) (last : List ℕ) → Loads old texts mid → Encodes change last → Fits mid change → Loads old (texts ++ last ∷ []) (effect change mid)

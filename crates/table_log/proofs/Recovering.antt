@@ -1,15 +1,11 @@
 -- What reading tables finds.
-use Rattle.std.proofs.Common.{◌≡◌, ◌≢◌, ◌⊎◌, ◌≤◌, ◌+◌, inl, inr, ℕ, Bool, true, false, List, Result, Ok, Err, refl, sym, subst, ◌∙◌}
-use Rattle.std.specs.Prelude.{IfOk}
+use Rattle.std.proofs.Common.{◌≡◌, ◌≢◌, ◌≤◌, ◌+◌, ℕ, List, Result, Ok, Err, sym, subst}
 use Rattle.disks.specs.declared.disk.Disk.{Ghosts}
 use Rattle.disks.specs.Disk.{Only}
 use Rattle.disks.specs.Moments.{LeavesOnly}
 use Rattle.disks.specs.Spends.{Spends}
 use Rattle.disks.proofs.Books.{spends_as}
-use Rattle.journal.specs.declared.fault.LogFault.{LogFault}
-use Rattle.journal.specs.declared.fault.LogFault.TheVariants as log
 use Rattle.journal.specs.Layout.{IsHalvedJournal}
-use Rattle.journal.specs.Log.{IsOpen, half_of}
 use Rattle.journal.proofs.Store.{unique}
 use Rattle.record_fields.specs.declared.fault.CodecFault.{CodecFault}
 use Rattle.record_fields.specs.declared.fault.CodecFault.TheVariants.{Bad}
@@ -22,10 +18,9 @@ use Rattle.table_codec.specs.Spelling.{state_text}
 use Rattle.table_codec.specs.Values.{IsEncodableState}
 use Rattle.table_log.specs.declared.fault.RecoverFault.{RecoverFault}
 use Rattle.table_log.specs.declared.fault.RecoverFault.TheVariants.{DiskFault, NotTables, Memory as OutOfMemory}
-use Rattle.table_log.specs.declared.recovery.Opened.{Opened}
-use Rattle.table_log.specs.ReadsAs.{IsOpenAs, ReadsAs, ReadsAsNone}
-use Rattle.table_log.specs.Recovers.{HasRoom, IsReadFrom, Recovers}
-use Rattle.table_log.specs.Replay.{IsBase, LeadNowhere, LoadsNone, Replays, Settled, SpellsNone}
+use Rattle.table_log.specs.ReadsAs.{ReadsAsNone}
+use Rattle.table_log.specs.Recovers.{Recovers}
+use Rattle.table_log.specs.Replay.{IsBase, LeadNowhere, LoadsNone, Settled, SpellsNone}
 use Rattle.table_log.specs.Texts.{LeadTo, Loads, Spells}
 use Rattle.table_log.proofs.Images.{one_spelled}
 
@@ -53,9 +48,6 @@ unfolding LoadsNone LeadNowhere
 nowhere_loaded once text changes base spells none tables lead =
     let same = one_spelled once text lead.base base lead.spells spells in
     none tables (subst (λ (t : Tables). Loads t changes tables) same lead.loads)
-
-pub led : (text : List ℕ) (changes : List (List ℕ)) (base tables : Tables) → Spells base text → Loads base changes tables → LeadTo text changes tables
-led text changes base tables spells loads = record { base = base; spells = spells; loads = loads }
 
 -- a fault of the first tables is one of all
 pub settled_base : (text : List ℕ) (changes : List (List ℕ)) (fault : RecoverFault) → IsBase text (Err fault) → Settled text changes (Err fault)
@@ -97,19 +89,6 @@ module _ {D : Type 0} (on : Ghosts D) (disk_old disk_new : D) where
     spends = spends_as on 1 0 disk_old disk_new ⊥ _ (λ no. absurd no) (λ e. other (err_is e)) reads.spends;
   }
 
-  -- the disk failed
-  pub faulted : {fault : Type 0} → fault → on.seen disk_new ≡ on.seen disk_old → LeavesOnly on disk_old disk_new (on.left_at disk_old (on.moment disk_old)) → Spends on 1 0 disk_old disk_new fault → Recovers on disk_old (Err DiskFault) disk_new
-  faulted {fault = fault} failed seen stop spends = record {
-    found = λ told. tt;
-    not_tables = λ told e. absurd (let clash : DiskFault ≡ NotTables = err_is e in cc);
-    room = tt;
-    seen = seen;
-    stop = stop;
-    durable = λ fine. absurd (fine refl);
-    synced = λ fine. absurd (fine refl);
-    spends = spends_as on 1 0 disk_old disk_new fault _ (λ f. refl) (λ e. failed) spends;
-  }
-
   -- the journal was read, and its texts lead to no tables
   pub unsettled : (room : Room) (text : List ℕ) (changes : List (List ℕ)) (fault : RecoverFault) → Settled text changes (Err fault) → (on.tells disk_new → IsHalvedJournal room.blocks room.half text changes (on.seen disk_old)) → Reads on disk_old disk_new → Recovers on disk_old (Err fault) disk_new
   unsettled room text changes fault settled journal reads = unfound fault (never fault settled) (λ told is. by fault settled is told) reads
@@ -123,25 +102,3 @@ module _ {D : Type 0} (on : Ghosts D) (disk_old disk_new : D) where
       never NotTables none is = absurd cc
       never DiskFault none is = none
       never OutOfMemory none is = absurd cc
-
-  -- they lead to tables
-  pub found_so : (opened : Opened) (text : List ℕ) (changes : List (List ℕ)) → HasRoom opened → LeadTo text changes opened.state → (on.tells disk_new → IsHalvedJournal opened.room.blocks opened.room.half text changes (on.seen disk_old)) → (on.tells disk_new → IsOpen on opened.log opened.room.blocks text changes disk_new) → Reads on disk_old disk_new → Recovers on disk_old (Ok opened) disk_new
-  found_so opened text changes room lead journal opens reads = record {
-    found = λ told. record {
-      reads = record { text = text; changes = changes; journal = journal told; lead = lead };
-      log = record { text = text; changes = changes; opened = opens told; half = room.half; lead = lead };
-    };
-    not_tables = λ told e. absurd (cc);
-    room = room;
-    seen = reads.seen;
-    stop = reads.stop;
-    durable = λ fine. reads.durable;
-    synced = λ fine. reads.synced;
-    spends = spends_as on 1 0 disk_old disk_new ⊥ _ (λ no. absurd no) (λ e. absurd (cc)) reads.spends;
-  }
-
--- what is no journal reads as nothing; the only fault that is left
-pub the_fault : (fault : LogFault) → (fault ≡ log.DiskFault) ⊎ ((fault ≡ log.NotALog) ⊎ (fault ≡ log.Memory)) → fault ≢ log.NotALog → fault ≢ log.Memory → fault ≡ log.DiskFault
-the_fault fault (inl is) journal memory = is
-the_fault fault (inr (inl is)) journal memory = absurd (journal is)
-the_fault fault (inr (inr is)) journal memory = absurd (memory is)

@@ -1,5 +1,5 @@
 -- What an append, a checkpoint and both of them store.
-use Rattle.std.proofs.Common.{◌≡◌, ◌⊎◌, ℕ, ◌+◌, ◌≤◌, List, [], ◌∷◌, ◌++◌, Result, Ok, Err, inl, inr, refl, sym, ap, subst, ◌∙◌, arith}
+use Rattle.std.proofs.Common.{◌≡◌, ℕ, ◌+◌, ◌≤◌, List, [], ◌∷◌, ◌++◌, Result, Ok, Err, inl, inr, refl, subst, ◌∙◌, arith}
 use Rattle.std.specs.Prelude.{OnOk}
 use Rattle.small_types.specs.declared.room.Room.{Room}
 use Rattle.disks.specs.declared.disk.Disk.{Ghosts}
@@ -15,7 +15,6 @@ use Rattle.store_state.specs.declared.change.Change.{Change}
 use Rattle.store_state.specs.Change.{Fits, effect}
 use Rattle.store_state.specs.Tables.{Tables}
 use Rattle.table_log.specs.declared.fault.StepFault.{StepFault}
-use Rattle.table_log.specs.declared.fault.StepFault.TheVariants.{DiskFault, Memory}
 use Rattle.table_log.specs.MakesDurable.{AgreesBehind, IsOldBehind, Stores}
 use Rattle.table_log.specs.ReadsAs.{IsOpenAs, ReadsAs, ReadsAsEither}
 use Rattle.table_log.specs.Texts.{Encodes, LeadTo, Spells}

@@ -1,5 +1,5 @@
 -- The durable step: a change is made in the tables and in the journal, or not at all.
-use Rattle.std.specs.Prelude.{◌≡◌, ◌+◌, ◌≤◌, ℕ, List, length, Result, Err, OnOk}
+use Rattle.std.specs.Prelude.{◌≡◌, ◌≢◌, ◌+◌, ◌≤◌, ℕ, List, length, Result, Err, OnOk}
 use Rattle.small_types.specs.declared.room.Room.{Room}
 use Rattle.disks.specs.declared.disk.Disk.{Ghosts}
 use Rattle.disks.specs.Disk.{Only}
@@ -40,8 +40,8 @@ abbrev pub AgreesBehind : ℕ → List ℕ → List ℕ → Type 0
 AgreesBehind half old new = AgreesOutside 0 (blocks_start half) old new
 
 -- What storing a change of these tables does to the log and to the disk, for any room. Where the
--- log was open as the tables, it is open as the changed ones, and a stop inside leaves an image that
--- reads as either. What stands behind the halves stays, also where the disk failed.
+-- log was open as the tables, it is open as the changed ones, and a stop inside leaves an image
+-- that reads as either. What stands behind the halves stays, also where the disk failed.
 pub record Stores {D T : Type 0} (on : Ghosts D) (change : Change) (tables : Tables)
     (log_old : Log) (disk_old : D) (result : Result T StepFault) (log_new : Log) (disk_new : D)
     : Type 0 where
@@ -57,13 +57,14 @@ pub record Stores {D T : Type 0} (on : Ghosts D) (change : Change) (tables : Tab
   pub marked : OnOk result (on.moment disk_old + 1 ≤ on.moment disk_new)
 
 -- What making a change durable does, in the tables, the log and the disk. For want of memory it
--- does nothing. Where the entry fits the current half it costs an append; else at most a
--- checkpoint of the old tables more, which makes up to six calls and closes a gate first.
+-- does nothing; else the tables have changed, also where the disk failed. Where the entry fits the
+-- current half it costs an append; else at most a checkpoint of the old tables more, which makes up
+-- to six calls and closes a gate first.
 pub record MakesDurable {D T : Type 0} (on : Ghosts D) (change : Change) (log_old : Log)
     (tables_old : Tables) (disk_old : D) (result : Result T StepFault) (log_new : Log)
     (tables_new : Tables) (disk_new : D) : Type 0 where
   pub stores : Stores on change tables_old log_old disk_old result log_new disk_new
-  pub made : OnOk result (tables_new ≡ effect change tables_old)
+  pub made : result ≢ Err Memory → tables_new ≡ effect change tables_old
   pub memory : result ≡ Err Memory
       → (log_new ≡ log_old) × (tables_new ≡ tables_old) × (disk_new ≡ disk_old)
   pub spends : FitsHalf log_old (change_size change)

@@ -6,6 +6,7 @@ use Rattle.disks.specs.Moments.{LeavesOnly}
 use Rattle.disks.specs.Spends.{Spends}
 use Rattle.journal.specs.Layout.{AreLimits}
 use Rattle.journal.specs.Log.{half_of}
+use Rattle.table_codec.specs.Values.{HaveFields}
 use Rattle.table_log.specs.declared.fault.RecoverFault.{RecoverFault}
 use Rattle.table_log.specs.declared.fault.RecoverFault.TheVariants.{NotTables, DiskFault}
 use Rattle.table_log.specs.declared.recovery.Opened.{Opened}
@@ -17,10 +18,12 @@ pub record IsReadFrom {D : Type 0} (on : Ghosts D) (disk_old : D) (opened : Open
   pub reads : ReadsAs opened.room (on.seen disk_old) opened.state
   pub log : IsOpenAs on opened.log opened.room opened.state disk_new
 
--- what is known of an answer over every disk, also one that does not tell
+-- What is known of an answer over every disk, also one that does not tell. Each field of its tables
+-- has an encoding.
 pub record HasRoom (opened : Opened) : Type 0 where
   pub limits : AreLimits opened.room.blocks opened.room.half
   pub half : half_of opened.log ≡ opened.room.half
+  pub fields : HaveFields opened.state
 
 -- It makes one call that may change the disk, a sync, and writes nothing. From then on each stop
 -- leaves what reads give. It answers that there are no tables exactly where reads give none.

@@ -1,5 +1,5 @@
 // How a new journal of the empty tables is made.
-ghost use Rattle.std.specs.Prelude.{◌≡◌, ◌≢◌, ◌⊎◌, ◌+◌, length, IfErr, IfOk, OnOk};
+ghost use Rattle.std.specs.Prelude.{◌≡◌, ◌≢◌, ◌⊎◌, ◌+◌, [], length, IfErr, IfOk, OnOk};
 ghost use Rattle.disks.specs.Disk.{Only};
 ghost use Rattle.disks.specs.Moments.{Each};
 ghost use Rattle.disks.specs.Spends.{Spends};
@@ -7,10 +7,9 @@ ghost use Rattle.small_types.specs.declared.limits.TheConstants.{HEAD_BLOCK_SIZE
 ghost use Rattle.journal.specs.declared.fault.LogFault.TheVariants.{DiskFault, Memory};
 ghost use Rattle.journal.specs.declared.piece.TheConstants.{AROUND_TABLES};
 ghost use Rattle.journal.specs.Format.{Formats};
-ghost use Rattle.journal.specs.Layout.{AreLimits};
+ghost use Rattle.journal.specs.Layout.{AreLimits, IsHalvedJournal};
 ghost use Rattle.store_state.specs.Tables.{empty};
 ghost use Rattle.table_codec.specs.Spelling.{state_text};
-ghost use Rattle.table_log.specs.ReadsAs.{ReadsAs};
 
 use disks::Disk;
 use journal::{Log, LogFault};
@@ -33,15 +32,18 @@ fn empty_text(alloc: Global) -> Result<Vec<u8>, AllocError>
     Ok(text)
 }
 
-/// Makes a new journal of this room and of the empty tables. What stood on the disk is lost. A stop
-/// inside leaves what one leaves inside a format of the journal. `DiskFault`: the disk failed.
-/// `Memory`: there was none, and the disk is as it was. There is no other fault.
+/// Makes a new journal of this room, which reads as the empty tables. What stood on the disk is
+/// lost. A stop inside leaves what one leaves inside a format of the journal. `DiskFault`: the disk
+/// failed. `Memory`: there was none, and the disk is as it was. There is no other fault.
 pub fn format<D: Disk>(alloc: Global, disk: &mut D, room: Room) -> Result<(), LogFault>
     requires { AreLimits room.blocks room.half }
 
-    // From then on each stop leaves the empty tables, and reads give them.
-    ensures ok { OnOk result (Each D.Disk disk.new (λ image. ReadsAs room image empty)) }
-    ensures seen { OnOk result (ReadsAs room (D.seen disk.new) empty) }
+    // From then on each stop leaves the journal of the empty tables' encoding and of no change, and
+    // reads give it. So each reads as the empty tables.
+    ensures ok { OnOk result (Each D.Disk disk.new (IsHalvedJournal room.blocks room.half
+        (state_text empty) [])) }
+    ensures seen { OnOk result (IsHalvedJournal room.blocks room.half (state_text empty) []
+        (D.seen disk.new)) }
     ensures durable { OnOk result (Only (D.seen disk.new) (D.left_at disk.new
         (D.moment disk.new))) }
 

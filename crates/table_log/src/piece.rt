@@ -1,11 +1,12 @@
 // A change and tables as the log takes them.
-ghost use Rattle.std.specs.Prelude.{◌≡◌, ◌+◌, length, IfErr, IfOk};
+ghost use Rattle.std.specs.Prelude.{◌≡◌, ◌+◌, ◌<◌, ◌^◌, length, IfErr, IfOk};
 ghost use Rattle.journal.specs.Log.{entry_in, tables_in};
 ghost use Rattle.journal.specs.declared.piece.TheConstants.{AROUND, AROUND_TABLES};
 ghost use Rattle.record_codec.specs.Codec.{change_text, IsChange};
 ghost use Rattle.table_codec.specs.Spelling.{state_text};
 ghost use Rattle.table_codec.specs.Values.{IsEncodableState};
 ghost use Rattle.table_log.specs.declared.fault.StepFault.TheVariants.{Memory};
+ghost use Rattle.table_log.specs.MakesDurable.{FitsNewHalf};
 ghost use Rattle.table_log.specs.Pieces.{ArePieces, HasEntry, HasTables};
 
 use crate::StepFault;
@@ -54,7 +55,8 @@ fn entry_of(alloc: Global, change: &Change) -> Result<Vec<u8>, StepFault>
 
 // The tables' encoding with the log's bytes around it.
 fn tables_of(alloc: Global, state: &StoreState) -> Result<Vec<u8>, StepFault>
-    requires { IsEncodableState state.now }
+    requires state { IsEncodableState state.now }
+    requires short { length (state_text state.now) < 2 ^ 63 }
     ensures tables { IfOk result (λ piece. HasTables state.now piece.items) }
     ensures fault { IfErr result (λ e. e ≡ Memory) }
 {
@@ -76,6 +78,7 @@ pub(crate) fn pieces_of(
 ) -> Result<Pieces, StepFault>
     requires change { IsChange change.now }
     requires state { IsEncodableState state.now }
+    requires room { FitsNewHalf log.now state.now change.now }
     ensures pieces { IfOk result (ArePieces log.now state.now change.now) }
     ensures fault { IfErr result (λ e. e ≡ Memory) }
 {

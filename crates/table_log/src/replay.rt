@@ -1,5 +1,6 @@
 // How tables and changes are made of their texts.
 ghost use Rattle.std.specs.Prelude.{IfOk};
+ghost use Rattle.table_codec.specs.Values.{HaveFields};
 ghost use Rattle.table_log.specs.Replay.{IsBase, IsMade, Replays, Settled, Tests, Tries};
 
 use crate::RecoverFault;
@@ -8,7 +9,7 @@ use record_fields::CodecFault;
 use small_types::Bytes;
 use std::alloc::Global;
 use store_state::{Change, StateFault, StoreState};
-use table_codec::{decode_state, tables_are_spelled_once};
+use table_codec::{decode_state, fields_stay_encodable, tables_are_spelled_once};
 
 // How a change that fits ends.
 fn made(applied: Result<(), StateFault>) -> Result<bool, StateFault>
@@ -78,9 +79,11 @@ pub(crate) fn settle(
     text: &[u8],
     changes: &[Bytes],
 ) -> Result<StoreState, RecoverFault>
-    ensures { Settled text.now changes.now result }
+    ensures leads { Settled text.now changes.now result }
+    ensures fields { IfOk result HaveFields }
 {
     tables_are_spelled_once();
+    fields_stay_encodable();
     let mut state = match base_of(alloc, text) {
         Ok(state) => state,
         Err(fault) => return Err(fault),

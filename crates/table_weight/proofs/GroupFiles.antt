@@ -1,5 +1,5 @@
 -- What contents weigh once a group stands in one of the views.
-use Rattle.std.proofs.Common.{◌≡◌, ◌∙◌, ◌⊎◌, ◌<◌, ◌+◌, inl, inr, refl, sym, ap, ℕ, cond, eqb, true, false, Bool, List, [], ◌∷◌, map, All, AllPairs, Contains, Option, Some, arith}
+use Rattle.std.proofs.Common.{◌≡◌, ◌∙◌, ◌⊎◌, ◌<◌, ◌+◌, inl, inr, refl, sym, ap, ℕ, cond, false, Bool, List, [], ◌∷◌, map, All, AllPairs, Contains, Option, Some, arith}
 use Rattle.std.specs.Prelude.{slice_get, sum_by}
 use Rattle.std.proofs.lemmas.List.Elements.{All-head, All-tail}
 use Rattle.std.proofs.lemmas.List.Sums.{sum_by-cons}
@@ -23,6 +23,7 @@ use Rattle.store_state.specs.Tables.{bare_row}
 use Rattle.store_state.proofs.ByNumber.{became, change}
 use Rattle.store_state.proofs.Growing.{each_grown, files_row, grown_either, grown_left, grown_right, of_view, row_files, view_number, view_there}
 use Rattle.table_weight.specs.Releases.{program_weight, without_group}
+use Rattle.table_weight.proofs.BareRows.{bare_grown}
 use Rattle.table_weight.proofs.ByKey.{AreAll, Come, more_weigh}
 
 -- ---- files at places
@@ -92,27 +93,6 @@ module _ (views : List BareView) (group : List ℕ) (a : Application) where
       }
 
 -- ---- the files that stand then
-
-bare_by : (m n : ℕ) (group : List ℕ) (view : View)
-    → bare_row (cond (eqb m n) (grown group view) view)
-    ≡ cond (eqb m n) (with_bare_group group (bare_row view)) (bare_row view)
-bare_by m n group view = by (eqb m n)
-  where
-    by : (b : Bool) → bare_row (cond b (grown group view) view)
-        ≡ cond b (with_bare_group group (bare_row view)) (bare_row view)
-    by true = refl
-    by false = refl
-
-pub bare_grown : (number : ℕ) (group : List ℕ) (views : List View)
-    → map bare_row (with_row number (grown group) views)
-    ≡ with_bare_at number (with_bare_group group) (map bare_row views)
-bare_grown number group [] = refl
-bare_grown number group (view ∷ views) =
-    ap (λ (v : BareView). v ∷ map bare_row (with_row number (grown group) views))
-    (bare_by view.number number group view)
-    ∙ ap (λ (vs : List BareView).
-    cond (eqb view.number number) (with_bare_group group (bare_row view)) (bare_row view) ∷ vs)
-    (bare_grown number group views)
 
 module _ (number : ℕ) (group : List ℕ) (views : List View) (view : View)
     (rising : AllPairs (λ (m n : ℕ). m < n) (map of_view views))

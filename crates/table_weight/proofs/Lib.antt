@@ -1,9 +1,14 @@
 pub mod AsRows
+pub mod BareRows
 pub mod ByKey
 pub mod Changed
+pub mod ChangedTables
 pub mod Cuts
 pub mod EntrySums
 pub mod GroupFiles
+pub mod KeptTables
+pub mod LighterTables
+pub mod MigratedLocals
 pub mod MovedData
 pub mod ReleaseFiles
 pub mod Totals

@@ -14,7 +14,9 @@ mod summing;
 mod tables;
 
 pub use fault::WeightFault;
-pub use laws::tables_weigh_as_shown;
+pub use laws::{
+    changed_tables_weigh, changes_keep_tables, migrated_data_weigh, tables_weigh_as_shown,
+};
 pub use room::table_full;
 pub use tables::{
     weight, weight_with_data, weight_with_group, weight_with_key, weight_with_release,

@@ -1,5 +1,5 @@
 // Whether tables have room in a half of the journal.
-ghost use Rattle.std.specs.Prelude.{◌≡◌, ℕ, MatchOption};
+ghost use Rattle.std.specs.Prelude.{◌≡◌, ◌<◌, ◌-◌, ◌^◌, ℕ, MatchOption};
 ghost use Rattle.machine.specs.declared.reply.Reply.TheVariants.{TableFull};
 ghost use Rattle.machine.specs.Weight.{IsLight, IsTooHeavy, table_room, told_weight};
 
@@ -8,7 +8,8 @@ use small_types::Room;
 
 // How much the tables of a store of this room may weigh, where its journal has halves.
 fn room_of_tables(room: Room) -> u64
-    ensures { result ≡ table_room room }
+    ensures value { result ≡ table_room room }
+    ensures few { result < 2 ^ 64 - 1 }
 {
     room.half.saturating_sub(CHANGE_ROOM)
 }

@@ -1,5 +1,5 @@
 -- The previous view of an application, in the tables.
-use Rattle.std.proofs.Common.{◌≡◌, ◌∙◌, ℕ, List, Option, Some, None, IsSome, sym, ap, subst}
+use Rattle.std.proofs.Common.{◌≡◌, ◌∙◌, ℕ, Option, Some, None, sym, ap, subst}
 use Rattle.std.specs.Prelude.{IsSomeAnd, option_and_then, option_map, slice_get}
 use Rattle.std.proofs.lemmas.Option.{none-some}
 use Rattle.small_types.specs.declared.room.Room.{Room}

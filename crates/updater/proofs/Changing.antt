@@ -1,7 +1,7 @@
 -- Changes of the tables lead from one valid store that they show to another.
-use Rattle.std.proofs.Common.{◌≡◌, ◌≤◌, ◌<◌, ◌-◌, ◌^◌, ◌∙◌, min, ℕ, List, None, length, map, refl, sym, ap, subst, arith}
+use Rattle.std.proofs.Common.{◌≡◌, ◌≤◌, ◌<◌, ◌-◌, ◌^◌, min, ℕ, List, None, length, map, refl, sym, ap, subst, arith}
 use Rattle.small_types.specs.declared.room.Room.{Room}
-use Rattle.small_types.specs.declared.limits.TheConstants.{APPLICATION_LIMIT, BLOCK_LIMIT, NUMBER_LIMIT}
+use Rattle.small_types.specs.declared.limits.TheConstants.{APPLICATION_LIMIT, NUMBER_LIMIT}
 use Rattle.identity.specs.declared.key.Key.{Key}
 use Rattle.identity.specs.declared.version.Version.{Version}
 use Rattle.machine.specs.declared.app.AppState.{AppState}
@@ -11,19 +11,16 @@ use Rattle.machine.specs.RequireRow.{required}
 use Rattle.machine.specs.Shape.{Shape, bare_view}
 use Rattle.machine.specs.Store.{Store, booted, session_over}
 use Rattle.machine.specs.Valid.{Valid}
+use Rattle.machine.specs.Weight.{IsTooHeavy, weight_of}
 use Rattle.machine.proofs.Keeping.{booted_valid, required_valid}
 use Rattle.store_state.specs.declared.change.Change.TheVariants.{Boot, Require}
-use Rattle.store_state.specs.Change.{Fits, effect}
-use Rattle.store_state.specs.Laws.{ShowsOrdered}
+use Rattle.store_state.specs.Change.{Fits}
 use Rattle.store_state.specs.Shows.{Shows}
-use Rattle.store_state.specs.Tables.{Tables, bare_row, empty}
+use Rattle.store_state.specs.Tables.{Tables, bare_row}
 use Rattle.store_state.proofs.Showing.{shape_shown, shows_booted, shows_required}
-use Rattle.store_state.proofs.Validity.{loaded_ordered}
 use Rattle.install_plan.specs.LeadsIn.{LeadsIn}
 use Rattle.install_plan.proofs.NewFiles.{leads_over}
 use Rattle.updater.specs.MakesDurable.{LeadsBetween}
-use Rattle.updater.specs.StandsFor.{Loads}
-use Rattle.updater.proofs.Loading.{changes_in, loads_replays}
 
 module _ {room : Room} {tables : Tables} {image : List ℕ} {store : Store} (shows : Shows room tables image store) where
   pub apps_shown : store.apps ≡ tables.apps
@@ -57,17 +54,14 @@ booted_leads room tables image store boot shows few valid = record {
 room_is : (key : Key) (apps : List AppState) → (entry_of key apps ≡ None → length apps < APPLICATION_LIMIT) → ¬ ((entry_of key apps ≡ None) × (APPLICATION_LIMIT ≤ length apps))
 room_is key apps room = λ full. (let few = room full.0 in let many = full.1 in absurd (omega arith))
 
--- so does a requirement that fits
-pub required_leads : (room : Room) (tables : Tables) (image : List ℕ) (store : Store) (key : Key) (version : Version) → Shows room tables image store → room.half ≡ 0 → Fits tables (Require key version) → Valid store → LeadsBetween (Require key version) tables store (record store { apps = required key version store.apps })
-required_leads room tables image store key version shows plain fits valid =
-    let room = subst (λ (apps : List AppState). entry_of key apps ≡ None → length apps < APPLICATION_LIMIT) (sym (apps_shown shows)) fits.2 in
+-- so does a requirement that fits, after which the tables have room
+pub required_leads : (room : Room) (tables : Tables) (image : List ℕ) (store : Store) (key : Key) (version : Version) → Shows room tables image store → Fits tables (Require key version)
+    → ((weight : ℕ) → (entry_of key store.apps ≡ None) × (weight ≡ weight_of (map bare_view store.views) (required key version store.apps)) × IsTooHeavy store.room weight → ⊥)
+    → Valid store → LeadsBetween (Require key version) tables store (record store { apps = required key version store.apps })
+required_leads room tables image store key version shows fits light valid =
+    let few = subst (λ (apps : List AppState). entry_of key apps ≡ None → length apps < APPLICATION_LIMIT) (sym (apps_shown shows)) fits.2 in
     record {
       shows = subst (λ (n : Room). LeadsIn n (Require key version) tables store (record store { apps = required key version store.apps })) (sym (blocks_shown shows))
           (leads_over image (λ first after had same there. shows_required after key version same had));
-      valid = required_valid key version store fits.0 fits.1 (room_is key store.apps room) (λ weight over. over.2.0 (ap (λ (n : Room). n.half) (blocks_shown shows) ∙ plain)) valid;
+      valid = required_valid key version store fits.0 fits.1 (room_is key store.apps few) light valid;
     }
-
--- the tables that a journal's changes lead to show a store
-pub journal_shown : (room : Room) (image : List ℕ) (tables : Tables) (texts : List (List ℕ)) → 1 ≤ room.blocks → room.blocks ≤ BLOCK_LIMIT → Loads empty texts tables → ShowsOrdered room tables image
-journal_shown room image tables texts some few loads =
-    loaded_ordered room (changes_in empty tables texts loads) tables image some few (loads_replays empty tables texts loads)

@@ -1,5 +1,5 @@
 -- How checks end.
-use Rattle.std.proofs.Common.{◌≡◌, ◌≤◌, ℕ, List, Some, Result, Ok, inl, refl, sym, subst}
+use Rattle.std.proofs.Common.{◌≤◌, ℕ, List, Some, Result, Ok, inl, refl, sym, subst}
 use Rattle.small_types.specs.declared.room.Room.{Room}
 use Rattle.small_types.specs.declared.limits.TheConstants.{NUMBER_LIMIT}
 use Rattle.outside.specs.declared.failed.Failed.{Failed}
@@ -13,18 +13,15 @@ use Rattle.machine.specs.declared.event.Event.TheVariants.{Line}
 use Rattle.machine.specs.declared.reply.Reply.{Reply}
 use Rattle.machine.specs.declared.reply.Reply.TheVariants as says
 use Rattle.machine.specs.CheckRow.{HearsOffer}
-use Rattle.machine.specs.Machine.{moment_after}
 use Rattle.machine.specs.Shape.{Shape}
 use Rattle.machine.specs.Store.{Session}
 use Rattle.machine.proofs.Stepping.{step_valid}
 use Rattle.store_state.specs.declared.change.Change.{Change}
-use Rattle.store_state.specs.Change.{effect}
-use Rattle.store_state.specs.Shows.{Shows}
 use Rattle.install_plan.specs.Checks.{CheckStep, IsCheckOver, IsCheckReady, LedBy}
 use Rattle.install_plan.specs.LeadsIn.{LeadsIn}
 use Rattle.install_plan.proofs.Downs.{counts_none}
-use Rattle.updater.specs.declared.fault.StepFault.{StepFault}
-use Rattle.updater.specs.declared.updater.Updater.{Updater}
+use Rattle.table_log.specs.declared.fault.StepFault.{StepFault}
+use Rattle.updater.specs.Shown.{Updater}
 use Rattle.updater.specs.Answer.{IsAnswer}
 use Rattle.updater.specs.Commanded.{Commanded}
 use Rattle.updater.specs.MakesDurable.{MakesDurable, LeadsBetween}

@@ -1,5 +1,5 @@
 -- A clean: the step that it is, and the change that it makes.
-use Rattle.std.proofs.Common.{◌≡◌, ◌≢◌, ◌≤◌, ◌<◌, ◌+◌, ◌∙◌, ℕ, Bool, true, false, cond, not, List, [], ◌∷◌, length, Some, refl, sym, ap, subst, arith}
+use Rattle.std.proofs.Common.{◌≡◌, ◌≤◌, ◌+◌, ◌∙◌, ℕ, Bool, true, false, cond, not, List, [], ◌∷◌, length, Some, refl, sym, ap, subst, arith}
 use Rattle.std.specs.Prelude.{filter}
 use Rattle.std.proofs.lemmas.List.Filters.{length-filter_both}
 use Rattle.small_types.specs.declared.room.Room.{Room}
@@ -17,7 +17,6 @@ use Rattle.machine.specs.Views.{View}
 use Rattle.machine.proofs.CleanedStores.{gone_count}
 use Rattle.machine.proofs.Stepping.{step_valid}
 use Rattle.store_state.specs.declared.change.Change.TheVariants as change
-use Rattle.store_state.specs.Change.{effect}
 use Rattle.store_state.specs.Shows.{Shows}
 use Rattle.store_state.specs.Tables.{Tables, table_shape}
 use Rattle.store_state.proofs.Cleaning.{cleans_shown}

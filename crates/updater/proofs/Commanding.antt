@@ -1,5 +1,5 @@
 -- How commands end.
-use Rattle.std.proofs.Common.{◌≡◌, ◌≢◌, ◌+◌, ◌≤◌, ◌++◌, ◌∙◌, ℕ, List, [], length, append-nil, Some, Result, Ok, Err, inl, inr, refl, sym, ap, subst, arith}
+use Rattle.std.proofs.Common.{◌≡◌, ◌≢◌, ◌≤◌, ◌∙◌, ℕ, List, [], Some, Result, Ok, Err, inl, inr, refl, sym, subst, arith}
 use Rattle.small_types.specs.declared.room.Room.{Room}
 use Rattle.small_types.specs.declared.limits.TheConstants.{NUMBER_LIMIT}
 use Rattle.outside.specs.declared.failed.Failed.{Failed}
@@ -17,21 +17,19 @@ use Rattle.machine.specs.declared.reply.Reply.TheVariants as says
 use Rattle.machine.specs.Machine.{Answers, Hears, effect, moment_after, refusals}
 use Rattle.machine.specs.Rows.{PassesAll, Refuses}
 use Rattle.machine.specs.Shape.{Shape, shape_of}
-use Rattle.machine.specs.Store.{Session, Store}
+use Rattle.machine.specs.Store.{Session}
 use Rattle.machine.specs.Valid.{Valid}
 use Rattle.machine.specs.Words.{IsCommand}
 use Rattle.machine.proofs.Sessions.{step_jobs}
-use Rattle.store_log.specs.declared.piece.TheConstants.{AROUND}
-use Rattle.record_codec.specs.Codec.{change_text}
 use Rattle.store_state.specs.declared.change.Change.{Change}
 use Rattle.store_state.specs.Shows.{Shows}
 use Rattle.store_state.specs.Tables.{Tables, table_shape}
 use Rattle.store_state.proofs.Showing.{shape_shown}
 use Rattle.install_plan.specs.Downs.{CountsDowns}
 use Rattle.install_plan.proofs.Downs.{counts_none}
-use Rattle.updater.specs.declared.fault.StepFault.{StepFault}
-use Rattle.updater.specs.declared.fault.StepFault.TheVariants.{Memory, DiskFault}
-use Rattle.updater.specs.declared.updater.Updater.{Updater}
+use Rattle.table_log.specs.declared.fault.StepFault.{StepFault}
+use Rattle.table_log.specs.declared.fault.StepFault.TheVariants.{Memory, DiskFault}
+use Rattle.updater.specs.Shown.{Updater}
 use Rattle.updater.specs.Answer.{IsAnswer}
 use Rattle.updater.specs.Commanded.{Commanded, LeavesLinks, LinksServe, SoundFor}
 use Rattle.updater.specs.Costs.{Costs}
@@ -102,7 +100,6 @@ pub record Shown (image : List ℕ) (command : Command) (updater : Updater) (old
   pub shape : shape_of old ≡ table_shape (room_of updater) (tables_of updater)
   pub shows : Shows (room_of updater) (tables_of updater) image old.store
   pub room : room_of updater ≡ old.store.room
-  pub half : (room_of updater).half ≡ 0
   pub valid : Valid old.store
   pub sound : SoundFor command old.store
 
@@ -125,7 +122,7 @@ module _ {D L : Type 0} (on : Ghosts D) (net : LinksGhosts L) (now : ℕ) (heard
   shown : (old : Session) → Holds on updater disk old → SoundFor command old.store → Shown (on.seen disk) command updater old
   shown old holds sound =
       let shows = subst (λ (n : Room). Shows n (tables_of updater) (on.seen disk) old.store) (sym holds.room) (holds.shows (on.seen disk) seen_left) in
-      record { jobs = holds.jobs; shape = shape_shown old holds.jobs shows; shows = shows; room = holds.room; half = ap (λ (n : Room). n.half) holds.room ∙ holds.log.half; valid = holds.valid; sound = sound }
+      record { jobs = holds.jobs; shape = shape_shown old holds.jobs shows; shows = shows; room = holds.room; valid = holds.valid; sound = sound }
 
   heard_by : (old : Session) → Shown (on.seen disk) command updater old → Hears (shape_of old) command heard
   heard_by old s = subst (λ (shape : Shape). Hears shape command heard) (sym s.shape) linked.hears
@@ -168,8 +165,8 @@ module _ {D L : Type 0} (on : Ghosts D) (net : LinksGhosts L) (now : ℕ) (heard
       (does : (old : Session) → Shown (on.seen disk) command updater old → Does now heard command (net.links links_old) (net.links links_new) change (tables_of updater) old reply)
       (missed : Commanded on net now heard command updater disk links_old (Ok says.Memory) updater disk links_new) (updater_new : Updater) (disk_new : D) where
     -- what the step may write
-    costs_of : {T : Type 0} (tried : Result T StepFault) → MakesDurable on change updater disk tried updater_new disk_new
-        → (old : Session) (s : Shown (on.seen disk) command updater old) → Costs old.store (does old s).new.store (AROUND + length (change_text change))
+    costs_of : {T : Type 0} (tried : Result T StepFault) (keeps : MakesDurable on change updater disk tried updater_new disk_new)
+        → (old : Session) (s : Shown (on.seen disk) command updater old) → Costs old.store (does old s).new.store keeps.bytes
     costs_of tried keeps old s = inr (
       change,
       record {
@@ -180,7 +177,7 @@ module _ {D L : Type 0} (on : Ghosts D) (net : LinksGhosts L) (now : ℕ) (heard
         has = keeps.has;
         leads = (does old s).leads;
       },
-      refl,
+      keeps.costs,
     )
 
     -- a change that was tried, whatever came of it
@@ -194,7 +191,7 @@ module _ {D L : Type 0} (on : Ghosts D) (net : LinksGhosts L) (now : ℕ) (heard
         stop = keeps.stop told old d.new.store d.leads holds;
         quiet = λ same. absurd (d.other same);
         marked = λ other. keeps.marked;
-        bytes = AROUND + length (change_text change);
+        bytes = keeps.bytes;
         costs = costs_of (Ok done) keeps old s;
         written = keeps.spends.total_within;
         served = d.served;
@@ -218,7 +215,7 @@ module _ {D L : Type 0} (on : Ghosts D) (net : LinksGhosts L) (now : ℕ) (heard
         hears = heard_by old s;
         step = d.step;
         stop = keeps.stop told old d.new.store d.leads holds;
-        bytes = AROUND + length (change_text change);
+        bytes = keeps.bytes;
         costs = costs_of (Err DiskFault) keeps old s;
         written = keeps.spends.total_within;
         served = d.served;

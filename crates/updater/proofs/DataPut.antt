@@ -1,7 +1,6 @@
 -- A put of a data file: the step that it is, and the change that it makes.
-use Rattle.std.proofs.Common.{◌≡◌, ◌≢◌, ◌≤◌, ◌<◌, ◌^◌, ◌∙◌, inl, inr, ℕ, Bool, true, false, cond, eqb, List, [], ◌∷◌, map, length, All, AllPairs, bytes_eq, Option, Some, None, refl, sym, ap, subst, arith}
+use Rattle.std.proofs.Common.{◌≡◌, ◌≤◌, ◌∙◌, inl, inr, ℕ, Bool, true, false, cond, eqb, List, [], ◌∷◌, length, All, AllPairs, bytes_eq, Option, Some, None, refl, sym, ap, subst, arith}
 use Rattle.std.specs.Prelude.{option_map}
-use Rattle.std.specs.Ordering.{ordering_reverse}
 use Rattle.std.specs.declared.cmp.Ordering.{Ordering}
 use Rattle.std.specs.declared.cmp.Ordering.TheVariants.{Less, Equal, Greater}
 use Rattle.std.proofs.lemmas.Bool.{cond-false}
@@ -21,35 +20,30 @@ use Rattle.machine.specs.DataLaws.{PutsAreThere}
 use Rattle.machine.specs.Grouped.{with_view_at}
 use Rattle.machine.specs.Leases.{leased_view}
 use Rattle.machine.specs.Machine.{Answers}
-use Rattle.machine.specs.PutRow.{place_refusals, put_refusals, weight_refusals}
-use Rattle.machine.specs.Rows.{PassesAll}
 use Rattle.machine.specs.Store.{Session, Store}
-use Rattle.machine.specs.Valid.{IsView, Valid}
+use Rattle.machine.specs.Valid.{Valid}
 use Rattle.machine.specs.Views.{DataFile}
 use Rattle.machine.specs.Views.{View as KeptView}
 use Rattle.machine.proofs.Entering.{order}
 use Rattle.machine.proofs.Finding.{find_in}
 use Rattle.machine.proofs.OneView.{only_one}
 use Rattle.machine.proofs.Keys.{equal_texts}
-use Rattle.machine.proofs.Leased.{leased_by, leased_in, leased_valid, view_in}
+use Rattle.machine.proofs.Leased.{leased_by, leased_valid, view_in}
 use Rattle.machine.proofs.Members.{In, all_in, pairs_head, pairs_tail}
 use Rattle.machine.proofs.Stepping.{step_valid}
 use Rattle.store_state.specs.declared.change.Change.TheVariants as change
 use Rattle.store_state.specs.declared.view.LocalFile.{LocalFile}
-use Rattle.store_state.specs.Change.{effect}
 use Rattle.store_state.specs.Laws.{PutsShowTheFile}
 use Rattle.store_state.specs.Locals.{local_named}
 use Rattle.store_state.specs.Shows.{Shows, shown_data, shown_view}
 use Rattle.store_state.specs.Stored.{data_bytes}
-use Rattle.store_state.specs.Tables.{Tables, table_shape}
+use Rattle.store_state.specs.Tables.{Tables}
 use Rattle.store_state.proofs.Showing.{shape_shown}
 use Rattle.record_codec.specs.Values.{IsEncodableLocal}
 use Rattle.links.specs.Links.{LinksState}
 use Rattle.install_plan.specs.LeadsIn.{LeadsIn}
-use Rattle.install_plan.proofs.Listed.{passes_both}
 use Rattle.install_plan.proofs.NewFiles.{leads_over}
 use Rattle.updater.specs.declared.putting.Putting.{Putting}
-use Rattle.updater.specs.DataFiles.{bytes_named}
 use Rattle.updater.specs.MakesDurable.{LeadsBetween}
 use Rattle.updater.specs.Putting.{IsPutting, file_of}
 use Rattle.updater.proofs.Commanding.{Does, LeavesStore, effect_answers}
@@ -172,7 +166,7 @@ module _ (now lease : ℕ) (room : Room) (name bytes : List ℕ) (tables : Table
     (valid : Valid old.store)
     (words : (lease ≤ NUMBER_LIMIT) × IsName name × (length bytes ≤ PIECE_LIMIT))
     (moment : now ≤ NUMBER_LIMIT) (putting : Putting)
-    (of : IsPutting room image lease name bytes tables putting) (plain : room.half ≡ 0) where
+    (of : IsPutting room image lease name bytes tables putting) where
   abbrev file : DataFile
   file = record { name = name; bytes = bytes }
 
@@ -186,16 +180,9 @@ module _ (now lease : ℕ) (room : Room) (name bytes : List ℕ) (tables : Table
   found = leased_shown shows lease
       ∙ ap (option_map (shown_view room image tables.contents)) of.leased
 
-  -- without halves the tables have room
-  passes : PassesAll (put_refusals lease name bytes (table_shape room tables))
-  passes =
-      passes_both (place_refusals lease name bytes (table_shape room tables))
-      (weight_refusals lease name bytes (table_shape room tables)) of.passes
-      ((λ weight over. over.3.0 plain), tt)
-
   step : Answers now [] old (command.Put lease name bytes) says.Put new
   step = effect_answers now [] room tables old (shape_shown old no_jobs shows) (command.Put lease name bytes)
-      says.Put new passes
+      says.Put new of.passes
       (record { view = shown; leased = found; replied = refl; is = refl })
 
   -- where the bytes stand already, the store stays

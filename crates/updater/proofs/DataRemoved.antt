@@ -19,10 +19,10 @@ use Rattle.machine.proofs.Stepping.{step_valid}
 use Rattle.store_state.specs.declared.change.Change.TheVariants as change
 use Rattle.store_state.specs.declared.view.LocalFile.{LocalFile}
 use Rattle.store_state.specs.declared.view.View.{View}
-use Rattle.store_state.specs.Change.{Fits, effect}
+use Rattle.store_state.specs.Change.{Fits}
 use Rattle.store_state.specs.Laws.{RemovalsShowTheRest}
 use Rattle.store_state.specs.Locals.{local_at, local_named}
-use Rattle.store_state.specs.Rows.{leased_row, row_at}
+use Rattle.store_state.specs.Rows.{leased_row}
 use Rattle.store_state.specs.Shows.{Shows, shown_data, shown_view}
 use Rattle.store_state.specs.Tables.{Tables}
 use Rattle.store_state.proofs.Showing.{shape_shown}

@@ -1,5 +1,5 @@
 -- A skip: the step that it is, and the change that it makes.
-use Rattle.std.proofs.Common.{◌≡◌, ◌≢◌, ◌≤◌, ◌∙◌, ℕ, true, false, List, [], Option, Some, refl, sym, ap, subst}
+use Rattle.std.proofs.Common.{◌≡◌, ◌≤◌, ◌∙◌, ℕ, true, false, List, [], Option, Some, refl, sym, ap, subst}
 use Rattle.std.specs.Prelude.{option_and_then}
 use Rattle.small_types.specs.declared.room.Room.{Room}
 use Rattle.small_types.specs.declared.limits.TheConstants.{NUMBER_LIMIT}
@@ -12,14 +12,12 @@ use Rattle.machine.specs.declared.reply.Reply.{Reply}
 use Rattle.machine.specs.declared.reply.Reply.TheVariants as says
 use Rattle.machine.specs.Entries.{AreInOrder, with_entry}
 use Rattle.machine.specs.Machine.{Answers}
-use Rattle.machine.specs.Shape.{Shape}
 use Rattle.machine.specs.SkipRow.{offer_of, skipped, skipped_app}
 use Rattle.machine.specs.Store.{Session, Store}
 use Rattle.machine.specs.Valid.{Valid}
 use Rattle.machine.proofs.SkipFacts.{skips_keys}
 use Rattle.machine.proofs.Stepping.{step_valid}
 use Rattle.store_state.specs.declared.change.Change.TheVariants as change
-use Rattle.store_state.specs.Change.{effect}
 use Rattle.store_state.specs.Shows.{Shows}
 use Rattle.store_state.specs.Tables.{Tables}
 use Rattle.store_state.proofs.Checking.{shows_skipped}

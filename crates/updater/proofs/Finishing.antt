@@ -15,7 +15,7 @@ use Rattle.machine.specs.Valid.{Valid}
 use Rattle.machine.proofs.Leasing.{lease_gone}
 use Rattle.machine.proofs.Stepping.{step_valid}
 use Rattle.store_state.specs.declared.change.Change.TheVariants as change
-use Rattle.store_state.specs.Change.{Fits, effect}
+use Rattle.store_state.specs.Change.{Fits}
 use Rattle.store_state.specs.Shows.{Shows}
 use Rattle.store_state.specs.Tables.{Tables, table_shape}
 use Rattle.store_state.proofs.Showing.{shape_shown, shows_finished}

@@ -1,5 +1,5 @@
 -- A rollback: the step that it is, and the change that it makes.
-use Rattle.std.proofs.Common.{◌≡◌, ◌≢◌, ◌≤◌, ◌∙◌, ℕ, List, [], Option, Some, None, refl, sym, ap, subst}
+use Rattle.std.proofs.Common.{◌≡◌, ◌≢◌, ◌≤◌, ◌∙◌, ℕ, List, [], Some, refl, sym, ap, subst}
 use Rattle.std.proofs.lemmas.Option.{none-some}
 use Rattle.small_types.specs.declared.room.Room.{Room}
 use Rattle.small_types.specs.declared.limits.TheConstants.{NUMBER_LIMIT}
@@ -15,13 +15,12 @@ use Rattle.machine.specs.Entries.{AreInOrder}
 use Rattle.machine.specs.Machine.{Answers}
 use Rattle.machine.specs.Previous.{previous_version}
 use Rattle.machine.specs.RollbackRow.{rolled_back, rolled_back_app}
-use Rattle.machine.specs.Shape.{Shape, shape_of}
+use Rattle.machine.specs.Shape.{shape_of}
 use Rattle.machine.specs.Store.{Session, Store}
 use Rattle.machine.specs.Valid.{Valid}
 use Rattle.machine.proofs.RollbackFacts.{back_keys, previous_by}
 use Rattle.machine.proofs.Stepping.{step_valid}
 use Rattle.store_state.specs.declared.change.Change.TheVariants as change
-use Rattle.store_state.specs.Change.{effect}
 use Rattle.store_state.specs.Shows.{Shows}
 use Rattle.store_state.specs.Tables.{Tables}
 use Rattle.store_state.proofs.RollingBack.{shows_rolled_back}

@@ -1,5 +1,5 @@
 -- How groups end.
-use Rattle.std.proofs.Common.{◌≡◌, ◌≤◌, ℕ, List, [], Some, Result, Ok, inl, refl, sym, subst}
+use Rattle.std.proofs.Common.{◌≤◌, ℕ, List, [], Some, Result, Ok, inl, refl, sym, subst}
 use Rattle.small_types.specs.declared.room.Room.{Room}
 use Rattle.small_types.specs.declared.limits.TheConstants.{NUMBER_LIMIT}
 use Rattle.outside.specs.declared.failed.Failed.{Failed}
@@ -10,20 +10,17 @@ use Rattle.machine.specs.declared.command.Command.TheVariants.{Group}
 use Rattle.machine.specs.declared.event.Event.TheVariants.{Line}
 use Rattle.machine.specs.declared.reply.Reply.{Reply}
 use Rattle.machine.specs.declared.reply.Reply.TheVariants as says
-use Rattle.machine.specs.Machine.{moment_after}
 use Rattle.machine.specs.Store.{Session}
 use Rattle.machine.specs.Words.{IsGroup}
 use Rattle.machine.proofs.Stepping.{step_valid}
 use Rattle.store_state.specs.declared.change.Change.{Change}
-use Rattle.store_state.specs.Change.{effect}
-use Rattle.store_state.specs.Shows.{Shows}
 use Rattle.install_plan.specs.Checks.{LedBy}
 use Rattle.install_plan.specs.GroupReady.{GroupStep, IsGroupOver, IsGroupReady}
 use Rattle.install_plan.proofs.Downs.{counts_none}
 use Rattle.install_plan.proofs.LeasedRows.{still_brought}
 use Rattle.install_plan.specs.LeadsIn.{LeadsIn}
-use Rattle.updater.specs.declared.fault.StepFault.{StepFault}
-use Rattle.updater.specs.declared.updater.Updater.{Updater}
+use Rattle.table_log.specs.declared.fault.StepFault.{StepFault}
+use Rattle.updater.specs.Shown.{Updater}
 use Rattle.updater.specs.Answer.{IsAnswer}
 use Rattle.updater.specs.Commanded.{Commanded}
 use Rattle.updater.specs.MakesDurable.{MakesDurable, LeadsBetween}
@@ -38,7 +35,7 @@ module _ (now lease : ℕ) (group : List ℕ) (before after : LinksState) (updat
       → (old : Session) → Shown image (Group lease group) updater old
       → LeavesStore now [] (Group lease group) before after old reply
   over_rests reply over old s =
-      let step = over.step s.half now image old s.jobs s.shows s.sound in
+      let step = over.step now image old s.jobs s.shows s.sound in
       record {
         new = step.new;
         step = step.step;
@@ -52,7 +49,7 @@ module _ (now lease : ℕ) (group : List ℕ) (before after : LinksState) (updat
     step_of : (old : Session) → Shown image (Group lease group) updater old
         → GroupStep lease group before after now reply old
         (LedBy (room_of updater) (tables_of updater) change old.store)
-    step_of old s = ready.step s.half now image old s.jobs s.shows s.sound
+    step_of old s = ready.step now image old s.jobs s.shows s.sound
 
     leads_by : (old : Session) (s : Shown image (Group lease group) updater old)
         → LeadsBetween change (tables_of updater) old.store (step_of old s).new.store

@@ -16,18 +16,15 @@ use Rattle.machine.specs.Shape.{Shape, shape_of}
 use Rattle.machine.specs.Store.{Session, Store}
 use Rattle.machine.proofs.InstallSteps.{left_valid}
 use Rattle.store_state.specs.declared.change.Change.{Change}
-use Rattle.store_state.specs.Change.{effect}
-use Rattle.store_state.specs.Shows.{Shows}
 use Rattle.store_state.specs.Tables.{table_shape}
-use Rattle.install_plan.specs.Brought.{IsBrought}
 use Rattle.install_plan.specs.Downs.{CountsDowns}
 use Rattle.install_plan.specs.Hearing.{Served}
 use Rattle.install_plan.specs.Plans.{IsRefused}
 use Rattle.install_plan.specs.Ready.{IsReady, IsStep}
 use Rattle.install_plan.specs.LeadsIn.{LeadsIn}
 use Rattle.install_plan.proofs.Downs.{counts_none}
-use Rattle.updater.specs.declared.fault.StepFault.{StepFault}
-use Rattle.updater.specs.declared.updater.Updater.{Updater}
+use Rattle.table_log.specs.declared.fault.StepFault.{StepFault}
+use Rattle.updater.specs.Shown.{Updater}
 use Rattle.updater.specs.Answer.{IsAnswer}
 use Rattle.updater.specs.Commanded.{Commanded, LinksServe}
 use Rattle.updater.specs.MakesDurable.{MakesDurable, LeadsBetween}
@@ -55,9 +52,9 @@ module _ (now : ℕ) (url : List ℕ) (heard : List (List ℕ)) (before after : 
   pub refused_rests : (reply : Reply) → IsRefused (table_shape (room_of updater) (tables_of updater)) url heard before after reply → (old : Session) → Shown image (Install url) updater old → LeavesStore now heard (Install url) before after old reply
   refused_rests reply refused old s = record {
     new = old;
-    step = by (refused.refused s.half);
+    step = by refused.refused;
     same = refl;
-    served = serves_same url heard before after (table_shape (room_of updater) (tables_of updater)) old reply s.shape (refused.served s.half);
+    served = serves_same url heard before after (table_shape (room_of updater) (tables_of updater)) old reply s.shape refused.served;
   }
     where
       by : (reply ≡ says.Memory) ⊎ ((old : Session) → Refuses (install_refusals url heard (table_shape (room_of updater) (tables_of updater))) old reply old) → Answers now heard old (Install url) reply old
@@ -65,12 +62,12 @@ module _ (now : ℕ) (url : List ℕ) (heard : List (List ℕ)) (before after : 
       by (inr refuses) = refused_answers now heard (room_of updater) (tables_of updater) old s.shape (Install url) reply old (refuses old)
 
   -- and one that found no memory at its end
-  pub missed_rests : ((room_of updater).half ≡ 0 → Served (table_shape (room_of updater) (tables_of updater)) url heard before after says.Memory) → (old : Session) → Shown image (Install url) updater old → LeavesStore now heard (Install url) before after old says.Memory
+  pub missed_rests : Served (table_shape (room_of updater) (tables_of updater)) url heard before after says.Memory → (old : Session) → Shown image (Install url) updater old → LeavesStore now heard (Install url) before after old says.Memory
   missed_rests served old s = record {
     new = old;
     step = inl (inl (refl, refl));
     same = refl;
-    served = serves_same url heard before after (table_shape (room_of updater) (tables_of updater)) old says.Memory s.shape (served s.half);
+    served = serves_same url heard before after (table_shape (room_of updater) (tables_of updater)) old says.Memory s.shape served;
   }
 
   module _ (change : Change) (reply : Reply) (ready : IsReady (room_of updater) (tables_of updater) url heard before after now change reply) where
@@ -79,7 +76,7 @@ module _ (now : ℕ) (url : List ℕ) (heard : List (List ℕ)) (before after : 
     step_of old s = ready.step image old s.jobs s.shows s.sound
 
     passes_by : (old : Session) → Shown image (Install url) updater old → PassesAll (install_refusals url heard (shape_of old))
-    passes_by old s = subst (λ (shape : Shape). PassesAll (install_refusals url heard shape)) (sym s.shape) (ready.passes s.half)
+    passes_by old s = subst (λ (shape : Shape). PassesAll (install_refusals url heard shape)) (sym s.shape) ready.passes
 
     leads_by : (old : Session) (s : Shown image (Install url) updater old) → LeadsBetween change (tables_of updater) old.store (step_of old s).new.store
     leads_by old s = let step = step_of old s in record {
@@ -90,11 +87,11 @@ module _ (now : ℕ) (url : List ℕ) (heard : List (List ℕ)) (before after : 
     pub ready_does : (old : Session) → Shown image (Install url) updater old → Does now heard (Install url) before after change (tables_of updater) old reply
     ready_does old s = let step = step_of old s in record {
       new = step.new;
-      step = effect_answers now heard (room_of updater) (tables_of updater) old s.shape (Install url) reply step.new (ready.passes s.half) step.installs;
+      step = effect_answers now heard (room_of updater) (tables_of updater) old s.shape (Install url) reply step.new ready.passes step.installs;
       leads = leads_by old s;
       other = other_store now heard url old reply step.new step.installs;
       served = (
-        subst (λ (shape : Shape). Served shape url heard before after reply) (sym s.shape) (ready.served s.half),
+        subst (λ (shape : Shape). Served shape url heard before after reply) (sym s.shape) ready.served,
         step.brought,
       );
     }
@@ -104,8 +101,8 @@ module _ (now : ℕ) (url : List ℕ) (heard : List (List ℕ)) (before after : 
     ready_moment = subst (λ (r : Reply). moment_after now (Some r) ≤ NUMBER_LIMIT) (sym ready.replied.3) moment
 
     -- want of memory tells nothing of what was asked
-    pub ready_served : (room_of updater).half ≡ 0 → Served (table_shape (room_of updater) (tables_of updater)) url heard before after says.Memory
-    ready_served plain = record { hearing = (ready.served plain).hearing; accounts = tt }
+    pub ready_served : Served (table_shape (room_of updater) (tables_of updater)) url heard before after says.Memory
+    ready_served = record { hearing = ready.served.hearing; accounts = tt }
 
 module _ {D L : Type 0} (on : Ghosts D) (net : LinksGhosts L) (now : ℕ) (url : List ℕ) (heard : List (List ℕ)) (updater : Updater) (disk : D) (links_old links_new : L)
     (seen_left : on.left_at disk (on.moment disk) (on.seen disk)) (moment : now ≤ NUMBER_LIMIT) where

@@ -1,68 +1,122 @@
--- A change more in the log is one more in the tables, and leads from one store that they show to another.
-use Rattle.std.proofs.Common.{◌≡◌, ◌≢◌, ◌<◌, ◌+◌, ◌-◌, min, ℕ, List, [], ◌∷◌, ◌++◌, ◌⊎◌, Bool, true, false, Result, Ok, Err, inl, inr, refl, length, drop, length-drop, length-take, sym, ap, subst, ◌∙◌, arith}
+-- A change that is made durable leads from one store that the tables show to another.
+use Rattle.std.proofs.Common.{◌≡◌, ◌≢◌, ◌⊎◌, ◌<◌, ◌≤◌, ◌+◌, ℕ, List, Result, Ok, Err, inl, inr, refl, sym, ap, subst, ◌∙◌, arith}
+use Rattle.std.specs.Prelude.{OnOk}
+use Rattle.std.proofs.lemmas.Bool.{cases_lt}
 use Rattle.small_types.specs.declared.room.Room.{Room}
 use Rattle.disks.specs.declared.disk.Disk.{Ghosts}
 use Rattle.disks.specs.Moments.{LeavesOnly}
 use Rattle.disks.specs.Spends.{Spends}
-use Rattle.disks.proofs.Books.{spends_as, spends_none, spends_within}
+use Rattle.disks.proofs.Books.{spends_within}
 use Rattle.disks.proofs.MomentLemmas.{weaker}
 use Rattle.machine.specs.Store.{Session, Store}
-use Rattle.store_log.specs.declared.piece.TheConstants.{AROUND, BEFORE}
-use Rattle.store_log.specs.Log.{IsLog, IsOpen, entry_in, head_of}
-use Rattle.store_log.proofs.Store.{is_store}
-use Rattle.record_codec.specs.Codec.{IsChange, change_text}
+use Rattle.machine.specs.Weight.{IsLight}
+use Rattle.machine.proofs.Lightness.{lighter}
+use Rattle.journal.specs.declared.log.Log.{Log}
+use Rattle.journal.specs.declared.piece.TheConstants.{AROUND, AROUND_TABLES, BEFORE}
+use Rattle.journal.specs.Log.{FitsHalf, half_of, used_of}
+use Rattle.record_codec.specs.Codec.{IsChange}
 use Rattle.store_state.specs.declared.change.Change.{Change}
 use Rattle.store_state.specs.Change.{Fits, effect}
+use Rattle.store_state.specs.Kept.{AreTables}
 use Rattle.store_state.specs.Shows.{Shows}
-use Rattle.store_state.specs.Tables.{Tables, empty}
+use Rattle.store_state.specs.Tables.{Tables}
 use Rattle.store_state.proofs.Images.{images_have, images_hold}
 use Rattle.store_state.proofs.Showing.{shows_same}
 use Rattle.install_plan.proofs.NewFiles.{has_new}
-use Rattle.updater.specs.declared.updater.Updater.{Updater}
-use Rattle.updater.specs.declared.fault.StepFault.{StepFault}
-use Rattle.updater.specs.declared.fault.StepFault.TheVariants.{DiskFault, Memory}
-use Rattle.updater.specs.MakesDurable.{MakesDurable, LeadsBetween}
-use Rattle.updater.specs.StandsFor.{Encodes, Loads, StandsForEither}
+use Rattle.table_weight.specs.Laws.{BringsNothing, LightenOthers}
+use Rattle.table_weight.specs.Weight.{tables_weight}
+use Rattle.table_codec.specs.Laws.{AreWithinTableWeights, ChangesAreWithinWeights, HadFields, StayEncodable}
+use Rattle.table_log.specs.declared.fault.StepFault.{StepFault}
+use Rattle.table_log.specs.declared.fault.StepFault.TheVariants.{DiskFault, Memory}
+use Rattle.table_log.specs.MakesDurable as table_log
+use Rattle.table_log.specs.MakesDurable.{FitsNewHalf, change_size, tables_size}
+use Rattle.table_log.specs.ReadsAs.{IsOpenAs, ReadsAs, ReadsAsEither}
+use Rattle.updater.specs.MakesDurable.{LeadsBetween, MakesDurable, MayKeep}
+use Rattle.updater.specs.Shown.{IsKept, Updater}
+use Rattle.updater.specs.StandsFor.{StandsForEither}
+use Rattle.updater.specs.StepCosts.{CostsOf, checkpoint_cost, entry_cost}
 use Rattle.updater.specs.Updater.{Holds, room_of, tables_of}
-use Rattle.updater.proofs.Loading.{loads-push}
-use Rattle.updater.proofs.Standing.{still_stands}
 
--- a piece has the log's own bytes around its change
-pub piece_length : (piece : List ℕ) → AROUND < length piece → AROUND + length (entry_in piece) ≡ length piece
-piece_length piece long =
-    let n : length (entry_in piece) ≡ min (length piece - AROUND) (length (drop BEFORE piece)) = length-take (length piece - AROUND) (drop BEFORE piece) in
-    let d : length (drop BEFORE piece) ≡ length piece - BEFORE = length-drop BEFORE piece in
-    omega (arith, long, n, d)
+-- ---- room
 
--- what an append costs, by the length of the change and by the fault of the step
-pub spends_sized : {D : Type 0} (on : Ghosts D) (n m : ℕ) (old new : D) (fault other : Type 0) → m ≡ n → (fault → other) → (other → fault) → Spends on 4 n old new fault
-    → Spends on 4 m old new other
-spends_sized on n m old new fault other size to from spends = subst (λ (k : ℕ). Spends on 4 k old new other) (sym size) (spends_as on 4 n old new fault other to from spends)
+-- what tables with room may weigh, where there are halves
+pub most_weight : (room : Room) (weight : ℕ) → 65536 < room.half → IsLight room weight → weight + 65536 ≤ room.half
+unfolding IsLight
+most_weight room weight long light = by (cases_lt room.half (weight + 65536))
+  where
+    by : (room.half < weight + 65536) ⊎ (weight + 65536 ≤ room.half) → weight + 65536 ≤ room.half
+    by (inl over) = absurd (light ((λ none. omega (arith, long, none)), omega (arith, over)))
+    by (inr fits) = fits
 
-pub false_not_true : ◌≡◌ {A = Bool} false true → ⊥
-false_not_true e = cc
+module _ (log : Log) (room : Room) (tables : Tables) (change : Change) (is : IsKept log room tables) (are : AreTables tables) (may : MayKeep (record { log = log; room = room; state = tables }) change) where
+  old_weight : tables_weight tables + 65536 ≤ room.half
+  old_weight = let least = is.limits.least in most_weight room (tables_weight tables) (omega (arith, least)) is.light
 
-pub ok_no_fault : {T F : Type 0} (x : T) (f : F) → ◌≡◌ {A = Result T F} (Ok x) (Err f) → ⊥
-ok_no_fault x f e = cc
+  new_weight : tables_weight (effect change tables) + 65536 ≤ room.half
+  new_weight = let least = is.limits.least in most_weight room (tables_weight (effect change tables)) (omega (arith, least)) may.light
 
-memory_no_fault : {T : Type 0} → ◌≢◌ {A = Result T StepFault} (Err Memory) (Err DiskFault)
-memory_no_fault e = cc
+  -- the changed tables are kept as well
+  pub still_kept : StayEncodable → (log_new : Log) (tables_new : Tables) → half_of log_new ≡ half_of log → tables_new ≡ effect change tables → IsKept log_new room tables_new
+  still_kept stay log_new tables_new half same = subst (IsKept log_new room) (sym same) (record {
+    encodable = stay tables change are is.encodable may.fits may.has (let most = is.limits.greatest in omega (arith, new_weight, most));
+    light = may.light;
+    limits = is.limits;
+    half = half ∙ is.half;
+  })
 
--- there was no memory for a change that fits
-pub nothing_kept : {D T : Type 0} (on : Ghosts D) (change : Change) (updater : Updater) (disk : D) → Fits (tables_of updater) change × IsChange change → MakesDurable {T = T} on change updater disk (Err Memory) updater disk
-nothing_kept {T = T} on change updater disk may = record {
-  fits = may.0;
-  has = may.1;
-  stored = λ told old new leads holds. tt;
-  stop = λ told old new leads holds. still_stands on updater disk old new holds;
-  past = λ t image le left. left;
-  memory = λ e. (refl, refl);
-  marked = tt;
-  spends = spends_within on 0 0 4 (AROUND + length (change_text change)) disk disk (◌≡◌ {A = Result T StepFault} (Err Memory) (Err DiskFault)) (omega arith) (omega arith)
-      (spends_as on 0 0 disk disk ⊥ (◌≡◌ {A = Result T StepFault} (Err Memory) (Err DiskFault)) (λ no. absurd no) memory_no_fault (spends_none on disk));
-}
+  -- the tables and the change's entry fit a half together
+  pub new_half_fits : HadFields → AreWithinTableWeights → ChangesAreWithinWeights → FitsNewHalf log tables change
+  new_half_fits had within changes =
+      omega (arith, within tables are (had tables is.encodable), changes tables change are is.encodable may.fits may.has may.short, old_weight, new_weight, is.half)
 
-module _ {D : Type 0} (on : Ghosts D) (updater : Updater) (disk : D) (change : Change) (entry : List ℕ) (fits : Fits (tables_of updater) change) (encodes : Encodes change entry) (old : Session) (new : Store) (leads : LeadsBetween change (tables_of updater) old.store new) (holds : Holds on updater disk old) (seen_left : on.left_at disk (on.moment disk) (on.seen disk)) where
+  -- and where there was no memory nothing has changed
+  pub kept_after : {D T : Type 0} (on : Ghosts D) → StayEncodable → (disk : D) (result : Result T StepFault) (log_new : Log) (tables_new : Tables) (disk_new : D) → table_log.MakesDurable on change log tables disk result log_new tables_new disk_new → IsKept log_new room tables_new
+  kept_after on stay disk (Ok done) log_new tables_new disk_new makes = still_kept stay log_new tables_new makes.stores.half (makes.made (λ e. absurd (cc)))
+  kept_after on stay disk (Err DiskFault) log_new tables_new disk_new makes = still_kept stay log_new tables_new makes.stores.half (makes.made (λ e. absurd (cc)))
+  kept_after on stay disk (Err Memory) log_new tables_new disk_new makes =
+      let same = makes.memory refl in
+      subst (λ (l : Log). IsKept l room tables_new) (sym same.0) (subst (λ (t : Tables). IsKept log room t) (sym same.1) is)
+
+-- a change by which nothing comes leaves room
+pub lighter_room : LightenOthers → (log : Log) (room : Room) (tables : Tables) (change : Change) → IsKept log room tables → AreTables tables → Fits tables change → BringsNothing tables change → IsLight room (tables_weight (effect change tables))
+lighter_room others log room tables change is are fits nothing = lighter room (tables_weight (effect change tables)) (tables_weight tables) (others tables change are fits nothing) is.light
+
+-- ---- what it costs
+
+-- what a change may write, and that it wrote no more
+record Spent {D : Type 0} (on : Ghosts D) (change : Change) (tables : Tables) (old new : D) (fault : Type 0) : Type 0 where
+  pub bytes : ℕ
+  pub costs : CostsOf change tables bytes
+  pub spends : Spends on 10 bytes old new fault
+
+half_or_not : (log : Log) (n : ℕ) → FitsHalf log n ⊎ (¬ FitsHalf log n)
+half_or_not log n = by (cases_lt (half_of log) (used_of log + BEFORE + n))
+  where
+    by : (half_of log < used_of log + BEFORE + n) ⊎ (used_of log + BEFORE + n ≤ half_of log) → FitsHalf log n ⊎ (¬ FitsHalf log n)
+    by (inl over) = inr (λ fits. omega (arith, over, fits))
+    by (inr fits) = inl fits
+
+spent_so : {D : Type 0} (on : Ghosts D) (change : Change) (log : Log) (tables : Tables) (old new : D) (fault : Type 0) → tables_size tables ≤ tables_weight tables
+    → (FitsHalf log (change_size change) → Spends on 4 (AROUND + change_size change) old new fault)
+    → (¬ FitsHalf log (change_size change) → Spends on 10 (AROUND + change_size change + AROUND_TABLES + 1 + tables_size tables) old new fault)
+    → Spent on change tables old new fault
+spent_so on change log tables old new fault within few many = by (half_or_not log (change_size change))
+  where
+    by : FitsHalf log (change_size change) ⊎ (¬ FitsHalf log (change_size change)) → Spent on change tables old new fault
+    by (inl fits) = record {
+      bytes = entry_cost change;
+      costs = inl refl;
+      spends = spends_within on 4 (AROUND + change_size change) 10 (entry_cost change) old new fault (omega arith) (omega arith) (few fits);
+    }
+    by (inr none) = record {
+      bytes = checkpoint_cost tables + entry_cost change;
+      costs = inr refl;
+      spends = spends_within on 10 (AROUND + change_size change + AROUND_TABLES + 1 + tables_size tables) 10 (checkpoint_cost tables + entry_cost change) old new fault (omega arith) (omega (arith, within)) (many none);
+    }
+
+-- ---- the stores
+
+module _ {D : Type 0} (on : Ghosts D) (updater : Updater) (disk : D) (change : Change) (fits : Fits (tables_of updater) change) (old : Session) (new : Store) (leads : LeadsBetween change (tables_of updater) old.store new) (holds : Holds on updater disk old) (seen_left : on.left_at disk (on.moment disk) (on.seen disk)) where
   old_shows : Shows old.store.room (tables_of updater) (on.seen disk) old.store
   old_shows = holds.shows (on.seen disk) seen_left
 
@@ -70,59 +124,68 @@ module _ {D : Type 0} (on : Ghosts D) (updater : Updater) (disk : D) (change : C
   led_shows image = leads.shows.shows (on.seen disk) image old_shows (images_have old.store.room (tables_of updater) (on.seen disk) image)
       (has_new leads.shows image (images_hold old.store.room (tables_of updater) change image fits))
 
-  room_stays : new.room ≡ old.store.room
-  room_stays = ap (λ (s : Store). s.room) (led_shows (on.seen disk)).is
-
-  same_half : new.room.half ≡ 0
-  same_half = ap (λ (r : Room). r.half) room_stays ∙ holds.log.half
-
-  more_loads : Loads empty (holds.log.changes ++ entry ∷ []) (effect change (tables_of updater))
-  more_loads = loads-push empty (tables_of updater) holds.log.changes change entry holds.log.loads encodes fits
+  room_stays : old.store.room ≡ new.room
+  room_stays = sym (ap (λ (s : Store). s.room) (led_shows (on.seen disk)).is)
 
   new_shows : (image : List ℕ) → Shows new.room (effect change (tables_of updater)) image new
-  new_shows image = subst (λ (n : Room). Shows n (effect change (tables_of updater)) image new) (sym room_stays) (led_shows image)
+  new_shows image = subst (λ (r : Room). Shows r (effect change (tables_of updater)) image new) room_stays (led_shows image)
 
-  -- once the change is appended
-  pub holds_more : (updater_new : Updater) (disk_new : D) → tables_of updater_new ≡ effect change (tables_of updater) → room_of updater_new ≡ room_of updater
-      → ((head : List ℕ) (changes : List (List ℕ)) → IsOpen on updater.log head changes disk → IsOpen on updater_new.log head (changes ++ entry ∷ []) disk_new)
-      → Holds on updater_new disk_new (record old { store = new })
-  holds_more updater_new disk_new is_new same_room opens = record {
-    log = record {
-      changes = holds.log.changes ++ entry ∷ [];
-      opened = subst (λ (r : Room). IsOpen on updater_new.log (head_of r.blocks) (holds.log.changes ++ entry ∷ []) disk_new) (sym room_stays) (opens (head_of old.store.room.blocks) holds.log.changes holds.log.opened);
-      half = same_half;
-      loads = subst (λ (t : Tables). Loads empty (holds.log.changes ++ entry ∷ []) t) (sym is_new) more_loads;
-    };
-    room = same_room ∙ holds.room ∙ sym room_stays;
-    shows = λ image left. subst (λ (t : Tables). Shows new.room t image new) (sym is_new) (new_shows image);
+  -- once it is made
+  pub holds_more : (log_new : Log) (tables_new : Tables) (disk_new : D) → tables_new ≡ effect change (tables_of updater) → IsOpenAs on log_new old.store.room (effect change (tables_of updater)) disk_new
+      → Holds on (record { log = log_new; room = room_of updater; state = tables_new }) disk_new (record old { store = new })
+  holds_more log_new tables_new disk_new is opened = record {
+    log = subst (λ (t : Tables). IsOpenAs on log_new new.room t disk_new) (sym is) (subst (λ (r : Room). IsOpenAs on log_new r (effect change (tables_of updater)) disk_new) room_stays opened);
+    room = holds.room ∙ room_stays;
+    shows = λ image left. subst (λ (t : Tables). Shows new.room t image new) (sym is) (new_shows image);
     valid = leads.valid;
     jobs = holds.jobs;
   }
 
-  -- while it is appended
-  pub either_store : (disk_new : D)
-      → ((head : List ℕ) (changes : List (List ℕ)) → IsOpen on updater.log head changes disk → LeavesOnly on disk disk_new (λ c. IsLog head changes c ⊎ IsLog head (changes ++ entry ∷ []) c))
-      → LeavesOnly on disk disk_new (StandsForEither old.store new)
-  either_store disk_new leaves = weaker on disk disk_new _ _ either (leaves (head_of old.store.room.blocks) holds.log.changes holds.log.opened)
+  -- while it is made
+  pub either_store : (disk_new : D) → LeavesOnly on disk disk_new (ReadsAsEither old.store.room (tables_of updater) (effect change (tables_of updater))) → LeavesOnly on disk disk_new (StandsForEither old.store new)
+  either_store disk_new leaves = weaker on disk disk_new _ _ either leaves
     where
-      either : (c : List ℕ) → IsLog (head_of old.store.room.blocks) holds.log.changes c ⊎ IsLog (head_of old.store.room.blocks) (holds.log.changes ++ entry ∷ []) c → StandsForEither old.store new c
-      either c (inl log) = inl (record {
+      either : (image : List ℕ) → ReadsAsEither old.store.room (tables_of updater) (effect change (tables_of updater)) image → StandsForEither old.store new image
+      either image (inl reads) = inl (record {
         tables = tables_of updater;
-        reads = record {
-          changes = holds.log.changes;
-          journal = record { store = is_store old.store.room.blocks holds.log.changes c holds.valid.ordered.some_blocks holds.valid.ordered.few_blocks log; half = holds.log.half };
-          loads = holds.log.loads;
-        };
-        shows = shows_same c (images_have old.store.room (tables_of updater) (on.seen disk) c) old_shows;
+        reads = reads;
+        shows = shows_same image (images_have old.store.room (tables_of updater) (on.seen disk) image) old_shows;
         valid = holds.valid;
       })
-      either c (inr log) = inr (record {
+      either image (inr reads) = inr (record {
         tables = effect change (tables_of updater);
-        reads = record {
-          changes = holds.log.changes ++ entry ∷ [];
-          journal = record { store = is_store new.room.blocks (holds.log.changes ++ entry ∷ []) c leads.valid.ordered.some_blocks leads.valid.ordered.few_blocks (subst (λ (r : Room). IsLog (head_of r.blocks) (holds.log.changes ++ entry ∷ []) c) (sym room_stays) log); half = same_half };
-          loads = more_loads;
-        };
-        shows = new_shows c;
+        reads = subst (λ (r : Room). ReadsAs r image (effect change (tables_of updater))) room_stays reads;
+        shows = new_shows image;
         valid = leads.valid;
       })
+
+-- ---- the durable step
+
+module _ {D : Type 0} (on : Ghosts D) (log : Log) (room : Room) (tables : Tables) (disk : D) (change : Change) (fits : Fits tables change) (has : IsChange change) (within : tables_size tables ≤ tables_weight tables) (seen_left : on.left_at disk (on.moment disk) (on.seen disk)) where
+  abbrev updater : Updater
+  updater = record { log = log; room = room; state = tables }
+
+  pub kept_by : {T : Type 0} (result : Result T StepFault) (log_new : Log) (tables_new : Tables) (disk_new : D) → table_log.MakesDurable on change log tables disk result log_new tables_new disk_new
+      → MakesDurable on change updater disk result (record { log = log_new; room = room; state = tables_new }) disk_new
+  kept_by {T = T} result log_new tables_new disk_new makes =
+      let spent = spent_so on change log tables disk disk_new (result ≡ Err DiskFault) within makes.spends makes.spends_more in
+      record {
+        fits = fits;
+        has = has;
+        stored = λ told old new leads holds. stored result makes.made old new leads holds (makes.stores.opened old.store.room holds.log);
+        stop = λ told old new leads holds. either_store on updater disk change fits old new leads holds seen_left disk_new (makes.stores.stop old.store.room holds.log);
+        past = makes.stores.behind.past;
+        memory = λ e. let same = makes.memory e in (as_was same.0 same.1, same.2);
+        marked = makes.stores.marked;
+        bytes = spent.bytes;
+        costs = spent.costs;
+        spends = spent.spends;
+      }
+    where
+      stored : (ended : Result T StepFault) → (ended ≢ Err Memory → tables_new ≡ effect change tables) → (old : Session) (new : Store) → LeadsBetween change tables old.store new → Holds on updater disk old → OnOk ended (IsOpenAs on log_new old.store.room (effect change tables) disk_new)
+          → OnOk ended (Holds on (record { log = log_new; room = room; state = tables_new }) disk_new (record old { store = new }))
+      stored (Ok done) made old new leads holds opened = holds_more on updater disk change fits old new leads holds seen_left log_new tables_new disk_new (made (λ e. let no : ◌≡◌ {A = Result T StepFault} (Ok done) (Err Memory) = e in absurd (cc))) opened
+      stored (Err fault) made old new leads holds opened = tt
+
+      as_was : log_new ≡ log → tables_new ≡ tables → ◌≡◌ {A = Updater} (record { log = log_new; room = room; state = tables_new }) (record { log = log; room = room; state = tables })
+      as_was one two = ap (λ (l : Log). record { log = l; room = room; state = tables_new }) one ∙ ap (λ (t : Tables). record { log = log; room = room; state = t }) two

@@ -24,7 +24,6 @@ use Rattle.machine.specs.Views.{View as KeptView}
 use Rattle.machine.proofs.Leased.{current_entry}
 use Rattle.machine.proofs.Stepping.{step_valid}
 use Rattle.store_state.specs.declared.change.Change.TheVariants as change
-use Rattle.store_state.specs.Change.{effect}
 use Rattle.store_state.specs.Shows.{Shows, shown_view}
 use Rattle.store_state.specs.Tables.{Tables}
 use Rattle.store_state.proofs.Showing.{shape_shown, shows_launched}

@@ -1,13 +1,12 @@
 -- The data files of a leased view, in tables and in the store that they show.
-use Rattle.std.proofs.Common.{◌≡◌, ◌∙◌, ◌≤◌, inl, inr, refl, sym, ap, subst, ℕ, List, [], map, length, bytes_eq, Option, Some, None, IsSome, arith}
-use Rattle.std.specs.Prelude.{option_and_then, option_map}
+use Rattle.std.proofs.Common.{◌≡◌, ◌∙◌, inl, inr, refl, sym, ap, ℕ, List, [], map, length, bytes_eq, Option, Some, None, IsSome}
+use Rattle.std.specs.Prelude.{option_map}
 use Rattle.std.proofs.lemmas.Option.{none-some}
 use Rattle.small_types.specs.declared.room.Room.{Room}
 use Rattle.machine.specs.declared.command.Command.TheVariants as command
-use Rattle.machine.specs.declared.lease.Lease.{Lease}
 use Rattle.machine.specs.declared.reply.Reply.TheVariants as says
 use Rattle.machine.specs.DataFiles.{bare_data_named, data_named}
-use Rattle.machine.specs.Leases.{lease_of, leased_bare, leased_view}
+use Rattle.machine.specs.Leases.{lease_of, leased_bare}
 use Rattle.machine.specs.LocalRow.{LacksData, local_refusals}
 use Rattle.machine.specs.ReadRow.{part}
 use Rattle.machine.specs.Rows.{PassesAll, Refuses}
@@ -26,7 +25,6 @@ use Rattle.store_state.proofs.Showing.{shape_shown}
 use Rattle.links.specs.Links.{LinksState}
 use Rattle.install_plan.proofs.LeasedRows.{IsLeased, lease_lives, row_is}
 use Rattle.updater.specs.DataFiles.{IsLocalOf}
-use Rattle.updater.specs.Leased.{KeepsView}
 use Rattle.updater.proofs.Commanding.{LeavesStore, effect_answers}
 use Rattle.updater.proofs.ShownViews.{leased_bare_row, leased_shown}
 
@@ -52,20 +50,6 @@ there_some None x is = absurd (none-some x is)
 there_some (Some y) x is = refl
 
 module _ (lease : ℕ) (name : List ℕ) (room : Room) (tables : Tables) where
-  -- ---- leases
-
-  -- where no view is found there is no such lease
-  pub none_leased : leased_row lease tables ≡ None → KeepsView lease tables
-      → lease_of lease tables.leases ≡ None
-  none_leased none keeps = by (lease_of lease tables.leases) refl
-    where
-      by : (o : Option Lease) → lease_of lease tables.leases ≡ o
-          → lease_of lease tables.leases ≡ None
-      by None is = is
-      by (Some one) is =
-          absurd (none_there (leased_row lease tables)
-          (keeps (there_some (lease_of lease tables.leases) one is)) none)
-
   module _ (row : View) (leased : leased_row lease tables ≡ Some row) where
     pub bare : leased_bare lease (table_shape room tables) ≡ Some (bare_row row)
     bare = leased_bare_row lease room tables ∙ ap (option_map bare_row) leased

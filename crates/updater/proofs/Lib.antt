@@ -1,5 +1,6 @@
 pub mod Applying
 pub mod BackTables
+pub mod Brings
 pub mod Changing
 pub mod Checking
 pub mod Cleanings
@@ -13,15 +14,17 @@ pub mod GoingBack
 pub mod GroupEnds
 pub mod Installing
 pub mod Keeping
+pub mod KeyRoom
 pub mod Launching
 pub mod LeasedData
 pub mod LeasedFiles
 pub mod Lists
-pub mod Loading
 pub mod Opening
 pub mod PutFits
 pub mod PutRefused
 pub mod Recovering
 pub mod Requiring
+pub mod Seen
 pub mod ShownViews
 pub mod Standing
+pub mod TableRoom

@@ -1,5 +1,5 @@
 -- How an opening ends, from what reading the store found and from what became of the boot number.
-use Rattle.std.proofs.Common.{◌≡◌, ◌≢◌, ◌+◌, ◌≤◌, ◌==◌, ℕ, List, [], Bool, true, false, cond, length, Result, Ok, Err, inl, inr, refl, sym, ap, subst, ◌∙◌, arith}
+use Rattle.std.proofs.Common.{◌≡◌, ◌≢◌, ◌+◌, ◌≤◌, ◌==◌, ℕ, List, [], Bool, true, false, cond, Result, Ok, Err, inl, inr, refl, sym, ap, subst, ◌∙◌, arith}
 use Rattle.std.proofs.lemmas.Bool.{eq-eqb}
 use Rattle.std.specs.Prelude.{IfOk, OnOk}
 use Rattle.small_types.specs.declared.limits.TheConstants.{NUMBER_LIMIT}
@@ -7,20 +7,20 @@ use Rattle.disks.specs.declared.disk.Disk.{Ghosts}
 use Rattle.disks.specs.Spends.{Spends}
 use Rattle.disks.proofs.Books.{no_bytes, spends_as, spends_then, spends_within}
 use Rattle.machine.specs.Store.{Store, booted, session_over}
-use Rattle.store_log.specs.declared.piece.TheConstants.{AROUND}
-use Rattle.record_codec.specs.Codec.{change_text}
 use Rattle.store_state.specs.declared.change.Change.TheVariants.{Boot}
 use Rattle.updater.specs.declared.fault.RecoverFault.{RecoverFault}
 use Rattle.updater.specs.declared.fault.RecoverFault.TheVariants.{NotAStore, DiskFault, Memory}
-use Rattle.updater.specs.declared.fault.StepFault.{StepFault}
-use Rattle.updater.specs.declared.fault.StepFault.TheVariants as step
-use Rattle.updater.specs.declared.updater.Updater.{Updater}
+use Rattle.table_log.specs.declared.fault.StepFault.{StepFault}
+use Rattle.table_log.specs.declared.fault.StepFault.TheVariants as step
+use Rattle.table_log.specs.Laws.{ReadsAsOne}
+use Rattle.updater.specs.Shown.{Updater}
 use Rattle.updater.specs.Costs.{Costs}
 use Rattle.updater.specs.MakesDurable.{MakesDurable, LeadsBetween}
 use Rattle.updater.specs.Loaded.{Loaded, IsLoaded}
 use Rattle.updater.specs.Moments.{LeavesSince}
 use Rattle.updater.specs.Opened.{Opened}
 use Rattle.updater.specs.StandsFor.{StandsFor, StandsForEither}
+use Rattle.updater.specs.StepCosts.{entry_cost}
 use Rattle.updater.specs.Updater.{Holds, tables_of}
 use Rattle.updater.proofs.Changing.{boot_shown, booted_leads}
 use Rattle.updater.proofs.Standing.{one_stands}
@@ -65,12 +65,8 @@ false_true e = cc
 true_false : ◌≢◌ {A = Bool} true false
 true_false e = cc
 
--- the most bytes that a boot writes
-abbrev boot_bytes : ℕ → ℕ
-boot_bytes boot = AROUND + length (change_text (Boot boot))
-
--- what a boot costs
-boot_costs : (image : List ℕ) (boot : ℕ) (old : Store) → boot ≤ NUMBER_LIMIT → StandsFor image old → Costs old (booted boot old) (boot_bytes boot)
+-- what a boot may cost
+boot_costs : (image : List ℕ) (boot : ℕ) (old : Store) → boot ≤ NUMBER_LIMIT → StandsFor image old → Costs old (booted boot old) (entry_cost (Boot boot))
 boot_costs image boot old few stands = inr (
   Boot boot,
   record {
@@ -81,7 +77,7 @@ boot_costs image boot old few stands = inr (
     has = omega arith;
     leads = booted_leads old.room stands.tables image old boot stands.shows few stands.valid;
   },
-  refl,
+  inl refl,
 )
 
 module _ {D : Type 0} (on : Ghosts D) (boot : ℕ) (few : boot ≤ NUMBER_LIMIT) (disk_old : D) (read : Result Updater RecoverFault) (mid : D) (loaded : Loaded on disk_old read mid) where
@@ -115,9 +111,9 @@ module _ {D : Type 0} (on : Ghosts D) (boot : ℕ) (few : boot ≤ NUMBER_LIMIT)
       synced = tt;
       quiet = tt;
       marked = tt;
-      bytes = boot_bytes boot;
+      bytes = entry_cost (Boot boot);
       costs = λ told old stands. boot_costs (on.seen disk_old) boot old few stands;
-      spends = spends_within on 1 0 5 (boot_bytes boot) disk_old mid _ (omega arith) (omega arith)
+      spends = spends_within on 1 0 11 (entry_cost (Boot boot)) disk_old mid _ (omega arith) (omega arith)
           (spends_as on 1 0 disk_old mid (read ≡ Err DiskFault) _ (λ e. as_fault (sym is ∙ e)) (λ e. is ∙ ap Err (err_is e)) loaded.spends);
     };
   }
@@ -134,7 +130,7 @@ module _ {D : Type 0} (on : Ghosts D) (boot : ℕ) (few : boot ≤ NUMBER_LIMIT)
           err_of : ◌≡◌ {A = Result Updater RecoverFault} (Err fault) (Err DiskFault) → fault ≡ DiskFault
           err_of e = cc
 
-  module _ (updater : Updater) (is : read ≡ Ok updater) (seen_left : on.left_at mid (on.moment mid) (on.seen mid)) where
+  module _ (once : ReadsAsOne) (updater : Updater) (is : read ≡ Ok updater) (seen_left : on.left_at mid (on.moment mid) (on.seen mid)) where
     fine : read ≢ Err DiskFault
     fine e = ok_fault updater (sym is ∙ e)
 
@@ -142,7 +138,7 @@ module _ {D : Type 0} (on : Ghosts D) (boot : ℕ) (few : boot ≤ NUMBER_LIMIT)
     got told = subst (λ (r : Result Updater RecoverFault). IfOk r (λ u. IsLoaded on disk_old u mid)) is (loaded.found told)
 
     held : on.tells mid → (old : Store) → StandsFor (on.seen disk_old) old → Holds on updater mid (session_over old)
-    held told old stands = let l = got told in subst (λ (s : Store). Holds on updater mid (session_over s)) (one_stands (on.seen disk_old) l.store old l.stands stands) l.holds
+    held told old stands = let l = got told in subst (λ (s : Store). Holds on updater mid (session_over s)) (one_stands once (on.seen disk_old) l.store old l.stands stands) l.holds
 
     kept_boot : on.tells mid → (old : Store) → StandsFor (on.seen disk_old) old → old.boot ≡ (tables_of updater).boot
     kept_boot told old stands = boot_shown ((held told old stands).shows (on.seen mid) seen_left)
@@ -176,7 +172,7 @@ module _ {D : Type 0} (on : Ghosts D) (boot : ℕ) (few : boot ≤ NUMBER_LIMIT)
         marked = λ answer. absurd (false_true answer);
         bytes = 0;
         costs = λ told old stands. inl (booted_same old boot (kept_boot told old stands ∙ at), refl);
-        spends = spends_within on 1 0 5 0 disk_old mid _ (omega arith) (omega arith) (read_by (Ok (updater, false)) (ok_fault (updater, false)));
+        spends = spends_within on 1 0 11 0 disk_old mid _ (omega arith) (omega arith) (read_by (Ok (updater, false)) (ok_fault (updater, false)));
       };
     }
 
@@ -203,9 +199,9 @@ module _ {D : Type 0} (on : Ghosts D) (boot : ℕ) (few : boot ≤ NUMBER_LIMIT)
         synced = tt;
         quiet = tt;
         marked = tt;
-        bytes = boot_bytes boot;
+        bytes = entry_cost (Boot boot);
         costs = λ told old stands. boot_costs (on.seen disk_old) boot old few stands;
-        spends = spends_within on 1 0 5 (boot_bytes boot) disk_old mid _ (omega arith) (omega arith) (read_by {X = Updater × Bool} (Err Memory) memory_fault);
+        spends = spends_within on 1 0 11 (entry_cost (Boot boot)) disk_old mid _ (omega arith) (omega arith) (read_by {X = Updater × Bool} (Err Memory) memory_fault);
       };
     }
 
@@ -221,12 +217,26 @@ module _ {D : Type 0} (on : Ghosts D) (boot : ℕ) (few : boot ≤ NUMBER_LIMIT)
       before : (t : ℕ) (image : List ℕ) → t ≤ on.moment disk_old → on.left_at disk_new t image → on.left_at disk_old t image
       before t image le left = loaded.stop.past t image le (keeps.past t image (omega (arith, loaded.stop.later)) left)
 
+      costs_of : on.tells mid → (old : Store) → StandsFor (on.seen disk_old) old → Costs old (booted boot old) keeps.bytes
+      costs_of told old stands = inr (
+        Boot boot,
+        record {
+          tables = tables_of updater;
+          image = on.seen mid;
+          shows = (held told old stands).shows (on.seen mid) seen_left;
+          fits = keeps.fits;
+          has = keeps.has;
+          leads = leads told old stands;
+        },
+        keeps.costs,
+      )
+
       -- what both cost
       both : {X : Type 0} (end : Result X RecoverFault) → (tried ≡ Err step.DiskFault → end ≡ Err DiskFault) → (end ≡ Err DiskFault → tried ≡ Err step.DiskFault)
-          → Spends on 5 (boot_bytes boot) disk_old disk_new (end ≡ Err DiskFault)
-      both end to from = spends_within on (1 + 4) (0 + boot_bytes boot) 5 (boot_bytes boot) disk_old disk_new (end ≡ Err DiskFault) (omega arith) (omega arith)
-          (spends_as on (1 + 4) (0 + boot_bytes boot) disk_old disk_new (tried ≡ Err step.DiskFault) (end ≡ Err DiskFault) to from
-          (spends_then on 1 0 4 (boot_bytes boot) disk_old mid disk_new (tried ≡ Err step.DiskFault)
+          → Spends on 11 keeps.bytes disk_old disk_new (end ≡ Err DiskFault)
+      both end to from = spends_within on (1 + 10) (0 + keeps.bytes) 11 keeps.bytes disk_old disk_new (end ≡ Err DiskFault) (omega arith) (omega arith)
+          (spends_as on (1 + 10) (0 + keeps.bytes) disk_old disk_new (tried ≡ Err step.DiskFault) (end ≡ Err DiskFault) to from
+          (spends_then on 1 0 10 keeps.bytes disk_old mid disk_new (tried ≡ Err step.DiskFault)
           (spends_as on 1 0 disk_old mid (read ≡ Err DiskFault) ⊥ fine (λ no. absurd no) loaded.spends) keeps.spends))
 
       -- it was made durable
@@ -255,8 +265,8 @@ module _ {D : Type 0} (on : Ghosts D) (boot : ℕ) (few : boot ≤ NUMBER_LIMIT)
               synced = omega (arith, marks, loaded.synced fine);
               quiet = λ answer. absurd (true_false answer);
               marked = λ answer. omega (arith, marks, loaded.synced fine);
-              bytes = boot_bytes boot;
-              costs = λ told old stands. boot_costs (on.seen disk_old) boot old few stands;
+              bytes = keeps.bytes;
+              costs = λ told old stands. costs_of (keeps.spends.told told) old stands;
               spends = both (Ok (updater_new, true)) (λ e. absurd (step_ok done (sym ok ∙ e))) (λ e. absurd (ok_fault (updater_new, true) e));
             };
           }
@@ -288,8 +298,8 @@ module _ {D : Type 0} (on : Ghosts D) (boot : ℕ) (few : boot ≤ NUMBER_LIMIT)
           synced = tt;
           quiet = tt;
           marked = tt;
-          bytes = boot_bytes boot;
-          costs = λ told old stands. boot_costs (on.seen disk_old) boot old few stands;
+          bytes = keeps.bytes;
+          costs = λ told old stands. costs_of (keeps.spends.told told) old stands;
           spends = both {X = Updater × Bool} (Err DiskFault) (λ e. refl) (λ e. is);
         };
       }

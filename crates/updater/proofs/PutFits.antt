@@ -1,25 +1,29 @@
 -- A put that is not refused fits the tables.
-use Rattle.std.proofs.Common.{◌≡◌, ◌≤◌, ◌<◌, inl, inr, refl, sym, ap, subst, ℕ, Bool, true, false, cond, not, List, map, length, Option, Some, None, arith}
+use Rattle.std.proofs.Common.{◌≡◌, ◌≤◌, ◌<◌, inr, refl, sym, ap, subst, ℕ, Bool, true, false, cond, not, List, length, Option, Some, None, arith}
 use Rattle.std.specs.Prelude.{IsSomeAnd}
 use Rattle.small_types.specs.declared.room.Room.{Room}
 use Rattle.small_types.specs.declared.limits.TheConstants.{LOCAL_COUNT_LIMIT, LOCAL_NAME_LIMIT}
-use Rattle.small_types.specs.Name.{IsBelowPre, IsName}
+use Rattle.small_types.specs.Name.{IsName}
 use Rattle.manifests.specs.Applications.{is_below_pre}
 use Rattle.machine.specs.DataFiles.{with_named}
+use Rattle.machine.specs.Weight.{IsLight}
+use Rattle.machine.proofs.Lightness.{is_light}
 use Rattle.machine.proofs.Members.{all_in}
 use Rattle.machine.proofs.NamedItems.{sum-with_known, sum-with_named}
 use Rattle.store_state.specs.declared.change.Change.TheVariants as change
 use Rattle.store_state.specs.declared.view.LocalFile.{LocalFile}
 use Rattle.store_state.specs.declared.view.View.{View}
-use Rattle.store_state.specs.Change.{Fits, FitsPut, IsLocal, IsRow, MayPut}
+use Rattle.store_state.specs.Change.{Fits, FitsPut, IsRow, MayPut, effect}
 use Rattle.store_state.specs.Kept.{AreTables}
 use Rattle.store_state.specs.Locals.{local_name, local_named, outside_locals}
 use Rattle.store_state.specs.Tables.{Tables, bare_row}
+use Rattle.table_weight.specs.Laws.{WeighWithData}
+use Rattle.table_weight.specs.Weight.{tables_weight}
 use Rattle.install_plan.proofs.LeasedRows.{row_there}
 use Rattle.updater.specs.declared.putting.Putting.{Putting}
 use Rattle.updater.specs.Putting.{IsPutting, file_of}
 use Rattle.updater.proofs.LeasedData.{bare, bare_none, is_leased, is_row}
-use Rattle.updater.proofs.PutRefused.{outside_bare}
+use Rattle.updater.proofs.PutRefused.{outside_bare, weight_with}
 
 -- how many outside `.pre` one data file is
 abbrev counts : LocalFile → ℕ
@@ -85,3 +89,19 @@ module _ (lease : ℕ) (room : Room) (image name bytes : List ℕ) (tables : Tab
   put_fits file is =
       subst (λ (f : LocalFile). Fits tables (change.Put putting.view f)) (sym is)
       (subst (λ (n : ℕ). Fits tables (change.Put n made)) (sym of.view) fits)
+
+  -- and the tables have room for it
+  leased_light : WeighWithData → FitsPut tables of.row.number made
+      → IsLight room (tables_weight (effect (change.Put of.row.number made) tables))
+  leased_light weigh fit =
+      let weight = weight_with room tables of.row.number name bytes in
+      subst (IsLight room) (sym (weigh tables of.row.number made are fit))
+      (is_light room weight (λ heavy. of.passes.1.1.1.1.0 weight
+      (bare_row of.row, bare lease name room tables of.row of.leased, refl, heavy)))
+
+  pub put_light : WeighWithData → (file : LocalFile) → file ≡ made
+      → IsLight room (tables_weight (effect (change.Put putting.view file) tables))
+  put_light weigh file is =
+      subst (λ (f : LocalFile). IsLight room (tables_weight (effect (change.Put putting.view f) tables))) (sym is)
+      (subst (λ (n : ℕ). IsLight room (tables_weight (effect (change.Put n made) tables))) (sym of.view)
+      (leased_light weigh fits))

@@ -1,173 +1,158 @@
 -- What reading a store finds.
-use Rattle.std.proofs.Common.{◌≡◌, ◌≢◌, ◌↔◌, ◌⊎◌, ◌≤◌, ◌+◌, inl, inr, ℕ, Bool, true, false, List, Option, Some, None, Result, Err, map, refl, sym, ap, subst, ◌∙◌, arith}
-use Rattle.std.specs.Prelude.{IfNone, IfSome, IsTrue}
+use Rattle.std.proofs.Common.{◌≡◌, ◌≢◌, ◌≤◌, ℕ, List, All, Result, Err, length, map, refl, sym, ap, subst, ◌∙◌, arith}
+use Rattle.std.specs.Prelude.{IfOk}
+use Rattle.std.proofs.lemmas.List.Elements.{All-weaker}
+use Rattle.small_types.specs.declared.limits.TheConstants.{BLOCK_LIMIT}
 use Rattle.small_types.specs.declared.room.Room.{Room}
 use Rattle.disks.specs.declared.disk.Disk.{Ghosts}
-use Rattle.disks.specs.Disk.{Only}
-use Rattle.disks.specs.Moments.{LeavesOnly}
-use Rattle.disks.specs.Spends.{Spends}
 use Rattle.disks.proofs.Books.{spends_as}
 use Rattle.machine.specs.Blocks.{used_blocks}
-use Rattle.machine.specs.Shape.{bare_view}
-use Rattle.machine.specs.Weight.{weight_of}
-use Rattle.machine.proofs.Lightness.{no_halves}
-use Rattle.store_log.specs.declared.fault.LogFault.{LogFault}
-use Rattle.store_log.specs.declared.fault.LogFault.TheVariants as log
-use Rattle.store_log.specs.declared.log.Log.{Log}
-use Rattle.store_log.specs.declared.log.Recovered.{Recovered}
-use Rattle.store_log.specs.Log.{IsOpen, NoStore, head_of}
+use Rattle.machine.specs.Shape.{BareView, bare_view}
+use Rattle.machine.specs.Store.{Store}
+use Rattle.machine.specs.Valid.{Valid}
+use Rattle.machine.specs.Weight.{IsLight, weight_of}
+use Rattle.machine.proofs.Members.{all_in, in_all}
+use Rattle.journal.specs.declared.log.Log.{Log}
+use Rattle.store_state.specs.declared.view.LocalFile.{LocalFile}
+use Rattle.store_state.specs.declared.view.View.{View}
+use Rattle.store_state.specs.Change.{IsLocal, IsRow}
+use Rattle.store_state.specs.Kept.{AreTables}
 use Rattle.store_state.specs.Shows.{Shows}
-use Rattle.store_state.specs.Tables.{Tables, bare_row, empty}
+use Rattle.store_state.specs.Stored.{HasLocals, data_bytes}
+use Rattle.store_state.specs.Tables.{Tables, bare_row}
 use Rattle.store_state.proofs.Images.{images_have}
 use Rattle.store_state.proofs.Showing.{shows_same}
-use Rattle.updater.specs.declared.updater.Updater.{Updater}
+use Rattle.table_check.specs.Laws.{OrderedTablesAreOfOrderedStores, OrderedTablesShowAStore}
+use Rattle.table_codec.specs.Laws.{AreEncodable}
+use Rattle.table_weight.specs.Laws.{WeighAsShown}
+use Rattle.table_weight.specs.Weight.{tables_weight}
+use Rattle.table_log.specs.declared.fault.RecoverFault.{RecoverFault as TablesFault}
+use Rattle.table_log.specs.declared.fault.RecoverFault.TheVariants as tables
+use Rattle.table_log.specs.declared.recovery.Opened.{Opened}
+use Rattle.table_log.specs.Laws.{ReadsAsOne}
+use Rattle.table_log.specs.ReadsAs.{IsOpenAs, ReadsAs, ReadsAsNone}
+use Rattle.table_log.specs.Recovers.{HasRoom, Recovers}
 use Rattle.updater.specs.declared.fault.RecoverFault.{RecoverFault}
-use Rattle.updater.specs.declared.fault.RecoverFault.TheVariants.{DiskFault, NotAStore, Memory as OutOfMemory}
+use Rattle.updater.specs.declared.fault.RecoverFault.TheVariants.{DiskFault, NotAStore}
 use Rattle.updater.specs.Loaded.{IsLoaded, Loaded}
-use Rattle.updater.specs.Replay.{Settled, SettleNone, Settles}
-use Rattle.updater.specs.StandsFor.{IsJournal, StandsForNone, Loads}
-use Rattle.updater.specs.Updater.{room_of, tables_of}
-use Rattle.updater.proofs.Changing.{blocks_shown, journal_shown, views_shown}
-use Rattle.updater.proofs.Loading.{loads_same}
-use Rattle.updater.proofs.Standing.{one_journal}
+use Rattle.updater.specs.Shown.{IsKept, Updater}
+use Rattle.updater.specs.StoreTables.{AreOfStore}
+use Rattle.updater.specs.StandsFor.{StandsForNone}
+use Rattle.updater.proofs.Changing.{apps_shown, blocks_shown, views_shown}
+use Rattle.updater.proofs.Keeping.{most_weight}
 
--- what reading a journal to its end does to a disk
-pub record Reads {D : Type 0} (on : Ghosts D) (disk_old disk_new : D) : Type 0 where
-  pub seen : on.seen disk_new ≡ on.seen disk_old
-  pub stop : LeavesOnly on disk_old disk_new (on.left_at disk_old (on.moment disk_old))
-  pub durable : Only (on.seen disk_old) (on.left_at disk_new (on.moment disk_new))
-  pub synced : on.moment disk_old + 1 ≤ on.moment disk_new
-  pub spends : Spends on 1 0 disk_old disk_new ⊥
+-- ---- the store of tables
 
--- a journal whose changes lead to these tables stands for a store that they show, and an updater over them holds it, where
--- its files have room
-pub found_holds : {D : Type 0} (on : Ghosts D) (disk_old : D) (updater : Updater) (disk_new : D) (changes : List (List ℕ)) → IsJournal (room_of updater) changes (on.seen disk_old) → Loads empty changes (tables_of updater) → IsOpen on updater.log (head_of (room_of updater).blocks) changes disk_new → used_blocks (map bare_row (tables_of updater).views) ≤ (room_of updater).blocks → IsLoaded on disk_old updater disk_new
-found_holds on disk_old updater disk_new changes journal loads opened within =
-    let shown = journal_shown (room_of updater) (on.seen disk_old) (tables_of updater) changes journal.store.some journal.store.limit loads in
-    let light = no_halves (room_of updater) (weight_of (map bare_row (tables_of updater).views) (tables_of updater).apps) journal.half in
-    let same : shown.store.room ≡ room_of updater = blocks_shown shown.shows in
-    let shows = subst (λ (n : Room). Shows n (tables_of updater) (on.seen disk_old) shown.store) (sym same) shown.shows in
+-- each image has the data files that tables name
+tables_have : (room : Room) (tables : Tables) (image : List ℕ) → AreTables tables → All (λ (view : View). HasLocals room image view.locals) tables.views
+tables_have room tables image are = in_all (λ (view : View). HasLocals room image view.locals) tables.views (λ view there.
+    All-weaker IsLocal (λ (file : LocalFile). length (data_bytes room image file) ≡ file.length) (λ file is. is.measured) view.locals
+    (all_in IsRow tables.views view are.rows there).locals)
+
+-- a valid store that tables show
+pub record ShowsValid (room : Room) (tables : Tables) (image : List ℕ) : Type 0 where
+  pub store : Store
+  pub shows : Shows room tables image store
+  pub valid : Valid store
+
+-- tables of a store show one
+pub shows_valid : OrderedTablesShowAStore → WeighAsShown → (room : Room) (tables : Tables) (image : List ℕ) → AreTables tables → 1 ≤ room.blocks → AreOfStore room tables → ShowsValid room tables image
+shows_valid show weigh room tables image are some of =
+    let shown = show room tables image are of.ordered some of.few_blocks (tables_have room tables image are) in
     record {
       store = shown.store;
-      stands = record {
-        tables = tables_of updater;
-        reads = record {
-          changes = changes;
-          journal = subst (λ (r : Room). IsJournal r changes (on.seen disk_old)) (sym same) journal;
-          loads = loads;
-        };
-        shows = shows;
-        valid = shown.valid within light;
-      };
-      holds = record {
-        log = record {
-          changes = changes;
-          opened = subst (λ (r : Room). IsOpen on updater.log (head_of r.blocks) changes disk_new) (sym same) opened;
-          half = ap (λ (r : Room). r.half) same ∙ journal.half;
-          loads = loads;
-        };
-        room = sym same;
-        shows = λ image left. shows_same image (images_have shown.store.room (tables_of updater) (on.seen disk_old) image) shows;
-        valid = shown.valid within light;
-        jobs = refl;
-      };
+      shows = shown.shows;
+      valid = shown.valid of.within (subst (IsLight room) (weigh tables are) of.light);
     }
 
--- where the changes lead to no tables whose files have room, the journal stands for no store
-pub none_settled : (image : List ℕ) (room : Room) (changes : List (List ℕ)) → IsJournal room changes image → SettleNone room changes → StandsForNone image
-unfolding SettleNone
-none_settled image room changes journal none store stands =
-    let one = one_journal image room store.room changes stands.reads.changes journal stands.reads.journal in
-    let views : used_blocks (map bare_view store.views) ≡ used_blocks (map bare_row stands.tables.views) = ap used_blocks (views_shown stands.shows) in
-    let within = stands.valid.room in
-    let few : room.blocks ≡ store.room.blocks = ap (λ (r : Room). r.blocks) one.0 in
-    none stands.tables (record {
-      loads = subst (λ (l : List (List ℕ)). Loads empty l stands.tables) (sym one.1) stands.reads.loads;
-      within = omega arith;
+-- and an updater may keep them
+pub kept_of_store : AreEncodable → (opened : Opened) → AreTables opened.state → HasRoom opened → AreOfStore opened.room opened.state → IsKept opened.log opened.room opened.state
+kept_of_store encodable opened are has of =
+    let least = has.limits.least in
+    let most = has.limits.greatest in
+    let light = most_weight opened.room (tables_weight opened.state) (omega (arith, least)) of.light in
+    record {
+      encodable = encodable opened.state are has.fields (omega (arith, light, most));
+      light = of.light;
+      limits = has.limits;
+      half = has.half;
+    }
+
+-- what tables weigh is what the machine says of the store that they show
+weighed : WeighAsShown → (room : Room) (tables : Tables) (image : List ℕ) (store : Store) → AreTables tables → Shows room tables image store → weight_of (map bare_view store.views) store.apps ≡ tables_weight tables
+weighed weigh room tables image store are shows =
+    ap (λ (vs : List BareView). weight_of vs store.apps) (views_shown shows)
+    ∙ ap (weight_of (map bare_row tables.views)) (apps_shown shows)
+    ∙ sym (weigh tables are)
+
+-- other tables are those of no store
+pub of_no_store : ReadsAsOne → OrderedTablesAreOfOrderedStores → WeighAsShown → (image : List ℕ) (room : Room) (tables : Tables) → AreTables tables → 1 ≤ room.blocks → ReadsAs room image tables → (AreOfStore room tables → ⊥) → StandsForNone image
+of_no_store once exact weigh image room tables are some reads none store stands =
+    let one = once image store.room room stands.tables tables stands.reads reads in
+    let shows : Shows room tables image store =
+    subst (λ (t : Tables). Shows room t image store) one.1 (subst (λ (r : Room). Shows r stands.tables image store) one.0 stands.shows) in
+    let few = subst (λ (r : Room). r.blocks ≤ BLOCK_LIMIT) one.0 stands.valid.ordered.few_blocks in
+    let used = subst (λ (r : Room). used_blocks (map bare_view store.views) ≤ r.blocks) one.0 stands.valid.room in
+    let light = subst (λ (r : Room). IsLight r (weight_of (map bare_view store.views) store.apps)) one.0 stands.valid.light in
+    none (record {
+      few_blocks = few;
+      within = subst (λ (vs : List BareView). used_blocks vs ≤ room.blocks) (views_shown shows) used;
+      light = subst (IsLight room) (weighed weigh room tables image store are shows) light;
+      ordered = (exact room tables image store are some few shows).1 stands.valid.ordered;
     })
 
--- ---- what the changes lead to
+-- what reads as no tables stands for no store
+pub of_none : (image : List ℕ) → ReadsAsNone image → StandsForNone image
+of_none image none store stands = none store.room stands.tables stands.reads
 
--- the tables that texts led to
-pub settled_from : (loaded : Option Tables) (room : Room) (tables : Tables) (texts : List (List ℕ)) → IfSome loaded (λ t. Loads empty texts t) → loaded ≡ Some tables → used_blocks (map bare_row tables.views) ≤ room.blocks → Settles room texts tables
-settled_from loaded room tables texts loads is within = record { loads = (let at = rw is at loads in at); within = within }
-
--- texts that lead nowhere settle nowhere
-pub unloaded : (room : Room) (texts : List (List ℕ)) → ((tables : Tables) → Loads empty texts tables → ⊥) → SettleNone room texts
-unfolding SettleNone
-unloaded room texts none tables settles = none tables settles.loads
-
--- nor do those that lead to files without room
-pub overfull : (loaded : Option Tables) (room : Room) (tables : Tables) (texts : List (List ℕ)) → IfSome loaded (λ t. Loads empty texts t) → loaded ≡ Some tables → (used_blocks (map bare_row tables.views) ≤ room.blocks → ⊥) → SettleNone room texts
-unfolding SettleNone
-overfull loaded room tables texts loads is over other settles =
-    let at = rw is at loads in
-    let same : other ≡ tables = loads_same empty other tables texts settles.loads at in
-    over (subst (λ (t : Tables). used_blocks (map bare_row t.views) ≤ room.blocks) same settles.within)
-
--- ---- by what the calls answered
-
-pub unloaded_by : (loaded : Option Tables) (room : Room) (texts : List (List ℕ)) → IfNone loaded ((tables : Tables) → Loads empty texts tables → ⊥) → loaded ≡ None → SettleNone room texts
-unloaded_by loaded room texts none is = unloaded room texts (subst (λ (o : Option Tables). IfNone o ((tables : Tables) → Loads empty texts tables → ⊥)) is none)
-
-pub overfull_by : (loaded : Option Tables) (room : Room) (tables : Tables) (texts : List (List ℕ)) (within : Bool) → IfSome loaded (λ t. Loads empty texts t) → loaded ≡ Some tables → IsTrue within ↔ (used_blocks (map bare_row tables.views) ≤ room.blocks) → within ≡ false → SettleNone room texts
-overfull_by loaded room tables texts within loads is tests over =
-    overfull loaded room tables texts loads is (λ few. (let e : within ≡ true = tests.1 few in let f : within ≡ false = over in absurd cc))
-
-pub settled_by : (loaded : Option Tables) (room : Room) (tables : Tables) (texts : List (List ℕ)) (within : Bool) → IfSome loaded (λ t. Loads empty texts t) → loaded ≡ Some tables → IsTrue within ↔ (used_blocks (map bare_row tables.views) ≤ room.blocks) → within ≡ true → Settles room texts tables
-settled_by loaded room tables texts within loads is tests holds = settled_from loaded room tables texts loads is (tests.0 holds)
-
--- ---- openings that end without a store
-
-err_is : {X : Type 0} {fault told : RecoverFault} → ◌≡◌ {A = Result X RecoverFault} (Err fault) (Err told) → fault ≡ told
-err_is e = cc
+-- ---- the whole reading
 
 module _ {D : Type 0} (on : Ghosts D) (disk_old disk_new : D) where
-  -- all was read, and there is no store
-  pub unfound : (fault : RecoverFault) → fault ≢ DiskFault → (on.tells disk_new → fault ≡ NotAStore → StandsForNone (on.seen disk_old)) → Reads on disk_old disk_new → Loaded on disk_old (Err fault) disk_new
-  unfound fault other none reads = record {
-    found = λ told. tt;
-    not_a_store = λ told e. none told (err_is e);
-    seen = reads.seen;
-    stop = reads.stop;
-    durable = λ fine. reads.durable;
-    synced = λ fine. reads.synced;
-    spends = spends_as on 1 0 disk_old disk_new ⊥ _ (λ no. absurd no) (λ e. other (err_is e)) reads.spends;
-  }
+  -- the store is held
+  pub store_found : (log : Log) (room : Room) (tables : Tables) → ShowsValid room tables (on.seen disk_old) → ReadsAs room (on.seen disk_old) tables → IsOpenAs on log room tables disk_new → IsLoaded on disk_old (record { log = log; room = room; state = tables }) disk_new
+  store_found log room tables shown reads opened =
+      let same = sym (blocks_shown shown.shows) in
+      record {
+        store = shown.store;
+        stands = record {
+          tables = tables;
+          reads = subst (λ (r : Room). ReadsAs r (on.seen disk_old) tables) same reads;
+          shows = subst (λ (r : Room). Shows r tables (on.seen disk_old) shown.store) same shown.shows;
+          valid = shown.valid;
+        };
+        holds = record {
+          log = subst (λ (r : Room). IsOpenAs on log r tables disk_new) same opened;
+          room = same;
+          shows = λ image left. subst (λ (r : Room). Shows r tables image shown.store) same (shows_same image (images_have room tables (on.seen disk_old) image) shown.shows);
+          valid = shown.valid;
+          jobs = refl;
+        };
+      }
 
-  -- the disk failed
-  pub faulted : {fault : Type 0} → fault → on.seen disk_new ≡ on.seen disk_old → LeavesOnly on disk_old disk_new (on.left_at disk_old (on.moment disk_old)) → Spends on 1 0 disk_old disk_new fault → Loaded on disk_old (Err DiskFault) disk_new
-  faulted {fault = fault} failed seen stop spends = record {
-    found = λ told. tt;
-    not_a_store = λ told e. absurd (let clash : DiskFault ≡ NotAStore = err_is e in cc);
-    seen = seen;
-    stop = stop;
-    durable = λ fine. absurd (fine refl);
-    synced = λ fine. absurd (fine refl);
-    spends = spends_as on 1 0 disk_old disk_new fault _ (λ f. refl) (λ e. failed) spends;
-  }
+  module _ (read : Result Opened TablesFault) (recovers : Recovers on disk_old read disk_new) where
+    -- all was read
+    pub all_read : (result : Result Updater RecoverFault) → read ≢ Err tables.DiskFault → result ≢ Err DiskFault → (on.tells disk_new → IfOk result (λ updater. IsLoaded on disk_old updater disk_new)) → (on.tells disk_new → result ≡ Err NotAStore → StandsForNone (on.seen disk_old)) → Loaded on disk_old result disk_new
+    all_read result whole fine found none = record {
+      found = found;
+      not_a_store = none;
+      seen = recovers.seen;
+      stop = recovers.stop;
+      durable = λ other. recovers.durable whole;
+      synced = λ other. recovers.synced whole;
+      spends = spends_as on 1 0 disk_old disk_new _ _ (λ e. absurd (whole e)) (λ e. absurd (fine e)) recovers.spends;
+    }
 
--- what is no journal stands for no store
-pub no_journal : (image : List ℕ) → NoStore image → StandsForNone image
-no_journal image none store stands = none store.room.blocks stands.reads.changes stands.reads.journal.store
-
--- the only fault that is left
-pub the_fault : (fault : LogFault) → (fault ≡ log.DiskFault) ⊎ ((fault ≡ log.NotALog) ⊎ (fault ≡ log.Memory)) → fault ≢ log.NotALog → fault ≢ log.Memory → fault ≡ log.DiskFault
-the_fault fault (inl is) journal memory = is
-the_fault fault (inr (inl is)) journal memory = absurd (journal is)
-the_fault fault (inr (inr is)) journal memory = absurd (memory is)
-
-module _ {D : Type 0} (on : Ghosts D) (disk_old disk_new : D) (room : Room) (changes : List (List ℕ)) where
-  -- the journal was read, and its changes lead to no tables
-  pub unsettled : (fault : RecoverFault) → Settled room changes (Err fault) → (on.tells disk_new → IsJournal room changes (on.seen disk_old)) → Reads on disk_old disk_new → Loaded on disk_old (Err fault) disk_new
-  unsettled fault settled journal reads = unfound on disk_old disk_new fault (never fault settled) (λ told is. by fault settled is told) reads
-    where
-      by : (f : RecoverFault) → Settled room changes (Err f) → f ≡ NotAStore → on.tells disk_new → StandsForNone (on.seen disk_old)
-      by NotAStore none is told = none_settled (on.seen disk_old) room changes (journal told) none
-      by DiskFault none is told = absurd none
-      by OutOfMemory none is told = absurd cc
-
-      never : (f : RecoverFault) → Settled room changes (Err f) → f ≡ DiskFault → ⊥
-      never NotAStore none is = absurd cc
-      never DiskFault none is = none
-      never OutOfMemory none is = absurd cc
+    -- the disk failed
+    pub disk_failed : read ≡ Err tables.DiskFault → Loaded on disk_old (Err DiskFault) disk_new
+    disk_failed is = record {
+      found = λ told. tt;
+      not_a_store = λ told e. absurd (let clash : DiskFault ≡ NotAStore = err_is e in cc);
+      seen = recovers.seen;
+      stop = recovers.stop;
+      durable = λ fine. absurd (fine refl);
+      synced = λ fine. absurd (fine refl);
+      spends = spends_as on 1 0 disk_old disk_new _ _ (λ f. refl) (λ e. is) recovers.spends;
+    }
+      where
+        err_is : {fault told : RecoverFault} → ◌≡◌ {A = Result Updater RecoverFault} (Err fault) (Err told) → fault ≡ told
+        err_is e = cc

@@ -18,7 +18,8 @@ use Rattle.machine.specs.Machine.{Answers, refusals}
 use Rattle.machine.specs.Minimums.{minimum_of, raised}
 use Rattle.machine.specs.RequireRow.{required}
 use Rattle.machine.specs.Rows.{PassesAll}
-use Rattle.machine.specs.Store.{Session, Store, plain_room}
+use Rattle.machine.specs.Shape.{Shape, shape_of}
+use Rattle.machine.specs.Store.{Session, Store}
 use Rattle.machine.specs.Valid.{Valid}
 use Rattle.machine.proofs.Raising.{minimum_of-required}
 use Rattle.machine.proofs.Shortness.{short_key}
@@ -89,8 +90,8 @@ room_from key apps passes new = by (cases_lt (length apps) APPLICATION_LIMIT)
     by (inr full) = absurd (passes (new, full))
 
 -- it fits where the row's refusals are passed
-pub required_fits : (now : ℕ) (tables : Tables) (key : Key) (version : Version) → IsKey key → IsVersion version → ((room : Room) → room.half ≡ 0 → PassesAll (refusals now [] (table_shape room tables) (command.Require key version))) → Fits tables (change.Require key version)
-required_fits now tables key version is_key is_version passes = (short_key is_key, is_version, room_from key tables.apps (passes (plain_room 0) refl).0)
+pub required_fits : (now : ℕ) (tables : Tables) (key : Key) (version : Version) → IsKey key → IsVersion version → (room : Room) → PassesAll (refusals now [] (table_shape room tables) (command.Require key version)) → Fits tables (change.Require key version)
+required_fits now tables key version is_key is_version room passes = (short_key is_key, is_version, room_from key tables.apps passes.0)
 
 -- ---- the effect of the row
 
@@ -108,11 +109,15 @@ module _ (now : ℕ) (key : Key) (version : Version) (room : Room) (tables : Tab
     served = tt;
   }
 
-  pub required_does : room.half ≡ 0 → Fits tables (change.Require key version) → Valid old.store → Raises key version tables.apps → Does now [] (command.Require key version) before after (change.Require key version) tables old (says.Minimum version)
-  required_does plain fits valid raises = record {
+  -- no refusal of the session holds
+  passed : PassesAll (refusals now [] (shape_of old) (command.Require key version))
+  passed = subst (λ (s : Shape). PassesAll (refusals now [] s (command.Require key version))) (sym (shape_shown old no_jobs shows)) passes
+
+  pub required_does : Fits tables (change.Require key version) → Valid old.store → Raises key version tables.apps → Does now [] (command.Require key version) before after (change.Require key version) tables old (says.Minimum version)
+  required_does fits valid raises = record {
     new = record old { store = record old.store { apps = required key version old.store.apps } };
     step = answers_with version raises.minimum;
-    leads = required_leads room tables image old.store key version shows plain fits valid;
+    leads = required_leads room tables image old.store key version shows fits passed.1.0 valid;
     other = λ same. raises.other (subst (λ (apps : List AppState). required key version apps ≡ apps) (apps_shown shows) (ap (λ (s : Store). s.apps) same));
     served = tt;
   }

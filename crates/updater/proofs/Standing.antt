@@ -1,5 +1,6 @@
 -- What an updater that holds a store says of images.
-use Rattle.std.proofs.Common.{◌≡◌, ◌∙◌, ℕ, List, [], inl, refl, sym, ap, subst}
+use Rattle.std.proofs.Common.{◌≡◌, ◌∙◌, ◌≤◌, ℕ, List, [], inl, sym, ap, subst}
+use Rattle.small_types.specs.declared.limits.TheConstants.{BLOCK_LIMIT}
 use Rattle.small_types.specs.declared.room.Room.{Room}
 use Rattle.disks.specs.declared.disk.Disk.{Ghosts}
 use Rattle.disks.specs.Moments.{Each, LeavesOnly}
@@ -7,31 +8,25 @@ use Rattle.disks.proofs.MomentLemmas.{started}
 use Rattle.machine.specs.Store as stores
 use Rattle.machine.specs.Store.{Session, Store}
 use Rattle.machine.specs.Valid.{Valid}
-use Rattle.machine.specs.Weight.{weight_of}
 use Rattle.machine.proofs.Keeping.{empty_valid}
-use Rattle.machine.proofs.Lightness.{no_halves}
-use Rattle.store_log.proofs.Store.{unique}
+use Rattle.machine.proofs.Lightness.{least_light}
+use Rattle.journal.specs.Layout.{AreLimits}
 use Rattle.store_state.specs.Shows.{Shows}
 use Rattle.store_state.specs.Tables.{Tables, empty}
 use Rattle.store_state.proofs.Showing.{one_shown, shows_empty}
-use Rattle.updater.specs.declared.updater.Updater.{Updater}
-use Rattle.updater.specs.StandsFor.{IsJournal, Loads, StandsFor, StandsForEither}
-use Rattle.updater.specs.Updater.{Holds, IsOpenAs, tables_of}
-use Rattle.updater.proofs.Loading.{loads_same}
+use Rattle.table_log.specs.Laws.{ReadsAsOne}
+use Rattle.table_log.specs.ReadsAs.{IsOpenAs, ReadsAs}
+use Rattle.table_log.proofs.Images.{reads_each}
+use Rattle.updater.specs.Shown.{Updater}
+use Rattle.updater.specs.StandsFor.{StandsFor, StandsForEither}
+use Rattle.updater.specs.Updater.{Holds, tables_of}
 
 module _ {D : Type 0} (on : Ghosts D) (updater : Updater) (disk : D) where
   -- each image that a stop may leave now stands for the store
   pub stored_stands : (session : Session) → Holds on updater disk session → Each on disk (λ image. StandsFor image session.store)
   stored_stands session holds image left = record {
     tables = tables_of updater;
-    reads = record {
-      changes = holds.log.changes;
-      journal = record {
-        store = record { some = holds.valid.ordered.some_blocks; limit = holds.valid.ordered.few_blocks; log = holds.log.opened.each image left };
-        half = holds.log.half;
-      };
-      loads = holds.log.loads;
-    };
+    reads = reads_each on updater.log session.store.room (tables_of updater) disk holds.log image left;
     shows = holds.shows image left;
     valid = holds.valid;
   }
@@ -50,30 +45,19 @@ module _ {D : Type 0} (on : Ghosts D) (updater : Updater) (disk : D) where
     jobs = none;
   }
 
--- a room is told by its two numbers
-pub room_is : (a b : Room) → a.blocks ≡ b.blocks → a.half ≡ b.half → a ≡ b
-room_is a b blocks half = ap (λ (n : ℕ). record { blocks = n; half = a.half }) blocks ∙ ap (λ (n : ℕ). record { blocks = b.blocks; half = n }) half
-
--- bytes are a journal of one room, and of one list of changes
-pub one_journal : (image : List ℕ) (a b : Room) (before after : List (List ℕ)) → IsJournal a before image → IsJournal b after image → (a ≡ b) × (before ≡ after)
-one_journal image a b before after first second =
-    let one = unique image a.blocks b.blocks before after first.store second.store in
-    (room_is a b one.0 (first.half ∙ sym second.half), one.1)
-
 -- bytes stand for one store
-pub one_stands : (image : List ℕ) (a b : Store) → StandsFor image a → StandsFor image b → a ≡ b
-one_stands image a b first second =
-    let one = one_journal image a.room b.room first.reads.changes second.reads.changes first.reads.journal second.reads.journal in
-    let tables : first.tables ≡ second.tables = loads_same empty first.tables second.tables second.reads.changes (subst (λ (l : List (List ℕ)). Loads empty l first.tables) one.1 first.reads.loads) second.reads.loads in
+pub one_stands : ReadsAsOne → (image : List ℕ) (a b : Store) → StandsFor image a → StandsFor image b → a ≡ b
+one_stands once image a b first second =
+    let one = once image a.room b.room first.tables second.tables first.reads second.reads in
     let shows : Shows b.room second.tables image a =
-    subst (λ (t : Tables). Shows b.room t image a) tables (subst (λ (n : Room). Shows n first.tables image a) one.0 first.shows) in
+    subst (λ (t : Tables). Shows b.room t image a) one.1 (subst (λ (r : Room). Shows r first.tables image a) one.0 first.shows) in
     one_shown b.room second.tables image a b shows second.shows
 
--- a new journal stands for the empty store
-pub new_stands : (image : List ℕ) (room : Room) → IsJournal room [] image → StandsFor image (stores.empty room)
-new_stands image room journal = record {
+-- an image that reads as the empty tables stands for the empty store
+pub new_stands : (image : List ℕ) (room : Room) → ReadsAs room image empty → room.blocks ≤ BLOCK_LIMIT → AreLimits room.blocks room.half → StandsFor image (stores.empty room)
+new_stands image room reads few limits = record {
   tables = empty;
-  reads = record { changes = []; journal = journal; loads = refl };
+  reads = reads;
   shows = shows_empty room image;
-  valid = empty_valid room journal.store.some journal.store.limit (no_halves room (weight_of [] []) journal.half);
+  valid = empty_valid room limits.some few (least_light room (λ some. limits.least));
 }

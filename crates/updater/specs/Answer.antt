@@ -3,8 +3,8 @@ use Rattle.std.specs.Prelude.{◌≡◌, Result, Ok, Err}
 use Rattle.outside.specs.declared.failed.Failed.{Failed}
 use Rattle.machine.specs.declared.reply.Reply.{Reply}
 use Rattle.machine.specs.declared.reply.Reply.TheVariants as says
-use Rattle.updater.specs.declared.fault.StepFault.{StepFault}
-use Rattle.updater.specs.declared.fault.StepFault.TheVariants.{Memory, DiskFault}
+use Rattle.table_log.specs.declared.fault.StepFault.{StepFault}
+use Rattle.table_log.specs.declared.fault.StepFault.TheVariants.{Memory, DiskFault}
 
 -- with its reply, with want of memory, or as the disk failed
 abbrev pub IsAnswer : {T : Type 0} → Reply → Result T StepFault → Result Reply Failed → Type 0

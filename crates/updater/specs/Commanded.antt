@@ -22,7 +22,7 @@ use Rattle.machine.specs.Sound.{Sound}
 use Rattle.machine.specs.Store.{Session, Store}
 use Rattle.machine.specs.Views.{View}
 use Rattle.store_state.specs.Tables.{table_shape}
-use Rattle.updater.specs.declared.updater.Updater.{Updater}
+use Rattle.updater.specs.Shown.{Updater}
 use Rattle.updater.specs.Costs.{Costs}
 use Rattle.updater.specs.StandsFor.{StandsForEither}
 use Rattle.updater.specs.Updater.{Holds, room_of, tables_of}

@@ -9,9 +9,11 @@ pub mod MakesDurable
 pub mod Moments
 pub mod Opened
 pub mod Putting
-pub mod Replay
 pub mod Requirement
+pub mod Shown
 pub mod Skipping
+pub mod StoreTables
 pub mod StandsFor
+pub mod StepCosts
 pub mod Start
 pub mod Updater

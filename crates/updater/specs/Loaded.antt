@@ -7,7 +7,7 @@ use Rattle.disks.specs.Spends.{Spends}
 use Rattle.machine.specs.Store.{Store, session_over}
 use Rattle.updater.specs.declared.fault.RecoverFault.{RecoverFault}
 use Rattle.updater.specs.declared.fault.RecoverFault.TheVariants.{NotAStore, DiskFault}
-use Rattle.updater.specs.declared.updater.Updater.{Updater}
+use Rattle.updater.specs.Shown.{Updater}
 use Rattle.updater.specs.StandsFor.{StandsFor, StandsForNone}
 use Rattle.updater.specs.Updater.{Holds}
 

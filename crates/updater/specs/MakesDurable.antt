@@ -1,21 +1,32 @@
 -- The durable step: a change is made in the tables and in the journal, or not at all.
-use Rattle.std.specs.Prelude.{◌≡◌, ◌+◌, ◌≤◌, ℕ, List, length, Result, Err, OnOk}
+use Rattle.std.specs.Prelude.{◌≡◌, ◌+◌, ◌≤◌, ℕ, List, Result, Err, OnOk}
 use Rattle.disks.specs.declared.disk.Disk.{Ghosts}
 use Rattle.disks.specs.Moments.{LeavesOnly}
 use Rattle.disks.specs.Spends.{Spends}
 use Rattle.machine.specs.Store.{Session, Store}
 use Rattle.machine.specs.Valid.{Valid}
-use Rattle.store_log.specs.declared.piece.TheConstants.{AROUND}
-use Rattle.record_codec.specs.Codec.{IsChange, change_text}
+use Rattle.machine.specs.Weight.{IsLight}
+use Rattle.record_codec.specs.Codec.{IsChange}
 use Rattle.store_state.specs.declared.change.Change.{Change}
-use Rattle.store_state.specs.Change.{Fits}
+use Rattle.store_state.specs.Change.{Fits, effect}
 use Rattle.store_state.specs.Tables.{Tables}
+use Rattle.table_weight.specs.Weight.{tables_weight}
+use Rattle.table_codec.specs.Laws.{IsShortPut}
 use Rattle.install_plan.specs.LeadsIn.{LeadsIn}
-use Rattle.updater.specs.declared.fault.StepFault.{StepFault}
-use Rattle.updater.specs.declared.fault.StepFault.TheVariants.{Memory, DiskFault}
-use Rattle.updater.specs.declared.updater.Updater.{Updater}
+use Rattle.table_log.specs.declared.fault.StepFault.{StepFault}
+use Rattle.table_log.specs.declared.fault.StepFault.TheVariants.{Memory, DiskFault}
+use Rattle.updater.specs.Shown.{Updater}
 use Rattle.updater.specs.StandsFor.{StandsForEither}
-use Rattle.updater.specs.Updater.{Holds, tables_of}
+use Rattle.updater.specs.StepCosts.{CostsOf}
+use Rattle.updater.specs.Updater.{Holds, room_of, tables_of}
+
+-- An updater may make the change: it fits the tables and has an encoding, and the changed tables
+-- have room.
+pub record MayKeep (updater : Updater) (change : Change) : Type 0 where
+  pub fits : Fits (tables_of updater) change
+  pub has : IsChange change
+  pub short : IsShortPut change
+  pub light : IsLight (room_of updater) (tables_weight (effect change (tables_of updater)))
 
 -- The change leads from tables that show the old store to tables that show the new one, which is
 -- valid.
@@ -24,8 +35,7 @@ pub record LeadsBetween (change : Change) (tables : Tables) (old new : Store) : 
   pub valid : Valid new
 
 -- What making a change durable does, for any session and any store between which it leads. It
--- writes at most the change's encoding with the log's own bytes around it. For want of memory it
--- does nothing.
+-- writes at most what the change costs. For want of memory it does nothing.
 pub record MakesDurable {D T : Type 0} (on : Ghosts D) (change : Change)
     (updater_old : Updater) (disk_old : D) (result : Result T StepFault)
     (updater_new : Updater) (disk_new : D) : Type 0 where
@@ -43,5 +53,6 @@ pub record MakesDurable {D T : Type 0} (on : Ghosts D) (change : Change)
       → on.left_at disk_new t image → on.left_at disk_old t image
   pub memory : result ≡ Err Memory → (updater_new ≡ updater_old) × (disk_new ≡ disk_old)
   pub marked : OnOk result (on.moment disk_old + 1 ≤ on.moment disk_new)
-  pub spends : Spends on 4 (AROUND + length (change_text change)) disk_old disk_new
-      (result ≡ Err DiskFault)
+  pub bytes : ℕ
+  pub costs : CostsOf change (tables_of updater_old) bytes
+  pub spends : Spends on 10 bytes disk_old disk_new (result ≡ Err DiskFault)

@@ -5,7 +5,7 @@ use Rattle.disks.specs.Spends.{Spends}
 use Rattle.machine.specs.Store.{Store, booted, session_over}
 use Rattle.updater.specs.declared.fault.RecoverFault.{RecoverFault}
 use Rattle.updater.specs.declared.fault.RecoverFault.TheVariants.{NotAStore, DiskFault, Memory}
-use Rattle.updater.specs.declared.updater.Updater.{Updater}
+use Rattle.updater.specs.Shown.{Updater}
 use Rattle.updater.specs.Costs.{Costs}
 use Rattle.updater.specs.Moments.{LeavesSince, LeavesSinceOrNot}
 use Rattle.updater.specs.StandsFor.{StandsFor, StandsForNone, StandsForEither}
@@ -56,7 +56,7 @@ pub record OpeningSpends {D : Type 0} (on : Ghosts D) (boot : ℕ) (disk_old : D
       → Costs old (booted boot old) bytes
   -- What the disk tells afterwards it told before. Its count of faults rises exactly where it
   -- failed.
-  pub spends : Spends on 5 bytes disk_old disk_new (result ≡ Err DiskFault)
+  pub spends : Spends on 11 bytes disk_old disk_new (result ≡ Err DiskFault)
 
 pub record Opened {D : Type 0} (on : Ghosts D) (boot : ℕ) (disk_old : D)
     (result : Result (Updater × Bool) RecoverFault) (disk_new : D) : Type 0 where

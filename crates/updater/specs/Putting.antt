@@ -1,7 +1,7 @@
 -- What putting a data file comes to where it is not refused.
 use Rattle.std.specs.Prelude.{◌≡◌, ◌≢◌, ℕ, true, false, List, length, Option, Some}
 use Rattle.small_types.specs.declared.room.Room.{Room}
-use Rattle.machine.specs.PutRow.{place_refusals}
+use Rattle.machine.specs.PutRow.{put_refusals}
 use Rattle.machine.specs.Rows.{PassesAll}
 use Rattle.store_state.specs.declared.view.LocalFile.{LocalFile}
 use Rattle.store_state.specs.declared.view.View.{View}
@@ -11,11 +11,11 @@ use Rattle.install_plan.specs.Held.{held_of}
 use Rattle.updater.specs.declared.putting.Putting.{Putting}
 use Rattle.updater.specs.DataFiles.{bytes_named}
 
--- No refusal holds but that the tables would have no room, and the view is the leased one. The image
--- has the bytes there under the name already, or it has not.
+-- No refusal holds, and the view is the leased one. The image has the bytes there under the name
+-- already, or it has not.
 pub record IsPutting (room : Room) (image : List ℕ) (lease : ℕ) (name bytes : List ℕ)
     (tables : Tables) (putting : Putting) : Type 0 where
-  pub passes : PassesAll (place_refusals lease name bytes (table_shape room tables))
+  pub passes : PassesAll (put_refusals lease name bytes (table_shape room tables))
   pub row : View
   pub leased : leased_row lease tables ≡ Some row
   pub view : putting.view ≡ row.number

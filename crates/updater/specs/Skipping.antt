@@ -1,5 +1,5 @@
 -- What skipping the offer of an application comes to.
-use Rattle.std.specs.Prelude.{◌≡◌, ◌≢◌, ℕ, Bool, true, false, [], slice_get, Option, Some, None}
+use Rattle.std.specs.Prelude.{◌≡◌, ◌≢◌, ℕ, true, false, [], slice_get, Option, Some, None}
 use Rattle.small_types.specs.declared.room.Room.{Room}
 use Rattle.identity.specs.declared.key.Key.{Key}
 use Rattle.identity.specs.declared.version.Version.{Version}

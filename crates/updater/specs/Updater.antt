@@ -1,16 +1,14 @@
 -- Which store an updater holds.
-use Rattle.std.specs.Prelude.{◌≡◌, ℕ, List, []}
+use Rattle.std.specs.Prelude.{◌≡◌, []}
 use Rattle.small_types.specs.declared.room.Room.{Room}
 use Rattle.disks.specs.declared.disk.Disk.{Ghosts}
 use Rattle.disks.specs.Moments.{Each}
 use Rattle.machine.specs.Store.{Session}
 use Rattle.machine.specs.Valid.{Valid}
-use Rattle.store_log.specs.declared.log.Log.{Log}
-use Rattle.store_log.specs.Log.{IsOpen, head_of}
-use Rattle.store_state.specs.Tables.{Tables, empty}
+use Rattle.store_state.specs.Tables.{Tables}
 use Rattle.store_state.specs.Shows.{Shows}
-use Rattle.updater.specs.declared.updater.Updater.{Updater}
-use Rattle.updater.specs.StandsFor.{Loads}
+use Rattle.table_log.specs.ReadsAs.{IsOpenAs}
+use Rattle.updater.specs.Shown.{Updater}
 
 -- its tables, as `state` shows them
 abbrev pub tables_of : Updater → Tables
@@ -19,15 +17,6 @@ tables_of updater = updater.state
 -- the room that it keeps
 abbrev pub room_of : Updater → Room
 room_of updater = updater.room
-
--- The log on the disk is open behind changes that lead to these tables, on a journal of this room.
--- Each stop now leaves such a journal.
-pub record IsOpenAs {D : Type 0} (on : Ghosts D) (log : Log) (room : Room) (tables : Tables)
-    (disk : D) : Type 0 where
-  pub changes : List (List ℕ)
-  pub opened : IsOpen on log (head_of room.blocks) changes disk
-  pub half : room.half ≡ 0
-  pub loads : Loads empty changes tables
 
 -- The updater holds the session's store on the disk. Its log is open as its tables, on a journal of
 -- the store's room, which it keeps, and with each image that a stop leaves now the tables show the

@@ -6,14 +6,13 @@ mod fault;
 mod going_back;
 mod laws;
 mod leased;
-mod piece;
 mod putting;
 mod refusal;
-mod replay;
 mod requirement;
 mod rows;
 mod skipping;
 mod start;
+mod store_tables;
 mod updater;
 
 pub use fault::RecoverFault;

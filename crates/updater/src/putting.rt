@@ -19,6 +19,7 @@ use small_types::limits::{BLOCK_SIZE, LOCAL_COUNT_LIMIT, LOCAL_NAME_LIMIT};
 use small_types::{Bytes, CopyFault, Duplicate, Limit, Name, Room};
 use std::alloc::Global;
 use store_state::{LocalFile, StoreState, View};
+use table_weight::{table_full, weight_with_data};
 
 /// A data file that may be put into a view.
 #[derive(Clone, Copy, Debug)]
@@ -101,6 +102,10 @@ pub(crate) fn putting_of(
     let free = state.free_blocks(room);
     if free < need {
         return Err(Reply::Full { need, free });
+    }
+    let length = bytes.as_slice().len() as u64;
+    if let Some(reply) = table_full(room, weight_with_data(state, view.number, name, length)) {
+        return Err(reply);
     }
     Ok(Putting {
         view: view.number,

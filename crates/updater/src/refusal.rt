@@ -11,30 +11,32 @@ ghost use Rattle.install_plan.specs.Checks.{is_missing};
 
 use identity::Key;
 use machine::Reply;
-use small_types::Limit;
 use small_types::limits::APPLICATION_LIMIT;
+use small_types::{Limit, Room};
 use store_state::StoreState;
+use table_weight::{table_full, weight_with_key};
 
-/// The refusal of `require` that the tables give, whatever their number of blocks, where the journal
-/// has no halves.
-pub(crate) fn require_refusal(state: &StoreState, key: &Key) -> Option<Reply>
-    ensures none { result ≡ None → (now : ℕ) (room : Room) (version : Version)
-        → room.half ≡ 0 → PassesAll (refusals now [] (table_shape room state.now)
+/// The refusal of `require` that the tables give. It takes no memory.
+pub(crate) fn require_refusal(state: &StoreState, room: Room, key: &Key) -> Option<Reply>
+    ensures none { result ≡ None → (now : ℕ) (version : Version)
+        → PassesAll (refusals now [] (table_shape room state.now)
         (command.Require key.now version)) }
-    ensures some { (now : ℕ) (room : Room) (version : Version) (old : Session)
+    ensures some { (now : ℕ) (version : Version) (old : Session)
         → IfSome result (λ reply. Refuses (refusals now [] (table_shape room state.now)
         (command.Require key.now version)) old reply old) }
     ensures still { (now : ℕ) → IfSome result (λ reply. moment_after now (Some reply) ≡ now) }
     ensures no_target { IfSome result (λ reply. is_missing reply ≡ false) }
 {
-    let count = state.count();
-    if count >= APPLICATION_LIMIT && state.entry(key).is_none() {
+    if let Some(_) = state.entry(key) {
+        return None;
+    }
+    if state.count() >= APPLICATION_LIMIT {
         return Some(Reply::TooMany {
             what: Limit::Applications,
             limit: APPLICATION_LIMIT as u64,
         });
     }
-    None
+    table_full(room, weight_with_key(state, key))
 }
 
 /// The refusal of `finish` that the tables give, whatever their number of blocks. It takes no

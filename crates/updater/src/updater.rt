@@ -12,10 +12,11 @@ ghost use Rattle.machine.specs.Rows.{PassesAll};
 ghost use Rattle.machine.specs.Shape.{Shape, bare_view};
 ghost use Rattle.machine.specs.Store.{Store};
 ghost use Rattle.machine.specs.Valid.{Valid};
+ghost use Rattle.machine.specs.Weight.{IsLight};
 ghost use Rattle.machine.specs.Words.{IsCommand, IsGroup};
 ghost use Rattle.record_codec.specs.Codec.{IsChange};
 ghost use Rattle.store_state.specs.declared.change.Change.TheVariants as change;
-ghost use Rattle.store_state.specs.Change.{Fits};
+ghost use Rattle.store_state.specs.Change.{Fits, effect};
 ghost use Rattle.store_state.specs.Shows.{Shows};
 ghost use Rattle.store_state.specs.Tables.{table_shape};
 ghost use Rattle.updater.specs.Answer.{IsAnswer};
@@ -23,36 +24,54 @@ ghost use Rattle.updater.specs.Requirement.{Raises};
 
 use crate::RecoverFault;
 use crate::data_files::{local_of, removal_of};
-use crate::fault::StepFault;
 use crate::going_back::going_back_of;
 use crate::leased::{leased_file, part_of};
-use crate::piece::piece_of;
 use crate::putting::{local_file, putting_of};
 use crate::refusal::{finish_refusal, require_refusal};
-use crate::replay::settle;
 use crate::requirement::minimum_that_stays;
 use crate::rows::{list_rows, show_row};
 use crate::skipping::skipping_of;
 use crate::start::start_of;
+use crate::store_tables::are_of_store;
 use cleaner::{CleanFault, removable};
 use disks::Disk;
 use identity::{Key, Version};
 use install_plan::{Prepared, prepare, prepare_check, prepare_group};
+use journal::Log;
 use links::Links;
 use machine::{Command, Heard, Reply, one_data_file_is_changed};
 use outside::Failed;
 use small_types::{Bytes, CopyFault, Duplicate, List, Name, Room, Text};
 use std::alloc::{AllocError, Global};
+use std::marker::Model;
 use std::mem::replace;
-use store_log::{Log, LogFault};
 use store_state::{Change, LocalFile, StoreState, puts_show_the_file, removals_show_the_rest};
+use table_check::ordered_tables_show_ordered_stores;
+use table_codec::{
+    changes_are_within_weights, changes_stay_encodable, encodings_are_within_table_weights,
+    fields_stay_encodable,
+};
+use table_log::{StepFault, an_image_reads_as_one, make_durable};
+use table_weight::{changed_tables_weigh, tables_weigh_as_shown};
 
-/// A store that is open: its log, its room and its tables.
+/// A store that is open: its log, its room and its tables. The tables have always room in a half of
+/// the log.
 #[derive(Debug, Drop)]
 pub struct Updater {
     log: Log,
     room: Room,
     state: StoreState,
+}
+
+impl Model for Updater {
+    ghost use Rattle.updater.specs.Shown.{IsKept};
+    ghost use Rattle.updater.specs.Shown as shown;
+
+    ghost Value = { shown.Updater };
+
+    ghost view = { λ u. record { log = u.log; room = u.room; state = u.state } };
+
+    ghost invariant = { λ u. IsKept u.log u.room u.state };
 }
 
 // How a command ends once its change was tried.
@@ -80,13 +99,16 @@ fn most_texts(command: &Command) -> usize
 
 impl Updater {
     ghost use Rattle.updater.specs.Commanded.{Commanded, CommandedBehind};
-    ghost use Rattle.updater.specs.MakesDurable.{MakesDurable};
+    ghost use Rattle.updater.specs.MakesDurable.{MakesDurable, MayKeep};
     ghost use Rattle.updater.specs.Loaded.{Loaded};
     ghost use Rattle.updater.specs.Opened.{Opened};
-    ghost use Rattle.updater.specs.Updater.{tables_of};
+    ghost use Rattle.updater.specs.Updater.{room_of, tables_of};
+    ghost use Rattle.table_weight.specs.Laws.{BringsNothing};
 
     /// Opens the store on the disk. Where the kept boot number differs from the given one, which is
     /// at most 2^62, the given one is made durable, which ends all leases, and the answer is true.
+    /// `NotAStore`: the bytes are no tables in a journal, or tables that are out of order, beyond a
+    /// limit or without room.
     pub fn recover<D: Disk>(
         alloc: Global,
         disk: &mut D,
@@ -95,6 +117,7 @@ impl Updater {
         requires { boot ≤ NUMBER_LIMIT }
         ensures { Opened D.Disk boot disk.old result disk.new }
     {
+        an_image_reads_as_one();
         let mut updater = match Updater::load(alloc, disk) {
             Ok(updater) => updater,
             Err(fault) => return Err(fault),
@@ -102,7 +125,7 @@ impl Updater {
         if updater.state.boot == boot {
             return Ok((updater, false));
         }
-        match updater.keep(alloc, disk, Change::Boot { boot }) {
+        match updater.keep_lighter(alloc, disk, Change::Boot { boot }) {
             Ok(()) => Ok((updater, true)),
             Err(StepFault::Memory) => Err(RecoverFault::Memory),
             Err(StepFault::DiskFault) => Err(RecoverFault::DiskFault),
@@ -216,42 +239,58 @@ impl Updater {
     fn load<D: Disk>(alloc: Global, disk: &mut D) -> Result<Updater, RecoverFault>
         ensures { Loaded D.Disk disk.old result disk.new }
     {
-        let (log, recovered) = match Log::recover(alloc, disk) {
-            Ok(found) => found,
-            Err(LogFault::NotALog) => return Err(RecoverFault::NotAStore),
-            Err(LogFault::Memory) => return Err(RecoverFault::Memory),
-            Err(_) => return Err(RecoverFault::DiskFault),
+        let opened = match table_log::recover(alloc, disk) {
+            Ok(opened) => opened,
+            Err(table_log::RecoverFault::NotTables) => return Err(RecoverFault::NotAStore),
+            Err(table_log::RecoverFault::Memory) => return Err(RecoverFault::Memory),
+            Err(table_log::RecoverFault::DiskFault) => return Err(RecoverFault::DiskFault),
         };
-        let room = Room {
-            blocks: recovered.blocks,
-            half: recovered.half,
-        };
-        match settle(alloc, room, recovered.changes.as_slice()) {
-            Ok(state) => Ok(Updater { log, room, state }),
-            Err(fault) => Err(fault),
+        an_image_reads_as_one();
+        ordered_tables_show_ordered_stores();
+        tables_weigh_as_shown();
+        changes_stay_encodable();
+        opened.state.are_tables();
+        if !are_of_store(&opened.state, opened.room) {
+            drop(opened);
+            return Err(RecoverFault::NotAStore);
         }
+        let table_log::Opened { log, room, state } = opened;
+        Ok(Updater { log, room, state })
     }
 
-    // Makes a change that fits durable, and makes it in the tables. For want of memory it does
-    // nothing.
+    // Makes a change that fits durable, and makes it in the tables, which have room then. For want
+    // of memory it does nothing.
     fn keep<D: Disk>(
         &mut self,
         alloc: Global,
         disk: &mut D,
         change: Change,
     ) -> Result<(), StepFault>
-        requires { Fits (tables_of self.old) change × IsChange change }
+        requires { MayKeep self.old change }
         ensures { MakesDurable D.Disk change self.old disk.old result self.new disk.new }
     {
-        let mut piece = match piece_of(alloc, &change) {
-            Ok(piece) => piece,
-            Err(fault) => return Err(fault),
-        };
-        table_changes::make(alloc, &mut self.state, change)?;
-        match self.log.append(disk, &mut piece) {
-            Ok(()) => Ok(()),
-            Err(_) => Err(StepFault::DiskFault),
-        }
+        self.state.are_tables();
+        fields_stay_encodable();
+        changes_stay_encodable();
+        encodings_are_within_table_weights();
+        changes_are_within_weights();
+        make_durable(&mut self.log, alloc, disk, &mut self.state, change)
+    }
+
+    // The same of a change by which nothing comes, so that the tables weigh no more than before.
+    fn keep_lighter<D: Disk>(
+        &mut self,
+        alloc: Global,
+        disk: &mut D,
+        change: Change,
+    ) -> Result<(), StepFault>
+        requires may { Fits (tables_of self.old) change × IsChange change }
+        requires lighter { BringsNothing (tables_of self.old) change }
+        ensures { MakesDurable D.Disk change self.old disk.old result self.new disk.new }
+    {
+        self.state.are_tables();
+        changed_tables_weigh();
+        self.keep(alloc, disk, change)
     }
 
     // Requires the version of the key. The links are not asked.
@@ -269,7 +308,7 @@ impl Updater {
         ensures { Commanded D.Disk L.Links now [] (command.Require key.now version)
             self.old disk.old links.now result self.new disk.new links.now }
     {
-        if let Some(reply) = require_refusal(&self.state, key) {
+        if let Some(reply) = require_refusal(&self.state, self.room, key) {
             return Ok(reply);
         }
         if let Some(minimum) = minimum_that_stays(&self.state, key, version) {
@@ -290,8 +329,9 @@ impl Updater {
     ) -> Result<Reply, Failed>
         requires words { IsKey key.now × IsVersion version }
         requires moment { _now ≤ NUMBER_LIMIT }
-        requires passed { (room : Room) → room.half ≡ 0 → PassesAll (refusals _now []
-            (table_shape room (tables_of self.old)) (command.Require key.now version)) }
+        requires passed { PassesAll (refusals _now []
+            (table_shape (room_of self.old) (tables_of self.old))
+            (command.Require key.now version)) }
         requires raises { Raises key.now version (tables_of self.old).apps }
         ensures { Commanded D.Disk L.Links _now [] (command.Require key.now version)
             self.old disk.old _links.now result self.new disk.new _links.now }
@@ -300,6 +340,8 @@ impl Updater {
             Ok(key) => key,
             Err(CopyFault::Memory) => return Ok(Reply::Memory),
         };
+        self.state.are_tables();
+        changed_tables_weigh();
         answer(
             self.keep(alloc, disk, Change::Require { key, version }),
             Reply::Minimum { version },
@@ -349,7 +391,7 @@ impl Updater {
             Prepared::Change {
                 change: noted,
                 reply,
-            } => answer(self.keep(alloc, disk, noted), reply),
+            } => answer(self.keep_lighter(alloc, disk, noted), reply),
             Prepared::Reply { reply } => Ok(reply),
             Prepared::DiskFault => unreachable!(),
         }
@@ -378,7 +420,7 @@ impl Updater {
             return Ok(Reply::Skipped { version });
         }
         answer(
-            self.keep(alloc, disk, Change::Skip { app: skipping.app }),
+            self.keep_lighter(alloc, disk, Change::Skip { app: skipping.app }),
             Reply::Skipped { version },
         )
     }
@@ -402,7 +444,7 @@ impl Updater {
             Err(reply) => return Ok(reply),
         };
         answer(
-            self.keep(alloc, disk, Change::Rollback { app: going.app }),
+            self.keep_lighter(alloc, disk, Change::Rollback { app: going.app }),
             Reply::Current {
                 version: going.version,
             },
@@ -428,7 +470,7 @@ impl Updater {
             Err(reply) => return Ok(reply),
         };
         answer(
-            self.keep(alloc, disk, Change::Launch { app: start.app }),
+            self.keep_lighter(alloc, disk, Change::Launch { app: start.app }),
             Reply::Lease {
                 lease: start.lease,
                 version: start.version,
@@ -526,6 +568,7 @@ impl Updater {
             file,
         };
         self.state.are_tables();
+        changed_tables_weigh();
         puts_show_the_file();
         one_data_file_is_changed();
         answer(self.keep(alloc, disk, change), Reply::Put)
@@ -557,7 +600,7 @@ impl Updater {
         removals_show_the_rest();
         one_data_file_is_changed();
         answer(
-            self.keep(alloc, disk, Change::Remove { view, name }),
+            self.keep_lighter(alloc, disk, Change::Remove { view, name }),
             Reply::Removed,
         )
     }
@@ -606,7 +649,7 @@ impl Updater {
             return Ok(reply);
         }
         answer(
-            self.keep(alloc, disk, Change::Finish { lease }),
+            self.keep_lighter(alloc, disk, Change::Finish { lease }),
             Reply::Finished { lease },
         )
     }
@@ -633,7 +676,7 @@ impl Updater {
             return Ok(Reply::Cleaned { views });
         }
         answer(
-            self.keep(alloc, disk, Change::Clean),
+            self.keep_lighter(alloc, disk, Change::Clean),
             Reply::Cleaned { views },
         )
     }

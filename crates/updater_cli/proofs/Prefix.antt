@@ -13,7 +13,7 @@ use Rattle.machine.specs.declared.reply.Reply.{Reply}
 use Rattle.machine.specs.declared.report.ReportLine.{ReportLine}
 use Rattle.machine.specs.Machine.{Step, Run, moment_after}
 use Rattle.machine.specs.Store.{Session}
-use Rattle.updater.specs.declared.updater.Updater.{Updater}
+use Rattle.updater.specs.Shown.{Updater}
 use Rattle.updater.specs.StandsFor.{StandsFor, StandsForEither}
 use Rattle.updater.proofs.Standing.{stored_stands}
 use Rattle.updater_cli.specs.declared.course.Course.{Course}

@@ -20,7 +20,7 @@ use Rattle.command_text.specs.Lines.{Gives, command_of}
 use Rattle.command_text.proofs.InputLemmas.{command_event, unread_event}
 use Rattle.store_state.specs.Tables.{table_shape}
 use Rattle.install_plan.proofs.Downs.{counts_none}
-use Rattle.updater.specs.declared.updater.Updater.{Updater}
+use Rattle.updater.specs.Shown.{Updater}
 use Rattle.updater.specs.Commanded.{Answered, Commanded, CommandedBehind, Faulted, SoundFor}
 use Rattle.updater.specs.Updater.{room_of, tables_of}
 use Rattle.updater.proofs.Standing.{still_stands}

@@ -114,7 +114,7 @@ MadeCalls status old new lines last =
 -- The report's lines are one walk from a new session over the store to this session, which is
 -- sound; each line holds what is said of it. Unless the disk failed, which is status 4, the reads
 -- then stand for its store. No more bytes are written than the changes of the lines take in the
--- journal, and that of the event that was begun.
+-- journal, each with a checkpoint before it or none, and that of the event that was begun.
 pub record LeadsTo {S K D L : Type 0} (on : Ghosts D) (net : LinksGhosts L) (now status : ℕ)
     (old new : Devices S K D L) (report : Report) (store : Store) : Type 0 where
   pub session : Session

@@ -17,7 +17,7 @@ use Rattle.machine.specs.Store.{Session}
 use Rattle.command_text.specs.Input.{Cut, HasNoFeed, IsRead}
 use Rattle.command_text.specs.Lines.{AreEvents, IsEvent}
 use Rattle.install_plan.specs.Downs.{CountsDowns}
-use Rattle.updater.specs.declared.updater.Updater.{Updater}
+use Rattle.updater.specs.Shown.{Updater}
 use Rattle.updater.specs.StandsFor.{StandsForEither}
 use Rattle.updater.specs.Costs.{Costs}
 use Rattle.updater.specs.Updater.{Holds}

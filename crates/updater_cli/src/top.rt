@@ -25,13 +25,13 @@ use demo::DemoFault;
 use disks::Disk;
 use folders::Folder;
 use inspection::inspect;
+use journal::LogFault;
 use links::Links;
 use machine::Report;
 use outside::{Sink, Source};
 use publication::{WordFault, publish_options};
-use small_types::Word;
+use small_types::{Word, new_room};
 use std::alloc::Global;
-use store_log::{Log, LogFault};
 
 // A new store of so many blocks.
 fn format<D: Disk>(alloc: Global, disk: &mut D, blocks: u64) -> Status
@@ -39,7 +39,7 @@ fn format<D: Disk>(alloc: Global, disk: &mut D, blocks: u64) -> Status
     ensures makes { MakesStore D.Disk blocks (code_of result) disk.old disk.new }
     ensures asks { Asks D.Disk (result ≡ exit.DiskFault) disk.old disk.new }
 {
-    match Log::format(alloc, disk, blocks, 0, &[]) {
+    match table_log::format(alloc, disk, new_room(blocks)) {
         Ok(()) => Status::Done,
         Err(LogFault::Memory) => Status::Memory,
         Err(_) => Status::DiskFault,
@@ -48,7 +48,8 @@ fn format<D: Disk>(alloc: Global, disk: &mut D, blocks: u64) -> Status
 
 /// Does what the words ask for and answers the exit status.
 ///
-/// `format --blocks N` makes a new store of N blocks, 1 to 65,536, on the disk.
+/// `format --blocks N` makes a new store of N blocks, 1 to 65,536, on the disk. Its journal has two
+/// halves, each of which has room for the bytes of all blocks and for 16,777,216 more.
 ///
 /// `session --boot N --now N` answers the lines of the source on the sink over the store on the
 /// disk; the numbers are at most 2^62, and `now` is in seconds. The lines are `at N`,

@@ -1,11 +1,15 @@
-use Rattle.std.proofs.Common.{Ok, Err, refl, ap, ◌∙◌}
+use Rattle.std.proofs.Common.{Ok, Err, refl, ap, ◌∙◌, arith}
 use Rattle.demo.specs.declared.fault.DemoFault.TheVariants.{DiskFault, Memory}
-use Rattle.demo.proofs.Starting.{format_touches}
+use Rattle.table_log.proofs.NewRooms.{made_limits}
+use Rattle.demo.proofs.Starting.{format_touches, reads_new}
 use Rattle.demo.proofs.Touching.{after}
 use Rattle.demo.proofs.run.open.Goals as goal
 
+pub format-requires : goal.format-requires
+format-requires g c = made_limits 65536 c.new_room.result c.new_room.ensures (omega arith) (omega arith)
+
 pub open_new-requires : goal.open_new-requires
-open_new-requires g c = c.in-Ok.ensures.seen
+open_new-requires g c = reads_new c.new_room.result _ c.new_room.ensures c.in-Ok.ensures.seen
 
 pub returns-in-Ok : goal.returns-in-Ok
 returns-in-Ok g c = record {

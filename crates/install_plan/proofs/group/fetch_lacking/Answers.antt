@@ -1,25 +1,25 @@
-use Rattle.std.proofs.Common.{◌<◌, ℕ, inl, inr, refl, sym, subst, All, List, length}
-use Rattle.machine.specs.Blocks.{free_blocks}
-use Rattle.store_state.specs.Tables.{table_shape}
+use Rattle.std.proofs.Common.{◌∙◌, ◌<◌, ap, inl, inr, refl, sym, subst, All, List, length, map}
+use Rattle.std.specs.Prelude.{slice_get}
 use Rattle.fetcher.proofs.Sequence.{kept_same}
 use Rattle.install_plan.specs.declared.plan.WantedFile.{WantedFile}
 use Rattle.install_plan.specs.FetchedFiles.{HasFetched, IsStopped}
 use Rattle.install_plan.specs.GroupReady.{lacking}
-use Rattle.install_plan.specs.Judges.{Refused, room_checks}
 use Rattle.install_plan.proofs.Aligning.{all_within}
 use Rattle.install_plan.proofs.group.fetch_lacking.Goals as goal
 
-pub returns-in-Err-judge_room-clause-refused : goal.returns-in-Err-judge_room-clause-refused
-returns-in-Err-judge_room-clause-refused g c =
-    let tables = c.args.state.now in
+pub judge_space-requires : goal.judge_space-requires
+judge_space-requires g c = record {
+  kept = c.requires.kept;
+  files = c.requires.files;
+  places = ap (map (slice_get c.args.files.now)) c.as_slice-places.ensures.value
+      ∙ c.in-Ok.ensures.stand;
+  need = c.in-Ok.ensures.need;
+}
+
+pub returns-in-Err-judge_space-clause-refused : goal.returns-in-Err-judge_space-clause-refused
+returns-in-Err-judge_space-clause-refused g c =
     inl (
-      inr (inr (
-        c.in-Ok.wants.files,
-        c.in-Ok.ensures.targets,
-        subst (λ (need : ℕ). Refused
-            (room_checks need (free_blocks (table_shape c.args.room tables)))
-            c.in-Err-judge_room.reply) c.in-Ok.ensures.need c.in-Err-judge_room.ensures,
-      )),
+      inr (inr (c.in-Ok.wants.files, c.in-Ok.ensures.targets, c.in-Err-judge_space.ensures)),
       record { kept = kept_same (g.L.Links.links c.args.links.now); same = refl },
     )
 
@@ -45,8 +45,6 @@ returns-in-Ok-fetch_wanted-clause-brought g c =
       are = record {
         places = c.in-Ok.ensures.places;
         targets = c.in-Ok.ensures.targets;
-        need = c.in-Ok.wants.need;
-        needed = c.in-Ok.ensures.need;
         enough = c.in_default.ensures;
       };
       fetched = subst
@@ -63,8 +61,6 @@ returns-clause-refused g c =
       record {
         places = c.in-Ok.ensures.places;
         targets = c.in-Ok.ensures.targets;
-        need = c.in-Ok.wants.need;
-        needed = c.in-Ok.ensures.need;
         enough = c.in_default.ensures;
       },
       subst (λ (ws : List WantedFile). IsStopped c.args.files.now ws (state c.args.links.now)

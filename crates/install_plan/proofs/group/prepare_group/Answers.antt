@@ -8,7 +8,7 @@ use Rattle.install_plan.specs.GroupReady.{HasBrought, IsGroupOver, IsNotBrought,
 use Rattle.install_plan.proofs.GroupOver.{no_files_over, no_lease_over, stands_over}
 use Rattle.install_plan.proofs.GroupReadying.{leased_held, memory_last, ready_with}
 use Rattle.install_plan.proofs.GroupServing.{not_brought_over}
-use Rattle.install_plan.proofs.LeasedRows.{IsLeased}
+use Rattle.install_plan.proofs.LeasedRows.{IsLeased, row_is}
 use Rattle.install_plan.proofs.Ungrouping.{small_files}
 use Rattle.install_plan.proofs.group.prepare_group.Goals as goal
 
@@ -48,6 +48,8 @@ fetch_lacking-requires g c =
           (small_files c.args.group.now c.in-Some.view.now.application
           (leased_held c.args.room c.args.state.now c.args.lease c.in-Some.view.now
           c.are_tables.ensures leased));
+      kept = row_is leased;
+      files = c.as_slice-2.ensures ∙ c.in-Ok.ensures.files;
     }
 
 pub returns-in-Err-fetch_lacking : goal.returns-in-Err-fetch_lacking
@@ -59,7 +61,8 @@ returns-in-Err-fetch_lacking g c =
     (record { row = sym c.in-Some.ensures.row; bare = sym (c.in-Some.ensures.bare c.args.room) })
     c.in-Ok.ensures.some (sym c.has_group.ensures ∙ c.if-has_group.false)
     (state c.args.links.now) (state c.fetch_lacking.new.links) c.in-Err-fetch_lacking.reply
-    (subst (λ (es : List FileEntry). IsNotBrought c.args.room tables view es
+    (subst (λ (es : List FileEntry). IsNotBrought c.args.room tables view
+    c.args.group.now es
     (state c.args.links.now) (state c.fetch_lacking.new.links) c.in-Err-fetch_lacking.reply)
     (c.as_slice-2.ensures ∙ c.in-Ok.ensures.files) c.in-Err-fetch_lacking.ensures.refused)
 
@@ -72,7 +75,8 @@ returns-in-Err-Memory g c =
     (record { row = sym c.in-Some.ensures.row; bare = sym (c.in-Some.ensures.bare c.args.room) })
     c.in-Ok.ensures.some (sym c.has_group.ensures ∙ c.if-has_group.false)
     (state c.args.links.now) (state c.fetch_lacking.new.links) c.in-Ok-fetch_lacking.contents
-    (subst (λ (es : List FileEntry). HasBrought c.args.room tables view es
+    (subst (λ (es : List FileEntry). HasBrought c.args.room tables view
+    c.args.group.now es
     (state c.args.links.now) (state c.fetch_lacking.new.links) c.in-Ok-fetch_lacking.contents)
     (c.as_slice-2.ensures ∙ c.in-Ok.ensures.files) c.in-Ok-fetch_lacking.ensures.brought)
 
@@ -85,9 +89,11 @@ returns g c =
     (record { row = sym c.in-Some.ensures.row; bare = sym (c.in-Some.ensures.bare c.args.room) })
     c.in-Ok.ensures.some (sym c.has_group.ensures ∙ c.if-has_group.false)
     (state c.args.links.now) (state c.fetch_lacking.new.links) c.in-Ok-fetch_lacking.contents
-    (subst (λ (es : List FileEntry). HasBrought c.args.room tables view es
+    (subst (λ (es : List FileEntry). HasBrought c.args.room tables view
+    c.args.group.now es
     (state c.args.links.now) (state c.fetch_lacking.new.links) c.in-Ok-fetch_lacking.contents)
     (c.as_slice-2.ensures ∙ c.in-Ok.ensures.files) c.in-Ok-fetch_lacking.ensures.brought)
-    c.are_tables.ensures c.groups_show_the_files.ensures c.in-Ok-copy.made
+    c.are_tables.ensures c.groups_show_the_files.ensures
+    c.changed_tables_weigh.ensures.with_group c.in-Ok-copy.made
     (length c.as_slice.result.now) c.in-Ok-copy.ensures
     (ap length (c.as_slice.ensures ∙ c.in-Ok.ensures.files))

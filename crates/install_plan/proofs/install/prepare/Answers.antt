@@ -38,5 +38,5 @@ returns g c =
     ready_of c.args.room c.args.state.now c.args.url.now c.hear.new.heard.texts
     (state c.args.links.now) (state c.hear.new.links) (state c.fetch_planned.new.links) c.in-Ok.plan c.in-Ok.ensures.plan
     c.in-Ok-fetch_planned.contents c.in-Ok-fetch_planned.ensures.fetched c.args.now c.are_tables.ensures c.requires.moment
-    c.shapes_are_shown.ensures c.installs_show_the_view.ensures
+    c.shapes_are_shown.ensures c.installs_show_the_view.ensures c.changed_tables_weigh.ensures.as_installed c.migrated_data_weigh.ensures
     c.in-Ok-install_change.made.0 c.in-Ok-install_change.made.1 c.in-Ok-install_change.ensures.made c.in-Ok-install_change.ensures.replied

@@ -1,4 +1,4 @@
-use Rattle.std.proofs.Common.{◌∙◌, ◌≤◌, ℕ, List, ap, None, Some, subst, sym}
+use Rattle.std.proofs.Common.{◌∙◌, ◌≤◌, List, ap, None, Some, subst, sym}
 use Rattle.store_state.specs.declared.view.LocalFile.{LocalFile}
 use Rattle.store_state.specs.Locals.{outside_locals}
 use Rattle.install_plan.specs.Carried.{copied_in}

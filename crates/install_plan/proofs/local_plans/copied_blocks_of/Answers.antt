@@ -1,4 +1,4 @@
-use Rattle.std.proofs.Common.{◌≤◌, ◌^◌, ◌∙◌, ℕ, Bool, ap, cond, subst, sym}
+use Rattle.std.proofs.Common.{◌≤◌, ◌^◌, ◌∙◌, Bool, ap, cond, subst, sym}
 use Rattle.machine.specs.Blocks.{blocks_of}
 use Rattle.install_plan.proofs.local_plans.copied_blocks_of.Goals as goal
 

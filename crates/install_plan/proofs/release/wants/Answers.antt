@@ -35,8 +35,8 @@ returns-in-Ok-wanted_files-clause-need c =
     ∙ ap (λ (places : List ℕ). min (sum_by (λ place. blocks_at (slice_get files place)) places) (2 ^ 64 - 1)) c.as_slice.ensures.value
     ∙ ap (λ (n : ℕ). min n (2 ^ 64 - 1)) (blocks_are files c.in-Ok.places.items entries c.in-Ok.ensures.places)
 
-pub returns-clause-refused : goal.returns-clause-refused
-returns-clause-refused c =
+pub returns-in-Err-wanted_files-clause-refused : goal.returns-in-Err-wanted_files-clause-refused
+returns-in-Err-wanted_files-clause-refused c =
     let files = c.args.files.now in
     let entries = wanted_beside (standing_files (map bare_row c.args.state.now.views)) files in
     let same = ap (map (slice_get files)) c.as_slice-2.ensures.value ∙ c.in-Ok.ensures.places in

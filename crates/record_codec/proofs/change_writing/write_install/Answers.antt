@@ -1,6 +1,10 @@
 use Rattle.record_codec.specs.Codec.{install_text}
 use Rattle.record_fields.proofs.Written.{then}
+use Rattle.record_codec.proofs.Records.{wider}
 use Rattle.record_codec.proofs.change_writing.write_install.Goals as goal
+
+pub write_view-next-requires-clause-view : goal.write_view-next-requires-clause-view
+write_view-next-requires-clause-view c = wider c.args.view.now c.requires.install.view
 
 pub returns : goal.returns
 unfolding install_text

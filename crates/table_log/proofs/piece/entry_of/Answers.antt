@@ -1,4 +1,4 @@
-use Rattle.std.proofs.Common.{◌≡◌, ◌+◌, ◌∙◌, List, ℕ, length, ap, arith, subst, sym}
+use Rattle.std.proofs.Common.{◌≡◌, ◌+◌, List, ℕ, length, ap, arith, subst, sym}
 use Rattle.journal.specs.declared.piece.TheConstants.{AROUND}
 use Rattle.record_codec.specs.Codec.{change_text}
 use Rattle.table_log.specs.Pieces.{HasEntry}

@@ -10,8 +10,8 @@ pub returns-clause-tables : goal.returns-clause-tables
 returns-clause-tables c =
     let tables = c.args.state.now in
     let are = subst AreTables c.state.view_is c.state.invariant.1 in
-    let size : length c.write_tables.new.piece ≡ AROUND_TABLES + length (state_text tables) = omega (arith, c.write_tables.auto.piece, c.deref_mut.ensures.len, c.in_ok-piece.ensures.len, c.encoded_length_of_state-size.ensures.length) in
+    let size : length c.write_tables.new.piece ≡ AROUND_TABLES + length (state_text tables) = omega (arith, c.write_tables.auto.piece, c.deref_mut.ensures.len, c.in_ok-piece.ensures.len, c.encoded_length_of_state-size.ensures) in
     let before : length c.deref_mut.result.now ≡ length c.in_ok-piece.piece.items = ap length c.deref_mut.ensures.value in
     let whole = whole_piece c.in_ok-piece.piece.len c.write_tables.new.piece c.in_ok-piece.piece.items (omega (arith, c.write_tables.auto.piece, before)) (omega (arith, c.deref_mut.ensures.len, before)) in
-    let has : HasTables tables c.write_tables.new.piece = record { size = size; spells = record { has = c.requires; are = are; is = c.write_tables.ensures } } in
+    let has : HasTables tables c.write_tables.new.piece = record { size = size; spells = record { has = c.requires.state; are = are; is = c.write_tables.ensures } } in
     subst (λ (l : List ℕ). HasTables tables l) (sym whole) has

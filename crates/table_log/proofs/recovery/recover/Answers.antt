@@ -30,7 +30,7 @@ pub returns : goal.returns
 returns g c =
     let found = c.in-Ok.found.1 in
     let fault = c.in-Err-settle.fault in
-    let texts = subst (λ (t : List ℕ). Settled t c.as_slice-2.result.now (Err fault)) c.as_slice.ensures c.in-Err-settle.ensures in
+    let texts = subst (λ (t : List ℕ). Settled t c.as_slice-2.result.now (Err fault)) c.as_slice.ensures c.in-Err-settle.ensures.leads in
     let settled = subst (λ (l : List (List ℕ)). Settled found.tables l (Err fault)) c.as_slice-2.ensures texts in
     unsettled g.D.Disk c.args.disk.now c.recover.new.disk (room_in found) found.tables found.changes fault settled (λ told. c.in-Ok.ensures.found told)
     (record {

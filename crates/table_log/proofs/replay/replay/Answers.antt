@@ -1,4 +1,3 @@
-use Rattle.std.proofs.Common.{rules}
 use Rattle.table_log.proofs.Loading.{leads_first, leads_more, leads_nowhere, leads_through, made_if, none_if}
 use Rattle.table_log.proofs.replay.replay.Goals as goal
 

@@ -1,4 +1,4 @@
-use Rattle.std.proofs.Common.{◌≡◌, Err, List, ℕ, refl, sym, subst}
+use Rattle.std.proofs.Common.{Err, List, ℕ, refl, sym, subst}
 use Rattle.journal.specs.Log.{FitsHalf}
 use Rattle.record_codec.specs.Codec.{change_text}
 use Rattle.table_log.specs.declared.fault.StepFault.{StepFault}

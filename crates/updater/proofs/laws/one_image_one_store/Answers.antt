@@ -2,4 +2,4 @@ use Rattle.updater.proofs.Standing.{one_stands}
 use Rattle.updater.proofs.laws.one_image_one_store.Goals as goal
 
 pub returns : goal.returns
-returns c = one_stands
+returns c = one_stands c.an_image_reads_as_one.ensures.one

@@ -1,4 +1,4 @@
-use Rattle.std.proofs.Common.{◌≡◌, ◌++◌, [], ℕ, List, append-nil, sym, ◌∙◌, rules}
+use Rattle.std.proofs.Common.{[], rules}
 use Rattle.updater.proofs.Applying.{memory_at_once}
 use Rattle.updater.proofs.updater.Updater.apply.Goals as goal
 

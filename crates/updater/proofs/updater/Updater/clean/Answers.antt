@@ -1,37 +1,47 @@
-use Rattle.std.proofs.Common.{◌≡◌, ◌∙◌, [], ◌≤◌, ℕ, length, ap, subst, sym, refl}
-use Rattle.small_types.specs.declared.limits.TheConstants.{NUMBER_LIMIT}
+use Rattle.std.proofs.Common.{◌∙◌, [], length, ap, refl}
 use Rattle.machine.specs.declared.command.Command.TheVariants as command
 use Rattle.machine.specs.declared.reply.Reply.TheVariants as says
 use Rattle.store_state.specs.declared.change.Change.TheVariants as change
 use Rattle.install_plan.proofs.Downs.{counts_none}
 use Rattle.updater.proofs.Cleanings.{cleaned_does, cleaned_rests}
 use Rattle.updater.proofs.Commanding.{kept, memory_missed, rested, unlinked}
+use Rattle.updater.proofs.Seen.{kept_as, rested_as, seen}
 use Rattle.updater.proofs.updater.Updater.clean.Goals as goal
 
 pub returns-then-views-eq0 : goal.returns-then-views-eq0
 returns-then-views-eq0 g c =
-    rested g.D.Disk g.L.Links c.args.now [] command.Clean
-    c.args.self.now c.args.disk.now c.args._links.now c.args._links.now
+    let u = seen c.self.inside in
+    rested_as c.self.view_is
+    (rested g.D.Disk g.L.Links c.args.now [] command.Clean
+    u c.args.disk.now c.args._links.now c.args._links.now
     (g.met.D.Disk.seen_left c.args.disk.now) c.requires
-    (unlinked g.L.Links command.Clean c.args.self.now c.args._links.now)
+    (unlinked g.L.Links command.Clean u c.args._links.now)
     (says.Cleaned (length c.as_slice.result.now)) c.requires
     (counts_none refl)
-    (λ old s. cleaned_rests c.args.now c.args.self.now.room c.args.self.now.state
+    (λ old s. cleaned_rests c.args.now u.room u.state
     _ _ _ old s.jobs s.shows s.valid c.requires (length c.as_slice.result.now)
-    (ap length (c.as_slice.ensures ∙ c.in-Ok.ensures c.args.self.now.room)) c.if-views-eq0.true)
+    (ap length (c.as_slice.ensures ∙ c.in-Ok.ensures u.room)) c.if-views-eq0.true))
+
+pub returns-in-Err-Memory : goal.returns-in-Err-Memory
+returns-in-Err-Memory g c =
+    memory_missed g.D.Disk g.L.Links c.args.now command.Clean
+    c.args.self.now c.args.disk.now c.args._links.now
+    (g.met.D.Disk.seen_left c.args.disk.now) c.requires tt
 
 pub returns : goal.returns
 returns g c =
+    let u = seen c.self.inside in
+    kept_as c.self.view_is c.keep_lighter.ensures (λ keeps.
     kept g.D.Disk g.L.Links c.args.now [] command.Clean
-    c.args.self.now c.args.disk.now c.args._links.now c.args._links.now
+    u c.args.disk.now c.args._links.now c.args._links.now
     (g.met.D.Disk.seen_left c.args.disk.now) c.requires
-    (unlinked g.L.Links command.Clean c.args.self.now c.args._links.now)
+    (unlinked g.L.Links command.Clean u c.args._links.now)
     change.Clean (says.Cleaned (length c.as_slice.result.now)) c.requires
     (counts_none refl)
-    (λ old s. cleaned_does c.args.now c.args.self.now.room c.args.self.now.state
+    (λ old s. cleaned_does c.args.now u.room u.state
     _ _ _ old s.jobs s.shows s.valid c.requires (length c.as_slice.result.now)
-    (ap length (c.as_slice.ensures ∙ c.in-Ok.ensures c.args.self.now.room)) c.if-views-eq0.false)
+    (ap length (c.as_slice.ensures ∙ c.in-Ok.ensures u.room)) c.if-views-eq0.false)
     (memory_missed g.D.Disk g.L.Links c.args.now command.Clean
-    c.args.self.now c.args.disk.now c.args._links.now
+    u c.args.disk.now c.args._links.now
     (g.met.D.Disk.seen_left c.args.disk.now) c.requires tt)
-    c.keep.new.self c.keep.new.disk c.keep.result c.answer.result c.keep.ensures c.answer.ensures
+    c.keep_lighter.new.self c.keep_lighter.new.disk c.keep_lighter.result c.answer.result keeps c.answer.ensures)

@@ -6,37 +6,44 @@ use Rattle.store_state.specs.declared.change.Change.TheVariants as change
 use Rattle.install_plan.proofs.Downs.{counts_none}
 use Rattle.updater.proofs.Commanding.{kept, memory_missed, refused, unlinked}
 use Rattle.updater.proofs.Finishing.{finished_does, finished_fits}
+use Rattle.updater.proofs.Seen.{kept_as, rested_as, seen}
+use Rattle.updater.specs.Shown.{Updater}
+use Rattle.store_state.specs.Change.{Fits}
 use Rattle.updater.proofs.updater.Updater.finish.Goals as goal
 
 pub returns-in-Some : goal.returns-in-Some
 returns-in-Some g c =
-    refused g.D.Disk g.L.Links c.args.now (command.Finish c.args.lease)
-    c.args.self.now c.args.disk.now c.args._links.now
+    let u = seen c.self.inside in
+    rested_as c.self.view_is
+    (refused g.D.Disk g.L.Links c.args.now (command.Finish c.args.lease)
+    u c.args.disk.now c.args._links.now
     (g.met.D.Disk.seen_left c.args.disk.now) c.requires.moment tt c.in-Some.reply
     (subst (λ (n : ℕ). n ≤ NUMBER_LIMIT) (sym (c.in-Some.ensures.still c.args.now))
     c.requires.moment)
     (counts_none c.in-Some.ensures.no_target)
-    (λ old s. c.in-Some.ensures.some c.args.now c.args.self.now.room old)
+    (λ old s. c.in-Some.ensures.some c.args.now u.room old))
 
-pub keep-requires : goal.keep-requires
-keep-requires g c = (
-  finished_fits c.args.self.now.state c.args.lease (c.in_default.ensures.none refl),
+pub keep_lighter-requires-clause-may : goal.keep_lighter-requires-clause-may
+keep_lighter-requires-clause-may g c = (
+  subst (λ (u : Updater). Fits u.state (change.Finish c.args.lease)) c.self.view_is (finished_fits c.self.inside.state c.args.lease (c.in_default.ensures.none refl)),
   (let few = c.requires.words in omega arith),
 )
 
 pub returns : goal.returns
 returns g c =
     let command = command.Finish c.args.lease in
+    let u = seen c.self.inside in
+    kept_as c.self.view_is c.keep_lighter.ensures (λ keeps.
     kept g.D.Disk g.L.Links c.args.now [] command
-    c.args.self.now c.args.disk.now c.args._links.now c.args._links.now
+    u c.args.disk.now c.args._links.now c.args._links.now
     (g.met.D.Disk.seen_left c.args.disk.now) c.requires.moment
-    (unlinked g.L.Links command c.args.self.now c.args._links.now)
+    (unlinked g.L.Links command u c.args._links.now)
     (change.Finish c.args.lease) (says.Finished c.args.lease) c.requires.moment
     (counts_none refl)
-    (λ old s. finished_does c.args.now c.args.lease c.args.self.now.room c.args.self.now.state
+    (λ old s. finished_does c.args.now c.args.lease u.room u.state
     _ _ _ old s.jobs s.shows s.valid c.requires.words c.requires.moment
-    (c.in_default.ensures.none refl c.args.now c.args.self.now.room))
+    (c.in_default.ensures.none refl c.args.now u.room))
     (memory_missed g.D.Disk g.L.Links c.args.now command
-    c.args.self.now c.args.disk.now c.args._links.now
+    u c.args.disk.now c.args._links.now
     (g.met.D.Disk.seen_left c.args.disk.now) c.requires.moment tt)
-    c.keep.new.self c.keep.new.disk c.keep.result c.answer.result c.keep.ensures c.answer.ensures
+    c.keep_lighter.new.self c.keep_lighter.new.disk c.keep_lighter.result c.answer.result keeps c.answer.ensures)

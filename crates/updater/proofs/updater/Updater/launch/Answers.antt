@@ -7,32 +7,37 @@ use Rattle.install_plan.proofs.Downs.{counts_none}
 use Rattle.updater.proofs.Commanding.{kept, memory_missed, refused, unlinked}
 use Rattle.updater.proofs.Launching.{launched_does}
 use Rattle.updater.proofs.ShownViews.{keeps_current}
+use Rattle.updater.proofs.Seen.{kept_as, rested_as, seen}
 use Rattle.updater.proofs.updater.Updater.launch.Goals as goal
 
 pub returns-in-Err : goal.returns-in-Err
 returns-in-Err g c =
-    refused g.D.Disk g.L.Links c.args.now (command.Launch c.args.key.now)
-    c.args.self.now c.args.disk.now c.args._links.now
+    let u = seen c.self.inside in
+    rested_as c.self.view_is
+    (refused g.D.Disk g.L.Links c.args.now (command.Launch c.args.key.now)
+    u c.args.disk.now c.args._links.now
     (g.met.D.Disk.seen_left c.args.disk.now) c.requires.moment tt c.in-Err.reply
     (subst (λ (n : ℕ). n ≤ NUMBER_LIMIT) (sym c.in-Err.ensures.still) c.requires.moment)
     (counts_none c.in-Err.ensures.no_target)
     (λ old s. c.in-Err.ensures.refused (keeps_current s.shows c.args.key.now s.valid.ordered)
-    c.args.self.now.room old)
+    u.room old))
 
 pub returns : goal.returns
 returns g c =
     let command = command.Launch c.args.key.now in
+    let u = seen c.self.inside in
+    kept_as c.self.view_is c.keep_lighter.ensures (λ keeps.
     kept g.D.Disk g.L.Links c.args.now [] command
-    c.args.self.now c.args.disk.now c.args._links.now c.args._links.now
+    u c.args.disk.now c.args._links.now c.args._links.now
     (g.met.D.Disk.seen_left c.args.disk.now) c.requires.moment
-    (unlinked g.L.Links command c.args.self.now c.args._links.now)
+    (unlinked g.L.Links command u c.args._links.now)
     (change.Launch c.in-Ok.start.app)
     (says.Lease c.in-Ok.start.lease c.in-Ok.start.version c.in-Ok.start.check_due) c.requires.moment
     (counts_none refl)
-    (λ old s. launched_does c.args.now c.args.key.now c.args.self.now.room c.args.self.now.state
+    (λ old s. launched_does c.args.now c.args.key.now u.room u.state
     _ _ _ old s.jobs s.shows s.valid c.requires.words c.requires.moment
     c.in-Ok.start c.in-Ok.ensures.start)
     (memory_missed g.D.Disk g.L.Links c.args.now command
-    c.args.self.now c.args.disk.now c.args._links.now
+    u c.args.disk.now c.args._links.now
     (g.met.D.Disk.seen_left c.args.disk.now) c.requires.moment tt)
-    c.keep.new.self c.keep.new.disk c.keep.result c.answer.result c.keep.ensures c.answer.ensures
+    c.keep_lighter.new.self c.keep_lighter.new.disk c.keep_lighter.result c.answer.result keeps c.answer.ensures)

@@ -4,15 +4,18 @@ use Rattle.machine.specs.declared.reply.Reply.TheVariants as says
 use Rattle.install_plan.proofs.Downs.{counts_none}
 use Rattle.updater.proofs.Commanding.{rested, unlinked}
 use Rattle.updater.proofs.Lists.{listed_rests}
+use Rattle.updater.proofs.Seen.{rested_as, seen}
 use Rattle.updater.proofs.updater.Updater.list.Goals as goal
 
 pub returns-in-Ok : goal.returns-in-Ok
 returns-in-Ok g c =
-    rested g.D.Disk g.L.Links c.args.now [] command.List
-    c.args.self.now c.args._disk.now c.args._links.now c.args._links.now
+    let u = seen c.self.inside in
+    rested_as c.self.view_is
+    (rested g.D.Disk g.L.Links c.args.now [] command.List
+    u c.args._disk.now c.args._links.now c.args._links.now
     (g.met.D.Disk.seen_left c.args._disk.now) c.requires
-    (unlinked g.L.Links command.List c.args.self.now c.args._links.now)
+    (unlinked g.L.Links command.List u c.args._links.now)
     (says.Listed c.in-Ok.rows) c.requires
     (counts_none refl)
-    (λ old s. listed_rests c.args.now c.args.self.now.room c.args.self.now.state
-    _ _ _ old s.jobs s.shows c.in-Ok.rows c.in-Ok.ensures)
+    (λ old s. listed_rests c.args.now u.room u.state
+    _ _ _ old s.jobs s.shows c.in-Ok.rows c.in-Ok.ensures))

@@ -1,71 +1,46 @@
-use Rattle.std.proofs.Common.{◌≡◌, ◌∙◌, List, ℕ, Err, Result, ap, sym, subst, arith, rules}
-use Rattle.small_types.specs.declared.room.Room.{Room}
-use Rattle.disks.proofs.Books.{spends_as}
-use Rattle.store_log.specs.declared.fault.LogFault.{LogFault}
-use Rattle.store_log.specs.declared.fault.LogFault.TheVariants as log
-use Rattle.store_log.specs.declared.log.Recovered.{Recovered}
-use Rattle.store_state.specs.Tables.{Tables}
-use Rattle.updater.specs.declared.fault.RecoverFault.{RecoverFault}
+use Rattle.std.proofs.Common.{◌∙◌, Err, ap}
 use Rattle.updater.specs.declared.fault.RecoverFault.TheVariants.{Memory, NotAStore}
-use Rattle.updater.specs.Replay.{Settled, Settles}
-use Rattle.updater.proofs.Recovering.{faulted, found_holds, no_journal, the_fault, unfound, unsettled}
+use Rattle.std.proofs.lemmas.Bool.{both_ways}
+use Rattle.updater.proofs.Recovering.{all_read, disk_failed, kept_of_store, of_no_store, of_none, shows_valid, store_found}
 use Rattle.updater.proofs.updater.Updater.load.Goals as goal
 
--- the room that a journal was found to have
-abbrev room_in : Recovered → Room
-room_in found = record { blocks = found.blocks; half = found.half }
-
-pub returns-in-Err-NotALog : goal.returns-in-Err-NotALog
-returns-in-Err-NotALog g c =
-    let is = c.in-Err-NotALog.field-0-is in
-    unfound g.D.Disk c.args.disk.now c.recover.new.disk NotAStore (λ e. cc)
-    (λ told same. no_journal _ (c.recover.ensures.not_a_log told (c.in-Err-NotALog.is ∙ ap Err is)))
-    (record {
-      seen = c.recover.ensures.seen;
-      stop = c.recover.ensures.any_moment;
-      durable = c.in-Err-NotALog.ensures.durable_err (λ e. absurd (let clash : log.NotALog ≡ log.DiskFault = sym is ∙ e in cc));
-      synced = omega (arith, c.in-Err-NotALog.ensures.tick_err (λ e. absurd (let clash : log.NotALog ≡ log.DiskFault = sym is ∙ e in cc)));
-      spends = spends_as g.D.Disk 1 0 _ _ _ ⊥ (λ e. absurd (cc)) (λ no. absurd no) c.in-Err-NotALog.ensures.spends;
-    })
+pub returns-in-Err-NotTables : goal.returns-in-Err-NotTables
+returns-in-Err-NotTables g c =
+    let is = c.in-Err-NotTables.is ∙ ap Err c.in-Err-NotTables.field-0-is in
+    all_read g.D.Disk c.args.disk.now c.recover.new.disk c.recover.result c.recover.ensures (Err NotAStore)
+    (λ e. absurd (cc)) (λ e. absurd (cc)) (λ told. tt) (λ told e. of_none _ (c.recover.ensures.not_tables told is))
 
 pub returns-in-Err-Memory : goal.returns-in-Err-Memory
 returns-in-Err-Memory g c =
-    let is = c.in-Err-Memory.field-0-is in
-    unfound g.D.Disk c.args.disk.now c.recover.new.disk Memory (λ e. cc) (λ told same. absurd (cc))
-    (record {
-      seen = c.recover.ensures.seen;
-      stop = c.recover.ensures.any_moment;
-      durable = c.in-Err-Memory.ensures.durable_err (λ e. absurd (let clash : log.Memory ≡ log.DiskFault = sym is ∙ e in cc));
-      synced = omega (arith, c.in-Err-Memory.ensures.tick_err (λ e. absurd (let clash : log.Memory ≡ log.DiskFault = sym is ∙ e in cc)));
-      spends = spends_as g.D.Disk 1 0 _ _ _ ⊥ (λ e. absurd (cc)) (λ no. absurd no) c.in-Err-Memory.ensures.spends;
-    })
+    let is = c.in-Err-Memory.is ∙ ap Err c.in-Err-Memory.field-0-is in
+    all_read g.D.Disk c.args.disk.now c.recover.new.disk c.recover.result c.recover.ensures (Err Memory)
+    (λ e. absurd (cc)) (λ e. absurd (cc)) (λ told. tt) (λ told e. absurd (cc))
 
-pub returns-in-Err : goal.returns-in-Err
-returns-in-Err g c =
-    let failed : c.recover.result ≡ Err log.DiskFault = search rules in
-    faulted g.D.Disk c.args.disk.now c.recover.new.disk failed c.recover.ensures.seen c.recover.ensures.any_moment c.recover.ensures.spends
+pub returns-in-Err-DiskFault : goal.returns-in-Err-DiskFault
+returns-in-Err-DiskFault g c =
+    disk_failed g.D.Disk c.args.disk.now c.recover.new.disk c.recover.result c.recover.ensures (c.in-Err-DiskFault.is ∙ ap Err c.in-Err-DiskFault.field-0-is)
 
-pub returns-in-Ok-settle : goal.returns-in-Ok-settle
-returns-in-Ok-settle g c =
-    let settles : Settles (room_in c.in-Ok.found.1) c.in-Ok.found.1.changes c.in-Ok-settle.state = subst (λ (l : List (List ℕ)). Settles (room_in c.in-Ok.found.1) l c.in-Ok-settle.state) c.as_slice.ensures c.in-Ok-settle.ensures in
-    record {
-      found = λ told. found_holds g.D.Disk c.args.disk.now (record { log = c.in-Ok.found.0; room = room_in c.in-Ok.found.1; state = c.in-Ok-settle.state }) c.recover.new.disk c.in-Ok.found.1.changes (record { store = c.in-Ok.ensures.found told; half = c.in-Ok.ensures.form.0 }) settles.loads (c.in-Ok.ensures.opened told) settles.within;
-      not_a_store = λ told e. absurd (cc);
-      seen = c.recover.ensures.seen;
-      stop = c.recover.ensures.any_moment;
-      durable = λ other. c.in-Ok.ensures.durable;
-      synced = λ other. omega (arith, c.in-Ok.ensures.tick);
-      spends = spends_as g.D.Disk 1 0 _ _ _ _ (λ e. absurd (cc)) (λ e. absurd (cc)) c.in-Ok.ensures.spends;
-    }
+pub returns-then-not-are_of_store : goal.returns-then-not-are_of_store
+returns-then-not-are_of_store g c =
+    let is = c.in-Ok.is in
+    all_read g.D.Disk c.args.disk.now c.recover.new.disk c.recover.result c.recover.ensures (Err NotAStore)
+    (λ e. absurd (cc)) (λ e. absurd (cc)) (λ told. tt)
+    (λ told e. of_no_store c.an_image_reads_as_one.ensures.one c.ordered_tables_show_ordered_stores.ensures.exact c.tables_weigh_as_shown.ensures _
+    c.in-Ok.opened.room c.in-Ok.opened.state c.are_tables.ensures c.in-Ok.ensures.room.limits.some (c.in-Ok.ensures.found told).reads
+    (λ of. both_ways c.are_of_store.result c.if-not-are_of_store.true (c.are_of_store.ensures.1 of)))
+
+pub invariant_of-result : goal.invariant_of-result
+invariant_of-result g c =
+    kept_of_store c.changes_stay_encodable.ensures.are c.in-Ok.opened c.are_tables.ensures c.in-Ok.ensures.room (c.are_of_store.ensures.0 c.if-not-are_of_store.false)
 
 pub returns : goal.returns
 returns g c =
-    let settled : Settled (room_in c.in-Ok.found.1) c.in-Ok.found.1.changes (Err c.in-Err-settle.fault) = subst (λ (l : List (List ℕ)). Settled (room_in c.in-Ok.found.1) l (Err c.in-Err-settle.fault)) c.as_slice.ensures (subst (λ (r : Result Tables RecoverFault). Settled (room_in c.in-Ok.found.1) c.as_slice.result.now r) c.in-Err-settle.is c.settle.ensures) in
-    unsettled g.D.Disk c.args.disk.now c.recover.new.disk (room_in c.in-Ok.found.1) c.in-Ok.found.1.changes c.in-Err-settle.fault settled (λ told. record { store = c.in-Ok.ensures.found told; half = c.in-Ok.ensures.form.0 })
-    (record {
-      seen = c.recover.ensures.seen;
-      stop = c.recover.ensures.any_moment;
-      durable = c.in-Ok.ensures.durable;
-      synced = omega (arith, c.in-Ok.ensures.tick);
-      spends = spends_as g.D.Disk 1 0 _ _ _ ⊥ (λ e. absurd (cc)) (λ no. absurd no) c.in-Ok.ensures.spends;
-    })
+    let opened = c.in-Ok.opened in
+    let is = c.in-Ok.is in
+    all_read g.D.Disk c.args.disk.now c.recover.new.disk c.recover.result c.recover.ensures _
+    (λ e. absurd (cc)) (λ e. absurd (cc))
+    (λ told. store_found g.D.Disk c.args.disk.now c.recover.new.disk opened.log opened.room opened.state
+    (shows_valid c.ordered_tables_show_ordered_stores.ensures.shown c.tables_weigh_as_shown.ensures opened.room opened.state _ c.are_tables.ensures
+    c.in-Ok.ensures.room.limits.some (c.are_of_store.ensures.0 c.if-not-are_of_store.false))
+    (c.in-Ok.ensures.found told).reads (c.in-Ok.ensures.found told).log)
+    (λ told e. absurd (cc))

@@ -9,25 +9,36 @@ use Rattle.install_plan.proofs.Downs.{counts_none}
 use Rattle.updater.proofs.Commanding.{Does, kept, memory_missed, refused, unlinked}
 use Rattle.updater.proofs.DataRemoved.{removal_does, removal_fits}
 use Rattle.updater.proofs.ShownViews.{keeps_view}
+use Rattle.updater.proofs.Seen.{kept_as, rested_as, seen}
+use Rattle.updater.specs.Shown.{Updater}
 use Rattle.updater.proofs.updater.Updater.remove.Goals as goal
 
 pub returns-in-Err : goal.returns-in-Err
 returns-in-Err g c =
-    refused g.D.Disk g.L.Links c.args.now (command.Remove c.args.lease c.args.name.now)
-    c.args.self.now c.args.disk.now c.args._links.now
+    let u = seen c.self.inside in
+    rested_as c.self.view_is
+    (refused g.D.Disk g.L.Links c.args.now (command.Remove c.args.lease c.args.name.now)
+    u c.args.disk.now c.args._links.now
     (g.met.D.Disk.seen_left c.args.disk.now) c.requires.moment tt c.in-Err.reply
     (subst (λ (n : ℕ). n ≤ NUMBER_LIMIT) (sym (c.in-Err.ensures.still c.args.now))
     c.requires.moment)
     (counts_none c.in-Err.ensures.no_target)
     (λ old s. c.in-Err.ensures.refused (keeps_view s.shows c.args.lease s.valid.ordered)
-    c.args.self.now.room old)
+    u.room old))
 
-pub keep-requires : goal.keep-requires
-keep-requires g c = (
+pub returns-in-Err-Memory : goal.returns-in-Err-Memory
+returns-in-Err-Memory g c =
+    memory_missed g.D.Disk g.L.Links c.args.now (command.Remove c.args.lease c.args.name.now)
+    c.args.self.now c.args.disk.now c.args._links.now
+    (g.met.D.Disk.seen_left c.args.disk.now) c.requires.moment tt
+
+pub keep_lighter-requires-clause-may : goal.keep_lighter-requires-clause-may
+keep_lighter-requires-clause-may g c = (
   subst (λ (name : List ℕ). Fits c.args.self.now.state (change.Remove c.in-Ok.view name))
       (sym c.in-Ok-copy.ensures)
-      (removal_fits c.args.lease c.args.name.now c.args.self.now.state c.in-Ok.view
-      c.in-Ok.ensures.removal),
+      (subst (λ (u : Updater). Fits u.state (change.Remove c.in-Ok.view c.args.name.now)) c.self.view_is
+      (removal_fits c.args.lease c.args.name.now c.self.inside.state c.in-Ok.view
+      c.in-Ok.ensures.removal)),
   (
     search rules,
     subst (λ (name : List ℕ). IsName name) (sym c.in-Ok-copy.ensures)
@@ -38,21 +49,23 @@ keep-requires g c = (
 pub returns : goal.returns
 returns g c =
     let command = command.Remove c.args.lease c.args.name.now in
+    let u = seen c.self.inside in
+    kept_as c.self.view_is c.keep_lighter.ensures (λ keeps.
     kept g.D.Disk g.L.Links c.args.now [] command
-    c.args.self.now c.args.disk.now c.args._links.now c.args._links.now
+    u c.args.disk.now c.args._links.now c.args._links.now
     (g.met.D.Disk.seen_left c.args.disk.now) c.requires.moment
-    (unlinked g.L.Links command c.args.self.now c.args._links.now)
+    (unlinked g.L.Links command u c.args._links.now)
     (change.Remove c.in-Ok.view c.in-Ok-copy.name) says.Removed c.requires.moment
     (counts_none refl)
     (λ old s. subst
     (λ (name : List ℕ). Does c.args.now [] command (g.L.Links.links c.args._links.now)
-    (g.L.Links.links c.args._links.now) (change.Remove c.in-Ok.view name) c.args.self.now.state old
+    (g.L.Links.links c.args._links.now) (change.Remove c.in-Ok.view name) u.state old
     says.Removed) (sym c.in-Ok-copy.ensures)
-    (removal_does c.args.now c.args.lease c.args.self.now.room c.args.name.now
-    c.args.self.now.state _ _ _ old s.jobs s.shows s.valid c.requires.words c.requires.moment
+    (removal_does c.args.now c.args.lease u.room c.args.name.now
+    u.state _ _ _ old s.jobs s.shows s.valid c.requires.words c.requires.moment
     c.in-Ok.view c.in-Ok.ensures.removal c.removals_show_the_rest.ensures
     c.one_data_file_is_changed.ensures.removed))
     (memory_missed g.D.Disk g.L.Links c.args.now command
-    c.args.self.now c.args.disk.now c.args._links.now
+    u c.args.disk.now c.args._links.now
     (g.met.D.Disk.seen_left c.args.disk.now) c.requires.moment tt)
-    c.keep.new.self c.keep.new.disk c.keep.result c.answer.result c.keep.ensures c.answer.ensures
+    c.keep_lighter.new.self c.keep_lighter.new.disk c.keep_lighter.result c.answer.result keeps c.answer.ensures)

@@ -5,22 +5,38 @@ use Rattle.machine.specs.declared.reply.Reply.TheVariants as says
 use Rattle.install_plan.proofs.Downs.{counts_none}
 use Rattle.updater.proofs.Commanding.{refused, rested, unlinked}
 use Rattle.updater.proofs.Requiring.{required_rests}
+use Rattle.updater.proofs.Seen.{rested_as, seen}
+use Rattle.updater.specs.Shown.{Updater}
+use Rattle.machine.specs.Machine.{refusals}
+use Rattle.machine.specs.Rows.{PassesAll}
+use Rattle.store_state.specs.Tables.{table_shape}
+use Rattle.updater.specs.Requirement.{Raises}
 use Rattle.updater.proofs.updater.Updater.require.Goals as goal
 
 pub returns-in-Some : goal.returns-in-Some
 returns-in-Some g c =
-    refused g.D.Disk g.L.Links c.args.now (command.Require c.args.key.now c.args.version) c.args.self.now c.args.disk.now c.args.links.now (g.met.D.Disk.seen_left c.args.disk.now) c.requires.moment tt c.in-Some.reply
+    let u = seen c.self.inside in
+    rested_as c.self.view_is
+    (refused g.D.Disk g.L.Links c.args.now (command.Require c.args.key.now c.args.version) u c.args.disk.now c.args.links.now (g.met.D.Disk.seen_left c.args.disk.now) c.requires.moment tt c.in-Some.reply
     (subst (λ (n : ℕ). n ≤ NUMBER_LIMIT) (sym (c.in-Some.ensures.still c.args.now)) c.requires.moment)
     (counts_none c.in-Some.ensures.no_target)
-    (λ old s. c.in-Some.ensures.some c.args.now c.args.self.now.room c.args.version old)
+    (λ old s. c.in-Some.ensures.some c.args.now c.args.version old))
 
 pub returns-in-Some-minimum_that_stays : goal.returns-in-Some-minimum_that_stays
 returns-in-Some-minimum_that_stays g c =
     let command = command.Require c.args.key.now c.args.version in
-    rested g.D.Disk g.L.Links c.args.now [] command c.args.self.now c.args.disk.now c.args.links.now c.args.links.now (g.met.D.Disk.seen_left c.args.disk.now) c.requires.moment
-    (unlinked g.L.Links command c.args.self.now c.args.links.now) (says.Minimum c.in-Some-minimum_that_stays.minimum) c.requires.moment
+    let u = seen c.self.inside in
+    rested_as c.self.view_is
+    (rested g.D.Disk g.L.Links c.args.now [] command u c.args.disk.now c.args.links.now c.args.links.now (g.met.D.Disk.seen_left c.args.disk.now) c.requires.moment
+    (unlinked g.L.Links command u c.args.links.now) (says.Minimum c.in-Some-minimum_that_stays.minimum) c.requires.moment
     (counts_none refl)
-    (λ old s. required_rests c.args.now c.args.key.now c.args.version _ c.args.self.now.state _ _ _ old s.jobs s.shows (c.in_default.ensures.none refl c.args.now c.args.self.now.room c.args.version s.half) c.in-Some-minimum_that_stays.minimum c.in-Some-minimum_that_stays.ensures.some)
+    (λ old s. required_rests c.args.now c.args.key.now c.args.version _ u.state _ _ _ old s.jobs s.shows (c.in_default.ensures.none refl c.args.now c.args.version) c.in-Some-minimum_that_stays.minimum c.in-Some-minimum_that_stays.ensures.some))
 
 pub raise-requires-clause-passed : goal.raise-requires-clause-passed
-raise-requires-clause-passed g c = λ room plain. c.in_default.ensures.none refl c.args.now room c.args.version plain
+raise-requires-clause-passed g c =
+    subst (λ (u : Updater). PassesAll (refusals c.args.now [] (table_shape u.room u.state) (command.Require c.args.key.now c.args.version))) c.self.view_is
+    (c.in_default.ensures.none refl c.args.now c.args.version)
+
+pub raise-requires-clause-raises : goal.raise-requires-clause-raises
+raise-requires-clause-raises g c =
+    subst (λ (u : Updater). Raises c.args.key.now c.args.version u.state.apps) c.self.view_is (c.in_default-minimum_that_stays.ensures.none refl)

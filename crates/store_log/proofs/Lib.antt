@@ -1,8 +1,0 @@
-mod Entries
-mod Gates
-mod HeadBlock
-mod Making
-mod NewStore
-mod Parse
-mod Reading
-pub mod Store
