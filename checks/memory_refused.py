@@ -1,6 +1,6 @@
-"""Refuses the programs memory, once in each run, and compares what comes of it.
+"""Refuses the client memory, once in each run, and compares what comes of it.
 
-usage: checks/memory_refused [STEP]     tries one allocation of so many, or of 7
+usage: checks/memory_refused [STEP]     tries one allocation of so many, or each
 
 A session, an `inspect` and a publish are run once for each allocation that is tried, which is refused by a library that stands before
 the C library's own. A line may then be answered `no memory`, and changes nothing; or the run ends with status 6, and its answers and
@@ -12,9 +12,7 @@ import faults
 from faults import AT_HAND, FIRST, LOOKS, MARKS, SECOND, STORE, Course, files_below, given, lines_with, new_store, placed, publish, wrote
 from programs import CLIENT, KEY, SESSION, empty, finish, holds, serve, session, stop, work
 
-STEP = int(sys.argv[1]) if len(sys.argv) > 1 else 7
-# How many allocations of a run are looked at, at most.
-MOST = 200000
+STEP = int(sys.argv[1]) if len(sys.argv) > 1 else 1
 REFUSING = f"{work}/refusing.so"
 REFUSING_C = r"""
 #define _GNU_SOURCE
@@ -78,8 +76,8 @@ def allocations(words, text=b""):
 
 
 def tried(whole):
-    """The numbers of the allocations that are refused, one after the other: the first ones all, as a program begins."""
-    return [number for number in range(1, min(whole, MOST) + 1) if number <= 50 or number % STEP == 0]
+    """The numbers of the allocations that are refused, one after the other."""
+    return range(1, whole + 1, STEP)
 
 
 def is_refused(name, course, got):
@@ -134,9 +132,9 @@ def publishes():
              "in", "--to", "out"] + MARKS
     placed(base, site)
     right = refusing(0, words)
+    old, new = files_below(f"{base}/out"), files_below(f"{site}/out")
     placed(base, site)
     whole = allocations(words)
-    old, new = files_below(f"{base}/out"), files_below(f"{site}/out")
     for number in tried(whole):
         placed(base, site)
         got = refusing(number, words)
