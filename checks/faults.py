@@ -239,6 +239,18 @@ def sessions(course):
     print(f"a session: {count}, of which {found} were told as down", flush=True)
 
 
+def unread(course):
+    """A session whose output nobody reads."""
+    new_store(STORE)
+    reader, writer = os.pipe()
+    os.close(reader)
+    done = subprocess.run([CLIENT, STORE, AT_HAND] + SESSION, input=given(course.lines).encode(), stdout=writer, stderr=subprocess.PIPE)
+    os.close(writer)
+    got = done.returncode, done.stderr.decode()
+    holds(f"an output that nobody reads: {got}", got == (3, "clickstore: standard output: Broken pipe\n"))
+    holds("what stands then", session(STORE, LOOKS) in course.stood[:2])
+
+
 def device_of(call):
     """What the call is made of in a session, the status where it fails, and what is said then."""
     if call.is_below(os.path.dirname(STORE)):
@@ -453,6 +465,7 @@ def main():
     host, server = serve("clickhost", site)
     course = Course(lines_with(host))
     sessions(course)
+    unread(course)
     stop(server)
     formats(course)
     inspections(f"{site}/two/demo.application")

@@ -7,16 +7,18 @@ may not crash, hang, take more memory than its right work takes, or hand out wha
 `docs/http.md` and gives no other file, the client installs no file that its manifest does not list, and each of them goes on with
 the next one. The number of a failure and SEED of the environment make the same bytes again.
 """
-import base64, hashlib, os, random, re, signal, socket, struct, subprocess, sys, threading, time
+import base64, hashlib, os, random, re, shutil, signal, socket, struct, subprocess, sys, threading, time
 
 from mutants import NUMBERS, PIECES, mutant
 from programs import (CLIENT, HOST, KEY, SESSION, command, copied, empty, finish, holds, seed, serve, servers, session, stop, work)
 from programs import run as run_client
 
 COUNT = int(sys.argv[1]) if len(sys.argv) > 1 else 10000
-# Kilobytes that a program may take beside what it takes for right work, and the seconds that it has for one piece of work.
-ROOM, LONGEST = 32768, int(os.environ.get("LONGEST", "100"))
+# Kilobytes that a program may take beside what it takes for right work, and for a text of 4 MiB, and the seconds that it has for one
+# piece of work.
+ROOM, LARGE, LONGEST = 32768, 262144, int(os.environ.get("LONGEST", "100"))
 SITE = f"{work}/site"
+TIME = shutil.which("time")
 
 
 def chance_of(kind, number):
@@ -92,7 +94,9 @@ def asked(port, text, chance):
             one.shutdown(socket.SHUT_WR)
             while piece := one.recv(65536):
                 got += piece
-        except ConnectionError:
+        except TimeoutError:
+            return b"silence", True
+        except OSError:
             # It ends a connection on which it did not take all that was sent.
             is_whole = False
     return got, is_whole
@@ -297,19 +301,20 @@ class Peer:
 
 def measured(words, text):
     """How a program ends that is given this text, what it writes and says, and how many kilobytes it took at most. One that hangs
-    is killed."""
-    with open(f"{work}/measured", "wb") as file:
-        file.write(text)
-    with open(f"{work}/measured", "rb") as file, open(f"{work}/wrote", "w+b") as out, open(f"{work}/said", "w+b") as why:
-        process = subprocess.Popen(words, stdin=file, stdout=out, stderr=why)
-        signal.signal(signal.SIGALRM, lambda *_: process.kill())
-        signal.setitimer(signal.ITIMER_REAL, LONGEST)
-        _, status, used = os.wait4(process.pid, 0)
-        signal.setitimer(signal.ITIMER_REAL, 0)
-        process.returncode = os.waitstatus_to_exitcode(status)
-        out.seek(0)
-        why.seek(0)
-        return process.returncode, out.read(), why.read(), used.ru_maxrss
+    is killed. What a child of this process takes is not told from what the process itself has, so `time` stands between."""
+    told = f"{work}/told"
+    wrote(f"{work}/measured", text)
+    wrote(told, b"0\n")
+    with open(f"{work}/measured", "rb") as file:
+        before = [TIME, "-q", "-f", "%M", "-o", told] if TIME else []
+        process = subprocess.Popen(before + words, stdin=file, stdout=subprocess.PIPE, stderr=subprocess.PIPE, start_new_session=True)
+        try:
+            out, why = process.communicate(timeout=LONGEST)
+        except subprocess.TimeoutExpired:
+            os.killpg(process.pid, signal.SIGKILL)
+            out, why = process.communicate()
+    with open(told) as lines:
+        return process.returncode, out, why, int(lines.read().split()[-1])
 
 
 def lines_of(numbers, address):
@@ -327,12 +332,14 @@ def lines_of(numbers, address):
 def judge(release, number, answer, count):
     plan = Plan(release, number)
     installed = answer.startswith("ok installed ")
+    # A version or a minimum that an earlier change raised stays.
+    is_older = answer.startswith(("no not-newer ", "no below-minimum "))
     if plan.is_right():
-        good = installed or answer.startswith("no below-minimum ")
+        good = installed or is_older
     elif plan.is_other:
-        good = answer.startswith("no links ")
+        good = answer.startswith("no links ") or is_older
     else:
-        good = installed or re.match("no (links|manifest|release|not-newer|below-minimum|bad-url|not-http|full|too-many|memory)", answer)
+        good = installed or is_older or re.match("no (links|manifest|release|bad-url|not-http|full|too-many|table-full) ", answer)
     if not good:
         holds(f"answer {number}, {plan.which} {plan.how}: {answer}", False)
     kind = " ".join(answer.split(" ")[:2])
@@ -362,12 +369,15 @@ def answers(release):
         status, written, said, used = measured([CLIENT, copied(first, store), empty] + SESSION, text.encode())
         replies = written.decode().splitlines()
         holds(f"answers from {begin}: status {status}, {said!r}, {len(replies)}", (status, said, len(replies)) == (0, b"", len(lines)))
-        for (number, _), reply in zip(lines, replies):
+        for (number, line), reply in zip(lines, replies):
             if number is not None:
                 judge(release, number, reply, count)
+            elif not re.match("ok (checked|cleaned) |no (not-installed$|links |manifest |identity )", reply):
+                holds(f"answers from {begin}: {line}: {reply}", False)
         got = session(store, ["read 1 app.exe 0 9", "clean", "finish 1"])
         holds(f"answers from {begin}: the store then: {got}", got[:1] == ["ok bytes 5 6669727374"] and got[2:] == ["ok finished 1"])
         most = max(most, used)
+    holds(f"most right ones are installed: {count}", count.get("ok installed", 0) > COUNT // 6)
     more = most - right[3]
     holds(f"the client took {more} kB more", more < ROOM)
     holds(f"of an answer without an end {peer.most} bytes were taken", peer.most < peer.MOST // 2)
@@ -404,18 +414,19 @@ def manifests(release):
         chance = chance_of("manifest", number)
         kind = chance.choice(list(texts))
         most = max(most, inspect(f"manifest {number}", kind, mutant(chance, texts[kind])))
-    for number, text in enumerate(special_texts()):
-        for kind in texts:
-            inspect(f"special text {number}", kind, text)
+    large = max(inspect(f"special text {number}", kind, text) for number, text in enumerate(special_texts()) for kind in texts)
+    holds(f"for texts as long as may be inspect took {large} kB", large < LARGE)
     more = most - right
     holds(f"inspect took {more} kB more", more < ROOM)
     common = sorted(count, key=count.get)[:-13:-1]
-    print(f"{COUNT} manifests, {len(count)} kinds of answers, most of them {[f'{count[it]} {it}' for it in common]}; {more} kB more memory",
-          flush=True)
+    print(f"{COUNT} manifests, {len(count)} kinds of answers, most of them {[f'{count[it]} {it}' for it in common]}; {more} kB more memory, "
+          f"{large} kB for texts as long as may be", flush=True)
 
 
 def main():
     print(f"SEED={seed}", flush=True)
+    if not TIME:
+        print("skipped: there is no time(1) here, so memory is not measured but of the host")
     release = Release()
     for part in (requests, answers, manifests):
         began = time.monotonic()

@@ -1,0 +1,167 @@
+"""Refuses the client memory, once in each run, and compares what comes of it.
+
+usage: checks/memory_refused [STEP]     tries one allocation of so many, or each
+
+A session, an `inspect` and a publish are run once for each allocation that is tried, which is refused by a library that stands before
+the C library's own. A line may then be answered `no memory`, and changes nothing; or the run ends with status 6, and its answers and
+the store are those of the first lines. No other answer and no other status comes in place of want of memory.
+"""
+import os, shutil, subprocess, sys
+
+import faults
+from faults import AT_HAND, FIRST, LOOKS, MARKS, SECOND, STORE, Course, files_below, given, lines_with, new_store, placed, publish, wrote
+from programs import CLIENT, KEY, SESSION, empty, finish, holds, serve, session, stop, work
+
+STEP = int(sys.argv[1]) if len(sys.argv) > 1 else 1
+REFUSING = f"{work}/refusing.so"
+REFUSING_C = r"""
+#define _GNU_SOURCE
+#include <dlfcn.h>
+#include <errno.h>
+#include <stdio.h>
+#include <stdlib.h>
+static long count, wanted;
+/* Counts the calls that ask for memory, and refuses that one whose number REFUSED gives. */
+static int refused(void) {
+    if (!wanted) {
+        const char *text = getenv("REFUSED");
+        wanted = text ? atol(text) : -1;
+    }
+    if (++count != wanted) return 0;
+    errno = ENOMEM;
+    return 1;
+}
+void *malloc(size_t size) {
+    static void *(*next)(size_t);
+    if (!next) next = (void *(*)(size_t))dlsym(RTLD_NEXT, "malloc");
+    return refused() ? NULL : next(size);
+}
+void *realloc(void *old, size_t size) {
+    static void *(*next)(void *, size_t);
+    if (!next) next = (void *(*)(void *, size_t))dlsym(RTLD_NEXT, "realloc");
+    return refused() ? NULL : next(old, size);
+}
+/* Tells in the file that COUNTED names how many there were. */
+__attribute__((destructor)) static void told(void) {
+    const char *name = getenv("COUNTED");
+    FILE *file = name ? fopen(name, "w") : NULL;
+    if (file) fprintf(file, "%ld\n", count);
+}
+"""
+
+
+def can_refuse():
+    """Makes the library, where there is a compiler and the program takes its memory from the C library."""
+    with open(f"{work}/refusing.c", "w") as file:
+        file.write(REFUSING_C)
+    compiler = next(filter(shutil.which, ("cc", "gcc", "clang")), None)
+    if not compiler or subprocess.run([compiler, "-O1", "-shared", "-fPIC", "-o", REFUSING, f"{work}/refusing.c", "-ldl"]).returncode:
+        return False
+    return allocations([CLIENT, "--version"]) > 0
+
+
+def refusing(number, words, text=b""):
+    """How the run ends, what it writes and what it says, where the allocation of this number is refused."""
+    told = {"LD_PRELOAD": REFUSING, "REFUSED": str(number), "COUNTED": f"{work}/counted"}
+    done = subprocess.run(words, input=text, stdout=subprocess.PIPE, stderr=subprocess.PIPE, timeout=120, env={**os.environ, **told})
+    return done.returncode, done.stdout.decode(), done.stderr.decode()
+
+
+def allocations(words, text=b""):
+    """How often the whole run asks for memory."""
+    wrote(f"{work}/counted", b"0")
+    refusing(0, words, text)
+    with open(f"{work}/counted") as file:
+        return int(file.read())
+
+
+def tried(whole):
+    """The numbers of the allocations that are refused, one after the other."""
+    return range(1, whole + 1, STEP)
+
+
+def is_refused(name, course, got):
+    """One line was answered so and changed nothing, or the run ended; and nothing is lost."""
+    status, said, why = got
+    if status == 6:
+        holds(f"{name}: {why!r}", why == "clickstore: no memory\n")
+        faults.is_of_prefix(name, course, said)
+        return "status 6"
+    whole, answers, stood = said.splitlines(), course.answers, course.stood[-1]
+    place = next((n for n, (is_so, was) in enumerate(zip(whole, answers)) if is_so != was), None)
+    kind = "no difference"
+    if place is not None:
+        holds(f"{name}: line {place}: {whole[place]}", whole[place] == "no memory")
+        answers, stood = course.without(place)
+        answers = answers[:place] + ["no memory"] + answers[place:]
+        kind = "no memory"
+    holds(f"{name}: {status}, {why!r}, {whole}", (status, why) == (0, "") and whole == answers)
+    holds(f"{name}: what stands then", session(STORE, LOOKS) == stood)
+    return kind
+
+
+def sessions(course):
+    words, text, count = [CLIENT, STORE, AT_HAND] + SESSION, given(course.lines).encode(), {}
+    new_store(STORE)
+    whole = allocations(words, text)
+    for number in tried(whole):
+        new_store(STORE)
+        kind = is_refused(f"a session, allocation {number}", course, refusing(number, words, text))
+        count[kind] = count.get(kind, 0) + 1
+    print(f"a session: {whole} allocations; {count}", flush=True)
+
+
+def inspections(manifest):
+    words, text = [CLIENT, f"{work}/none", empty, "inspect", "deployment"], open(manifest, "rb").read()
+    right, count = refusing(0, words, text), {}
+    whole = allocations(words, text)
+    for number in tried(whole):
+        got = refusing(number, words, text)
+        ends = got == right or got[0] == 6 and right[1].startswith(got[1]) and got[2] == "clickstore: no memory\n"
+        holds(f"inspect, allocation {number}: {got}", ends)
+        count[got[0]] = count.get(got[0], 0) + 1
+    print(f"inspect: {whole} allocations; statuses {count}", flush=True)
+
+
+def publishes():
+    base, site, count = f"{work}/published", f"{work}/publishing", {}
+    publish(base, "out", "1.0.0.0", FIRST, MARKS)
+    for name, text in SECOND.items():
+        wrote(f"{base}/in/{name}", text)
+    words = [CLIENT, f"{work}/none", site, "publish", "--name", "demo", "--release", "2.0.0.0", "--entry", "app.exe", "--from",
+             "in", "--to", "out"] + MARKS
+    placed(base, site)
+    right = refusing(0, words)
+    old, new = files_below(f"{base}/out"), files_below(f"{site}/out")
+    placed(base, site)
+    whole = allocations(words)
+    for number in tried(whole):
+        placed(base, site)
+        got = refusing(number, words)
+        holds(f"publish, allocation {number}: {got}", got == right or got == (6, "", "clickstore: no memory\n"))
+        found = files_below(f"{site}/out")
+        other = [name for name, text in found.items() if text not in (old.get(name), new.get(name))]
+        holds(f"publish, allocation {number}: other files: {other}", not other)
+        is_done = found["demo.application"] == new["demo.application"]
+        holds(f"publish, allocation {number}: all of it where it is done", found == new if is_done else got != right)
+        count[got[0]] = count.get(got[0], 0) + 1
+    print(f"publish: {whole} allocations; statuses {count}", flush=True)
+
+
+def main():
+    if not can_refuse():
+        print("skipped: there is no C compiler here, or the programs take their memory elsewhere")
+        return finish()
+    site = f"{work}/site"
+    publish(AT_HAND, "one", "1.0.0.0", FIRST, MARKS)
+    publish(site, "two", "2.0.0.0", SECOND, MARKS + ["group:help:help.txt"])
+    host, server = serve("clickhost", site)
+    sessions(Course(lines_with(host)))
+    stop(server)
+    inspections(f"{site}/two/demo.application")
+    publishes()
+    return finish()
+
+
+if __name__ == "__main__":
+    sys.exit(main())
