@@ -430,6 +430,11 @@ def hosts():
     holds(f"a host under strace: {whole.ended}", whole.ended == (0, "", whole.announced) and len(whole.answers) == len(ASKED))
     bodies = [wanted[asked].partition(b"\r\n\r\n")[2] for asked in ASKED]
     holds("what it answers", bodies == [SMALL, LARGE, SMALL, b""])
+    nowhere = f"{work}/nowhere"
+    absent = Served([], nowhere, None)
+    said = f"{absent.announced}clickhost: {nowhere}: there is no such folder\n"
+    codes = {answer.partition(b"\r\n")[0] for _, answer in absent.answers}
+    holds(f"a host without its folder: {absent.ended}, {codes}", absent.ended == (0, "", said) and codes == {b"HTTP/1.1 404 Not Found"})
     for call in calls_in(log):
         if not (call.is_of_link() or call.is_below(site)):
             continue
