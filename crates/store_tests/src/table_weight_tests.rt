@@ -11,10 +11,10 @@ use table_weight::{
     WeightFault, weight, weight_with_data, weight_with_group, weight_with_key, weight_with_release,
 };
 
-// The full tables but for their three blocks: 131,072 of all tables; 263 and 260 of the
-// applications; 1,535 of the view's release and 17 of its group; 25 of each data file; and 96 of
-// the content.
-const FULL_WEIGHT: u64 = 133_289;
+// The full tables but for their two blocks: 131,072 of all tables; 263 and 260 of the applications;
+// 1,535 of the view's release and 17 of its group; 25 of each of two data files, of which one is
+// empty; and 96 of the content.
+const FULL_WEIGHT: u64 = 133_293;
 
 fn weighed(alloc: Global, bytes: &[u8]) -> Option<u64> {
     match decode_state(alloc, bytes) {
@@ -29,7 +29,7 @@ fn weighed(alloc: Global, bytes: &[u8]) -> Option<u64> {
 
 #[test]
 fn tables_weigh_the_sum_of_their_parts(rt: HostRuntime) {
-    for (bytes, wanted) in [(EMPTY, 131_072), (FULL, FULL_WEIGHT + 3 * BLOCK_WEIGHT)] {
+    for (bytes, wanted) in [(EMPTY, 131_072), (FULL, FULL_WEIGHT + 2 * BLOCK_WEIGHT)] {
         assert!(rt; weighed(rt.alloc(), bytes) == Some(wanted), "{wanted}");
     }
 }
@@ -53,7 +53,7 @@ fn a_new_key_weighs(rt: HostRuntime) -> Result<(), Fail> {
         let key = Key::read(rt.alloc(), word.as_bytes())?;
         let total = with_key(rt.alloc(), &key);
         assert!(rt;
-            total == Some(FULL_WEIGHT + 3 * BLOCK_WEIGHT + more),
+            total == Some(FULL_WEIGHT + 2 * BLOCK_WEIGHT + more),
             "{word}"
         );
     }
@@ -77,9 +77,9 @@ fn with_data(alloc: Global, number: u64, name: &Name, length: u64) -> Option<u64
 fn a_data_file_takes_the_place_of_one(rt: HostRuntime) -> Result<(), Fail> {
     // The one of the name had a block, and no view has the number nine.
     for (number, name, length, more, blocks) in [
-        (1, "d", 4_097, 0, 4),
-        (1, "new", 1, 27, 4),
-        (9, "new", 1, 0, 3),
+        (1, "d", 4_097, 0, 3),
+        (1, "new", 1, 27, 3),
+        (9, "new", 1, 0, 2),
     ] {
         let name = Name::read(rt.alloc(), name.as_bytes())?;
         let total = with_data(rt.alloc(), number, &name, length);
@@ -144,7 +144,7 @@ fn a_group_weighs_with_its_contents(rt: HostRuntime) -> Result<(), Fail> {
     let bytes = ungrouped(rt.alloc())?;
     let group = Text::from_string(format!(in rt.alloc(); "h")?);
     let total = with_group(rt.alloc(), &bytes, &group);
-    assert!(rt; total == Some(FULL_WEIGHT + 96 + 4 * BLOCK_WEIGHT));
+    assert!(rt; total == Some(FULL_WEIGHT + 96 + 3 * BLOCK_WEIGHT));
     Ok(())
 }
 
@@ -192,7 +192,7 @@ fn released(alloc: Global, bytes: &[u8], places: &[usize]) -> Option<u64> {
 fn a_release_weighs_with_its_files(rt: HostRuntime) {
     // In the full tables the data files stay and the program file is held. In the empty ones an
     // application of 263 comes, a data file of 25 and a content of 96.
-    let full = FULL_WEIGHT + 1_535 + 50 + 4 * BLOCK_WEIGHT;
+    let full = FULL_WEIGHT + 1_535 + 50 + 3 * BLOCK_WEIGHT;
     let empty = 131_072 + 263 + 1_535 + 25 + 96 + 2 * BLOCK_WEIGHT;
     assert!(rt; released(rt.alloc(), FULL, &[2]) == Some(full));
     assert!(rt; released(rt.alloc(), EMPTY, &[0, 2]) == Some(empty));
