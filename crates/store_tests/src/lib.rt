@@ -1,5 +1,5 @@
 //! Tests of the tables, of their changes and of themselves as bytes, of both in a journal, of how
-//! much they weigh, of what a clean takes, and of lines and replies.
+//! much they weigh, of what they hold for files, of what a clean takes, and of lines and replies.
 #![tactic(auto)]
 
 #[cfg(test)]
@@ -14,6 +14,8 @@ mod store_state_tests;
 mod table_check_tests;
 #[cfg(test)]
 mod table_codec_tests;
+#[cfg(test)]
+mod table_files_tests;
 #[cfg(test)]
 mod table_log_tests;
 #[cfg(test)]

@@ -1,0 +1,6 @@
+pub mod ChangeItems
+pub mod ContentSearch
+pub mod Filtering
+pub mod LocalItems
+pub mod RowItems
+pub mod SameItems

@@ -1,0 +1,8 @@
+// What is true of what tables hold, with no code.
+ghost use Rattle.table_files.specs.Laws.{ChangesKeepItems};
+
+/// A change that fits loses nothing and takes nothing twice: what the tables held and what it
+/// brings are, in some order, what they hold then and what it lets go.
+pub fn changes_keep_items()
+    ensures { ChangesKeepItems }
+{}
