@@ -1,4 +1,5 @@
 pub mod ChangeItems
+pub mod CleanItems
 pub mod ContentSearch
 pub mod Filtering
 pub mod LocalItems
