@@ -1,7 +1,6 @@
 -- What is held before a change and after it.
-use Rattle.std.proofs.Common.{◌≡◌, ◌∙◌, ◌+◌, ◌<◌, ◌++◌, refl, sym, ap, subst, ℕ, cond, eqb, List, [], ◌∷◌, length, map, All, AllPairs, Option, Some, None, IsSome, arith}
-use Rattle.std.specs.Prelude.{not, option_and_then}
-use Rattle.std.specs.List.Sorted.{IsPermutation}
+use Rattle.std.proofs.Common.{◌≡◌, ◌<◌, ◌++◌, refl, sym, ap, subst, ℕ, eqb, List, [], ◌∷◌, map, Option, Some, None, IsSome, arith}
+use Rattle.std.specs.Prelude.{option_and_then}
 use Rattle.std.specs.Option.{option_map_or}
 use Rattle.std.proofs.lemmas.List.{length-append}
 use Rattle.std.proofs.lemmas.List.Concat.{flat_map-append}
@@ -11,11 +10,9 @@ use Rattle.identity.specs.declared.version.Version.{Version}
 use Rattle.small_types.specs.declared.target.Target.{Target}
 use Rattle.machine.specs.Blocks.{standing_files}
 use Rattle.machine.specs.CheckRow.{heard_app}
-use Rattle.machine.specs.DataFiles.{with_named, without_named}
 use Rattle.machine.specs.Entries.{with_entry}
 use Rattle.machine.specs.LaunchRow.{started_app}
 use Rattle.machine.specs.RollbackRow.{rolled_back_app}
-use Rattle.machine.proofs.Finding.{value_of}
 use Rattle.machine.proofs.Finding.{find_in as found_in}
 use Rattle.machine.proofs.Members.{all_in}
 use Rattle.store_state.specs.declared.change.Change.{Change}
@@ -26,7 +23,7 @@ use Rattle.store_state.specs.declared.view.View.{View}
 use Rattle.store_state.specs.Change.{Fits, IsRow, MayPut, effect, grown, leased}
 use Rattle.store_state.specs.Dropped.{is_among, is_needed, removable_in, without_rows}
 use Rattle.store_state.specs.Kept.{AreTables}
-use Rattle.store_state.specs.Locals.{local_at, local_name, local_named, with_local, without_local}
+use Rattle.store_state.specs.Locals.{local_at, local_named, with_local, without_local}
 use Rattle.store_state.specs.Rows.{current_at, current_version, row_at, version_at, with_app, with_row}
 use Rattle.store_state.specs.Tables.{Tables, bare_row}
 use Rattle.store_state.proofs.ByNumber.{Rise}
@@ -34,7 +31,7 @@ use Rattle.store_state.proofs.Growing.{of_view, some_with}
 use Rattle.store_state.proofs.Indexed.{pairs_of_map}
 use Rattle.table_files.specs.Freed.{brought, freed, held_for_one, rows_among, unneeded}
 use Rattle.table_files.specs.Held.{held_by, held_for_contents, held_for_locals, held_for_views}
-use Rattle.table_files.specs.Laws.{ChangesKeepItems, KeepsItems, after, before, count_of}
+use Rattle.table_files.specs.Laws.{ChangesKeepItems, after, before}
 use Rattle.table_files.proofs.LocalItems.{left_total, put_total, total}
 use Rattle.table_files.proofs.RowItems.{row_total, same_locals, total_parted}
 use Rattle.table_files.proofs.SameItems.{SameTotals, apart_permuted, from_totals, one_for}

@@ -1,5 +1,5 @@
 -- What a clean lets go, from what its parts are.
-use Rattle.std.proofs.Common.{◌≡◌, ◌∙◌, ◌++◌, sym, ap, subst, ℕ, List, map, not}
+use Rattle.std.proofs.Common.{◌≡◌, ◌∙◌, ◌++◌, ap, ℕ, List, map, not}
 use Rattle.std.specs.Prelude.{filter}
 use Rattle.std.proofs.lemmas.List.Elements.{filter_agree}
 use Rattle.manifests.specs.declared.facts.FileEntry.{FileEntry}

@@ -1,5 +1,5 @@
 -- Searches among files in the order of their content keys, and among numbers that rise.
-use Rattle.std.proofs.Common.{◌≡◌, ◌∙◌, ◌+◌, ◌<◌, ◌≤◌, ◌⊎◌, inl, inr, refl, sym, ap, subst, ◌||◌, ℕ, Bool, true, false, List, [], ◌∷◌, length, get_or, map, All, AllPairs, Contains, Result, Ok, Err, eqb, cond, arith}
+use Rattle.std.proofs.Common.{◌≡◌, ◌∙◌, ◌+◌, ◌<◌, ◌≤◌, ◌⊎◌, inl, inr, refl, sym, ap, subst, ◌||◌, ℕ, Bool, true, List, [], ◌∷◌, length, get_or, map, AllPairs, Result, Ok, Err, arith}
 use Rattle.std.specs.Cmp.{nat_cmp_is}
 use Rattle.std.specs.Prelude.{is_ok, filter, not}
 use Rattle.std.specs.List.{list_any}

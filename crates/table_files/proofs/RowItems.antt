@@ -1,5 +1,5 @@
 -- What is held for the data files of views, once one view is changed.
-use Rattle.std.proofs.Common.{◌≡◌, ◌≢◌, ◌∙◌, ◌+◌, ◌<◌, ◌++◌, refl, sym, ap, subst, ℕ, Bool, true, false, cond, eqb, eqb-true, ne_eqb, List, [], ◌∷◌, All, AllPairs, Some, arith}
+use Rattle.std.proofs.Common.{◌≡◌, ◌∙◌, ◌+◌, ◌<◌, ◌++◌, refl, sym, ap, subst, ℕ, Bool, true, false, cond, eqb, eqb-true, ne_eqb, List, [], ◌∷◌, All, Some, arith}
 use Rattle.std.specs.Prelude.{filter, not, sum_by}
 use Rattle.std.specs.List.{flat_map}
 use Rattle.std.proofs.lemmas.Bool.{cond-false}

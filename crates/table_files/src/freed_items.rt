@@ -96,11 +96,7 @@ fn add_unneeded(
 }
 
 // Adds what is held for the data files of the views of these numbers.
-fn add_gone(
-    items: &mut Vec<HeldItem>,
-    views: &[View],
-    numbers: &[u64],
-) -> Result<(), AllocError>
+fn add_gone(items: &mut Vec<HeldItem>, views: &[View], numbers: &[u64]) -> Result<(), AllocError>
     requires { IsSorted nat_cmp numbers.now }
     ensures { OnOk result (items.new.items ≡ items.old.items
         ++ held_for_views (rows_among numbers.now views.now)) }

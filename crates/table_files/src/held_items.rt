@@ -28,10 +28,7 @@ fn add_contents(items: &mut Vec<HeldItem>, contents: &[Content]) -> Result<(), A
 }
 
 // Adds what is held for the data files.
-pub(crate) fn add_locals(
-    items: &mut Vec<HeldItem>,
-    files: &[LocalFile],
-) -> Result<(), AllocError>
+pub(crate) fn add_locals(items: &mut Vec<HeldItem>, files: &[LocalFile]) -> Result<(), AllocError>
     ensures { OnOk result (items.new.items ≡ items.old.items ++ held_for_locals files.now) }
 {
     for file in files {

@@ -1,6 +1,5 @@
 use Rattle.std.proofs.Common.{◌∙◌, ◌++◌, Bor, List, ℕ, ap, map}
 use Rattle.manifests.specs.declared.facts.FileEntry.{FileEntry}
-use Rattle.store_state.specs.declared.view.Content.{Content}
 use Rattle.store_state.specs.Dropped.{is_needed}
 use Rattle.store_state.specs.Tables.{Tables}
 use Rattle.table_files.specs.Freed.{rows_among}
