@@ -54,7 +54,8 @@ none_after name (file ∷ files) after =
     let greater : text_cmp file.name name ≡ Greater =
     order.antisymm file.name name ∙ ap ordering_reverse less in
     rw (unequal file.name name Greater greater (λ e. cc))
-    (none_after name files (All-tail (λ (f : LocalFile). text_cmp name f.name ≡ Less) file files after))
+    (none_after name files
+    (All-tail (λ (f : LocalFile). text_cmp name f.name ≡ Less) file files after))
 
 module _ (w : ℕ → ℕ) where
   abbrev pub total : List ℕ → ℕ

@@ -123,10 +123,10 @@ fn freed_by_clean(alloc: Global, state: &StoreState) -> Result<List<HeldItem>, A
 
 // ---- any change
 
-/// What the change lets go of what the tables hold for files: a put and a removal what the data file
-/// of that name holds, where one stands in the view, and a clean that of the contents that no program
-/// file has then, and then that of the data files of the views that it takes. Any other change lets
-/// nothing go, and takes no memory here. It fails only for want of memory.
+/// What the change lets go of what the tables hold for files: a put and a removal what the data
+/// file of that name holds, where one stands in the view, and a clean that of the contents that no
+/// program file has then, and then that of the data files of the views that it takes. Any other
+/// change lets nothing go, and takes no memory here. It fails only for want of memory.
 pub fn freed(
     alloc: Global,
     state: &StoreState,

@@ -15,7 +15,8 @@ returns c =
     let lost = held_for_contents (lacked (now c.as_slice-4.result.now) c.as_slice-3.result.now) in
     c.from_vec.ensures ∙ c.in_ok-add_gone.ensures
     ∙ ap (λ (items : List ℕ). items ++ gone)
-    (c.in_ok-add_unneeded.ensures ∙ ap (λ (items : List ℕ). items ++ lost) c.new-items.ensures.items)
+    (c.in_ok-add_unneeded.ensures
+    ∙ ap (λ (items : List ℕ). items ++ lost) c.new-items.ensures.items)
     ∙ freed_is c.args.state.now (now c.as_slice-4.result.now) c.as_slice-2.result.now
     c.as_slice.result.now c.as_slice-3.result.now c.as_slice-6.result.now c.as_slice-5.result.now
     (λ content. ap (λ (files : List (Bor FileEntry)). is_needed (now files) content)
