@@ -1,0 +1,8 @@
+use Rattle.job_machine.proofs.SoundSteps.{begins_sound, step_sound}
+use Rattle.job_machine.proofs.laws.session_steps_keep_sound.Goals as goal
+
+pub returns-clause-begun : goal.returns-clause-begun
+returns-clause-begun c = begins_sound
+
+pub returns-clause-steps : goal.returns-clause-steps
+returns-clause-steps c = step_sound
