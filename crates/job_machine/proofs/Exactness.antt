@@ -86,7 +86,7 @@ provider_one target one other None first second = first ∙ sym second
 provider_one target one other (Some text) first second =
     target_alike one other (sym first ∙ second)
 
-weight_one : (shape : Shape) (job : BareJob) (x y : ℕ) → IsWeightOf shape job x
+pub weight_one : (shape : Shape) (job : BareJob) (x y : ℕ) → IsWeightOf shape job x
     → IsWeightOf shape job y → x ≡ y
 weight_one shape job x y first second =
     first.is

@@ -3,10 +3,13 @@ pub mod BeginSound
 pub mod BesideSound
 pub mod CommitSound
 pub mod Committing
+pub mod Deciding
 pub mod Exactness
 pub mod Example
 pub mod Folds
+pub mod JobAnswering
 pub mod JobFiles
+pub mod JobSteps
 pub mod NewViews
 pub mod OneKey
 pub mod OpenJobs

@@ -181,6 +181,53 @@ module _ (shape : Shape) (a : Application) where
         blocks_are shape.views shape.jobs,
       )
 
+  among_back : (entry : FileEntry)
+      → In entry (counted_files shape ++ filter is_required a.files)
+      → In entry (required_files (shape.jobs ++ a ∷ []) ++ standing_files shape.views)
+  among_back entry there =
+      by (in_either (counted_files shape) (filter is_required a.files) entry there)
+    where
+      first : In entry (required_files shape.jobs ++ filter is_required a.files)
+          → In entry (required_files (shape.jobs ++ a ∷ []) ++ standing_files shape.views)
+      first required =
+          in_left (required_files (shape.jobs ++ a ∷ [])) (standing_files shape.views) entry
+          (subst (λ (es : List FileEntry). In entry es) (sym required_more) required)
+
+      inner : In entry (required_files shape.jobs) ⊎ In entry (standing_files shape.views)
+          → In entry (required_files (shape.jobs ++ a ∷ []) ++ standing_files shape.views)
+      inner (inl before) =
+          first (in_left (required_files shape.jobs) (filter is_required a.files) entry before)
+      inner (inr stands) =
+          in_right (required_files (shape.jobs ++ a ∷ [])) (standing_files shape.views) entry stands
+
+      by : In entry (counted_files shape) ⊎ In entry (filter is_required a.files)
+          → In entry (required_files (shape.jobs ++ a ∷ []) ++ standing_files shape.views)
+      by (inl counted) =
+          inner (in_either (required_files shape.jobs) (standing_files shape.views) entry counted)
+      by (inr new) =
+          first (in_right (required_files shape.jobs) (filter is_required a.files) entry new)
+
+  -- and no less
+  pub blocks_exact : blocks_with shape.views (shape.jobs ++ a ∷ [])
+      ≡ blocks_with shape.views shape.jobs + begin_need shape a
+  blocks_exact =
+      let among = blocks_among (counted_files shape ++ filter is_required a.files)
+      (required_files (shape.jobs ++ a ∷ []) ++ standing_files shape.views) among_back in
+      let beside = blocks_beside (counted_files shape) (filter is_required a.files) in
+      let deployed = ap data_blocks deployed_more
+      ∙ sum_by-append (λ (file : BareData). blocks_of file.length) (deployed_files shape.jobs)
+      (map deployed_data (filter (λ (e : FileEntry). e.local) a.files)) in
+      omega (
+        arith,
+        blocks_more,
+        among,
+        beside,
+        deployed,
+        deployed_blocks a,
+        blocks_are shape.views (shape.jobs ++ a ∷ []),
+        blocks_are shape.views shape.jobs,
+      )
+
 -- ---- a job less
 
 abbrev wanted_by : List Job → List Application

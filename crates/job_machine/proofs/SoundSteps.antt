@@ -1,5 +1,6 @@
 -- Steps keep a session sound whose jobs are open.
-use Rattle.std.proofs.Common.{◌≡◌, ◌≤◌, sym, subst, ℕ, List, [], All, Option, arith}
+use Rattle.std.proofs.Common.{◌≡◌, ◌≤◌, sym, subst, ℕ, List, [], All, Option, arith, ◌∷◌}
+use Rattle.std.proofs.lemmas.List.Elements.{All-head, All-tail}
 use Rattle.small_types.specs.declared.limits.TheConstants.{NUMBER_LIMIT}
 use Rattle.machine.specs.declared.command.Command.TheVariants.{Install, Group}
 use Rattle.machine.specs.declared.event.Event.{Event}
@@ -17,7 +18,7 @@ use Rattle.job_machine.specs.declared.command.JobCommand.{JobCommand}
 use Rattle.job_machine.specs.declared.command.JobCommand.TheVariants as calls
 use Rattle.job_machine.specs.JobWords.{IsSessionEvent}
 use Rattle.job_machine.specs.Replies.{SessionReply}
-use Rattle.job_machine.specs.Sessions.{JobLine, MachineEvent, SessionEvent, SessionStep, StepBeside, refusals_beside}
+use Rattle.job_machine.specs.Sessions.{JobLine, MachineEvent, SessionEvent, SessionRun, SessionStep, StepBeside, refusals_beside, session_moment}
 use Rattle.job_machine.specs.Settled.{IsSettled, SoundSessionWithJobs}
 use Rattle.job_machine.proofs.BeginSound.{begun_sound}
 use Rattle.job_machine.proofs.BesideSound.{group_sound, install_sound}
@@ -131,3 +132,16 @@ step_sound now old (MachineEvent event) reply new is step was =
 step_sound now old (JobLine command at heard) reply new is step was =
     job_sound now heard.texts old command step.answer new was (limit now at step.moment is.1)
     (kind_of now heard.texts old command step.answer new step.answers)
+
+-- ---- runs
+
+pub run_sound : (now : ℕ) (old : Session) (events : List SessionEvent)
+    (replies : List (Option SessionReply)) (new : Session) → All IsSessionEvent events
+    → SessionRun now old events replies new → SoundSessionWithJobs old → SoundSessionWithJobs new
+run_sound now old [] [] new each run was = as_was old new run was
+run_sound now old [] (reply ∷ replies) new each run was = absurd run
+run_sound now old (event ∷ events) [] new each run was = absurd run
+run_sound now old (event ∷ events) (reply ∷ replies) new each run was =
+    run_sound (session_moment now reply) run.0 events replies new
+    (All-tail IsSessionEvent event events each) run.2
+    (step_sound now old event reply run.0 (All-head IsSessionEvent event events each) run.1 was)

@@ -460,7 +460,7 @@ module _ (number : ℕ) (old : Session) (was : SoundSessionWithJobs old) (job : 
       j job of there (eqb-true j.number number same ∙ sym numbered)
 
   -- what holds of each job holds still, where it does of that one
-  changed_all : (P : Job → Type 0) → (P job → P (stepped entry bytes rest job))
+  pub changed_all : (P : Job → Type 0) → (P job → P (stepped entry bytes rest job))
       → All P old.jobs → All P jobs
   changed_all P steps all =
       all_mapped change P P old.jobs (λ j of p. by j of (eqb j.number number) refl p) all

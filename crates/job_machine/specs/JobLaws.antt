@@ -1,14 +1,19 @@
 -- What is true of lines of jobs, and of lines of the machine beside them.
-use Rattle.std.specs.Prelude.{◌≡◌, ◌↔◌, ℕ, List, [], ◌∷◌, Option, Some}
+use Rattle.std.specs.Prelude.{◌≡◌, ◌≢◌, ◌⊎◌, ◌↔◌, ◌+◌, ◌++◌, ℕ, List, [], ◌∷◌, All, Any, Contains, Option, Some, Ok}
+use Rattle.addresses.specs.Address.{target_of_text}
+use Rattle.addresses.specs.Join.{app_target_of}
 use Rattle.identity.specs.declared.key.Key.{Key}
 use Rattle.identity.specs.declared.version.Version.{Version}
 use Rattle.identity.specs.Version.{IsBelow}
+use Rattle.manifests.specs.declared.facts.Application.{Application}
 use Rattle.machine.specs.declared.command.Command.{Command}
+use Rattle.machine.specs.declared.event.Heard.{Heard}
 use Rattle.machine.specs.declared.reply.Reply.{Reply}
 use Rattle.machine.specs.declared.reply.Reply.TheVariants as says
+use Rattle.machine.specs.Blocks.{blocks_with, counted_blocks}
 use Rattle.machine.specs.Current.{current_version}
 use Rattle.machine.specs.Installed.{AreFetched, Installed}
-use Rattle.machine.specs.InstallRow.{address_refusals, deployment_refusals}
+use Rattle.machine.specs.InstallRow.{OfRelease, address_refusals, deployment_refusals}
 use Rattle.machine.specs.Machine.{Answers}
 use Rattle.machine.specs.Minimums.{minimum_of}
 use Rattle.machine.specs.Rows.{AreExact, Refuses}
@@ -25,9 +30,10 @@ use Rattle.job_machine.specs.GroupBeside.{room_refusals_beside}
 use Rattle.job_machine.specs.InstallBeside.{release_refusals_beside}
 use Rattle.job_machine.specs.Jobs.{JobShape, job_at, without_job}
 use Rattle.job_machine.specs.JobWords.{IsSessionEvent}
+use Rattle.job_machine.specs.Needs.{begin_need}
 use Rattle.job_machine.specs.Replies.{OfMachine, SessionReply, as_answers}
-use Rattle.job_machine.specs.Sessions.{AnswersBeside, JobAnswers, SessionEvent, SessionStep, job_refusals}
-use Rattle.job_machine.specs.Settled.{SoundSessionWithJobs}
+use Rattle.job_machine.specs.Sessions.{AnswersBeside, JobAnswers, JobLine, SessionEvent, SessionRun, SessionStep, job_refusals}
+use Rattle.job_machine.specs.Settled.{IsReachable, SoundSessionWithJobs}
 use Rattle.job_machine.specs.StepRow.{left_refusals}
 
 -- ---- refusals
@@ -141,3 +147,76 @@ SessionStepsKeepSound = (now : ℕ) (old : Session) (event : SessionEvent)
     (reply : Option SessionReply) (new : Session)
     → IsSessionEvent event → SessionStep now old event reply new
     → SoundSessionWithJobs old → SoundSessionWithJobs new
+
+-- so does a run
+abbrev pub SessionRunsKeepSound : Type 0
+SessionRunsKeepSound = (now : ℕ) (old : Session) (events : List SessionEvent)
+    (replies : List (Option SessionReply)) (new : Session)
+    → All IsSessionEvent events → SessionRun now old events replies new
+    → SoundSessionWithJobs old → SoundSessionWithJobs new
+
+-- the files that are left keep their addresses
+abbrev pub SessionStepsKeepAddresses : Type 0
+SessionStepsKeepAddresses = (now : ℕ) (old : Session) (event : SessionEvent)
+    (reply : Option SessionReply) (new : Session)
+    → SessionStep now old event reply new → SoundSessionWithJobs old
+    → All IsReachable old.jobs → All IsReachable new.jobs
+
+-- ---- answers
+
+-- an answer other than want of memory
+pub record JobIsAnswered (now : ℕ) (heard : List (List ℕ)) (old : Session) (command : JobCommand)
+    : Type 0 where
+  pub reply : SessionReply
+  pub new : Session
+  pub answers : JobAnswers now heard old command reply new
+  pub other : reply ≢ OfMachine says.Memory
+
+-- a begin heard no manifest
+abbrev pub MayBeAnswered : JobCommand → List (List ℕ) → Type 0
+MayBeAnswered (asks.Begin url) heard = heard ≡ []
+MayBeAnswered (asks.Step number) heard = Unit {0}
+MayBeAnswered (asks.Commit number) heard = Unit {0}
+MayBeAnswered (asks.Abandon number) heard = Unit {0}
+
+-- Each line of jobs has one, in each sound session whose files have addresses; a begin at least where
+-- it hears nothing. So a commit that is not refused installs.
+abbrev pub JobLinesAreAnswered : Type 0
+JobLinesAreAnswered = (now : ℕ) (heard : List (List ℕ)) (old : Session) (command : JobCommand)
+    → SoundSessionWithJobs old → All IsReachable old.jobs → MayBeAnswered command heard
+    → JobIsAnswered now heard old command
+
+-- ---- jobs
+
+-- the same job, whatever of its files came
+pub record IsOfJob (job earlier : Job) : Type 0 where
+  pub number : job.number ≡ earlier.number
+  pub url : job.url ≡ earlier.url
+  pub base : job.base ≡ earlier.base
+  pub deployment : job.deployment ≡ earlier.deployment
+  pub application : job.application ≡ earlier.application
+
+-- the event is a begin that heard the release of the job at its address, which has the next number
+pub record IsBegunBy (event : SessionEvent) (old : Session) (job : Job) : Type 0 where
+  pub url : List ℕ
+  pub at : ℕ
+  pub heard : Heard
+  pub is : event ≡ JobLine (asks.Begin url) at heard
+  pub read : target_of_text url ≡ Ok job.url
+  pub told : OfRelease heard.texts (λ d a. (d ≡ job.deployment) × (a ≡ job.application))
+  pub joined : app_target_of job.url job.deployment.codebase ≡ Ok job.base
+  pub number : job.number ≡ old.next_job
+
+-- Each job was open before the step, and is of the same release; or the step begins it. So from its
+-- begin to its end a job is of the release that was heard then.
+abbrev pub JobsKeepTheirRelease : Type 0
+JobsKeepTheirRelease = (now : ℕ) (old : Session) (event : SessionEvent)
+    (reply : Option SessionReply) (new : Session) → SessionStep now old event reply new
+    → (job : Job) → Contains new.jobs job
+    → Any (IsOfJob job) old.jobs ⊎ IsBegunBy event old job
+
+-- The blocks that a new job counts beside views and other jobs are those that its begin needs.
+abbrev pub BegunJobsTakeTheirNeed : Type 0
+BegunJobsTakeTheirNeed = (shape : Shape) (a : Application)
+    → blocks_with shape.views (shape.jobs ++ a ∷ [])
+    ≡ counted_blocks shape + begin_need shape a

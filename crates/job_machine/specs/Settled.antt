@@ -1,6 +1,8 @@
 -- What holds of jobs besides: a content that a job is still to fetch is left once, and none of the
 -- files that it has.
-use Rattle.std.specs.Prelude.{◌≢◌, All, AllPairs, [], ◌∷◌, filter}
+use Rattle.std.specs.Prelude.{◌≡◌, ◌≢◌, All, AllPairs, [], ◌∷◌, filter, Ok}
+use Rattle.small_types.specs.declared.target.Target.{Target}
+use Rattle.addresses.specs.Join.{file_target_of}
 use Rattle.machine.specs.SoundSession.{SoundSession, program_files_in}
 use Rattle.machine.specs.Store.{Job, Session}
 use Rattle.machine.specs.Views.{ContentKey, content_key, is_required}
@@ -20,3 +22,9 @@ pub record IsSettled (job : Job) : Type 0 where
 pub record SoundSessionWithJobs (session : Session) : Type 0 where
   pub sound : SoundSession session
   pub settled : All IsSettled session.jobs
+
+-- each file that the job has left has an address beside its application manifest
+abbrev pub IsReachable : Job → Type 0
+IsReachable job =
+    All (λ entry. (target : Target)
+    × (file_target_of job.base job.deployment.mapped entry.name ≡ Ok target)) job.left

@@ -1,7 +1,7 @@
 // What is true of lines of jobs, with no code.
 ghost use Rattle.job_machine.specs.Folding.{RunsAreOfTheMachine, RunsFold};
 ghost use Rattle.job_machine.specs.Interleaving.{JobsMayBeInterleaved};
-ghost use Rattle.job_machine.specs.JobLaws.{CommitsBringWholeFiles, CommitsInstall, JobMemoryChangesNothing, JobRefusalsChangeNothing, JobRowsAreExact, JobsLeaveTheStore, LinesWithoutJobsAreAsEver, OneJobRefusalIsGiven, SessionStepsKeepSound, SessionsBeginSoundWithJobs};
+ghost use Rattle.job_machine.specs.JobLaws.{BegunJobsTakeTheirNeed, CommitsBringWholeFiles, CommitsInstall, JobLinesAreAnswered, JobMemoryChangesNothing, JobRefusalsChangeNothing, JobRowsAreExact, JobsKeepTheirRelease, JobsLeaveTheStore, LinesWithoutJobsAreAsEver, OneJobRefusalIsGiven, SessionRunsKeepSound, SessionStepsKeepAddresses, SessionStepsKeepSound, SessionsBeginSoundWithJobs};
 
 /// At most one refusal of a line of jobs is given, where none of its refusals is a free choice. That of
 /// a step at its file is one, and so are those of `begin` where a manifest was not heard.
@@ -42,14 +42,33 @@ pub fn runs_fold()
     ensures steps { RunsAreOfTheMachine }
 {}
 
-/// A sound session stays sound over each line, whatever jobs are open.
+/// A sound session stays sound over each line and over a run, whatever jobs are open, and the files
+/// that its jobs have left keep their addresses.
 pub fn session_steps_keep_sound()
     ensures begun { SessionsBeginSoundWithJobs }
     ensures steps { SessionStepsKeepSound }
+    ensures runs { SessionRunsKeepSound }
+    ensures addresses { SessionStepsKeepAddresses }
 {}
 
-/// There is an interleaving: a job begins in a sound session, another application is updated between its files, and the
-/// job is committed.
+/// Each line of jobs has an answer other than want of memory, in a sound session whose files have
+/// addresses. So a commit that is not refused installs.
+pub fn job_lines_are_answered()
+    ensures { JobLinesAreAnswered }
+{}
+
+/// A job is of the release that its begin heard, and has its number, as long as it is open.
+pub fn jobs_keep_their_release()
+    ensures { JobsKeepTheirRelease }
+{}
+
+/// A new job counts as many blocks, beside views and other jobs, as its begin needs.
+pub fn begun_jobs_take_their_need()
+    ensures { BegunJobsTakeTheirNeed }
+{}
+
+/// There is an interleaving: a job begins in a sound session, another application is updated between
+/// its files, and the job is committed.
 pub fn jobs_may_be_interleaved()
     ensures { JobsMayBeInterleaved }
 {}
