@@ -1,5 +1,6 @@
--- A job over the store of the machine's example. Its application is a new one, and shares a program file with kept
--- views; its other files are empty. Between them the application of the example is updated.
+-- A job over the store of the machine's example. Its application is a new one, and shares a program
+-- file with kept views; its other files are empty. Between them the application of the example is
+-- updated.
 use Rattle.std.proofs.Common.{◌≡◌, ◌∙◌, ◌⊎◌, ◌||◌, ◌+◌, ◌<◌, ◌≤◌, inl, inr, refl, sym, ap, subst, ℕ, Bool, true, false, cond, not, List, [], ◌∷◌, length, map, sum_by, All, AllPairs, Contains, Option, Some, None, IsSome, arith}
 use Rattle.std.specs.Prelude.{Any, count_by, filter, option_and_then, option_map}
 use Rattle.std.specs.declared.cmp.Ordering.{Ordering}

@@ -657,8 +657,8 @@ later_never url = (
   ),
 )
 
--- The machine has an answer to an install that hears nothing. Over an empty store it is one of these
--- three.
+-- The machine has an answer to an install that hears nothing. Over an empty store it is one of
+-- these three.
 address_read : (url : List ℕ) → IsRead url
 address_read url =
     let of = unheard 0 bare url (target_of_text url) refl in by of.reply of.new of.other of.answers

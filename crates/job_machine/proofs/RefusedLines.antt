@@ -1,5 +1,5 @@
--- What a line of the machine leaves that is refused beside open jobs: everything, but for a check that
--- no link answers.
+-- What a line of the machine leaves that is refused beside open jobs: everything, but for a check
+-- that no link answers.
 use Rattle.std.proofs.Common.{◌≡◌, ◌∙◌, ◌⊎◌, inl, inr, refl, sym, ap, subst, true, false, ℕ, List, Some}
 use Rattle.machine.specs.declared.command.Command.{Command}
 use Rattle.machine.specs.declared.command.Command.TheVariants.{At, Require, Install, Check, Skip, Rollback, Launch, Read, Local, Put, Remove, Group, Finish, Clean, Show}

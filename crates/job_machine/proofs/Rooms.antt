@@ -1,4 +1,5 @@
--- The blocks that sessions count: with a job more or less, and with files whose contents are counted.
+-- The blocks that sessions count: with a job more or less, and with files whose contents are
+-- counted.
 use Rattle.std.proofs.Common.{◌≡◌, ◌≢◌, ◌∙◌, ◌⊎◌, ◌++◌, ◌+◌, ◌≤◌, inl, inr, refl, sym, ap, subst, ℕ, Bool, true, false, cond, not, List, [], ◌∷◌, map, AllPairs, append_assoc, arith}
 use Rattle.std.specs.Prelude.{filter, flat_map, sum_by}
 use Rattle.std.proofs.lemmas.Bool.{false≢true}

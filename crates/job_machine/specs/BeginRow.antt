@@ -31,9 +31,9 @@ number_refusals session =
     ∷ exactly (session.next_job ≡ NUMBER_LIMIT) (OfMachine (says.Spent session.next_job))
     ∷ []
 
--- Those of an install up to the release, and too many listed files. These are the first four of what
--- an install has behind the deployment. Files are counted of kept views alone, and how many data
--- files the view is going to have is not asked yet.
+-- Those of an install up to the release, and too many listed files. These are the first four of
+-- what an install has behind the deployment. Files are counted of kept views alone, and how many
+-- data files the view is going to have is not asked yet.
 abbrev pub heard_refusals : List ℕ → List (List ℕ) → Shape → List (Refusal Reply Session)
 heard_refusals url heard shape =
     address_refusals url ++ deployment_refusals url heard shape

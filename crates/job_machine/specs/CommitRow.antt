@@ -96,7 +96,8 @@ pub record AreOfJob (job : Job) (files originals : List ListedFile) : Type 0 whe
   pub had : All (Contains job.files) files
   pub had_data : All (Contains job.files) originals
 
--- the release is installed with the files of the job, which is gone; the reply is that of an install
+-- the release is installed with the files of the job, which is gone; the reply is that of an
+-- install
 pub record CommitEffect (number now : ℕ) (old : Session) (reply : SessionReply) (new : Session)
     : Type 0 where
   pub job : Job

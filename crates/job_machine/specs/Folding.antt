@@ -44,8 +44,8 @@ abbrev pub CountsCheck : Command → Reply → Store → Store → Type 0
 CountsCheck (Check key) (says.AllLinks target causes) old new = new ≡ unheard_store key old
 CountsCheck _ _ old new = ⊥
 
--- what becomes of a store by an event: a boot; a line at this moment, by the effect of its row, or a
--- check that counts as made
+-- what becomes of a store by an event: a boot; a line at this moment, by the effect of its row, or
+-- a check that counts as made
 abbrev pub Becomes : ℕ → Event → Option Reply → Store → Store → Type 0
 Becomes now (Boot boot) None old new = new ≡ booted boot old
 Becomes now (Line command at heard) (Some reply) old new =
@@ -158,8 +158,8 @@ RunsFold = (now : ℕ) (old : Session) (events : List SessionEvent)
     → (left : List Plain) × RunLeaves now old events replies new run left
     × PlainRun Becomes now old.store left new.store
 
--- From a sound session each line that is left is even answered by the machine, in a session that has
--- no job: what jobs count makes no line come that would not come without them.
+-- From a sound session each line that is left is even answered by the machine, in a session that
+-- has no job: what jobs count makes no line come that would not come without them.
 abbrev pub RunsAreOfTheMachine : Type 0
 RunsAreOfTheMachine = (now : ℕ) (old : Session) (events : List SessionEvent)
     (replies : List (Option SessionReply)) (new : Session)

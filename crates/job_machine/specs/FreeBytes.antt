@@ -1,6 +1,6 @@
 -- The bytes of a file that is fetched. Those of a program file are those that a program file of a
--- kept view or of a job has under its content key, and where there is none any that match. Those of a
--- data file are any that match.
+-- kept view or of a job has under its content key, and where there is none any that match. Those of
+-- a data file are any that match.
 use Rattle.std.specs.Prelude.{◌≡◌, ◌++◌, false, List, All}
 use Rattle.machine.specs.Sound.{IsWhole, program_files_of}
 use Rattle.machine.specs.SoundSession.{program_files_in}

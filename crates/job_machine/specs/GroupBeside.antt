@@ -1,5 +1,5 @@
--- group L GROUP where jobs are open: of what they count it needs no block, and a file that it fetches
--- has the bytes that a job has for its content.
+-- group L GROUP where jobs are open: of what they count it needs no block, and a file that it
+-- fetches has the bytes that a job has for its content.
 use Rattle.std.specs.Prelude.{◌≡◌, ◌⊎◌, ◌<◌, ℕ, true, false, List, [], ◌∷◌, ◌++◌, All, length, take, Some}
 use Rattle.machine.specs.declared.reply.Reply.{Reply}
 use Rattle.machine.specs.declared.reply.Reply.TheVariants as says
@@ -35,8 +35,8 @@ abbrev pub group_refusals_beside : ℕ → List ℕ → Shape → List (Refusal 
 group_refusals_beside lease group shape =
     room_refusals_beside lease group shape ++ missing_refusals lease group shape
 
--- a group that stands leaves the store as it was; any other one comes to stand, with files that agree
--- with those of jobs
+-- a group that stands leaves the store as it was; any other one comes to stand, with files that
+-- agree with those of jobs
 abbrev pub ComesBeside : List Job → List ℕ → View → Store → Store → Type 0
 ComesBeside jobs group view old new =
     ((group_stands group view.groups ≡ true) × (new ≡ old))

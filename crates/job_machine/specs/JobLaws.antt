@@ -89,9 +89,9 @@ pub record JobsLeaveTheStore : Type 0 where
       (reply : SessionReply) (new : Session)
       → JobAnswers now heard old (asks.Abandon number) reply new → new.store ≡ old.store
 
--- The release of the job of that number, of which nothing was left, is installed on the store of this
--- line, at its moment. It is newer than the version that is current there, and not below the minimum
--- that holds there. The job is gone, and nothing else changes.
+-- The release of the job of that number, of which nothing was left, is installed on the store of
+-- this line, at its moment. It is newer than the version that is current there, and not below the
+-- minimum that holds there. The job is gone, and nothing else changes.
 pub record IsCommitted (number now : ℕ) (old new : Session) : Type 0 where
   pub job : Job
   pub found : job_at number old.jobs ≡ Some job
@@ -179,8 +179,8 @@ MayBeAnswered (asks.Step number) heard = Unit {0}
 MayBeAnswered (asks.Commit number) heard = Unit {0}
 MayBeAnswered (asks.Abandon number) heard = Unit {0}
 
--- Each line of jobs has one, in each sound session whose files have addresses; a begin at least where
--- it hears nothing. So a commit that is not refused installs.
+-- Each line of jobs has one, in each sound session whose files have addresses; a begin at least
+-- where it hears nothing. So a commit that is not refused installs.
 abbrev pub JobLinesAreAnswered : Type 0
 JobLinesAreAnswered = (now : ℕ) (heard : List (List ℕ)) (old : Session) (command : JobCommand)
     → SoundSessionWithJobs old → All IsReachable old.jobs → MayBeAnswered command heard
