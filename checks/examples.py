@@ -199,7 +199,8 @@ def first_starts():
 def other_words():
     starts("no application", [STORE, KEY.replace("demo", "none")], 125, "", "start: no not-installed\n")
     starts("no key", [STORE, "demo"], 125, "", "start: no line word 1\n")
-    starts("no words", [], 125, "", "start: the following arguments are required: store, key, words; see --help\n")
+    status, _, why = ran(["start"])
+    holds(f"no words: {why}", status == 125 and why.startswith("start: the following arguments are required: store, key"))
     status, _, why = ran(["start", f"{work}/none/store", KEY])
     holds(f"no folder of the store: {why}", status == 125 and why.startswith("start: [Errno 2]"))
     write(f"{work}/empty.store", "")
@@ -222,7 +223,7 @@ def begun():
     """Starts the application, and returns once it waits."""
     going = subprocess.Popen([f"{EXAMPLES}/start", STORE, KEY, "wait"], env=variables, stdin=subprocess.DEVNULL,
                              start_new_session=True)
-    holds("it waits", within(20, lambda: "waits\n" in text_of(NOTES)))
+    holds("it waits", within(60, lambda: "waits\n" in text_of(NOTES)))
     noted()
     return going
 
@@ -232,11 +233,11 @@ def ends():
     first, second = begun(), begun()
     holds("the store is free while two run, each on a lease", len(leases()) == 2)
     first.terminate()
-    holds("one is told to end", first.wait(20) == 7)
+    holds("one is told to end", first.wait(60) == 7)
     holds("it ends as it is told", noted() == "told to end\n")
     holds("the other one runs on", second.poll() is None and len(leases()) == 1)
     os.killpg(second.pid, signal.SIGINT)
-    holds("a key of the terminal", second.wait(20) == 130)
+    holds("a key of the terminal", second.wait(60) == 130)
     leaves_nothing("ends by signals")
     killed = begun()
     killed.kill()
@@ -276,7 +277,7 @@ def updates_at_night(server, address):
     going = begun()
     at_night("a newer version", 0, [f"{KEY}: ok installed {KEY} 4.0.0.0 4", "ok cleaned 1"])
     going.terminate()
-    holds("what runs runs on", going.wait(20) == 7 and noted() == "told to end\n")
+    holds("what runs runs on", going.wait(60) == 7 and noted() == "told to end\n")
     starts("the next start has it", [STORE, KEY], 0, "version 4.0.0.0, words \n")
     session(f"rollback {KEY}")
     at_night("one that was rolled back", 0, ["ok cleaned 1"])
