@@ -2,9 +2,9 @@
 
 usage: checks/examples
 
-A vendor's script publishes releases with a list of their files. A user starts the application of them: it gets each file, byte for
-byte, its data files are kept, and its lease ends with it, unless the script is killed. Updates are installed by hand and as at
-night. systemd reads the units.
+A vendor's script publishes releases with a list of their files. A user starts the application of them: it gets each file, byte
+for byte, its data files are kept, and its lease ends with it, unless the script is killed. Updates are installed by hand and as
+at night. systemd reads the units.
 """
 import os, re, shutil, signal, subprocess, sys, time
 
@@ -137,21 +137,21 @@ def vendors():
     holds("its list", text_of(f"{SITE}/in/release.list") == LIST)
     status, said, why = publish("1.0.0.0")
     holds(f"a version that is there: {said}{why}", status == 7 and said.startswith("no publish version-exists one/") and not why)
-    done = subprocess.run(["sh", "-ec", f"{EXAMPLES}/vendor {SITE} --name demo --release 1.0.0.0 --entry app.sh --from in --to one "
-                           "> /dev/null; echo uploaded"], env=variables, stdout=subprocess.PIPE)
+    words = ["--release", "1.0.0.1", "--entry", "app.sh", "--from", "in", "--to"]
+    build = f"{EXAMPLES}/vendor {SITE} --name demo --release 1.0.0.0 --entry app.sh --from in --to one > /dev/null; echo uploaded"
+    done = subprocess.run(["sh", "-ec", build], env=variables, stdout=subprocess.PIPE)
     holds("it ends the build", done.returncode == 7 and done.stdout == b"")
     status, said, why = ran(["vendor", SITE, "--name", "demo"])
-    holds(f"words that are missing: {why}", status == 1 and not said and why.startswith("clickstore: publish: --release is missing"))
+    holds(f"words that are missing: {why}", status == 1 and not said and "publish: --release is missing" in why)
     status, said, why = publish("1.0.0.1", marks=["data:none"])
     holds(f"a mark of no file: {said}", (status, said, why) == (7, "no publish bad-mark none\n", ""))
     os.symlink("app.sh", f"{SITE}/in/link")
-    done = subprocess.run([f"{EXAMPLES}/vendor", SITE, "--name", "demo", "--release", "1.0.0.1", "--entry", "app.sh", "--from", "in",
-                           "--to", "one"], env=variables, capture_output=True)
-    holds(f"a folder that fails: {done.stderr}", done.returncode == 2 and b"vendor: the release does not stand" in done.stderr)
+    status, said, why = ran(["vendor", SITE, "--name", "demo", *words, "one"])
+    holds(f"a folder that fails: {why}", status == 2 and not said and "vendor: the release does not stand" in why)
     os.remove(f"{SITE}/in/link")
     with open("/dev/full", "wb") as full:
-        done = subprocess.run([f"{EXAMPLES}/vendor", SITE, "--name", "other", "--release=1.0.0.1", "--entry", "app.sh", "--from", "in",
-                               "--to", "two"], env=variables, stdout=full, stderr=subprocess.PIPE)
+        done = subprocess.run([f"{EXAMPLES}/vendor", SITE, "--name=other", *words, "two"], env=variables, stdout=full,
+                              stderr=subprocess.PIPE)
     holds(f"an output that fails: {done.stderr}", done.returncode == 3 and b"vendor: the release stands" in done.stderr)
     holds("its help", ran(["vendor", "--help"])[1].startswith("Publishes a folder"))
 
@@ -165,8 +165,8 @@ def leases():
 
 
 def starts(name, words, status, notes, said=""):
-    """The script ends with the status; the application noted this, and the script said this, in which NUMBER is any. No lease and no
-    folder stays."""
+    """The script ends with the status; the application noted this, and the script said this, in which NUMBER is any. No lease and
+    no folder stays."""
     got, wrote, why = ran(["start", *words])
     as_said = re.fullmatch(re.escape(said).replace("NUMBER", "[0-9]+"), why) is not None
     holds(f"{name}: status {got}, {wrote!r}, {why!r}", (got, wrote) == (status, "") and as_said)
@@ -216,7 +216,8 @@ def without_list(address):
     command(STORE, words, folder=SITE)
     key = KEY.replace("demo", "bare")
     session(f"install {address}/one/bare.application")
-    starts("a release without a list", [STORE, key], 125, "", "start: 'read NUMBER release.list 0 30000' is answered 'no no-file'\n")
+    starts("a release without a list", [STORE, key], 125, "",
+           "start: 'read NUMBER release.list 0 30000' is answered 'no no-file'\n")
 
 
 def begun():
@@ -285,8 +286,9 @@ def updates_at_night(server, address):
     session(f"check {KEY}", f"skip {KEY}")
     at_night("one that was skipped", 0, ["ok cleaned 0"])
     stop(server)
-    at_night("no host", 1, [f"{key}: no links {address}/one/{key.split(',')[0]} missing,down" for key in (KEY.replace("demo", "bare"), KEY)]
-             + ["ok cleaned 0"])
+    keys = KEY.replace("demo", "bare"), KEY
+    missed = [f"{key}: no links {address}/one/{key.split(',')[0]} missing,down" for key in keys]
+    at_night("no host", 1, [*missed, "ok cleaned 0"])
     holds("other words", ran(["update", STORE])[0] == 1)
 
 
@@ -300,11 +302,13 @@ def rules():
     starts("after an install no check comes first", [STORE, KEY], 0, "version 6.0.0.0, words \n")
     starts("a version is required", [STORE, KEY], 125, "", "start: no required 7.0.0.0; see --help\n")
     starts("it cannot be skipped", ["--skip", STORE, KEY], 125, "", "start: no required 7.0.0.0; see --help\n")
-    starts("it is installed", ["--update", STORE, KEY], 0, "version 7.0.0.0, words \n", f"start: ok installed {KEY} 7.0.0.0 NUMBER\n")
+    starts("it is installed", ["--update", STORE, KEY], 0, "version 7.0.0.0, words \n",
+           f"start: ok installed {KEY} 7.0.0.0 NUMBER\n")
     published("8.0.0.0", "--check", "before", "--provider", f"{address}/one/demo.application")
     starts("a check is due while it runs", [STORE, KEY], 0, "version 7.0.0.0, words \n")
     starts("the next one is told", [STORE, KEY], 125, "", "start: no offered 8.0.0.0; see --help\n")
-    starts("it is installed", ["--update", STORE, KEY], 0, "version 8.0.0.0, words \n", f"start: ok installed {KEY} 8.0.0.0 NUMBER\n")
+    starts("it is installed", ["--update", STORE, KEY], 0, "version 8.0.0.0, words \n",
+           f"start: ok installed {KEY} 8.0.0.0 NUMBER\n")
     stop(server)
     starts("a check that nobody answers", [STORE, KEY], 0, "version 8.0.0.0, words \n")
 
