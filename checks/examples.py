@@ -6,7 +6,7 @@ A vendor's script publishes releases with a list of their files. A user starts t
 for byte, its data files are kept, and its lease ends with it, unless the script is killed. Updates are installed by hand and as
 at night. systemd reads the units.
 """
-import os, re, shutil, signal, subprocess, sys, time
+import fcntl, os, re, shutil, signal, subprocess, sys, time
 
 from programs import CLIENT, HOST, KEY, TOP, chance, command, finish, holds, serve, stop, work
 
@@ -97,7 +97,7 @@ def within(seconds, is_so):
 
 # ---- the vendor
 
-# What is published beside the application: of each name its mark, and its bytes.
+# The marks of what is published beside the application, and the list that comes of it.
 MARKS = ["data:settings", "data:settings.gone", "data:settings.long", "data:settings.empty", "group:help:help.txt",
          "group:more help:other help.txt"]
 LIST = """entry app.sh
@@ -118,7 +118,8 @@ large = chance.randbytes(3_123_456)
 def publish(version, *options, marks=MARKS):
     """Publishes the application by the vendor's script."""
     shutil.rmtree(f"{SITE}/in", ignore_errors=True)
-    for name, text in {"app.sh": APPLICATION.replace("VERSION", version), "small": version, "large": large, "a %b/é#": "",
+    many = large if version == "1.0.0.0" else large[:40000]
+    for name, text in {"app.sh": APPLICATION.replace("VERSION", version), "small": version, "large": many, "a %b/é#": "",
                        "settings": "first\n", "settings.gone": "gone\n", "settings.long": "long\n", "settings.empty": "",
                        "help.txt": "help\n", "other help.txt": "other help\n"}.items():
         write(f"{SITE}/in/{name}", text)
@@ -153,6 +154,7 @@ def vendors():
         done = subprocess.run([f"{EXAMPLES}/vendor", SITE, "--name=other", *words, "two"], env=variables, stdout=full,
                               stderr=subprocess.PIPE)
     holds(f"an output that fails: {done.stderr}", done.returncode == 3 and b"vendor: the release stands" in done.stderr)
+    holds("a list that was there is not listed", "release.list" not in text_of(f"{SITE}/in/release.list"))
     holds("its help", ran(["vendor", "--help"])[1].startswith("Publishes a folder"))
 
 
@@ -176,7 +178,8 @@ def starts(name, words, status, notes, said=""):
 
 
 def leaves_nothing(name):
-    holds(f"{name}: no lease is left ({leases()})", leases() == [])
+    live = leases()
+    holds(f"{name}: no lease is left ({live})", live == [])
     holds(f"{name}: no folder is left", os.listdir(ROOMS) == [])
 
 
@@ -250,6 +253,19 @@ def ends():
     holds(f"and ends with another boot number: {answers}", answers[0].startswith("ok lease ") and leases() == [])
     shutil.rmtree(ROOMS)
     os.mkdir(ROOMS)
+
+
+def locked():
+    """Scripts wait for the lock of the file beside the store."""
+    before = text_of(LINES)
+    with open(f"{STORE}.lock") as lock:
+        fcntl.flock(lock, fcntl.LOCK_EX)
+        waiting = [subprocess.Popen([f"{EXAMPLES}/{words[0]}", *words[1:]], env=variables, stdin=subprocess.DEVNULL,
+                                    stdout=subprocess.DEVNULL)
+                   for words in (["start", STORE, KEY, "ends"], ["update", STORE, "none"])]
+        time.sleep(0.5)
+        holds("no session is begun while the lock is held", text_of(LINES) == before)
+    holds("then they go on", [it.wait(60) for it in waiting] == [3, 0] and noted() == "version 1.0.0.0, words ends\n")
 
 
 # ---- updates
@@ -346,6 +362,7 @@ def main():
     other_words()
     without_list(address)
     ends()
+    locked()
     updates_by_hand()
     updates_at_night(server, address)
     rules()
