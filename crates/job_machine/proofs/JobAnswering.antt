@@ -562,7 +562,7 @@ commit_answered now heard old number was (Some job) is =
 -- ---- begin
 
 -- an address is read, or refused: no reading of it finds no memory
-abbrev IsRead : List ℕ → Type 0
+abbrev pub IsRead : List ℕ → Type 0
 IsRead url =
     (target_of_text url ≡ Err fault.BadUrl)
     ⊎ ((scheme : List ℕ) × (target_of_text url ≡ Err (fault.NotHttp scheme)))
@@ -659,7 +659,7 @@ later_never url = (
 
 -- The machine has an answer to an install that hears nothing. Over an empty store it is one of
 -- these three.
-address_read : (url : List ℕ) → IsRead url
+pub address_read : (url : List ℕ) → IsRead url
 address_read url =
     let of = unheard 0 bare url (target_of_text url) refl in by of.reply of.new of.other of.answers
   where

@@ -7,9 +7,11 @@ pub mod Deciding
 pub mod Exactness
 pub mod Example
 pub mod Folds
+pub mod GroupAnswering
 pub mod JobAnswering
 pub mod JobFiles
 pub mod JobSteps
+pub mod LinesBeside
 pub mod NewViews
 pub mod OneKey
 pub mod OpenJobs

@@ -14,6 +14,7 @@ use Rattle.machine.specs.Blocks.{blocks_with, counted_blocks}
 use Rattle.machine.specs.Current.{current_version}
 use Rattle.machine.specs.Installed.{AreFetched, Installed}
 use Rattle.machine.specs.InstallRow.{OfRelease, address_refusals, deployment_refusals}
+use Rattle.machine.specs.Laws.{IsAnswerable}
 use Rattle.machine.specs.Machine.{Answers}
 use Rattle.machine.specs.Minimums.{minimum_of}
 use Rattle.machine.specs.Rows.{AreExact, Refuses}
@@ -185,6 +186,20 @@ abbrev pub JobLinesAreAnswered : Type 0
 JobLinesAreAnswered = (now : ℕ) (heard : List (List ℕ)) (old : Session) (command : JobCommand)
     → SoundSessionWithJobs old → All IsReachable old.jobs → MayBeAnswered command heard
     → JobIsAnswered now heard old command
+
+-- the same of a line of the machine beside open jobs
+pub record IsAnsweredBeside (now : ℕ) (heard : List (List ℕ)) (old : Session) (command : Command)
+    : Type 0 where
+  pub reply : Reply
+  pub new : Session
+  pub answers : AnswersBeside now heard old command reply new
+  pub other : reply ≢ says.Memory
+
+-- each line of the machine has one in each sound session, at least where it hears nothing
+abbrev pub LinesBesideAreAnswered : Type 0
+LinesBesideAreAnswered = (now : ℕ) (heard : List (List ℕ)) (old : Session) (command : Command)
+    → SoundSession old → IsAnswerable command heard old.store
+    → IsAnsweredBeside now heard old command
 
 -- ---- jobs
 

@@ -1,7 +1,7 @@
 // What is true of lines of jobs, with no code.
 ghost use Rattle.job_machine.specs.Folding.{RunsAreOfTheMachine, RunsFold};
 ghost use Rattle.job_machine.specs.Interleaving.{JobsMayBeInterleaved};
-ghost use Rattle.job_machine.specs.JobLaws.{BegunJobsTakeTheirNeed, CommitsBringWholeFiles, CommitsInstall, JobLinesAreAnswered, JobMemoryChangesNothing, JobRefusalsChangeNothing, JobRowsAreExact, JobsKeepTheirRelease, JobsLeaveTheStore, LinesWithoutJobsAreAsEver, OneJobRefusalIsGiven, SessionRunsKeepSound, SessionStepsKeepAddresses, SessionStepsKeepSound, SessionsBeginSoundWithJobs};
+ghost use Rattle.job_machine.specs.JobLaws.{BegunJobsTakeTheirNeed, CommitsBringWholeFiles, CommitsInstall, JobLinesAreAnswered, JobMemoryChangesNothing, JobRefusalsChangeNothing, JobRowsAreExact, JobsKeepTheirRelease, JobsLeaveTheStore, LinesBesideAreAnswered, LinesWithoutJobsAreAsEver, OneJobRefusalIsGiven, SessionRunsKeepSound, SessionStepsKeepAddresses, SessionStepsKeepSound, SessionsBeginSoundWithJobs};
 
 /// At most one refusal of a line of jobs is given, where none of its refusals is a free choice.
 /// That of a step at its file is one, and so are those of `begin` where a manifest was not heard.
@@ -52,9 +52,11 @@ pub fn session_steps_keep_sound()
 {}
 
 /// Each line of jobs has an answer other than want of memory, in a sound session whose files have
-/// addresses. So a commit that is not refused installs.
-pub fn job_lines_are_answered()
-    ensures { JobLinesAreAnswered }
+/// addresses. So a commit that is not refused installs. Each line of the machine has one beside open
+/// jobs.
+pub fn lines_with_jobs_are_answered()
+    ensures jobs { JobLinesAreAnswered }
+    ensures others { LinesBesideAreAnswered }
 {}
 
 /// A job is of the release that its begin heard, and has its number, as long as it is open.

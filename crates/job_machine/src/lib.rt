@@ -8,9 +8,9 @@ mod reply;
 
 pub use command::JobCommand;
 pub use laws::{
-    begun_jobs_take_their_need, commits_install, job_lines_are_answered,
-    job_refusals_change_nothing, jobs_keep_their_release, jobs_leave_the_store,
-    jobs_may_be_interleaved, lines_without_jobs_are_as_ever, one_job_refusal_is_given, runs_fold,
-    session_steps_keep_sound,
+    begun_jobs_take_their_need, commits_install, job_refusals_change_nothing,
+    jobs_keep_their_release, jobs_leave_the_store, jobs_may_be_interleaved,
+    lines_with_jobs_are_answered, lines_without_jobs_are_as_ever, one_job_refusal_is_given,
+    runs_fold, session_steps_keep_sound,
 };
 pub use reply::JobReply;
