@@ -1,5 +1,5 @@
 use Rattle.std.proofs.Common.{◌≡◌, ◌<◌, arith}
-use Rattle.links.specs.Links.{LinksState}
+use Rattle.links.specs.Links.{LinksState, sources_of}
 use Rattle.fetcher.proofs.Ending.{text_more, text_refused, text_served}
 use Rattle.fetcher.proofs.text.fetch_text.Goals as goal
 
@@ -9,7 +9,7 @@ returns-in-Ok-clause-text g c =
     let b : LinksState = g.L.Links.links c.loop-place.links in
     let left : LinksState = g.L.Links.links c.text_of.new.links in
     let count = c.sources-place-end.ensures.count in
-    let less : c.loop-place.place < a.sources = omega (arith, count, c.in_ok-want.ensures.remain.sources) in
+    let less : c.loop-place.place < sources_of a = omega (arith, count, c.in_ok-want.ensures.remain.sources) in
     text_served c.loop-place.place a b left c.loop-place.causes.items c.args.target.now
     c.in-Ok.ensures.moves less c.args.limit c.loop-place.invariant
     c.in-Ok.bytes c.in-Ok.ensures.text
@@ -20,7 +20,7 @@ loop-place-preserved g c =
     let b : LinksState = g.L.Links.links c.loop-place.links in
     let left : LinksState = g.L.Links.links c.text_of.new.links in
     let count = c.sources-place-end.ensures.count in
-    let less : c.loop-place.place < a.sources = omega (arith, count, c.in_ok-want.ensures.remain.sources) in
+    let less : c.loop-place.place < sources_of a = omega (arith, count, c.in_ok-want.ensures.remain.sources) in
     text_more c.loop-place.place a b left c.loop-place.causes.items c.args.target.now
     c.in-Err.ensures.moves less c.args.limit c.loop-place.invariant c.in-Err.stop
     c.add_cause.new.causes.items c.in-Err.ensures.stop c.in_default.ensures.added
@@ -30,6 +30,6 @@ returns-clause-fault g c =
     let a : LinksState = g.L.Links.links c.args.links.now in
     let left : LinksState = g.L.Links.links c.loop-place.links in
     let count = c.sources-place-end.ensures.count in
-    let all : c.loop-place.place ≡ a.sources = omega (arith, count, c.in_ok-want.ensures.remain.sources) in
+    let all : c.loop-place.place ≡ sources_of a = omega (arith, count, c.in_ok-want.ensures.remain.sources) in
     text_refused c.loop-place.place a left c.loop-place.causes.items c.args.target.now all
     c.args.limit c.loop-place.invariant c.all_links.result c.all_links.ensures
