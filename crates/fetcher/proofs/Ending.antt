@@ -4,20 +4,20 @@ use Rattle.std.specs.Prelude.{Result}
 use Rattle.small_types.specs.declared.target.Target.{Target}
 use Rattle.digest_list.specs.declared.digest.Digest.{Digest}
 use Rattle.digest_list.specs.Matches.{Matches}
-use Rattle.links.specs.Links.{LinksState, link_at, sources_of}
+use Rattle.links.specs.Links.{LinksState, Remain, link_at, sources_of}
 use Rattle.causes.specs.declared.cause.Cause.{Cause}
 use Rattle.fetcher.specs.declared.fault.FetchFault.{FetchFault}
 use Rattle.fetcher.specs.declared.fault.FetchFault.TheVariants.{AllLinks, BasketFault, Memory}
 use Rattle.fetcher.specs.declared.stopped.Stopped.{Stopped}
 use Rattle.fetcher.specs.declared.stopped.Stopped.TheVariants.{By, Basket, Memory as NoMemory}
 use Rattle.fetcher.specs.Causes.{IsFileCause, IsTextCause}
-use Rattle.fetcher.specs.Fetched.{Asked, IsFile, IsFileFault, IsOfLink, IsText, IsTextFault, IsThis, Kept, OnlyLiarsWent, without_liars}
+use Rattle.fetcher.specs.Fetched.{Asked, IsFile, IsFileFault, IsOfLink, IsText, IsTextFault, IsThis, KeptAll, KeptBut, without_liars}
 use Rattle.fetcher.specs.Given.{FitsText}
 use Rattle.fetcher.specs.Stopped.{AddsCause, DropsLiars, IsFileOf, IsFileStop, IsTextOf, IsTextStop, KeepsBasket, Moves, TellsCauses}
 use Rattle.fetcher.proofs.InOrder.{Refused, asked_on, kept_on, none_gave, refused_more, remain_on, served_causes, served_enough, served_given, served_next, served_site}
-use Rattle.fetcher.proofs.Liars.{drops_keep, only_liars}
+use Rattle.fetcher.proofs.Liars.{drops_keep, none_went, only_liars}
 use Rattle.fetcher.proofs.Moving.{stays_same}
-use Rattle.fetcher.proofs.Reasons.{file_kind, text_kind}
+use Rattle.fetcher.proofs.Reasons.{CauseOf, IsKind, file_kind, text_kind}
 use Rattle.fetcher.proofs.Sequence.{kept_then}
 
 -- ---- one link more
@@ -107,14 +107,13 @@ module _ (place : ℕ) (a b c : LinksState) (old : List Cause) (target : Target)
               target kind a d of.bytes its_link of.matches;
         }
 
-    pub file_lied : OnlyLiarsWent (IsThis target list size) a d
-    file_lied = only_liars list size target a d of.bytes its_link those_left asked_once
-
-    pub file_kept : Kept a d
-    file_kept =
-        kept_then a c d
-        (kept_on (IsFileCause list size target) (Matches list size) target (file_kind list size target) place a b c old so moves less)
-        (drops_keep old c d drops)
+    pub file_kept : KeptBut (IsThis target list size) a d
+    file_kept = record {
+      kept = kept_then a c d
+          (kept_on (IsFileCause list size target) (Matches list size) target (file_kind list size target) place a b c old so moves less)
+          (drops_keep old c d drops);
+      went = only_liars list size target a d of.bytes its_link those_left asked_once;
+    }
 
 -- ---- none served
 
@@ -135,6 +134,34 @@ module _ (place : ℕ) (a c : LinksState) (causes : List Cause) (target : Target
       (file_kind list size target) place a c causes so all named reasons tells.0 tells.1
   file_refused list size before after so BasketFault tells = absurd tells
   file_refused list size before after so Memory tells = inr so.asked
+
+-- ---- what is kept of the links
+
+module _ (IsCause : CauseOf) (target : Target) (place : ℕ) (a c : LinksState) (causes : List Cause)
+    (so : Refused IsCause target place a c causes) where
+  pub all_refused : KeptAll a c
+  all_refused = record { kept = so.kept; remain = so.remain }
+
+  pub kept_refused : (IsListed : Target → List Digest → ℕ → Type 0) → KeptBut IsListed a c
+  kept_refused IsListed = record { kept = so.kept; went = none_went IsListed a c so.remain.there }
+
+  -- one link more was asked, whatever came of it
+  module _ (Fits : List ℕ → Type 0) (kind : IsKind IsCause Fits target) (d : LinksState)
+      (moves : Moves place c d) (less : place < sources_of a) where
+    pub remain_asked : Remain a d
+    remain_asked = remain_on IsCause Fits target kind place a c d causes so moves less
+
+    pub all_asked : KeptAll a d
+    all_asked = record {
+      kept = kept_on IsCause Fits target kind place a c d causes so moves less;
+      remain = remain_asked;
+    }
+
+    pub kept_asked : (IsListed : Target → List Digest → ℕ → Type 0) → KeptBut IsListed a d
+    kept_asked IsListed = record {
+      kept = kept_on IsCause Fits target kind place a c d causes so moves less;
+      went = none_went IsListed a d remain_asked.there;
+    }
 
 -- ---- the count of the basket is as it was where the fetch goes on
 

@@ -1,7 +1,7 @@
 -- Links that are asked in order.
 use Rattle.std.proofs.Common.{◌≡◌, ◌≢◌, ℕ, zero, suc, ◌+◌, ◌<◌, ◌≤◌, ⊎_elim, Bool, true, List, [], ◌∷◌, ◌++◌, length, Option, Some, refl, sym, ap, subst, ◌∙◌, arith}
 use Rattle.std.proofs.lemmas.Bool.{cases_eq, cases_order}
-use Rattle.std.proofs.lemmas.List.{length-append}
+use Rattle.std.proofs.lemmas.List.{append-nil, length-append}
 use Rattle.std.proofs.lemmas.Option.{IfSome_then}
 use Rattle.std.specs.Prelude.{IfSome, slice_get}
 use Rattle.outside.specs.Streams.{Rose}
@@ -63,6 +63,8 @@ module _ (place : ℕ) (b c : LinksState) (moves : Moves place b c) where
   moves_keep = record {
     all = ap length moves.only.remain.there;
     left = λ n is. subst (λ (t : List Bool). is_there t n ≡ true) moves.only.remain.there is;
+    more = [];
+    grown = moves.only.asked ∙ sym (append-nil b.asked);
     sites = λ n less.
         ⊎_elim (λ e. subst (λ (m : ℕ). KeepsSite (b.link m) (c.link m)) (sym e) site_here)
         (λ other. (moves.only.others n less other).site) (cases_eq n (number_at b.there place));
@@ -93,6 +95,8 @@ refused_none IsCause target a b wanted = record {
   kept = record {
     all = ap length wanted.remain.there;
     left = λ n is. subst (λ (t : List Bool). is_there t n ≡ true) wanted.remain.there is;
+    more = target ∷ [];
+    grown = wanted.asked;
     sites = λ n less. (wanted.links n less).site;
     later = λ n less. omega (arith, (wanted.links n less).count);
   };

@@ -1,8 +1,8 @@
 -- Links that gave other bytes than are listed, and those that are left without them.
-use Rattle.std.proofs.Common.{◌≡◌, ℕ, zero, suc, ◌+◌, ◌<◌, ◌≤◌, Bool, true, false, List, [], ◌∷◌, length, drop, get_or, set, Option, Some, None, refl, sym, ap, subst, ◌∙◌, add-one, drop-cons, arith}
+use Rattle.std.proofs.Common.{◌≡◌, ℕ, zero, suc, ◌+◌, ◌<◌, ◌≤◌, Bool, true, false, List, [], ◌∷◌, ◌++◌, length, drop, get_or, set, Option, Some, None, refl, sym, ap, subst, ◌∙◌, append_assoc, add-one, drop-cons, arith}
 use Rattle.std.specs.Prelude.{IfSome, option_map, slice_get}
 use Rattle.std.proofs.lemmas.Bool.{false≢true}
-use Rattle.std.proofs.lemmas.List.{length-set}
+use Rattle.std.proofs.lemmas.List.{append-nil, length-set}
 use Rattle.small_types.specs.declared.limits.TheConstants.{LINK_LIMIT}
 use Rattle.small_types.specs.declared.target.Target.{Target}
 use Rattle.digest_list.specs.declared.digest.Digest.{Digest}
@@ -11,14 +11,15 @@ use Rattle.digest_list.specs.Difference.{difference_of}
 use Rattle.digest_list.specs.Matches.{Matches}
 use Rattle.links.specs.Link.{LinkState, Stays}
 use Rattle.links.specs.Links.{IsLeft, LinksState, Retires, count_there, is_there, link_at, number_at, sources_of}
-use Rattle.links.proofs.Numbers.{one_fewer}
+use Rattle.links.proofs.Numbers.{known_there, one_fewer}
 use Rattle.causes.specs.declared.cause.Cause.{Cause}
 use Rattle.causes.specs.declared.cause.Cause.TheVariants.{Down, Missing, TooLong, Differs}
 use Rattle.fetcher.specs.Causes.{IsFileCause}
-use Rattle.fetcher.specs.Fetched.{Asked, HasLied, IsOfLink, IsThis, Kept, OnlyLiarsWent, became, stays_for, without_liars}
+use Rattle.fetcher.specs.Fetched.{Asked, HasLied, IsAskedSince, IsOfLink, IsThis, Kept, KeptAll, KeptBut, OnlyLiarsWent, became, stays_for, without_liars}
 use Rattle.fetcher.specs.Stopped.{DropsLiar, DropsLiars, StaysAll, next_place}
 use Rattle.fetcher.proofs.Moving.{stays_same, stays_then}
 use Rattle.fetcher.proofs.Reasons.{other_fits}
+use Rattle.fetcher.proofs.Sequence.{kept_then}
 
 -- ---- those that are left
 
@@ -255,6 +256,8 @@ pub drops_keep : (causes : List Cause) (c d : LinksState) → DropsLiars causes 
 drops_keep causes c d drops = record {
   all = ap length drops.there ∙ without_length causes c.there;
   left = λ n is. left_before causes c.there n (subst (λ (t : List Bool). is_there t n ≡ true) drops.there is);
+  more = [];
+  grown = drops.asked ∙ sym (append-nil c.asked);
   sites = λ n less. (drops.links n less).site;
   later = λ n less. omega (arith, (drops.links n less).count);
 }
@@ -308,3 +311,95 @@ pub none_went : (IsListed : Target → List Digest → ℕ → Type 0) (a b : Li
     → b.there ≡ a.there → OnlyLiarsWent IsListed a b
 none_went IsListed a b same = λ n is gone tells.
     absurd (gone (subst (λ (t : List Bool). is_there t n ≡ true) (sym same) is))
+
+-- ---- over several fetches
+
+module _ (IsListed : Target → List Digest → ℕ → Type 0) (a b c : LinksState) (one : Kept a b) (two : Kept b c) where
+  since_first : (target : Target) → IsAskedSince target a b → IsAskedSince target a c
+  since_first target since = record {
+    earlier = since.earlier;
+    later = since.later ++ two.more;
+    is = two.grown ∙ ap (λ (ts : List Target). ts ++ two.more) since.is
+        ∙ append_assoc a.asked (since.earlier ++ target ∷ since.later) two.more
+        ∙ ap (λ (ts : List Target). a.asked ++ ts) (append_assoc since.earlier (target ∷ since.later) two.more);
+  }
+
+  since_second : (target : Target) → IsAskedSince target b c → IsAskedSince target a c
+  since_second target since = record {
+    earlier = one.more ++ since.earlier;
+    later = since.later;
+    is = since.is ∙ ap (λ (ts : List Target). ts ++ (since.earlier ++ target ∷ since.later)) one.grown
+        ∙ append_assoc a.asked one.more (since.earlier ++ target ∷ since.later)
+        ∙ ap (λ (ts : List Target). a.asked ++ ts) (sym (append_assoc one.more since.earlier (target ∷ since.later)));
+  }
+
+  lied_first : (n : ℕ) → HasLied IsListed a b (a.link n) → HasLied IsListed a c (a.link n)
+  lied_first n lied = record {
+    target = lied.target;
+    asked = since_first lied.target lied.asked;
+    list = lied.list;
+    size = lied.size;
+    listed = lied.listed;
+    bytes = lied.bytes;
+    there = lied.there;
+    other = lied.other;
+  }
+
+  lied_second : (n : ℕ) → n < length a.there → (a.link n).tells → HasLied IsListed b c (b.link n)
+      → HasLied IsListed a c (a.link n)
+  lied_second n less tells lied = record {
+    target = lied.target;
+    asked = since_second lied.target lied.asked;
+    list = lied.list;
+    size = lied.size;
+    listed = lied.listed;
+    bytes = lied.bytes;
+    there = sym ((one.sites n less).same tells lied.target) ∙ lied.there;
+    other = lied.other;
+  }
+
+  -- a link that is gone went in the one or in the other
+  went_in : (n : ℕ) (still : Bool) → is_there b.there n ≡ still → OnlyLiarsWent IsListed a b
+      → OnlyLiarsWent IsListed b c → IsLeft a n → ¬ (IsLeft c n) → (a.link n).tells
+      → HasLied IsListed a c (a.link n)
+  went_in n true mid first second is gone tells =
+      let less : n < length a.there = known_there a.there n is in
+      lied_second n less tells (second n mid gone ((one.sites n less).tells.0 tells))
+  went_in n false mid first second is gone tells =
+      lied_first n (first n is (λ there. false≢true (sym mid ∙ there)) tells)
+
+  pub went_then : OnlyLiarsWent IsListed a b → OnlyLiarsWent IsListed b c → OnlyLiarsWent IsListed a c
+  went_then first second = λ n is gone tells. went_in n (is_there b.there n) refl first second is gone tells
+
+pub but_then : (IsListed : Target → List Digest → ℕ → Type 0) (a b c : LinksState)
+    → KeptBut IsListed a b → KeptBut IsListed b c → KeptBut IsListed a c
+but_then IsListed a b c one two = record {
+  kept = kept_then a b c one.kept two.kept;
+  went = went_then IsListed a b c one.kept two.kept one.went two.went;
+}
+
+-- where none is gone
+pub but_all : (IsListed : Target → List Digest → ℕ → Type 0) (a b : LinksState) → KeptAll a b
+    → KeptBut IsListed a b
+but_all IsListed a b all = record { kept = all.kept; went = none_went IsListed a b all.remain.there }
+
+went_weaker : (P Q : Target → List Digest → ℕ → Type 0) (a b : LinksState)
+    → ((target : Target) (list : List Digest) (size : ℕ) → P target list size → Q target list size)
+    → OnlyLiarsWent P a b → OnlyLiarsWent Q a b
+went_weaker P Q a b each went = λ n is gone tells.
+    let lied = went n is gone tells in
+    record {
+      target = lied.target;
+      asked = lied.asked;
+      list = lied.list;
+      size = lied.size;
+      listed = each lied.target lied.list lied.size lied.listed;
+      bytes = lied.bytes;
+      there = lied.there;
+      other = lied.other;
+    }
+
+pub but_weaker : (P Q : Target → List Digest → ℕ → Type 0) (a b : LinksState)
+    → ((target : Target) (list : List Digest) (size : ℕ) → P target list size → Q target list size)
+    → KeptBut P a b → KeptBut Q a b
+but_weaker P Q a b each but = record { kept = but.kept; went = went_weaker P Q a b each but.went }

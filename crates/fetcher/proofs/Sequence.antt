@@ -1,13 +1,14 @@
 -- Several fetches, one after another.
-use Rattle.std.proofs.Common.{◌≡◌, ℕ, ◌+◌, ◌<◌, ◌≤◌, Bool, true, List, length, Option, Some, None, inl, inr, refl, sym, ap, subst, ◌∙◌, arith}
+use Rattle.std.proofs.Common.{◌≡◌, ℕ, ◌+◌, ◌<◌, ◌≤◌, Bool, true, List, [], ◌++◌, length, Option, Some, None, inl, inr, refl, sym, ap, subst, ◌∙◌, append_assoc, arith}
 use Rattle.std.specs.Prelude.{IfSome}
+use Rattle.std.proofs.lemmas.List.{append-nil}
 use Rattle.outside.specs.Streams.{Rose}
 use Rattle.outside.proofs.Counts.{rose_within}
 use Rattle.small_types.specs.declared.target.Target.{Target}
 use Rattle.links.specs.Links.{LinksState, Remain, counted, failures_of, is_there, link_at, number_at, sources_of}
 use Rattle.links.proofs.Counted.{counted_later, counted_rose}
 use Rattle.links.proofs.Numbers.{known_at, known_there, there_at}
-use Rattle.fetcher.specs.Fetched.{AllTell, AreQuiet, Kept}
+use Rattle.fetcher.specs.Fetched.{AllTell, AreQuiet, Kept, KeptAll}
 use Rattle.fetcher.specs.Given.{Given, IsOfSite}
 use Rattle.fetcher.proofs.Moving.{keeps_same, keeps_then}
 
@@ -15,9 +16,14 @@ pub kept_same : (a : LinksState) → Kept a a
 kept_same a = record {
   all = refl;
   left = λ n is. is;
+  more = [];
+  grown = sym (append-nil a.asked);
   sites = λ n less. keeps_same (a.link n);
   later = λ n less. omega arith;
 }
+
+pub all_same : (a : LinksState) → KeptAll a a
+all_same a = record { kept = kept_same a; remain = record { there = refl; sources = refl } }
 
 -- a number of all links is one afterwards
 known_after : (a b : LinksState) (n : ℕ) → Kept a b → n < length a.there → n < length b.there
@@ -27,6 +33,8 @@ pub kept_then : (a b c : LinksState) → Kept a b → Kept b c → Kept a c
 kept_then a b c one two = record {
   all = two.all ∙ one.all;
   left = λ n is. one.left n (two.left n is);
+  more = one.more ++ two.more;
+  grown = two.grown ∙ ap (λ (ts : List Target). ts ++ two.more) one.grown ∙ append_assoc a.asked one.more two.more;
   sites = λ n less. keeps_then (a.link n) (b.link n) (c.link n) (one.sites n less) (two.sites n (known_after a b n one less));
   later = λ n less. omega (arith, one.later n less, two.later n (known_after a b n one less));
 }

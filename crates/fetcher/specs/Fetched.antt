@@ -14,10 +14,12 @@ use Rattle.fetcher.specs.Causes.{AreCauses, IsTextCause, IsFileCause}
 use Rattle.fetcher.specs.Given.{FitsText, Given, GivenText, GivenFile, IsFirst, IsOfSite}
 
 -- Those that are left were left before. Every site stays, and no count falls, of those that are gone
--- too.
+-- too. More targets may have been asked for.
 pub record Kept (old new : LinksState) : Type 0 where
   pub all : length new.there ≡ length old.there
   pub left : (n : ℕ) → IsLeft new n → IsLeft old n
+  pub more : List Target
+  pub grown : new.asked ≡ old.asked ++ more
   pub sites : (n : ℕ) → n < length old.there → KeepsSite (old.link n) (new.link n)
   pub later : (n : ℕ) → n < length old.there → (old.link n).count ≤ (new.link n).count
 
@@ -98,6 +100,16 @@ pub record HasLied (IsListed : Target → List Digest → ℕ → Type 0) (old n
 abbrev pub OnlyLiarsWent : (Target → List Digest → ℕ → Type 0) → LinksState → LinksState → Type 0
 OnlyLiarsWent IsListed old new = (n : ℕ) → IsLeft old n → ¬ (IsLeft new n) → (old.link n).tells
     → HasLied IsListed old new (old.link n)
+
+-- the links are kept, and none is gone
+pub record KeptAll (old new : LinksState) : Type 0 where
+  pub kept : Kept old new
+  pub remain : Remain old new
+
+-- they are kept, but for those that lied
+pub record KeptBut (IsListed : Target → List Digest → ℕ → Type 0) (old new : LinksState) : Type 0 where
+  pub kept : Kept old new
+  pub went : OnlyLiarsWent IsListed old new
 
 -- what is listed there is this
 abbrev pub IsThis : Target → List Digest → ℕ → Target → List Digest → ℕ → Type 0

@@ -4,7 +4,7 @@ ghost use Rattle.digest_list.specs.Checker.{count_of};
 ghost use Rattle.links.specs.Links.{IsLast, Remain, link_at, sources_of};
 ghost use Rattle.outside.specs.Streams.{Consumes};
 ghost use Rattle.small_types.specs.declared.limits.TheConstants.{LINK_LIMIT};
-ghost use Rattle.fetcher.specs.Fetched.{IsFile, IsFileFault, IsThis, Kept, OnlyLiarsWent};
+ghost use Rattle.fetcher.specs.Fetched.{IsFile, IsFileFault, IsThis, KeptBut};
 ghost use Rattle.fetcher.specs.Stopped.{DropsLiar, DropsLiars, IsFileOf, IsFileStop, IsPourStop, KeepsBasket, Moves, Pours, PoursPiece, next_place};
 ghost use Rattle.fetcher.specs.declared.fault.FetchFault.TheVariants.{BasketFault};
 
@@ -195,10 +195,9 @@ pub fn fetch_file<L: Links, B: Basket>(
     ensures fault { IfErr result
         (IsFileFault list.now size target.now (L.links links.old) (L.links links.new)
         (B.count basket.old) (B.count basket.new)) }
-    ensures kept { Kept (L.links links.old) (L.links links.new) }
-    ensures remain { IfErr result (λ _. Remain (L.links links.old) (L.links links.new)) }
-    ensures lied { OnlyLiarsWent (IsThis target.now list.now size)
+    ensures kept { KeptBut (IsThis target.now list.now size)
         (L.links links.old) (L.links links.new) }
+    ensures remain { IfErr result (λ _. Remain (L.links links.old) (L.links links.new)) }
     ensures later { B.count basket.old ≤ B.count basket.new }
     ensures quiet { result ≢ Err BasketFault → B.count basket.new ≡ B.count basket.old }
     ensures turned { B.turns_to basket.old basket.new }

@@ -2,8 +2,8 @@
 ghost use Rattle.std.specs.Prelude.{◌≡◌, ◌≢◌, ◌<◌, ◌≤◌, length, take, IfOk, IfErr, Err};
 ghost use Rattle.links.specs.declared.link.LinkFault.TheVariants.{Missing};
 ghost use Rattle.links.specs.Link.{Counts};
-ghost use Rattle.links.specs.Links.{IsLast, Remain, link_at, sources_of};
-ghost use Rattle.fetcher.specs.Fetched.{IsText, IsTextFault, Kept};
+ghost use Rattle.links.specs.Links.{IsLast, link_at, sources_of};
+ghost use Rattle.fetcher.specs.Fetched.{IsText, IsTextFault, KeptAll};
 ghost use Rattle.fetcher.specs.Stopped.{IsTextOf, IsTextStop, Moves};
 
 use crate::FetchFault;
@@ -86,8 +86,7 @@ pub fn fetch_text<L: Links>(
     ensures text { IfOk result (IsText limit target.now (L.links links.old) (L.links links.new)) }
     ensures fault { IfErr result
         (IsTextFault limit target.now (L.links links.old) (L.links links.new)) }
-    ensures kept { Kept (L.links links.old) (L.links links.new) }
-    ensures remain { Remain (L.links links.old) (L.links links.new) }
+    ensures kept { KeptAll (L.links links.old) (L.links links.new) }
 {
     links.want(alloc, target)?;
     let mut causes = Vec::new(alloc);

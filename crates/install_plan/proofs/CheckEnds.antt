@@ -44,7 +44,7 @@ use Rattle.store_state.proofs.Checking.{shows_heard, shows_unheard, version_show
 use Rattle.store_state.proofs.Showing.{shape_shown}
 use Rattle.links.specs.Links.{LinksState}
 use Rattle.fetcher.specs.Causes.{IsTextCause}
-use Rattle.fetcher.specs.Fetched.{Kept, MayAsk, NoneGave}
+use Rattle.fetcher.specs.Fetched.{KeptAll, MayAsk, NoneGave}
 use Rattle.fetcher.specs.Given.{FitsText}
 use Rattle.install_plan.specs.declared.check.Offered.{Offered}
 use Rattle.install_plan.specs.declared.prepared.Prepared.{Prepared}
@@ -66,7 +66,7 @@ module _ (room : Room) (tables : Tables) (key : Key) (now : ℕ)
     (row : View) (is_row : current_row key tables ≡ Some row)
     (app : AppState) (is_app : entry_of key tables.apps ≡ Some app)
     (provider : Target) (is_provider : app.provider ≡ Some provider)
-    (a b : LinksState) (both : Kept a b) where
+    (a b : LinksState) (both : KeptAll a b) where
   abbrev shape : Shape
   shape = table_shape room tables
 
@@ -155,7 +155,7 @@ module _ (room : Room) (tables : Tables) (key : Key) (now : ℕ)
       → OfferHearing key shape texts a b → IsCheckOver room tables key texts a b now says.Memory
   memory_over texts hears hearing = record {
     hears = hears;
-    kept = both;
+    kept = both.kept;
     still = refl;
     downs = counts_none refl;
     step = λ image old idle shows valid. record {
@@ -174,7 +174,7 @@ module _ (room : Room) (tables : Tables) (key : Key) (now : ℕ)
       → IsCheckOver room tables key texts a b now reply
   refused_over texts reply hears still served refuses = record {
     hears = hears;
-    kept = both;
+    kept = both.kept;
     still = still;
     downs = check_counts key shape texts a b reply served;
     step = λ image old idle shows valid. record {
@@ -215,7 +215,7 @@ module _ (room : Room) (tables : Tables) (key : Key) (now : ℕ)
         → IsCheckReady room tables key [] a b now (change.Unheard key) missing
     unheard_ready other = record {
       hears = tt;
-      kept = both;
+      kept = both.kept;
       still = refl;
       downs = check_counts key shape [] a b missing unserved;
       of = refl;
@@ -236,7 +236,7 @@ module _ (room : Room) (tables : Tables) (key : Key) (now : ℕ)
     unheard_over : unheard_app app ≡ app → IsCheckOver room tables key [] a b now missing
     unheard_over same = record {
       hears = tt;
-      kept = both;
+      kept = both.kept;
       still = refl;
       downs = check_counts key shape [] a b missing unserved;
       step = λ image old idle shows valid. record {
@@ -370,7 +370,7 @@ module _ (room : Room) (tables : Tables) (key : Key) (now : ℕ)
               → IsCheckReady room tables key (text ∷ []) a b now note (checked_of offered app)
           heard_ready other = record {
             hears = some_current;
-            kept = both;
+            kept = both.kept;
             still = refl;
             downs = counts_none refl;
             of = refl;
@@ -397,7 +397,7 @@ module _ (room : Room) (tables : Tables) (key : Key) (now : ℕ)
               → IsCheckOver room tables key (text ∷ []) a b now (checked_of offered app)
           heard_over same = record {
             hears = some_current;
-            kept = both;
+            kept = both.kept;
             still = refl;
             downs = counts_none refl;
             step = λ image old idle shows valid. record {

@@ -32,7 +32,7 @@ use Rattle.table_weight.specs.Weight.{tables_weight}
 use Rattle.file_groups.specs.declared.fault.GroupFault.{GroupFault}
 use Rattle.file_groups.specs.declared.fault.GroupFault.TheVariants as fault
 use Rattle.links.specs.Links.{LinksState}
-use Rattle.fetcher.specs.Fetched.{Kept}
+use Rattle.fetcher.specs.Fetched.{Kept, KeptAll}
 use Rattle.install_plan.specs.declared.plan.WantedFile.{WantedFile}
 use Rattle.install_plan.specs.Checks.{LedBy}
 use Rattle.install_plan.specs.Downs.{CountsDowns}
@@ -107,7 +107,7 @@ IsUnasked room tables view group files reply =
 
 -- no link was asked
 pub record AreUnasked (before after : LinksState) : Type 0 where
-  pub kept : Kept before after
+  pub kept : KeptAll before after
   pub same : after.asked ≡ before.asked
 
 -- or not all were fetched

@@ -1,6 +1,6 @@
 use Rattle.std.proofs.Common.{◌≡◌, ◌<◌, ◌∙◌, arith}
 use Rattle.links.specs.Links.{LinksState, sources_of}
-use Rattle.fetcher.proofs.Ending.{count_stays, file_kept, file_lied, file_more, file_refused, file_served}
+use Rattle.fetcher.proofs.Ending.{count_stays, file_kept, file_more, file_refused, file_served}
 use Rattle.fetcher.proofs.file.fetch_file.Goals as goal
 
 pub returns-in-Ok-clause-file : goal.returns-in-Ok-clause-file
@@ -25,19 +25,6 @@ returns-in-Ok-clause-kept g c =
     let count = c.sources-place-end.ensures.count in
     let less : c.loop-place.place < sources_of a = omega (arith, count, c.in_ok-want.ensures.remain.sources) in
     file_kept c.loop-place.place a b left c.loop-place.causes.items c.args.target.now
-    c.in-Ok.ensures.moves less c.args.list.now c.args.size
-    g.B.Basket.tells (g.B.Basket.taken c.file_of.new.basket)
-    c.loop-place.invariant.refused c.in-Ok.ensures.file d c.retire_liars.ensures
-
-pub returns-in-Ok-clause-lied : goal.returns-in-Ok-clause-lied
-returns-in-Ok-clause-lied g c =
-    let a : LinksState = g.L.Links.links c.args.links.now in
-    let b : LinksState = g.L.Links.links c.loop-place.links in
-    let left : LinksState = g.L.Links.links c.file_of.new.links in
-    let d : LinksState = g.L.Links.links c.retire_liars.new.links in
-    let count = c.sources-place-end.ensures.count in
-    let less : c.loop-place.place < sources_of a = omega (arith, count, c.in_ok-want.ensures.remain.sources) in
-    file_lied c.loop-place.place a b left c.loop-place.causes.items c.args.target.now
     c.in-Ok.ensures.moves less c.args.list.now c.args.size
     g.B.Basket.tells (g.B.Basket.taken c.file_of.new.basket)
     c.loop-place.invariant.refused c.in-Ok.ensures.file d c.retire_liars.ensures
