@@ -221,6 +221,39 @@ module _ {B G : Type 0} (state : B → LinkState) (last : G → LinkState) where
           (link_in state last marks (set boxes place later) n) (other_boxes marks boxes place n later less other);
     }
 
+  -- ---- the same of the links as they are shown
+
+  module _ (place_of : G → ℕ) (boxes : List B) (gone : List G) (place : ℕ) (one later : B)
+      (less : place < count_there (there_of (marks_of place_of (length boxes) gone)))
+      (even : count_there (there_of (marks_of place_of (length boxes) gone)) ≡ length boxes)
+      (is : one ≡ get_or boxes place one) where
+    same_marks : marks_of place_of (length (set boxes place later)) gone ≡ marks_of place_of (length boxes) gone
+    same_marks = ap (λ (n : ℕ). marks_of place_of n gone) (length-set boxes place later)
+
+    pub asked_box : (P : LinkState → LinkState → Type 0) → P (state one) (state later)
+        → P (link_in state last (marks_of place_of (length boxes) gone) boxes
+        (number_at (there_of (marks_of place_of (length boxes) gone)) place))
+        (link_in state last (marks_of place_of (length (set boxes place later)) gone) (set boxes place later)
+        (number_at (there_of (marks_of place_of (length (set boxes place later)) gone)) place))
+    asked_box P holds =
+        subst (λ (m : List (Option G)). P (link_in state last (marks_of place_of (length boxes) gone) boxes
+        (number_at (there_of (marks_of place_of (length boxes) gone)) place))
+        (link_in state last m (set boxes place later) (number_at (there_of m) place))) (sym same_marks)
+        (by_box (marks_of place_of (length boxes) gone) boxes place one later less even is P holds)
+
+    pub only_asked : (asked : List Target)
+        → ChangesOnly place (boxes_state state last (marks_of place_of (length boxes) gone) boxes asked)
+        (boxes_state state last (marks_of place_of (length (set boxes place later)) gone) (set boxes place later) asked)
+    only_asked asked =
+        subst (λ (m : List (Option G)). ChangesOnly place
+        (boxes_state state last (marks_of place_of (length boxes) gone) boxes asked)
+        (boxes_state state last m (set boxes place later) asked)) (sym same_marks)
+        (only_there (marks_of place_of (length boxes) gone) boxes place one later less even is asked)
+
+    pub even_asked : count_there (there_of (marks_of place_of (length (set boxes place later)) gone)) ≡ length (set boxes place later)
+    even_asked =
+        ap (λ (m : List (Option G)). count_there (there_of m)) same_marks ∙ even ∙ sym (length-set boxes place later)
+
   -- ---- one box goes
 
   module _ (place_of : G → ℕ) (boxes left : List B) (gone : List G) (place : ℕ) (one : B) (note : G)
