@@ -155,7 +155,7 @@ module _ (room : Room) (tables : Tables) (key : Key) (now : ℕ)
       → OfferHearing key shape texts a b → IsCheckOver room tables key texts a b now says.Memory
   memory_over texts hears hearing = record {
     hears = hears;
-    kept = both.kept;
+    kept = both;
     still = refl;
     downs = counts_none refl;
     step = λ image old idle shows valid. record {
@@ -174,7 +174,7 @@ module _ (room : Room) (tables : Tables) (key : Key) (now : ℕ)
       → IsCheckOver room tables key texts a b now reply
   refused_over texts reply hears still served refuses = record {
     hears = hears;
-    kept = both.kept;
+    kept = both;
     still = still;
     downs = check_counts key shape texts a b reply served;
     step = λ image old idle shows valid. record {
@@ -215,7 +215,7 @@ module _ (room : Room) (tables : Tables) (key : Key) (now : ℕ)
         → IsCheckReady room tables key [] a b now (change.Unheard key) missing
     unheard_ready other = record {
       hears = tt;
-      kept = both.kept;
+      kept = both;
       still = refl;
       downs = check_counts key shape [] a b missing unserved;
       of = refl;
@@ -236,7 +236,7 @@ module _ (room : Room) (tables : Tables) (key : Key) (now : ℕ)
     unheard_over : unheard_app app ≡ app → IsCheckOver room tables key [] a b now missing
     unheard_over same = record {
       hears = tt;
-      kept = both.kept;
+      kept = both;
       still = refl;
       downs = check_counts key shape [] a b missing unserved;
       step = λ image old idle shows valid. record {
@@ -370,7 +370,7 @@ module _ (room : Room) (tables : Tables) (key : Key) (now : ℕ)
               → IsCheckReady room tables key (text ∷ []) a b now note (checked_of offered app)
           heard_ready other = record {
             hears = some_current;
-            kept = both.kept;
+            kept = both;
             still = refl;
             downs = counts_none refl;
             of = refl;
@@ -397,7 +397,7 @@ module _ (room : Room) (tables : Tables) (key : Key) (now : ℕ)
               → IsCheckOver room tables key (text ∷ []) a b now (checked_of offered app)
           heard_over same = record {
             hears = some_current;
-            kept = both.kept;
+            kept = both;
             still = refl;
             downs = counts_none refl;
             step = λ image old idle shows valid. record {

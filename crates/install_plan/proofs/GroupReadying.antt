@@ -183,7 +183,7 @@ module _ (room : Room) (tables : Tables) (lease : ℕ) (group : List ℕ) (view 
     ready : IsGroupReady room tables lease group a c
         (change.Group view.number group contents) reply
     ready = record {
-      kept = got.fetched.kept.kept;
+      kept = line room tables lease group view leased some absent got.wanted got.are a c got.fetched.kept;
       still = λ now. refl;
       downs = counts_none refl;
       of = (refl, few_contents);

@@ -184,7 +184,7 @@ module _ (room : Room) (tables : Tables) (lease : ℕ) (group : List ℕ) (view 
           → addresses wanted ≡ asked ++ rest
           → IsGroupOver room tables lease group a c says.Memory
       memory_behind asked rest grown front =
-          over_by room tables lease group a c says.Memory kept (λ now. refl) (counts_none refl)
+          over_by room tables lease group a c says.Memory line (λ now. refl) (counts_none refl)
           (λ now image old idle shows sound. record {
             answers = inl (inl (refl, refl));
             served = served_of a c says.Memory asked rest line (view_valid shows leased sound) grown
@@ -263,7 +263,7 @@ module _ (room : Room) (tables : Tables) (lease : ℕ) (group : List ℕ) (view 
 
         pub links_over : IsGroupOver room tables lease group a c (says.AllLinks named reasons)
         links_over =
-            over_by room tables lease group a c (says.AllLinks named reasons) kept (λ now. refl)
+            over_by room tables lease group a c (says.AllLinks named reasons) line (λ now. refl)
             (group_counts a c kept (table_shape room tables) group asked named reasons (bare_row view)
             lacks)
             (λ now image old idle shows sound. (
