@@ -11,7 +11,7 @@ use Rattle.links.specs.Links.{LinksState, Remain, count_there, is_there, link_at
 use Rattle.links.proofs.Numbers.{known_at, numbers_apart, there_at}
 use Rattle.causes.specs.declared.cause.Cause.{Cause}
 use Rattle.fetcher.specs.Causes.{AreCauses}
-use Rattle.fetcher.specs.Fetched.{AllTell, AreGiven, AreQuiet, Asked, IsOfLink, Kept, NoneGave, became}
+use Rattle.fetcher.specs.Fetched.{AllTell, AreGiven, AreQuiet, Asked, IsOfLink, Kept, KeptAll, NoneGave, became}
 use Rattle.fetcher.specs.Given.{Given, IsOfSite}
 use Rattle.fetcher.specs.Stopped.{Moves}
 use Rattle.fetcher.proofs.Moving.{Wanted, remain_then, stays_same, stays_then}
@@ -74,6 +74,26 @@ module _ (place : ℕ) (b c : LinksState) (moves : Moves place b c) where
         (cases_eq n (number_at b.there place));
   }
 
+-- ---- where nothing was done but to note a target
+
+pub kept_stays : (a b : LinksState) (more : List Target) → b.asked ≡ a.asked ++ more → Remain a b
+    → ((n : ℕ) → n < length a.there → Stays (a.link n) (b.link n)) → Kept a b
+kept_stays a b more grown remain links = record {
+  all = ap length remain.there;
+  left = λ n is. subst (λ (t : List Bool). is_there t n ≡ true) remain.there is;
+  more = more;
+  grown = grown;
+  sites = λ n less. (links n less).site;
+  later = λ n less. omega (arith, (links n less).count);
+}
+
+pub all_stay : (a b : LinksState) → b.asked ≡ a.asked → Remain a b
+    → ((n : ℕ) → n < length a.there → Stays (a.link n) (b.link n)) → KeptAll a b
+all_stay a b same remain links = record {
+  kept = kept_stays a b [] (same ∙ sym (append-nil a.asked)) remain links;
+  remain = remain;
+}
+
 -- ---- the links below a place did not serve
 
 -- each of them has its cause, and those from the place on are as they were
@@ -92,14 +112,7 @@ pub refused_none : (IsCause : CauseOf) (target : Target) (a b : LinksState) → 
 refused_none IsCause target a b wanted = record {
   asked = wanted.asked;
   remain = wanted.remain;
-  kept = record {
-    all = ap length wanted.remain.there;
-    left = λ n is. subst (λ (t : List Bool). is_there t n ≡ true) wanted.remain.there is;
-    more = target ∷ [];
-    grown = wanted.asked;
-    sites = λ n less. (wanted.links n less).site;
-    later = λ n less. omega (arith, (wanted.links n less).count);
-  };
+  kept = kept_stays a b (target ∷ []) wanted.asked wanted.remain wanted.links;
   count = refl;
   each = λ k less. absurd (omega arith);
   left = λ k from less. wanted.links (number_at a.there k) (known_at a.there k less);

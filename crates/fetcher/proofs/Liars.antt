@@ -228,6 +228,13 @@ module _ (all causes : List Cause) (place : ℕ) (old now next : LinksState) whe
 
 -- ---- the loop over the causes
 
+-- none is left behind the last one
+pub drop_all : {X : Type 0} (n : ℕ) (xs : List X) → length xs ≤ n → drop n xs ≡ []
+drop_all zero [] all = refl
+drop_all zero (x ∷ xs) all = absurd (omega arith)
+drop_all (suc n) [] all = refl
+drop_all (suc n) (x ∷ xs) all = drop_all n xs (omega arith)
+
 module _ {X : Type 0} (xs : List X) (i : ℕ) (x : X) (lt : i < length xs) (is : x ≡ get_or xs i x) where
   drop_here : drop i xs ≡ x ∷ drop (i + 1) xs
   drop_here =

@@ -55,7 +55,7 @@ length_without (first ∷ boxes) (suc place) less =
 -- ---- marks
 
 module _ {G : Type 0} where
-  there_length : (marks : List (Option G)) → length (there_of marks) ≡ length marks
+  pub there_length : (marks : List (Option G)) → length (there_of marks) ≡ length marks
   there_length [] = refl
   there_length (None ∷ marks) = ap suc (there_length marks)
   there_length (Some one ∷ marks) = ap suc (there_length marks)
@@ -98,24 +98,23 @@ module _ {G : Type 0} where
       ap (λ (n : ℕ). mark_all place_of (all_left n) (gone ++ one ∷ [])) same
       ∙ mark_more place_of (all_left (more + length gone)) gone one
 
-  -- ---- at first
+-- ---- at first
 
-  left_length : (n : ℕ) → length (all_left {G} n) ≡ n
-  left_length zero = refl
-  left_length (suc n) = ap suc (left_length n)
+left_length : (G : Type 0) (n : ℕ) → length (all_left {G = G} n) ≡ n
+left_length G zero = refl
+left_length G (suc n) = ap suc (left_length G n)
 
-  left_count : (n : ℕ) → count_there (there_of (all_left {G} n)) ≡ n
-  left_count zero = refl
-  left_count (suc n) = ap suc (left_count n)
+left_count : (G : Type 0) (n : ℕ) → count_there (there_of (all_left {G = G} n)) ≡ n
+left_count G zero = refl
+left_count G (suc n) = ap suc (left_count G n)
 
-  left_gone : (count_of : G → ℕ) (n : ℕ) → gone_in count_of (all_left n) ≡ 0
-  left_gone count_of zero = refl
-  left_gone count_of (suc n) = left_gone count_of n
+left_gone : {G : Type 0} (count_of : G → ℕ) (n : ℕ) → gone_in count_of (all_left n) ≡ 0
+left_gone count_of zero = refl
+left_gone count_of (suc n) = left_gone count_of n
 
-  left_number : (n k : ℕ) → k < n → number_at (there_of (all_left {G} n)) k ≡ k
-  left_number zero k less = absurd (omega arith)
-  left_number (suc n) zero less = refl
-  left_number (suc n) (suc k) less = ap suc (left_number n k (omega arith))
+-- the same with its own count
+pub same_count : (s : LinkState) (n : ℕ) → n ≡ s.count → record s { count = n } ≡ s
+same_count s n is = ap (λ (m : ℕ). record s { count = m }) is
 
 -- ---- links by their numbers
 
@@ -161,31 +160,54 @@ module _ {B G : Type 0} (state : B → LinkState) (last : G → LinkState) where
 
   -- ---- the boxes as they were given
 
+  each_new : (boxes : List B) (k : ℕ) → IfSome (slice_get boxes k)
+      (λ one. Stays (state one) (link_in state last (all_left {G = G} (length boxes)) boxes (number_at (there_of (all_left {G = G} (length boxes))) k)))
+  each_new [] k = tt
+  each_new (one ∷ boxes) zero = stays_same (state one)
+  each_new (one ∷ boxes) (suc k) = each_new boxes k
+
+  new_boxes : (boxes : List B) (asked : List Target) → asked ≡ []
+      → AreNew state boxes (boxes_state state last (all_left (length boxes)) boxes asked)
+  new_boxes boxes asked nothing = record {
+    sources = left_count G (length boxes);
+    all = there_length (all_left {G = G} (length boxes)) ∙ left_length G (length boxes);
+    each = each_new boxes;
+    asked = nothing;
+  }
+
+  -- none is gone yet
+  pub none_marked : (place_of : G → ℕ) (boxes : List B) (gone : List G) → gone ≡ []
+      → marks_of place_of (length boxes) gone ≡ all_left (length boxes)
+  none_marked place_of boxes gone none =
+      let many : length boxes + 0 ≡ length boxes = omega arith in
+      ap (marks_of place_of (length boxes)) none ∙ ap (λ (n : ℕ). all_left {G = G} n) many
+
   pub are_new : (place_of : G → ℕ) (boxes : List B) (gone : List G) (asked : List Target) → gone ≡ [] → asked ≡ []
       → AreNew state boxes (boxes_state state last (marks_of place_of (length boxes) gone) boxes asked)
   are_new place_of boxes gone asked none nothing =
-      subst (λ (gs : List G). AreNew state boxes (boxes_state state last (marks_of place_of (length boxes) gs) boxes asked))
-      (sym none) first
-    where
-      first : AreNew state boxes (boxes_state state last (marks_of place_of (length boxes) []) boxes asked)
-      first =
-          let many : length boxes + 0 ≡ length boxes = omega arith in
-          subst (λ (n : ℕ). AreNew state boxes (boxes_state state last (all_left n) boxes asked)) (sym many)
-          (new_boxes asked nothing)
+      subst (λ (m : List (Option G)). AreNew state boxes (boxes_state state last m boxes asked))
+      (sym (none_marked place_of boxes gone none)) (new_boxes boxes asked nothing)
 
-      new_boxes : (asked : List Target) → asked ≡ [] → AreNew state boxes (boxes_state state last (all_left (length boxes)) boxes asked)
-      new_boxes asked nothing = record {
-        sources = left_count (length boxes);
-        all = there_length (all_left {G} (length boxes)) ∙ left_length (length boxes);
-        each = each_new boxes;
-        asked = nothing;
-      }
+  pub even_new : (place_of : G → ℕ) (boxes : List B) (gone : List G) → gone ≡ []
+      → count_there (there_of (marks_of place_of (length boxes) gone)) ≡ length boxes
+  even_new place_of boxes gone none =
+      ap (λ (m : List (Option G)). count_there (there_of m)) (none_marked place_of boxes gone none)
+      ∙ left_count G (length boxes)
 
-      each_new : (boxes : List B) (k : ℕ) → IfSome (slice_get boxes k)
-          (λ one. Stays (state one) (link_in state last (all_left {G} (length boxes)) boxes (number_at (there_of (all_left {G} (length boxes))) k)))
-      each_new [] k = tt
-      each_new (one ∷ boxes) zero = stays_same (state one)
-      each_new (one ∷ boxes) (suc k) = each_new boxes k
+  pub gone_new : (place_of count_of : G → ℕ) (boxes : List B) (gone : List G) → gone ≡ []
+      → gone_in count_of (marks_of place_of (length boxes) gone) ≡ 0
+  gone_new place_of count_of boxes gone none =
+      ap (gone_in count_of) (none_marked place_of boxes gone none) ∙ left_gone count_of (length boxes)
+
+  -- ---- the box at a place
+
+  pub box_link : (marks : List (Option G)) (boxes : List B) (place : ℕ) (one : B)
+      → place < count_there (there_of marks) → count_there (there_of marks) ≡ length boxes
+      → one ≡ get_or boxes place one
+      → state one ≡ link_in state last marks boxes (number_at (there_of marks) place)
+  box_link marks boxes place one less even is =
+      ap state is ∙ sym (at_box state boxes place one (omega (arith, less, even)))
+      ∙ sym (in_box marks boxes place less even)
 
   -- ---- one box is asked
 
@@ -196,7 +218,7 @@ module _ {B G : Type 0} (state : B → LinkState) (last : G → LinkState) where
     in_range = omega (arith, less, even)
 
     old_link : state one ≡ link_in state last marks boxes (number_at (there_of marks) place)
-    old_link = ap state is ∙ sym (at_box state boxes place one in_range) ∙ sym (in_box marks boxes place less even)
+    old_link = box_link marks boxes place one less even is
 
     new_link : state later ≡ link_in state last marks (set boxes place later) (number_at (there_of marks) place)
     new_link =

@@ -61,7 +61,7 @@ from_front link gone (suc n) = ap (λ (m : ℕ). total m (link (suc n)).count) (
 
 module _ {B G : Type 0} (state : B → LinkState) (last : G → LinkState) (count_of : G → ℕ)
     (counts : (one : G) → (last one).count ≡ count_of one) where
-  boxes_sum : List B → ℕ
+  abbrev boxes_sum : List B → ℕ
   boxes_sum [] = 0
   boxes_sum (one ∷ boxes) = total (state one).count (boxes_sum boxes)
 

@@ -48,10 +48,10 @@ pub struct Mirrors {
     retired: Record<Gone>,
     ghost some: { 1 ≤ vec_len links },
     ghost within: { vec_len links ≤ LINK_LIMIT },
-    ghost even: { count_there (there_of (marks_of (λ g. g.place) (vec_len links) retired.noted))
-        ≡ vec_len links },
-    ghost summed: { gone_in (λ g. g.count) (marks_of (λ g. g.place) (vec_len links) retired.noted)
-        ≡ gone },
+    ghost even: { count_there (there_of (marks_of (λ g. g.place) (length links.items) retired.noted))
+        ≡ length links.items },
+    ghost summed: {
+        gone_in (λ g. g.count) (marks_of (λ g. g.place) (length links.items) retired.noted) ≡ gone },
 }
 
 impl Mirrors {

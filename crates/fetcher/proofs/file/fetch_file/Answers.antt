@@ -1,6 +1,12 @@
-use Rattle.std.proofs.Common.{◌≡◌, ◌<◌, ◌∙◌, arith}
+use Rattle.std.proofs.Common.{◌≡◌, ◌<◌, ◌∙◌, List, refl, sym, subst, arith}
 use Rattle.links.specs.Links.{LinksState, sources_of}
+use Rattle.causes.specs.declared.cause.Cause.{Cause}
+use Rattle.fetcher.specs.Causes.{IsFileCause}
+use Rattle.fetcher.specs.Fetched.{IsThis}
+use Rattle.fetcher.specs.Stopped.{DropsLiars}
 use Rattle.fetcher.proofs.Ending.{count_stays, file_kept, file_more, file_refused, file_served}
+use Rattle.fetcher.proofs.InOrder.{Refused, all_stay, refused_none}
+use Rattle.fetcher.proofs.Liars.{but_all}
 use Rattle.fetcher.proofs.file.fetch_file.Goals as goal
 
 pub returns-in-Ok-clause-file : goal.returns-in-Ok-clause-file
@@ -14,7 +20,8 @@ returns-in-Ok-clause-file g c =
     file_served c.loop-place.place a b left c.loop-place.causes.items c.args.target.now
     c.in-Ok.ensures.moves less c.args.list.now c.args.size
     g.B.Basket.tells (g.B.Basket.taken c.file_of.new.basket)
-    c.loop-place.invariant.refused c.in-Ok.ensures.file d c.retire_liars.ensures
+    c.loop-place.invariant.refused c.in-Ok.ensures.file d
+    (subst (λ (cs : List Cause). DropsLiars cs left d) c.deref.ensures.value c.retire_liars.ensures)
 
 pub returns-in-Ok-clause-kept : goal.returns-in-Ok-clause-kept
 returns-in-Ok-clause-kept g c =
@@ -27,7 +34,8 @@ returns-in-Ok-clause-kept g c =
     file_kept c.loop-place.place a b left c.loop-place.causes.items c.args.target.now
     c.in-Ok.ensures.moves less c.args.list.now c.args.size
     g.B.Basket.tells (g.B.Basket.taken c.file_of.new.basket)
-    c.loop-place.invariant.refused c.in-Ok.ensures.file d c.retire_liars.ensures
+    c.loop-place.invariant.refused c.in-Ok.ensures.file d
+    (subst (λ (cs : List Cause). DropsLiars cs left d) c.deref.ensures.value c.retire_liars.ensures)
 
 pub loop-place-preserved : goal.loop-place-preserved
 loop-place-preserved g c =
@@ -60,3 +68,23 @@ returns-clause-fault g c =
     c.args.list.now c.args.size (g.B.Basket.count c.args.basket.now)
     (g.B.Basket.count c.loop-place.basket) c.loop-place.invariant.refused
     c.all_links.result c.all_links.ensures
+
+pub returns-in_err-want-clause-kept : goal.returns-in_err-want-clause-kept
+returns-in_err-want-clause-kept g c =
+    let a : LinksState = g.L.Links.links c.args.links.now in
+    let b : LinksState = g.L.Links.links c.want.new.self in
+    but_all (IsThis c.args.target.now c.args.list.now c.args.size) a b
+    (all_stay a b c.in_err-want.ensures.err c.in_err-want.ensures.remain c.in_err-want.ensures.links)
+
+pub loop-place-init : goal.loop-place-init
+loop-place-init g c =
+    let a : LinksState = g.L.Links.links c.args.links.now in
+    let b : LinksState = g.L.Links.links c.want.new.self in
+    record {
+      refused = subst (Refused (IsFileCause c.args.list.now c.args.size c.args.target.now) c.args.target.now 0 a b)
+          (sym c.new-causes.ensures.items)
+          (refused_none (IsFileCause c.args.list.now c.args.size c.args.target.now) c.args.target.now a b
+          (record { asked = c.in_ok-want.ensures.ok; remain = c.in_ok-want.ensures.remain; links = c.in_ok-want.ensures.links }));
+      basket = refl;
+      turned = g.met.B.Basket.turns_same _;
+    }

@@ -1,6 +1,8 @@
-use Rattle.std.proofs.Common.{◌≡◌, ◌<◌, arith}
+use Rattle.std.proofs.Common.{◌≡◌, ◌<◌, sym, subst, arith}
 use Rattle.links.specs.Links.{LinksState, sources_of}
+use Rattle.fetcher.specs.Causes.{IsTextCause}
 use Rattle.fetcher.proofs.Ending.{text_more, text_refused, text_served}
+use Rattle.fetcher.proofs.InOrder.{Refused, refused_none}
 use Rattle.fetcher.proofs.text.fetch_text.Goals as goal
 
 pub returns-in-Ok-clause-text : goal.returns-in-Ok-clause-text
@@ -33,3 +35,12 @@ returns-clause-fault g c =
     let all : c.loop-place.place ≡ sources_of a = omega (arith, count, c.in_ok-want.ensures.remain.sources) in
     text_refused c.loop-place.place a left c.loop-place.causes.items c.args.target.now all
     c.args.limit c.loop-place.invariant c.all_links.result c.all_links.ensures
+
+pub loop-place-init : goal.loop-place-init
+loop-place-init g c =
+    let a : LinksState = g.L.Links.links c.args.links.now in
+    let b : LinksState = g.L.Links.links c.want.new.self in
+    subst (Refused (IsTextCause c.args.limit c.args.target.now) c.args.target.now 0 a b)
+    (sym c.new-causes.ensures.items)
+    (refused_none (IsTextCause c.args.limit c.args.target.now) c.args.target.now a b
+    (record { asked = c.in_ok-want.ensures.ok; remain = c.in_ok-want.ensures.remain; links = c.in_ok-want.ensures.links }))
