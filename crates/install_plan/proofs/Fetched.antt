@@ -177,4 +177,4 @@ module _ (a c : LinksState) where
 
 -- the data files are whole
 pub whole_originals : (a c : LinksState) (at : FileEntry → Result Target UrlFault) (entries : List FileEntry) (files : List ListedFile) → ((file : ListedFile) → In file files → IsOriginal a c at entries file) → All IsWhole files
-whole_originals a c at entries files each = in_all IsWhole files (λ file there. (each file there).from.fits)
+whole_originals a c at entries files each = in_all IsWhole files (λ file there. (each file there).from.from.fits)
