@@ -360,8 +360,9 @@ module _ (runs_sound : RunsKeepSound) (data_stay : KeptDataFilesStay) (data_is :
         f.input,
         record {
           place = 0;
-          within = offered.first.some;
-          there = at_name folder sites target (target_name p.options entry.name) f.whole (shown target (inr (inr (done.base, entry, base_joined, there, at)))) way f.out;
+          within = omega (arith, offered.first.some, count_all sites.sources);
+          there = subst (λ (m : ℕ). sites.site m target ≡ Some f.whole) (sym (number_all sites.sources 0 offered.first.some))
+              (at_name folder sites target (target_name p.options entry.name) f.whole (shown target (inr (inr (done.base, entry, base_joined, there, at)))) way f.out);
           fits = f.matching;
           first = λ k less. absurd (omega (arith, less));
         },
