@@ -225,15 +225,18 @@ def contents(store, lease, names, states):
 # ---- a life of an application
 
 def killed_update(name, store, url, before, after):
-    """An update is killed at ten moments: the store is as before or as after."""
+    """An update is killed at ten moments: the store is as before or as after. Where all of them came too late, for a
+    machine that was slow once, it is killed earlier and earlier."""
     old, new, version, view, lease, others = before[1], after[1], after[0], after[2], after[3], set(before[1]) | set(after[1])
     begun = time.monotonic()
     session(copied(store, f"{work}/timed"), [f"install {url}"])
     took = time.monotonic() - begun
     cuts = 0
-    for place in range(1, 11):
+    for place in [it / 11 for it in range(1, 11)] + [2 ** -it for it in range(4, 16)]:
+        if place < 1 / 11 and cuts:
+            break
         tried = copied(store, f"{work}/tried")
-        said, cut = killed_session(tried, [f"install {url}"], took * place / 11)
+        said, cut = killed_session(tried, [f"install {url}"], took * place)
         cuts += cut and not said
         got = session(tried, [f"launch {KEY}"])
         if got == [f"ok lease {lease} {version} -"]:

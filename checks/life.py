@@ -397,10 +397,26 @@ def limited(store, words, lines, size):
     return done.returncode, done.stdout.decode(), done.stderr.decode()
 
 
+def end_of_entries(store):
+    """Returns the place in the store's file behind the closed gate that ends the entries of the current half."""
+    with open(store, "rb") as it:
+        held = it.read()
+    length = int.from_bytes(held[16:24], "big")
+    found = {}
+    for at in (4096, 4096 + length):
+        if at < len(held) and held[at] == 1:
+            place = at + 10 + int.from_bytes(held[at + 2:at + 10], "big")
+            while held[place] == 1:
+                place += 5 + int.from_bytes(held[place + 1:place + 5], "big")
+            found[held[at + 1]] = place + 1
+    later = [it for it in found if (it - 1) % 3 in found]
+    return found[later[0] if later else min(found)]
+
+
 def filled(kind, store, leased, line, answer, again):
-    """The store's file may not grow, or by some bytes only: the line is answered, or the disk failed and nothing was
-    done."""
-    size, tried, whole = os.path.getsize(store), f"{work}/tried", []
+    """Nothing may be written behind the entries of the store, or some bytes only: the line is answered, or the disk
+    failed and nothing was done."""
+    size, tried, whole = end_of_entries(store), f"{work}/tried", []
     for more in (0, 1, 4, 5, 6, 10, 100):
         status, said, why = limited(copied(store, tried), SESSION, f"{line}\n", size + more)
         name = f"{kind}, with room for {more} bytes"

@@ -67,7 +67,11 @@ const CONTENT: &[u8] = &[
 #[derive(Clone, Copy)]
 enum Text {
     Bytes(&'static [u8]),
-    View { path: u32, app_path: u32, zeros: u32 },
+    View {
+        path: u32,
+        app_path: u32,
+        zeros: u32,
+    },
 }
 
 fn push_path(text: &mut Vec<u8>, length: u32) -> Result<(), AllocError> {

@@ -1,29 +1,32 @@
 -- How a fetch that asks the links in order goes on and ends.
-use Rattle.std.proofs.Common.{◌≡◌, ℕ, ◌+◌, ◌<◌, inr, List, Err}
+use Rattle.std.proofs.Common.{◌≡◌, ℕ, ◌+◌, ◌<◌, inr, List, Err, sym, ap, ◌∙◌}
 use Rattle.std.specs.Prelude.{Result}
 use Rattle.small_types.specs.declared.target.Target.{Target}
 use Rattle.digest_list.specs.declared.digest.Digest.{Digest}
 use Rattle.digest_list.specs.Matches.{Matches}
-use Rattle.links.specs.Links.{LinksState}
+use Rattle.links.specs.Links.{LinksState, Remain, link_at, sources_of}
 use Rattle.causes.specs.declared.cause.Cause.{Cause}
 use Rattle.fetcher.specs.declared.fault.FetchFault.{FetchFault}
 use Rattle.fetcher.specs.declared.fault.FetchFault.TheVariants.{AllLinks, BasketFault, Memory}
 use Rattle.fetcher.specs.declared.stopped.Stopped.{Stopped}
 use Rattle.fetcher.specs.declared.stopped.Stopped.TheVariants.{By, Basket, Memory as NoMemory}
 use Rattle.fetcher.specs.Causes.{IsFileCause, IsTextCause}
-use Rattle.fetcher.specs.Fetched.{IsFile, IsFileFault, IsText, IsTextFault}
+use Rattle.fetcher.specs.Fetched.{Asked, IsFile, IsFileFault, IsOfLink, IsText, IsTextFault, IsThis, KeptAll, KeptBut, without_liars}
 use Rattle.fetcher.specs.Given.{FitsText}
-use Rattle.fetcher.specs.Stopped.{AddsCause, IsFileOf, IsFileStop, IsTextOf, IsTextStop, KeepsBasket, Moves, TellsCauses}
-use Rattle.fetcher.proofs.InOrder.{Refused, asked_on, none_gave, refused_more, served_enough, served_given, served_next, served_site}
-use Rattle.fetcher.proofs.Reasons.{file_kind, text_kind}
+use Rattle.fetcher.specs.Stopped.{AddsCause, DropsLiars, IsFileOf, IsFileStop, IsTextOf, IsTextStop, KeepsBasket, Moves, TellsCauses}
+use Rattle.fetcher.proofs.InOrder.{Refused, asked_on, kept_on, none_gave, refused_more, remain_on, served_causes, served_enough, served_given, served_next, served_site}
+use Rattle.fetcher.proofs.Liars.{drops_keep, none_went, only_liars}
+use Rattle.fetcher.proofs.Moving.{stays_same}
+use Rattle.fetcher.proofs.Reasons.{CauseOf, IsKind, file_kind, text_kind}
+use Rattle.fetcher.proofs.Sequence.{kept_then}
 
 -- ---- one link more
 
 module _ (place : ℕ) (a b c : LinksState) (old : List Cause) (target : Target)
-    (moves : Moves place b c) (less : place < a.sources) where
+    (moves : Moves place b c) (less : place < sources_of a) where
   pub text_more : (limit : ℕ) → Refused (IsTextCause limit target) target place a b old
       → (stop : Stopped) (new : List Cause)
-      → IsTextStop limit target (b.link place) (c.link place) stop → AddsCause stop old new
+      → IsTextStop limit target (link_at b place) (link_at c place) stop → AddsCause stop old new
       → Refused (IsTextCause limit target) target (place + 1) a c new
   text_more limit so (By cause) new is added =
       refused_more (IsTextCause limit target) (FitsText limit) target (text_kind limit target)
@@ -34,7 +37,7 @@ module _ (place : ℕ) (a b c : LinksState) (old : List Cause) (target : Target)
   pub file_more : (list : List Digest) (size before after : ℕ)
       → Refused (IsFileCause list size target) target place a b old
       → (stop : Stopped) (new : List Cause)
-      → IsFileStop list size target (b.link place) (c.link place) before after stop
+      → IsFileStop list size target (link_at b place) (link_at c place) before after stop
       → AddsCause stop old new
       → Refused (IsFileCause list size target) target (place + 1) a c new
   file_more list size before after so (By cause) new is added =
@@ -46,12 +49,12 @@ module _ (place : ℕ) (a b c : LinksState) (old : List Cause) (target : Target)
   -- ---- it served
 
   pub text_served : (limit : ℕ) → Refused (IsTextCause limit target) target place a b old
-      → (bytes : List ℕ) → IsTextOf limit target (b.link place) (c.link place) bytes
+      → (bytes : List ℕ) → IsTextOf limit target (link_at b place) (link_at c place) bytes
       → IsText limit target a c bytes
   text_served limit so bytes of =
       let kind = text_kind limit target in
-      let served = served_next (IsTextCause limit target) (FitsText limit)
-      target kind place a b c old so moves less bytes of.told of.sound in
+      let served = served_next (IsTextCause limit target) (FitsText limit) target kind place a b c old so moves less
+      c (λ n below. stays_same (c.link n)) bytes of.told of.sound in
       record {
         asked = asked_on (IsTextCause limit target) (FitsText limit) target kind place a b c old so moves less;
         within = of.within;
@@ -61,31 +64,60 @@ module _ (place : ℕ) (a b c : LinksState) (old : List Cause) (target : Target)
         given = served_given (IsTextCause limit target) (FitsText limit) target kind a c bytes served of.within;
       }
 
-  pub file_served : (list : List Digest) (size : ℕ) (tells : Type 0) (held : List ℕ)
-      → Refused (IsFileCause list size target) target place a b old
-      → IsFileOf list size target (b.link place) (c.link place) tells held
-      → IsFile list size target a c tells held
-  file_served list size tells held so of =
-      let kind = file_kind list size target in
-      let served = served_next (IsFileCause list size target) (Matches list size)
-      target kind place a b c old so moves less of.bytes of.told of.sound in
-      record {
-        asked = asked_on (IsFileCause list size target) (Matches list size) target kind place a b c old so moves less;
-        bytes = of.bytes;
-        taken = of.taken;
-        matches = of.matches;
-        served = served;
-        enough = served_enough (IsFileCause list size target) (Matches list size)
-            target kind a c of.bytes served of.matches;
-        site = served_site (IsFileCause list size target) (Matches list size)
-            target kind a c of.bytes served of.matches;
-        given = served_given (IsFileCause list size target) (Matches list size)
-            target kind a c of.bytes served of.matches;
-      }
+  -- those that gave other bytes are gone then
+  module _ (list : List Digest) (size : ℕ) (tells : Type 0) (held : List ℕ)
+      (so : Refused (IsFileCause list size target) target place a b old)
+      (of : IsFileOf list size target (link_at b place) (link_at c place) tells held)
+      (d : LinksState) (drops : DropsLiars old c d) where
+    its_link : IsOfLink (IsFileCause list size target) target a d of.bytes
+    its_link = served_next (IsFileCause list size target) (Matches list size) target (file_kind list size target)
+        place a b c old so moves less d drops.links of.bytes of.told of.sound
+
+    asked_once : Asked target a d
+    asked_once = drops.asked
+        ∙ asked_on (IsFileCause list size target) (Matches list size) target (file_kind list size target) place a b c old so moves less
+
+    same_causes : its_link.causes ≡ old
+    unfolding its_link
+    same_causes = served_causes (IsFileCause list size target) (Matches list size) target (file_kind list size target)
+        place a b c old so moves less d drops.links of.bytes of.told of.sound
+
+    those_left : d.there ≡ without_liars its_link.causes a.there
+    those_left =
+        drops.there
+        ∙ ap (without_liars old)
+        (remain_on (IsFileCause list size target) (Matches list size) target (file_kind list size target) place a b c old so moves less).there
+        ∙ ap (λ (cs : List Cause). without_liars cs a.there) (sym same_causes)
+
+    pub file_served : IsFile list size target a d tells held
+    file_served =
+        let kind = file_kind list size target in
+        record {
+          asked = asked_once;
+          bytes = of.bytes;
+          taken = of.taken;
+          matches = of.matches;
+          served = its_link;
+          left = those_left;
+          enough = served_enough (IsFileCause list size target) (Matches list size)
+              target kind a d of.bytes its_link of.matches;
+          site = served_site (IsFileCause list size target) (Matches list size)
+              target kind a d of.bytes its_link of.matches;
+          given = served_given (IsFileCause list size target) (Matches list size)
+              target kind a d of.bytes its_link of.matches;
+        }
+
+    pub file_kept : KeptBut (IsThis target list size) a d
+    file_kept = record {
+      kept = kept_then a c d
+          (kept_on (IsFileCause list size target) (Matches list size) target (file_kind list size target) place a b c old so moves less)
+          (drops_keep old c d drops);
+      went = only_liars list size target a d of.bytes its_link those_left asked_once;
+    }
 
 -- ---- none served
 
-module _ (place : ℕ) (a c : LinksState) (causes : List Cause) (target : Target) (all : place ≡ a.sources) where
+module _ (place : ℕ) (a c : LinksState) (causes : List Cause) (target : Target) (all : place ≡ sources_of a) where
   pub text_refused : (limit : ℕ) → Refused (IsTextCause limit target) target place a c causes
       → (fault : FetchFault) → TellsCauses target causes fault → IsTextFault limit target a c fault
   text_refused limit so (AllLinks named reasons) tells =
@@ -102,6 +134,34 @@ module _ (place : ℕ) (a c : LinksState) (causes : List Cause) (target : Target
       (file_kind list size target) place a c causes so all named reasons tells.0 tells.1
   file_refused list size before after so BasketFault tells = absurd tells
   file_refused list size before after so Memory tells = inr so.asked
+
+-- ---- what is kept of the links
+
+module _ (IsCause : CauseOf) (target : Target) (place : ℕ) (a c : LinksState) (causes : List Cause)
+    (so : Refused IsCause target place a c causes) where
+  pub all_refused : KeptAll a c
+  all_refused = record { kept = so.kept; remain = so.remain }
+
+  pub kept_refused : (IsListed : Target → List Digest → ℕ → Type 0) → KeptBut IsListed a c
+  kept_refused IsListed = record { kept = so.kept; went = none_went IsListed a c so.remain.there }
+
+  -- one link more was asked, whatever came of it
+  module _ (Fits : List ℕ → Type 0) (kind : IsKind IsCause Fits target) (d : LinksState)
+      (moves : Moves place c d) (less : place < sources_of a) where
+    pub remain_asked : Remain a d
+    remain_asked = remain_on IsCause Fits target kind place a c d causes so moves less
+
+    pub all_asked : KeptAll a d
+    all_asked = record {
+      kept = kept_on IsCause Fits target kind place a c d causes so moves less;
+      remain = remain_asked;
+    }
+
+    pub kept_asked : (IsListed : Target → List Digest → ℕ → Type 0) → KeptBut IsListed a d
+    kept_asked IsListed = record {
+      kept = kept_on IsCause Fits target kind place a c d causes so moves less;
+      went = none_went IsListed a d remain_asked.there;
+    }
 
 -- ---- the count of the basket is as it was where the fetch goes on
 

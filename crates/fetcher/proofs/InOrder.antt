@@ -1,19 +1,20 @@
 -- Links that are asked in order.
-use Rattle.std.proofs.Common.{◌≡◌, ℕ, zero, suc, ◌+◌, ◌<◌, ◌≤◌, ⊎_elim, List, [], ◌∷◌, ◌++◌, length, Option, Some, refl, sym, ap, subst, ◌∙◌, arith}
+use Rattle.std.proofs.Common.{◌≡◌, ◌≢◌, ℕ, zero, suc, ◌+◌, ◌<◌, ◌≤◌, ⊎_elim, Bool, true, List, [], ◌∷◌, ◌++◌, length, Option, Some, refl, sym, ap, subst, ◌∙◌, arith}
 use Rattle.std.proofs.lemmas.Bool.{cases_eq, cases_order}
-use Rattle.std.proofs.lemmas.List.{length-append}
+use Rattle.std.proofs.lemmas.List.{append-nil, length-append}
 use Rattle.std.proofs.lemmas.Option.{IfSome_then}
 use Rattle.std.specs.Prelude.{IfSome, slice_get}
 use Rattle.outside.specs.Streams.{Rose}
 use Rattle.small_types.specs.declared.target.Target.{Target}
 use Rattle.links.specs.Link.{KeepsSite, Stays}
-use Rattle.links.specs.Links.{LinksState}
+use Rattle.links.specs.Links.{LinksState, Remain, count_there, is_there, link_at, number_at, sources_of}
+use Rattle.links.proofs.Numbers.{known_at, numbers_apart, there_at}
 use Rattle.causes.specs.declared.cause.Cause.{Cause}
 use Rattle.fetcher.specs.Causes.{AreCauses}
-use Rattle.fetcher.specs.Fetched.{AllTell, AreGiven, AreQuiet, Asked, IsOfLink, Kept, NoneGave}
+use Rattle.fetcher.specs.Fetched.{AllTell, AreGiven, AreQuiet, Asked, IsOfLink, Kept, KeptAll, NoneGave, became}
 use Rattle.fetcher.specs.Given.{Given, IsOfSite}
 use Rattle.fetcher.specs.Stopped.{Moves}
-use Rattle.fetcher.proofs.Moving.{Wanted, stays_same, stays_then}
+use Rattle.fetcher.proofs.Moving.{Wanted, remain_then, stays_same, stays_then}
 use Rattle.fetcher.proofs.Reasons.{CauseOf, IsKind}
 use Rattle.fetcher.proofs.Sequence.{kept_then}
 
@@ -47,15 +48,50 @@ unfit_not Fits found bytes is fits none =
 
 -- ---- what is done with one link keeps the others
 
-pub moves_keep : (place : ℕ) (b c : LinksState) → Moves place b c → Kept b c
-moves_keep place b c moves = record {
-  remain = moves.only.remain;
-  sites = λ k less.
-      ⊎_elim (λ e. subst (λ (n : ℕ). KeepsSite (b.link n) (c.link n)) (sym e) moves.site)
-      (λ other. (moves.only.others k less other).site) (cases_eq k place);
-  later = λ k less.
-      ⊎_elim (λ e. subst (λ (n : ℕ). (b.link n).count ≤ (c.link n).count) (sym e) moves.later)
-      (λ other. omega (arith, (moves.only.others k less other).count)) (cases_eq k place);
+module _ (place : ℕ) (b c : LinksState) (moves : Moves place b c) where
+  -- it has its number still
+  same_number : number_at c.there place ≡ number_at b.there place
+  same_number = ap (λ (t : List Bool). number_at t place) moves.only.remain.there
+
+  site_here : KeepsSite (link_at b place) (became b c place)
+  site_here = subst (λ (n : ℕ). KeepsSite (link_at b place) (c.link n)) same_number moves.site
+
+  later_here : (link_at b place).count ≤ (became b c place).count
+  later_here = subst (λ (n : ℕ). (link_at b place).count ≤ (c.link n).count) same_number moves.later
+
+  pub moves_keep : Kept b c
+  moves_keep = record {
+    all = ap length moves.only.remain.there;
+    left = λ n is. subst (λ (t : List Bool). is_there t n ≡ true) moves.only.remain.there is;
+    more = [];
+    grown = moves.only.asked ∙ sym (append-nil b.asked);
+    sites = λ n less.
+        ⊎_elim (λ e. subst (λ (m : ℕ). KeepsSite (b.link m) (c.link m)) (sym e) site_here)
+        (λ other. (moves.only.others n less other).site) (cases_eq n (number_at b.there place));
+    later = λ n less.
+        ⊎_elim (λ e. subst (λ (m : ℕ). (b.link m).count ≤ (c.link m).count) (sym e) later_here)
+        (λ other. omega (arith, (moves.only.others n less other).count))
+        (cases_eq n (number_at b.there place));
+  }
+
+-- ---- where nothing was done but to note a target
+
+pub kept_stays : (a b : LinksState) (more : List Target) → b.asked ≡ a.asked ++ more → Remain a b
+    → ((n : ℕ) → n < length a.there → Stays (a.link n) (b.link n)) → Kept a b
+kept_stays a b more grown remain links = record {
+  all = ap length remain.there;
+  left = λ n is. subst (λ (t : List Bool). is_there t n ≡ true) remain.there is;
+  more = more;
+  grown = grown;
+  sites = λ n less. (links n less).site;
+  later = λ n less. omega (arith, (links n less).count);
+}
+
+pub all_stay : (a b : LinksState) → b.asked ≡ a.asked → Remain a b
+    → ((n : ℕ) → n < length a.there → Stays (a.link n) (b.link n)) → KeptAll a b
+all_stay a b same remain links = record {
+  kept = kept_stays a b [] (same ∙ sym (append-nil a.asked)) remain links;
+  remain = remain;
 }
 
 -- ---- the links below a place did not serve
@@ -64,116 +100,161 @@ moves_keep place b c moves = record {
 pub record Refused (IsCause : CauseOf) (target : Target) (place : ℕ) (old now : LinksState)
     (causes : List Cause) : Type 0 where
   pub asked : Asked target old now
+  pub remain : Remain old now
   pub kept : Kept old now
   pub count : length causes ≡ place
-  pub each : (k : ℕ) → k < place → IfSome (slice_get causes k) (IsCause (old.link k) (now.link k))
-  pub left : (k : ℕ) → place ≤ k → k < old.sources → Stays (old.link k) (now.link k)
+  pub each : (k : ℕ) → k < place
+      → IfSome (slice_get causes k) (IsCause (link_at old k) (became old now k))
+  pub left : (k : ℕ) → place ≤ k → k < sources_of old → Stays (link_at old k) (became old now k)
 
 pub refused_none : (IsCause : CauseOf) (target : Target) (a b : LinksState) → Wanted target a b
     → Refused IsCause target 0 a b []
 refused_none IsCause target a b wanted = record {
   asked = wanted.asked;
-  kept = record {
-    remain = wanted.remain;
-    sites = λ k less. (wanted.links k less).site;
-    later = λ k less. omega (arith, (wanted.links k less).count);
-  };
+  remain = wanted.remain;
+  kept = kept_stays a b (target ∷ []) wanted.asked wanted.remain wanted.links;
   count = refl;
   each = λ k less. absurd (omega arith);
-  left = λ k from less. wanted.links k less;
+  left = λ k from less. wanted.links (number_at a.there k) (known_at a.there k less);
 }
 
 module _ (IsCause : CauseOf) (Fits : List ℕ → Type 0) (target : Target)
     (kind : IsKind IsCause Fits target) where
   module _ (place : ℕ) (a b c : LinksState) (causes : List Cause)
       (so : Refused IsCause target place a b causes) (moves : Moves place b c)
-      (less : place < a.sources) where
-    there : (k : ℕ) → k < a.sources → k < b.sources
-    there k below = omega (arith, below, so.kept.remain.sources)
+      (less : place < sources_of a) where
+    -- the links have their numbers still
+    number_then : number_at b.there place ≡ number_at a.there place
+    number_then = ap (λ (t : List Bool). number_at t place) so.remain.there
+
+    number_now : number_at c.there place ≡ number_at a.there place
+    number_now = same_number place b c moves ∙ number_then
+
+    others_stay : (k : ℕ) → k < sources_of a → k ≢ place → Stays (became a b k) (became a c k)
+    others_stay k below other =
+        moves.only.others (number_at a.there k)
+        (subst (λ (t : List Bool). number_at a.there k < length t) (sym so.remain.there) (known_at a.there k below))
+        (subst (λ (n : ℕ). number_at a.there k ≢ n) (sym number_then) (numbers_apart a.there k place below less other))
 
     -- their causes are still theirs
-    still : (k : ℕ) → k < place → IfSome (slice_get causes k) (IsCause (a.link k) (c.link k))
+    still : (k : ℕ) → k < place → IfSome (slice_get causes k) (IsCause (link_at a k) (became a c k))
     still k below =
         IfSome_then (slice_get causes k) (so.each k below)
-        (λ cause is. kind.stays (a.link k) (a.link k) (b.link k) (c.link k) cause
-        (stays_same (a.link k)) (moves.only.others k (there k (omega arith)) (λ e. omega arith))
-        is)
+        (λ cause is. kind.stays (link_at a k) (link_at a k) (became a b k) (became a c k) cause
+        (stays_same (link_at a k)) (others_stay k (omega arith) (λ e. omega arith)) is)
+
+    behind_still : (k : ℕ) → place < k → k < sources_of a → Stays (link_at a k) (became a c k)
+    behind_still k above below =
+        stays_then (link_at a k) (became a b k) (became a c k) (so.left k (omega arith) below)
+        (others_stay k below (λ e. omega arith))
 
     pub asked_on : Asked target a c
     asked_on = moves.only.asked ∙ so.asked
+
+    pub remain_on : Remain a c
+    remain_on = remain_then a b c so.remain moves.only.remain
 
     pub kept_on : Kept a c
     kept_on = kept_then a b c so.kept (moves_keep place b c moves)
 
     -- the next one did not serve either
     pub refused_more : (cause : Cause) (later : List Cause)
-        → IsCause (b.link place) (c.link place) cause → later ≡ causes ++ cause ∷ []
+        → IsCause (link_at b place) (link_at c place) cause → later ≡ causes ++ cause ∷ []
         → Refused IsCause target (place + 1) a c later
     refused_more cause later is added =
-        let P : ℕ → Cause → Type 0 = λ k. IsCause (a.link k) (c.link k) in
+        let P : ℕ → Cause → Type 0 = λ k. IsCause (link_at a k) (became a c k) in
+        let was : IsCause (became a b place) (link_at c place) cause =
+        subst (λ (n : ℕ). IsCause (b.link n) (link_at c place) cause) number_then is in
+        let now : IsCause (became a b place) (became a c place) cause =
+        subst (λ (n : ℕ). IsCause (became a b place) (c.link n) cause) number_now was in
         let here : P place cause =
-        kind.stays (a.link place) (b.link place) (c.link place) (c.link place) cause
-        (so.left place (omega arith) less) (stays_same (c.link place)) is in
+        kind.stays (link_at a place) (became a b place) (became a c place) (became a c place) cause
+        (so.left place (omega arith) less) (stays_same (became a c place)) now in
         let at_end : P (length causes) cause = subst (λ (n : ℕ). P n cause) (sym so.count) here in
         record {
           asked = asked_on;
+          remain = remain_on;
           kept = kept_on;
           count = ap length added ∙ one_longer causes cause place so.count;
           each = λ k below.
               subst (λ (cs : List Cause). IfSome (slice_get cs k) (P k)) (sym added)
               (each_more P causes cause (λ n under. still n (omega (arith, under, so.count)))
               at_end k (omega (arith, below, so.count)));
-          left = λ k from below.
-              stays_then (a.link k) (b.link k) (c.link k) (so.left k (omega arith) below)
-              (moves.only.others k (there k below) (λ e. omega arith));
+          left = λ k from below. behind_still k (omega arith) below;
         }
 
-    -- the next one served
-    pub served_next : (bytes : List ℕ)
-        → ((b.link place).tells → (b.link place).site target ≡ Some bytes)
-        → (c.link place).count ≡ (b.link place).count → IsOfLink IsCause target a c bytes
-    served_next bytes told sound =
-        let here : Stays (a.link place) (b.link place) = so.left place (omega arith) less in
-        record {
-          place = place;
-          within = less;
-          told = λ t. sym (here.site.same t target) ∙ told (here.site.tells.0 t);
-          sound = sound ∙ here.count;
-          before = λ k below. found_there (IsCause (a.link k) (c.link k)) causes k
-              (omega (arith, below, so.count)) (still k below);
-          behind = λ k above below.
-              stays_then (a.link k) (b.link k) (c.link k) (so.left k (omega arith) below)
-              (moves.only.others k (there k below) (λ e. omega arith));
-        }
+    -- The next one served. What else comes to pass then changes no link.
+    module _ (d : LinksState) (rest : (n : ℕ) → n < length c.there → Stays (c.link n) (d.link n)) where
+      at_rest : (k : ℕ) → k < sources_of a → Stays (became a c k) (became a d k)
+      at_rest k below =
+          rest (number_at a.there k)
+          (subst (λ (t : List Bool). number_at a.there k < length t) (sym remain_on.there) (known_at a.there k below))
+
+      pub served_next : (bytes : List ℕ)
+          → ((link_at b place).tells → (link_at b place).site target ≡ Some bytes)
+          → (link_at c place).count ≡ (link_at b place).count
+          → IsOfLink IsCause target a d bytes
+      served_next bytes told sound =
+          let here : Stays (link_at a place) (became a b place) = so.left place (omega arith) less in
+          let tells : (became a b place).tells → (became a b place).site target ≡ Some bytes =
+          subst (λ (n : ℕ). (b.link n).tells → (b.link n).site target ≡ Some bytes) number_then told in
+          let was : (link_at c place).count ≡ (became a b place).count =
+          subst (λ (n : ℕ). (link_at c place).count ≡ (b.link n).count) number_then sound in
+          let now : (became a c place).count ≡ (became a b place).count =
+          subst (λ (n : ℕ). (c.link n).count ≡ (became a b place).count) number_now was in
+          record {
+            place = place;
+            within = less;
+            told = λ t. sym (here.site.same t target) ∙ tells (here.site.tells.0 t);
+            sound = (at_rest place less).count ∙ now ∙ here.count;
+            causes = causes;
+            count = so.count;
+            before = λ k below.
+                IfSome_then (slice_get causes k) (still k below)
+                (λ cause is. kind.stays (link_at a k) (link_at a k) (became a c k) (became a d k) cause
+                (stays_same (link_at a k)) (at_rest k (omega arith)) is);
+            behind = λ k above below.
+                stays_then (link_at a k) (became a c k) (became a d k) (behind_still k above below)
+                (at_rest k below);
+          }
+
+      -- the causes are those that were found
+      pub served_causes : (bytes : List ℕ)
+          (told : (link_at b place).tells → (link_at b place).site target ≡ Some bytes)
+          (sound : (link_at c place).count ≡ (link_at b place).count)
+          → (served_next bytes told sound).causes ≡ causes
+      unfolding served_next
+      served_causes bytes told sound = refl
 
   -- ---- what follows where one served
 
   module _ (a c : LinksState) (bytes : List ℕ) (served : IsOfLink IsCause target a c bytes) (fits : Fits bytes) where
-    before_unfit : (k : ℕ) → k < served.place → (a.link k).tells
-        → ¬ (Rose (a.link k).count (c.link k).count)
-        → IfSome ((a.link k).site target) (λ other. ¬ Fits other)
+    before_unfit : (k : ℕ) → k < served.place → (link_at a k).tells
+        → ¬ (Rose (link_at a k).count (became a c k).count)
+        → IfSome ((link_at a k).site target) (λ other. ¬ Fits other)
     before_unfit k below tells quiet =
-        let why = served.before k below in
-        kind.unfit (a.link k) (c.link k) why.0 why.1 tells quiet
+        let why = found_there (IsCause (link_at a k) (became a c k)) served.causes k
+        (omega (arith, below, served.count)) (served.before k below) in
+        kind.unfit (link_at a k) (became a c k) why.0 why.1 tells quiet
 
     pub served_site : AllTell a → IsOfSite a target bytes
     served_site tell =
+        let left = there_at a.there served.place served.within in
         record {
-          place = served.place;
-          within = served.within;
-          there =
-              served.told (tell served.place served.within);
+          number = number_at a.there served.place;
+          left = left;
+          there = served.told (tell (number_at a.there served.place) left);
         }
 
     pub served_given : AreQuiet a c → Given Fits a target (Some bytes)
     served_given quiet = record {
       place = served.place;
       within = served.within;
-      there = served.told (quiet.tell served.place served.within);
+      there = served.told (quiet.tell (number_at a.there served.place) (there_at a.there served.place served.within));
       fits = fits;
       first = λ k below.
-          let under : k < a.sources = omega (arith, below, served.within) in
-          before_unfit k below (quiet.tell k under) (quiet.quiet k under);
+          let left = there_at a.there k (omega (arith, below, served.within)) in
+          before_unfit k below (quiet.tell (number_at a.there k) left) (quiet.quiet (number_at a.there k) left);
     }
 
     pub served_enough : AreGiven Fits target a c bytes
@@ -184,48 +265,60 @@ module _ (IsCause : CauseOf) (Fits : List ℕ → Type 0) (target : Target)
       where
         sooner : first.place < served.place → ⊥
         sooner below =
-            unfit_not Fits ((a.link first.place).site target) given first.there first.fits
+            unfit_not Fits ((link_at a first.place).site target) given first.there first.fits
             (before_unfit first.place below (quiet.tell first.place (omega arith))
             (quiet.quiet first.place (omega arith)))
 
         later : served.place < first.place → ⊥
         later above =
-            unfit_not Fits ((a.link served.place).site target) bytes
+            unfit_not Fits ((link_at a served.place).site target) bytes
             (served.told (quiet.tell served.place (omega arith))) fits
             (first.first served.place above)
 
         same : first.place ≡ served.place → bytes ≡ given
         same e =
-            let mine : (a.link served.place).site target ≡ Some bytes =
+            let mine : (link_at a served.place).site target ≡ Some bytes =
             served.told (quiet.tell served.place (omega arith)) in
-            let its : (a.link served.place).site target ≡ Some given =
-            subst (λ (n : ℕ). (a.link n).site target ≡ Some given) e first.there in
+            let its : (link_at a served.place).site target ≡ Some given =
+            subst (λ (n : ℕ). (link_at a n).site target ≡ Some given) e first.there in
             cc
 
   -- ---- what follows where none did
 
   module _ (place : ℕ) (a c : LinksState) (causes : List Cause)
-      (so : Refused IsCause target place a c causes) (all : place ≡ a.sources) where
-    none_fits : (k : ℕ) → k < a.sources → (a.link k).tells
-        → ¬ (Rose (a.link k).count (c.link k).count)
-        → IfSome ((a.link k).site target) (λ other. ¬ Fits other)
+      (so : Refused IsCause target place a c causes) (all : place ≡ sources_of a) where
+    none_fits : (k : ℕ) → k < sources_of a → (link_at a k).tells
+        → ¬ (Rose (link_at a k).count (became a c k).count)
+        → IfSome ((link_at a k).site target) (λ other. ¬ Fits other)
     none_fits k below tells quiet =
-        let why = found_there (IsCause (a.link k) (c.link k)) causes k
+        let why = found_there (IsCause (link_at a k) (became a c k)) causes k
         (omega (arith, below, all, so.count)) (so.each k (omega (arith, below, all))) in
-        kind.unfit (a.link k) (c.link k) why.0 why.1 tells quiet
+        kind.unfit (link_at a k) (became a c k) why.0 why.1 tells quiet
+
+    -- by the places that they have, which are those that they had
+    abbrev EachAt : List Bool → Type 0
+    EachAt there = (length causes ≡ count_there there) × ((k : ℕ) → k < count_there there
+        → IfSome (slice_get causes k) (IsCause (a.link (number_at there k)) (c.link (number_at there k))))
 
     all_causes : AreCauses IsCause a c causes
-    all_causes = record { count = so.count ∙ all; each = λ k below. so.each k (omega (arith, below, all)) }
+    all_causes =
+        let each : EachAt c.there =
+        subst EachAt (sym so.remain.there)
+        (so.count ∙ all, λ k below. so.each k (omega (arith, below, all))) in
+        record { count = each.0; each = each.1 }
 
     pub none_gave : (named : Target) (reasons : List Cause) → named ≡ target → reasons ≡ causes
         → NoneGave IsCause Fits target a c named reasons
     none_gave named reasons shown told = record {
       asked = so.asked;
       shown = shown;
+      remain = so.remain;
       causes = subst (AreCauses IsCause a c) (sym told) all_causes;
       enough = λ given first quiet.
-          unfit_not Fits ((a.link first.place).site target) given first.there first.fits
+          unfit_not Fits ((link_at a first.place).site target) given first.there first.fits
           (none_fits first.place first.within (quiet.tell first.place (omega arith))
           (quiet.quiet first.place (omega arith)));
-      none = λ quiet k below. none_fits k below (quiet.tell k below) (quiet.quiet k below);
+      none = λ quiet k below.
+          let left = there_at a.there k below in
+          none_fits k below (quiet.tell (number_at a.there k) left) (quiet.quiet (number_at a.there k) left);
     }

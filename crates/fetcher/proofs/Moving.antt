@@ -1,8 +1,8 @@
 -- What stays of links over several calls.
-use Rattle.std.proofs.Common.{◌≡◌, ℕ, ◌<◌, [], ◌∷◌, ◌++◌, refl, ◌∙◌, arith}
+use Rattle.std.proofs.Common.{◌≡◌, ◌≢◌, ℕ, ◌<◌, Bool, List, [], ◌∷◌, ◌++◌, length, refl, sym, subst, ◌∙◌, arith}
 use Rattle.small_types.specs.declared.target.Target.{Target}
 use Rattle.links.specs.Link.{LinkState, KeepsSite, Stays}
-use Rattle.links.specs.Links.{LinksState, Remain}
+use Rattle.links.specs.Links.{LinksState, Remain, link_at, number_at}
 use Rattle.fetcher.specs.Stopped.{Moves}
 
 pub keeps_same : (s : LinkState) → KeepsSite s s
@@ -27,8 +27,8 @@ stays_then a b c one two = record {
 
 pub remain_then : (a b c : LinksState) → Remain a b → Remain b c → Remain a c
 remain_then a b c one two = record {
+  there = two.there ∙ one.there;
   sources = two.sources ∙ one.sources;
-  gone = two.gone ∙ one.gone;
 }
 
 pub moves_then : (place : ℕ) (a b c : LinksState) → Moves place a b → Moves place b c → Moves place a c
@@ -36,10 +36,12 @@ moves_then place a b c one two = record {
   only = record {
     remain = remain_then a b c one.only.remain two.only.remain;
     asked = two.only.asked ∙ one.only.asked;
-    others = λ k less other. stays_then (a.link k) (b.link k) (c.link k) (one.only.others k less other)
-        (two.only.others k (omega (arith, less, one.only.remain.sources)) other);
+    others = λ n less other. stays_then (a.link n) (b.link n) (c.link n) (one.only.others n less other)
+        (two.only.others n
+        (subst (λ (t : List Bool). n < length t) (sym one.only.remain.there) less)
+        (subst (λ (t : List Bool). n ≢ number_at t place) (sym one.only.remain.there) other));
   };
-  site = keeps_then (a.link place) (b.link place) (c.link place) one.site two.site;
+  site = keeps_then (link_at a place) (link_at b place) (link_at c place) one.site two.site;
   later = omega (arith, one.later, two.later);
 }
 
@@ -47,4 +49,4 @@ moves_then place a b c one two = record {
 pub record Wanted (target : Target) (a b : LinksState) : Type 0 where
   pub asked : b.asked ≡ a.asked ++ target ∷ []
   pub remain : Remain a b
-  pub links : (k : ℕ) → k < a.sources → Stays (a.link k) (b.link k)
+  pub links : (n : ℕ) → n < length a.there → Stays (a.link n) (b.link n)

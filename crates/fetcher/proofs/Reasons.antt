@@ -98,7 +98,7 @@ differ_no_match list size bytes d differ matches =
     difference_of-none list size bytes matches.sized (none-Matches list size bytes matches) in
     cc
 
-other_fits : (list : List Digest) (size : ℕ) (found : Option (List ℕ)) (d : Difference)
+pub other_fits : (list : List Digest) (size : ℕ) (found : Option (List ℕ)) (d : Difference)
     → option_map (difference_of list size) found ≡ Some (Some d)
     → IfSome found (λ bytes. ¬ (Matches list size bytes))
 other_fits list size None d differ = tt

@@ -7,7 +7,7 @@ use Rattle.digest_list.specs.declared.difference.Difference.TheVariants.{Size}
 use Rattle.digest_list.specs.declared.digest.Digest.{Digest}
 use Rattle.digest_list.specs.Difference.{AreDistinct, difference_of}
 use Rattle.links.specs.Link.{LinkState, Lacks}
-use Rattle.links.specs.Links.{LinksState}
+use Rattle.links.specs.Links.{LinksState, link_at, number_at, sources_of}
 use Rattle.causes.specs.declared.cause.Cause.{Cause}
 use Rattle.causes.specs.declared.cause.Cause.TheVariants.{Down, Missing, TooLong, Differs}
 
@@ -48,9 +48,13 @@ IsFileCause list size target old new (TooLong shown most) = ⊥
 IsFileCause list size target old new (Differs difference) =
     IsOther list size target old new difference
 
--- one cause for each link, in their order, each its own
+-- what the link at a place was before
+abbrev pub came : LinksState → LinksState → ℕ → LinkState
+came old new place = old.link (number_at new.there place)
+
+-- one cause for each link that is left, in their order, each its own
 pub record AreCauses (IsCause : LinkState → LinkState → Cause → Type 0) (old new : LinksState)
     (causes : List Cause) : Type 0 where
-  pub count : length causes ≡ old.sources
-  pub each : (k : ℕ) → k < old.sources
-      → IfSome (slice_get causes k) (IsCause (old.link k) (new.link k))
+  pub count : length causes ≡ sources_of new
+  pub each : (k : ℕ) → k < sources_of new
+      → IfSome (slice_get causes k) (IsCause (came old new k) (link_at new k))

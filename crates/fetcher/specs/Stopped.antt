@@ -1,5 +1,5 @@
 -- What is done with one link.
-use Rattle.std.specs.Prelude.{◌≡◌, ◌≢◌, ◌≤◌, ℕ, List, [], ◌∷◌, ◌++◌, length, take, Some, Result, Err}
+use Rattle.std.specs.Prelude.{◌≡◌, ◌≢◌, ◌+◌, ◌<◌, ◌≤◌, ℕ, List, [], ◌∷◌, ◌++◌, length, take, Some, Result, Err}
 use Rattle.outside.specs.Streams.{Rose}
 use Rattle.small_types.specs.declared.target.Target.{Target}
 use Rattle.digest_list.specs.declared.checker.Checker.{Checker}
@@ -10,21 +10,46 @@ use Rattle.links.specs.declared.basket.BasketFault.{BasketFault}
 use Rattle.links.specs.declared.basket.BasketFault.TheVariants.{Failed, Memory as NoRoom}
 use Rattle.links.specs.declared.link.LinkFault.{LinkFault}
 use Rattle.links.specs.declared.link.LinkFault.TheVariants.{Missing as IsMissing, Down as IsDown, Memory as NoMemory}
-use Rattle.links.specs.Link.{LinkState, KeepsSite}
-use Rattle.links.specs.Links.{LinksState, ChangesOnly}
+use Rattle.links.specs.Link.{LinkState, KeepsSite, Stays}
+use Rattle.links.specs.Links.{LinksState, ChangesOnly, Retires, link_at}
 use Rattle.causes.specs.declared.cause.Cause.{Cause}
-use Rattle.causes.specs.declared.cause.Cause.TheVariants.{Down, Missing}
+use Rattle.causes.specs.declared.cause.Cause.TheVariants.{Down, Missing, Differs}
 use Rattle.fetcher.specs.declared.fault.FetchFault.{FetchFault}
 use Rattle.fetcher.specs.declared.fault.FetchFault.TheVariants.{AllLinks, BasketFault as BasketFailed, Memory as OutOfMemory}
 use Rattle.fetcher.specs.declared.stopped.Stopped.{Stopped}
 use Rattle.fetcher.specs.declared.stopped.Stopped.TheVariants.{By, Basket, Memory}
 use Rattle.fetcher.specs.Causes.{IsTextCause, IsFileCause}
+use Rattle.fetcher.specs.Fetched.{without_liars}
 
 -- nothing changed but the link at the place, whose site stays and whose count did not fall
 pub record Moves (place : ℕ) (old new : LinksState) : Type 0 where
   pub only : ChangesOnly place old new
-  pub site : KeepsSite (old.link place) (new.link place)
-  pub later : (old.link place).count ≤ (new.link place).count
+  pub site : KeepsSite (link_at old place) (link_at new place)
+  pub later : (link_at old place).count ≤ (link_at new place).count
+
+-- nothing changed
+pub record StaysAll (old new : LinksState) : Type 0 where
+  pub there : new.there ≡ old.there
+  pub asked : new.asked ≡ old.asked
+  pub links : (n : ℕ) → n < length old.there → Stays (old.link n) (new.link n)
+
+-- Of the first links, which did not serve for these causes, those are gone that gave other bytes, and
+-- nothing else changed.
+pub record DropsLiars (causes : List Cause) (old new : LinksState) : Type 0 where
+  pub there : new.there ≡ without_liars causes old.there
+  pub asked : new.asked ≡ old.asked
+  pub links : (n : ℕ) → n < length old.there → Stays (old.link n) (new.link n)
+
+-- the place of the next link behind one that did not serve for this cause, once a link that gave other
+-- bytes is gone
+abbrev pub next_place : Cause → ℕ → ℕ
+next_place (Differs difference) place = place
+next_place _ place = place + 1
+
+-- a link that gave other bytes is gone, and nothing else changed
+abbrev pub DropsLiar : Cause → ℕ → LinksState → LinksState → Type 0
+DropsLiar (Differs difference) place old new = Retires place old new
+DropsLiar _ place old new = StaysAll old new
 
 -- a text that one link gave
 pub record IsTextOf (limit : ℕ) (target : Target) (old new : LinkState) (bytes : List ℕ)

@@ -1,10 +1,11 @@
 // Files that match their size and digests.
 ghost use Rattle.std.specs.Prelude.{◌≡◌, ◌≢◌, ◌<◌, ◌≤◌, ◌+◌, ◌^◌, length, take, IfOk, IfErr, OnOk, Err};
 ghost use Rattle.digest_list.specs.Checker.{count_of};
-ghost use Rattle.links.specs.Links.{IsLast};
+ghost use Rattle.links.specs.Links.{IsLast, Remain, link_at, sources_of};
 ghost use Rattle.outside.specs.Streams.{Consumes};
-ghost use Rattle.fetcher.specs.Fetched.{IsFile, IsFileFault, Kept};
-ghost use Rattle.fetcher.specs.Stopped.{IsFileOf, IsFileStop, IsPourStop, KeepsBasket, Moves, Pours, PoursPiece};
+ghost use Rattle.small_types.specs.declared.limits.TheConstants.{LINK_LIMIT};
+ghost use Rattle.fetcher.specs.Fetched.{IsFile, IsFileFault, IsThis, KeptBut};
+ghost use Rattle.fetcher.specs.Stopped.{DropsLiar, DropsLiars, IsFileOf, IsFileStop, IsPourStop, KeepsBasket, Moves, Pours, PoursPiece, next_place};
 ghost use Rattle.fetcher.specs.declared.fault.FetchFault.TheVariants.{BasketFault};
 
 use crate::FetchFault;
@@ -23,7 +24,7 @@ fn pour_piece<L: Links, B: Basket>(
     checker: &mut Checker,
     basket: &mut B,
 ) -> Result<usize, Stopped>
-    requires place { place < (L.links links.old).sources }
+    requires place { place < sources_of (L.links links.old) }
     requires room { 0 < length buf.old }
     requires count { count_of checker.old + length buf.old < 2 ^ 61 }
     ensures within { IfOk result (λ n. n ≤ length buf.old) }
@@ -31,14 +32,14 @@ fn pour_piece<L: Links, B: Basket>(
     ensures poured { IfOk result (λ n.
         PoursPiece checker.old checker.new B.tells (B.taken basket.old) (B.taken basket.new)
         (take n buf.new)) }
-    ensures told { ((L.links links.old).link place).tells → IfOk result (λ n.
-        Consumes ((L.links links.old).link place).rest ((L.links links.new).link place).rest buf.new
+    ensures told { (link_at (L.links links.old) place).tells → IfOk result (λ n.
+        Consumes (link_at (L.links links.old) place).rest (link_at (L.links links.new) place).rest buf.new
         n) }
     ensures stop { IfErr result
-        (IsPourStop ((L.links links.old).link place) ((L.links links.new).link place)
+        (IsPourStop (link_at (L.links links.old) place) (link_at (L.links links.new) place)
         (B.count basket.old) (B.count basket.new)) }
     ensures quiet { OnOk result
-        (((L.links links.new).link place).count ≡ ((L.links links.old).link place).count) }
+        ((link_at (L.links links.new) place).count ≡ (link_at (L.links links.old) place).count) }
     ensures moves { Moves place (L.links links.old) (L.links links.new) }
     ensures basket { KeepsBasket (B.count basket.old) (B.count basket.new) result }
     ensures turned { B.turns_to basket.old basket.new }
@@ -65,16 +66,16 @@ fn pour<L: Links, B: Basket>(
     checker: &mut Checker,
     basket: &mut B,
 ) -> Result<(), Stopped>
-    requires place { place < (L.links links.old).sources }
+    requires place { place < sources_of (L.links links.old) }
     requires count { count_of checker.old + size < 2 ^ 61 }
     ensures poured { OnOk result
-        (Pours size ((L.links links.old).link place) checker.old checker.new
+        (Pours size (link_at (L.links links.old) place) checker.old checker.new
         B.tells (B.taken basket.old) (B.taken basket.new)) }
     ensures stop { IfErr result
-        (IsPourStop ((L.links links.old).link place) ((L.links links.new).link place)
+        (IsPourStop (link_at (L.links links.old) place) (link_at (L.links links.new) place)
         (B.count basket.old) (B.count basket.new)) }
     ensures quiet { OnOk result
-        (((L.links links.new).link place).count ≡ ((L.links links.old).link place).count) }
+        ((link_at (L.links links.new) place).count ≡ (link_at (L.links links.old) place).count) }
     ensures moves { Moves place (L.links links.old) (L.links links.new) }
     ensures basket { KeepsBasket (B.count basket.old) (B.count basket.new) result }
     ensures turned { B.turns_to basket.old basket.new }
@@ -105,14 +106,14 @@ fn file_of<L: Links, B: Basket>(
     list: &DigestList,
     basket: &mut B,
 ) -> Result<(), Stopped>
-    requires place { place < (L.links links.old).sources }
+    requires place { place < sources_of (L.links links.old) }
     requires wanted { IsLast target.now (L.links links.old).asked }
     requires below { size < 2 ^ 61 }
     ensures file { OnOk result (IsFileOf list.now size target.now
-        ((L.links links.old).link place) ((L.links links.new).link place) B.tells
+        (link_at (L.links links.old) place) (link_at (L.links links.new) place) B.tells
         (B.taken basket.new)) }
     ensures stop { IfErr result (IsFileStop list.now size target.now
-        ((L.links links.old).link place) ((L.links links.new).link place)
+        (link_at (L.links links.old) place) (link_at (L.links links.new) place)
         (B.count basket.old) (B.count basket.new)) }
     ensures moves { Moves place (L.links links.old) (L.links links.new) }
     ensures basket { KeepsBasket (B.count basket.old) (B.count basket.new) result }
@@ -142,10 +143,43 @@ fn file_of<L: Links, B: Basket>(
     }
 }
 
+// Drops the link at the place if it gave other bytes than are listed. The answer is the place of the next one.
+fn retire_liar<L: Links>(links: &mut L, place: u32, cause: &Cause) -> u32
+    requires place { place < sources_of (L.links links.old) }
+    requires others { 2 ≤ sources_of (L.links links.old) }
+    requires few { place < LINK_LIMIT }
+    ensures next { result ≡ next_place cause.now place }
+    ensures drops { DropsLiar cause.now place (L.links links.old) (L.links links.new) }
+{
+    match cause {
+        Cause::Differs(_) => {
+            links.retire(place);
+            place
+        }
+        Cause::Down | Cause::Missing | Cause::TooLong { .. } => place + 1,
+    }
+}
+
+// Drops those of the first links that gave other bytes than are listed, by the causes for which they did not serve. One
+// that did stands behind them.
+fn retire_liars<L: Links>(links: &mut L, causes: &[Cause])
+    requires behind { length causes.now < sources_of (L.links links.old) }
+    requires few { sources_of (L.links links.old) ≤ LINK_LIMIT }
+    ensures { DropsLiars causes.now (L.links links.old) (L.links links.new) }
+{
+    let mut place: u32 = 0;
+    for cause in causes {
+        place = retire_liar(links, place, cause);
+    }
+}
+
 /// Fetches the file at the target into the basket: the bytes of the first link that gives bytes of that size which
 /// match every digest of the list. Each link before it has its cause not to serve: the sizes where it answers another
 /// length, and then no piece of it is taken. No link behind it is asked. No more than `size` bytes are taken of a link,
 /// and each is hashed once. The target is asked for once. After a fault the basket may hold any bytes.
+///
+/// Each of those links that gave another length or other bytes is then retired, and no other link is. After a fault
+/// none is.
 pub fn fetch_file<L: Links, B: Basket>(
     alloc: Global,
     links: &mut L,
@@ -161,7 +195,9 @@ pub fn fetch_file<L: Links, B: Basket>(
     ensures fault { IfErr result
         (IsFileFault list.now size target.now (L.links links.old) (L.links links.new)
         (B.count basket.old) (B.count basket.new)) }
-    ensures kept { Kept (L.links links.old) (L.links links.new) }
+    ensures kept { KeptBut (IsThis target.now list.now size)
+        (L.links links.old) (L.links links.new) }
+    ensures remain { IfErr result (λ _. Remain (L.links links.old) (L.links links.new)) }
     ensures later { B.count basket.old ≤ B.count basket.new }
     ensures quiet { result ≢ Err BasketFault → B.count basket.new ≡ B.count basket.old }
     ensures turned { B.turns_to basket.old basket.new }
@@ -170,7 +206,10 @@ pub fn fetch_file<L: Links, B: Basket>(
     let mut causes = Vec::new(alloc);
     for place in 0..links.sources() {
         let stop = match file_of(alloc, links, place, target, size, list, basket) {
-            Ok(()) => return Ok(()),
+            Ok(()) => {
+                retire_liars(links, &causes);
+                return Ok(());
+            }
             Err(stop) => stop,
         };
         if let Err(fault) = add_cause(&mut causes, stop) {

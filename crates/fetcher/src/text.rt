@@ -2,8 +2,8 @@
 ghost use Rattle.std.specs.Prelude.{◌≡◌, ◌≢◌, ◌<◌, ◌≤◌, length, take, IfOk, IfErr, Err};
 ghost use Rattle.links.specs.declared.link.LinkFault.TheVariants.{Missing};
 ghost use Rattle.links.specs.Link.{Counts};
-ghost use Rattle.links.specs.Links.{IsLast};
-ghost use Rattle.fetcher.specs.Fetched.{IsText, IsTextFault, Kept};
+ghost use Rattle.links.specs.Links.{IsLast, link_at, sources_of};
+ghost use Rattle.fetcher.specs.Fetched.{IsText, IsTextFault, KeptAll};
 ghost use Rattle.fetcher.specs.Stopped.{IsTextOf, IsTextStop, Moves};
 
 use crate::FetchFault;
@@ -20,12 +20,12 @@ fn read_rest<L: Links>(
     place: u32,
     most: u64,
 ) -> Result<Vec<u8>, LinkFault>
-    requires { place < (L.links links.old).sources }
-    ensures bytes { ((L.links links.old).link place).tells
-        → IfOk result (λ v. v.items ≡ take most ((L.links links.old).link place).rest) }
+    requires { place < sources_of (L.links links.old) }
+    ensures bytes { (link_at (L.links links.old) place).tells
+        → IfOk result (λ v. v.items ≡ take most (link_at (L.links links.old) place).rest) }
     ensures within { IfOk result (λ v. length v.items ≤ most) }
     ensures there { result ≢ Err Missing }
-    ensures counts { Counts ((L.links links.old).link place) ((L.links links.new).link place)
+    ensures counts { Counts (link_at (L.links links.old) place) (link_at (L.links links.new) place)
         result }
     ensures moves { Moves place (L.links links.old) (L.links links.new) }
 {
@@ -53,12 +53,12 @@ fn text_of<L: Links>(
     target: &Target,
     limit: u64,
 ) -> Result<Bytes, Stopped>
-    requires place { place < (L.links links.old).sources }
+    requires place { place < sources_of (L.links links.old) }
     requires wanted { IsLast target.now (L.links links.old).asked }
     ensures text { IfOk result (IsTextOf limit target.now
-        ((L.links links.old).link place) ((L.links links.new).link place)) }
+        (link_at (L.links links.old) place) (link_at (L.links links.new) place)) }
     ensures stop { IfErr result (IsTextStop limit target.now
-        ((L.links links.old).link place) ((L.links links.new).link place)) }
+        (link_at (L.links links.old) place) (link_at (L.links links.new) place)) }
     ensures moves { Moves place (L.links links.old) (L.links links.new) }
 {
     let length = match links.ask(alloc, place, target) {
@@ -76,7 +76,7 @@ fn text_of<L: Links>(
 
 /// The text at the target: the bytes of the first link that gives at most `limit` of them. Each link before it has its
 /// cause not to serve: `TooLong` where it answers a greater length, and then no piece of it is taken. No link behind it
-/// is asked. The target is asked for once.
+/// is asked. The target is asked for once. No link is retired.
 pub fn fetch_text<L: Links>(
     alloc: Global,
     links: &mut L,
@@ -86,7 +86,7 @@ pub fn fetch_text<L: Links>(
     ensures text { IfOk result (IsText limit target.now (L.links links.old) (L.links links.new)) }
     ensures fault { IfErr result
         (IsTextFault limit target.now (L.links links.old) (L.links links.new)) }
-    ensures kept { Kept (L.links links.old) (L.links links.new) }
+    ensures kept { KeptAll (L.links links.old) (L.links links.new) }
 {
     links.want(alloc, target)?;
     let mut causes = Vec::new(alloc);

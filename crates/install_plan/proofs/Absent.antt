@@ -16,7 +16,7 @@ use Rattle.store_state.specs.Rows.{current_row}
 use Rattle.store_state.specs.Shows.{Shows}
 use Rattle.store_state.specs.Tables.{Tables, table_shape}
 use Rattle.links.specs.Links.{LinksState}
-use Rattle.fetcher.proofs.Sequence.{kept_same}
+use Rattle.fetcher.proofs.Sequence.{all_same}
 use Rattle.install_plan.specs.Checks.{IsCheckOver}
 use Rattle.install_plan.specs.Offers.{IsOfferText, OfferServed}
 use Rattle.install_plan.proofs.Currents.{none_current, none_provided}
@@ -28,7 +28,7 @@ module _ (room : Room) (tables : Tables) (key : Key) (now : ℕ) (a : LinksState
       → OfferServed key shape texts a a says.NotInstalled
   served_none shape gone = record {
     hearing = record {
-      kept = kept_same a;
+      kept = all_same a;
       text = subst (λ (ts : List (List ℕ)). IfSome (slice_get ts 0) (IsOfferText key shape a a))
           (sym none) tt;
       asked = [];
@@ -43,7 +43,7 @@ module _ (room : Room) (tables : Tables) (key : Key) (now : ℕ) (a : LinksState
       → IsCheckOver room tables key texts a a now says.NotInstalled
   not_installed absent = record {
     hears = subst (HearsOffer key (table_shape room tables)) (sym none) tt;
-    kept = kept_same a;
+    kept = all_same a;
     still = refl;
     downs = counts_none refl;
     step = λ image old idle shows valid. let gone = absent image old shows valid in record {

@@ -151,7 +151,7 @@ whole_for a c (entry ∷ entries) (target ∷ targets) [] are = absurd are
 whole_for a c (entry ∷ entries) (target ∷ targets) (content ∷ contents) are =
     All-cons IsWholeContent content contents
     (subst (λ (l : List Digest). Matches l content.size (given_bytes content.held)) (sym are.0.list)
-    (subst (λ (n : ℕ). Matches entry.list n (given_bytes content.held)) (sym are.0.size) are.0.from.fits))
+    (subst (λ (n : ℕ). Matches entry.list n (given_bytes content.held)) (sym are.0.size) are.0.from.from.fits))
     (whole_for a c entries targets contents are.1)
 
 pub given_for : (a c : LinksState) (entries : List FileEntry) (targets : List Target) (contents : List Content) → AreContentsFor a c entries targets contents → WereGiven a c entries targets

@@ -1,5 +1,5 @@
 -- Why links did not serve, by what they were before earlier fetches of the line.
-use Rattle.std.proofs.Common.{◌≤◌, ℕ, ⊎_elim, inl, inr, List, sym, ap, ◌∙◌, Option, Some, None, arith}
+use Rattle.std.proofs.Common.{◌<◌, ◌≤◌, ℕ, ⊎_elim, inl, inr, List, sym, ap, ◌∙◌, Option, Some, None, arith}
 use Rattle.std.specs.Prelude.{IfSome, length, option_map, slice_get}
 use Rattle.outside.specs.Streams.{Rose}
 use Rattle.outside.proofs.Counts.{rose_within}
@@ -8,7 +8,8 @@ use Rattle.digest_list.specs.declared.difference.Difference.{Difference}
 use Rattle.digest_list.specs.declared.digest.Digest.{Digest}
 use Rattle.digest_list.specs.Difference.{difference_of}
 use Rattle.links.specs.Link.{KeepsSite, Lacks, LinkState}
-use Rattle.links.specs.Links.{LinksState}
+use Rattle.links.specs.Links.{LinksState, number_at}
+use Rattle.links.proofs.Numbers.{known_at}
 use Rattle.causes.specs.declared.cause.Cause.{Cause}
 use Rattle.causes.specs.declared.cause.Cause.TheVariants.{Down, Missing, TooLong, Differs}
 use Rattle.fetcher.specs.Causes.{AreCauses, IsFileCause, IsOther, IsTextCause, IsTooLong}
@@ -75,9 +76,12 @@ if_some_map P Q (Some x) each is = each x is
 
 pub causes_from : (IsCause : LinkState → LinkState → Cause → Type 0) (a b c : LinksState) (reasons : List Cause) → Follows IsCause → Kept a b → Kept b c → AreCauses IsCause b c reasons → AreCauses IsCause a c reasons
 causes_from IsCause a b c reasons follows kept two are = record {
-  count = are.count ∙ kept.remain.sources;
+  count = are.count;
   each = λ k less.
-      if_some_map (IsCause (b.link k) (c.link k)) (IsCause (a.link k) (c.link k)) (slice_get reasons k)
-      (λ cause is. follows (a.link k) (b.link k) (c.link k) (kept.sites k less) (kept.later k less) (two.later k (omega (arith, less, kept.remain.sources))) cause is)
-      (are.each k (omega (arith, less, kept.remain.sources)));
+      let n : ℕ = number_at c.there k in
+      let known : n < length b.there = omega (arith, known_at c.there k less, two.all) in
+      let first : n < length a.there = omega (arith, known, kept.all) in
+      if_some_map (IsCause (b.link n) (c.link n)) (IsCause (a.link n) (c.link n)) (slice_get reasons k)
+      (λ cause is. follows (a.link n) (b.link n) (c.link n) (kept.sites n first) (kept.later n first) (two.later n known) cause is)
+      (are.each k less);
 }

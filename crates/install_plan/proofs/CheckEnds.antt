@@ -44,7 +44,7 @@ use Rattle.store_state.proofs.Checking.{shows_heard, shows_unheard, version_show
 use Rattle.store_state.proofs.Showing.{shape_shown}
 use Rattle.links.specs.Links.{LinksState}
 use Rattle.fetcher.specs.Causes.{IsTextCause}
-use Rattle.fetcher.specs.Fetched.{Kept, MayAsk, NoneGave}
+use Rattle.fetcher.specs.Fetched.{KeptAll, MayAsk, NoneGave}
 use Rattle.fetcher.specs.Given.{FitsText}
 use Rattle.install_plan.specs.declared.check.Offered.{Offered}
 use Rattle.install_plan.specs.declared.prepared.Prepared.{Prepared}
@@ -66,7 +66,7 @@ module _ (room : Room) (tables : Tables) (key : Key) (now : ℕ)
     (row : View) (is_row : current_row key tables ≡ Some row)
     (app : AppState) (is_app : entry_of key tables.apps ≡ Some app)
     (provider : Target) (is_provider : app.provider ≡ Some provider)
-    (a b : LinksState) (both : Kept a b) where
+    (a b : LinksState) (both : KeptAll a b) where
   abbrev shape : Shape
   shape = table_shape room tables
 

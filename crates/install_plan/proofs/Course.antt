@@ -22,7 +22,7 @@ use Rattle.machine.proofs.ReadApplications.{application_read}
 use Rattle.machine.proofs.ReadDeployments.{deployment_read}
 use Rattle.links.specs.Links.{LinksState}
 use Rattle.fetcher.specs.Causes.{IsFileCause, IsTextCause}
-use Rattle.fetcher.specs.Fetched.{Kept}
+use Rattle.fetcher.specs.Fetched.{IsThis, KeptAll, KeptBut}
 use Rattle.fetcher.specs.Given.{FitsText}
 use Rattle.install_plan.specs.declared.plan.Plan.{Plan}
 use Rattle.install_plan.specs.declared.plan.WantedFile.{WantedFile}
@@ -51,7 +51,7 @@ module _ {shape : Shape} {url : List ℕ} {a : LinksState} {none : List (List �
   pub at_address : {reply : Reply} → Refused (address_checks (target_of_text url)) reply → IsRefused shape url none a a reply
   at_address {reply = reply} refused = subst (λ (ts : List (List ℕ)). IsRefused shape url ts a a reply) (sym empty) (ended (address_end shape url a reply refused))
 
-  module _ {target : Target} (read : target_of_text url ≡ Ok target) {b : LinksState} (one : Kept a b) {first : List (List ℕ)} where
+  module _ {target : Target} (read : target_of_text url ≡ Ok target) {b : LinksState} (one : KeptAll a b) {first : List (List ℕ)} where
     pub at_deployment : {reply : Reply} → StopsOne deployment_of (IsTextCause MANIFEST_LIMIT target) (FitsText MANIFEST_LIMIT) target a b none first reply → IsRefused shape url first a b reply
     at_deployment {reply = reply} stops = ended (deployment_end shape url target read a b one first reply
         (subst (λ (ts : List (List ℕ)). StopsOne deployment_of (IsTextCause MANIFEST_LIMIT target) (FitsText MANIFEST_LIMIT) target a b ts first reply) empty stops))
@@ -62,7 +62,7 @@ module _ {shape : Shape} {url : List ℕ} {a : LinksState} {none : List (List �
           (ended (judged_end shape url target read a b one hears.text d hears.got hears.tells reply refused))
 
       module _ {base : Target} (joined : app_target_of target d.codebase ≡ Ok base) (passed : PassesAll (deployment_checks shape d (app_target_of target d.codebase)))
-          {c : LinksState} (two : Kept b c) {both : List (List ℕ)} where
+          {c : LinksState} (two : KeptBut (IsThis base d.app_list d.app_size) b c) {both : List (List ℕ)} where
         pub at_application : {reply : Reply} → StopsOne application_of (IsFileCause d.app_list d.app_size base) (Matches d.app_list d.app_size) base b c first both reply → IsRefused shape url both a c reply
         at_application {reply = reply} stops = ended (application_end shape url target read a b one hears.text d hears.got hears.tells base joined passed c two both reply
             (subst (λ (ts : List (List ℕ)). StopsOne application_of (IsFileCause d.app_list d.app_size base) (Matches d.app_list d.app_size) base b c ts both reply) (grown hears.text hears.noted empty) stops))

@@ -26,7 +26,7 @@ use Rattle.store_state.proofs.Keyed.{of_key}
 use Rattle.links.specs.Links.{LinksState}
 use Rattle.install_plan.specs.declared.plan.Plan.{Plan}
 use Rattle.install_plan.specs.Brought.{AreContentsFor, IsBrought, IsCarriedOrFetched, IsFileFrom, IsHeldOrCame}
-use Rattle.install_plan.specs.Given.{IsFrom}
+use Rattle.install_plan.specs.Given.{IsFromLeft}
 use Rattle.install_plan.specs.Held.{given_bytes}
 use Rattle.install_plan.specs.Plans.{IsPlan, targets_of}
 use Rattle.install_plan.proofs.Aligning.{for_one, rest_is}
@@ -60,7 +60,7 @@ module _ (room : Room) (tables : Tables) (image : List ℕ) (url : List ℕ) (te
   IsFetchedFor entry = Any (λ (wish : FileEntry). (target : Target)
       × (place_of wish ≡ Ok target)
       × (same_content wish entry ≡ true)
-      × IsFrom (Matches wish.list wish.size) target a c (shown_file room image after entry).bytes)
+      × IsFromLeft (Matches wish.list wish.size) target a c (shown_file room image after entry).bytes)
       wants
 
   kept_one : (entry : FileEntry) → IsSome (content_of tables.contents entry) → is_held held entry ≡ true
@@ -88,7 +88,7 @@ module _ (room : Room) (tables : Tables) (image : List ℕ) (url : List ℕ) (te
           one.target,
           one.named,
           is_same one.entry entry (sym key ∙ sym (of_key entry first.item first.passes)),
-          subst (λ (bs : List ℕ). IsFrom (Matches one.entry.list one.entry.size) one.target a c bs) (sym bytes) one.is.from,
+          subst (λ (bs : List ℕ). IsFromLeft (Matches one.entry.list one.entry.size) one.target a c bs) (sym bytes) one.is.from,
         ),
       )
 
@@ -142,7 +142,7 @@ module _ (room : Room) (tables : Tables) (image : List ℕ) (url : List ℕ) (te
             of.local,
             sym fresh.name,
             of.named,
-            subst (λ (bs : List ℕ). IsFrom (Matches entry.list entry.size) of.target a c bs) (sym fresh.bytes) of.from,
+            subst (λ (bs : List ℕ). IsFromLeft (Matches entry.list entry.size) of.target a c bs) (sym fresh.bytes) of.from,
           ),
         ))
 

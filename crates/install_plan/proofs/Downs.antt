@@ -14,7 +14,8 @@ use Rattle.machine.specs.declared.reply.Reply.{Reply}
 use Rattle.machine.specs.declared.reply.Reply.TheVariants as says
 use Rattle.machine.specs.Shape.{BareView, Shape}
 use Rattle.links.specs.Link.{LinkState}
-use Rattle.links.specs.Links.{LinksState, failures_of}
+use Rattle.links.specs.Links.{LinksState, failures_of, number_at, sources_of}
+use Rattle.links.proofs.Numbers.{known_at}
 use Rattle.fetcher.specs.Causes.{AreCauses, IsFileCause, IsTextCause}
 use Rattle.fetcher.specs.Fetched.{Kept}
 use Rattle.fetcher.proofs.Sequence.{failures_rose}
@@ -53,9 +54,11 @@ module _ (before after : LinksState) (kept : Kept before after) where
       → Risen
   rose_by IsCause rises reasons are there =
       let k = there.0 in
-      let less : k < before.sources = omega (arith, there.1, are.count) in
-      failures_rose before after k kept less (rises (before.link k) (after.link k)
-      (subst (λ (found : Option Cause). IfSome found (IsCause (before.link k) (after.link k)))
+      let less : k < sources_of after = omega (arith, there.1, are.count) in
+      let n : ℕ = number_at after.there k in
+      let known : n < length before.there = omega (arith, known_at after.there k less, kept.all) in
+      failures_rose before after n kept known (rises (before.link n) (after.link n)
+      (subst (λ (found : Option Cause). IfSome found (IsCause (before.link n) (after.link n)))
       (at_place reasons k Down there.1 there.2) (are.each k less)))
 
   lacks_down : (shape : Shape) (url : List ℕ) (texts : List (List ℕ)) (asked : List Target)
@@ -109,7 +112,7 @@ pub install_counts : (shape : Shape) (url : List ℕ) (texts : List (List ℕ))
     (before after : LinksState) (reply : Reply) → Served shape url texts before after reply
     → CountsDowns before after reply
 install_counts shape url texts before after reply served = record {
-  rose = install_down before after served.hearing.kept shape url texts served.hearing.asked reply
+  rose = install_down before after served.hearing.kept.kept shape url texts served.hearing.asked reply
       served.accounts;
 }
 
@@ -118,6 +121,6 @@ pub check_counts : (key : Key) (shape : Shape) (texts : List (List ℕ))
     (before after : LinksState) (reply : Reply) → OfferServed key shape texts before after reply
     → CountsDowns before after reply
 check_counts key shape texts before after reply served = record {
-  rose = check_down before after served.hearing.kept key shape served.hearing.asked reply
+  rose = check_down before after served.hearing.kept.kept key shape served.hearing.asked reply
       served.accounts;
 }

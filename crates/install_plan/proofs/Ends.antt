@@ -5,6 +5,7 @@ use Rattle.small_types.specs.declared.limits.TheConstants.{MANIFEST_LIMIT}
 use Rattle.small_types.specs.declared.target.Target.{Target}
 use Rattle.addresses.specs.Address.{target_of_text}
 use Rattle.addresses.specs.Join.{app_target_of, file_target_of}
+use Rattle.digest_list.specs.declared.digest.Digest.{Digest}
 use Rattle.digest_list.specs.Matches.{Matches}
 use Rattle.manifest_parts.specs.Parts.{Tells}
 use Rattle.manifests.specs.declared.facts.Application.{Application}
@@ -26,12 +27,13 @@ use Rattle.machine.proofs.InstallExact.{address_exact, deployment_exact, release
 use Rattle.machine.proofs.Moments.{refusal_moment}
 use Rattle.links.specs.Links.{LinksState}
 use Rattle.fetcher.specs.Causes.{IsFileCause, IsTextCause}
-use Rattle.fetcher.specs.Fetched.{Asked, Kept, MayAsk}
+use Rattle.fetcher.specs.Fetched.{Asked, IsThis, Kept, KeptAll, KeptBut, MayAsk}
 use Rattle.fetcher.specs.Given.{FitsText}
-use Rattle.fetcher.proofs.Sequence.{kept_same, kept_then}
+use Rattle.fetcher.proofs.Liars.{but_all, but_then, but_weaker}
+use Rattle.fetcher.proofs.Sequence.{all_same, kept_then}
 use Rattle.install_plan.specs.declared.plan.Plan.{Plan}
 use Rattle.install_plan.specs.Given.{IsFrom, IsUngiven}
-use Rattle.install_plan.specs.Hearing.{Accounts, IsApplicationText, IsDeploymentText, IsFront, Served}
+use Rattle.install_plan.specs.Hearing.{Accounts, IsApplicationText, IsDeploymentText, IsFront, IsListedBy, Served}
 use Rattle.install_plan.specs.Judges.{Refused, address_checks, deployment_checks, release_checks}
 use Rattle.install_plan.specs.Plans.{IsPlanned, IsRefused, targets_of}
 use Rattle.install_plan.specs.Stages.{IsGot, IsNotGiven, IsNotRead, StopsOne}
@@ -45,7 +47,7 @@ use Rattle.install_plan.proofs.Told.{base_is, deployment_is, ok_one}
 -- ---- records in parts
 
 module _ (shape : Shape) (url : List ℕ) (a : LinksState) where
-  pub served_by : (texts : List (List ℕ)) (c : LinksState) (asked : List Target) (reply : Reply) → Kept a c
+  pub served_by : (texts : List (List ℕ)) (c : LinksState) (asked : List Target) (reply : Reply) → KeptBut (IsListedBy shape url texts) a c
       → IfSome (slice_get texts 0) (IsDeploymentText url a c) → IfSome (slice_get texts 1) (IsApplicationText url texts a c)
       → c.asked ≡ a.asked ++ asked → ((targets : List Target) → AsksInstall url texts shape targets → IsFront asked targets)
       → Accounts shape url texts a c asked reply → Served shape url texts a c reply
@@ -78,7 +80,7 @@ still_of shape url texts reply (inr refuses) now = refusal_moment now url texts 
 pub ended : {shape : Shape} {url : List ℕ} {texts : List (List ℕ)} {before after : LinksState} {reply : Reply} → Ended shape url texts before after reply → IsRefused shape url texts before after reply
 ended {shape = shape} {url = url} {texts = texts} {before = before} {after = after} {reply = reply} end = record {
   hears = end.hears;
-  kept = end.served.hearing.kept;
+  kept = end.served.hearing.kept.kept;
   still = still_of shape url texts reply end.refused;
   refused = end.refused;
   served = end.served;
@@ -103,16 +105,20 @@ module _ (shape : Shape) (url : List ℕ) (a : LinksState) where
   address_end reply refused = record {
     hears = tt;
     refused = by_address shape url [] reply refused;
-    served = served_by shape url a [] a [] reply (kept_same a) tt tt (none_more a.asked) (λ targets asks. (targets, refl))
+    served = served_by shape url a [] a [] reply (but_all (IsListedBy shape url []) a a (all_same a)) tt tt (none_more a.asked) (λ targets asks. (targets, refl))
         (accounts_by shape url a [] a [] (addresses shape url []) (addresses shape url []) reply plain_address (address_exact url) refused refused (λ fails. inl (fails, refl)));
   }
 
 -- ---- the deployment manifest is asked for
 
 module _ (shape : Shape) (url : List ℕ) (target : Target) (read : target_of_text url ≡ Ok target)
-    (a b : LinksState) (one : Kept a b) where
+    (a b : LinksState) (one : KeptAll a b) where
   passes : PassesAll (addresses shape url [])
   passes = address_passes (target_of_text url) target read
+
+  -- no link is gone
+  but_text : (texts : List (List ℕ)) → KeptBut (IsListedBy shape url texts) a b
+  but_text texts = but_all (IsListedBy shape url texts) a b one
 
   asks_one : (texts : List (List ℕ)) → (PassesAll (deployments shape url texts) → ⊥) → AsksInstall url texts shape (target ∷ [])
   asks_one texts fails = inr (target, [], refl, read, inl (fails, refl))
@@ -126,8 +132,8 @@ module _ (shape : Shape) (url : List ℕ) (target : Target) (read : target_of_te
   unheard reply may memory = record { hears = tt; refused = inl memory; served = at may }
     where
       at : MayAsk target a b → Served shape url [] a b reply
-      at (inl same) = served_by shape url a [] b [] reply one tt tt (same ∙ none_more a.asked) (λ targets asks. (targets, refl)) (memory_accounts shape url [] a b [] reply memory)
-      at (inr asked) = served_by shape url a [] b (target ∷ []) reply one tt tt asked (front_one []) (memory_accounts shape url [] a b (target ∷ []) reply memory)
+      at (inl same) = served_by shape url a [] b [] reply (but_text []) tt tt (same ∙ none_more a.asked) (λ targets asks. (targets, refl)) (memory_accounts shape url [] a b [] reply memory)
+      at (inr asked) = served_by shape url a [] b (target ∷ []) reply (but_text []) tt tt asked (front_one []) (memory_accounts shape url [] a b (target ∷ []) reply memory)
 
   no_link : (reply : Reply) → IsNotGiven (IsTextCause MANIFEST_LIMIT target) (FitsText MANIFEST_LIMIT) target a b [] [] reply → Ended shape url [] a b reply
   no_link reply is =
@@ -136,13 +142,13 @@ module _ (shape : Shape) (url : List ℕ) (target : Target) (read : target_of_te
       record {
         hears = tt;
         refused = by_deployment shape url [] reply passes (inr (λ old. inl ((target, is.reasons, (read, refl), replied), refl)));
-        served = served_by shape url a [] b (target ∷ []) reply one tt tt is.gave.asked (front_one [])
+        served = served_by shape url a [] b (target ∷ []) reply (but_text []) tt tt is.gave.asked (front_one [])
             (subst (Accounts shape url [] a b (target ∷ [])) (sym replied) (asks_one [] (λ passed. passed.0 target (read, refl)), ungiven));
       }
 
   module _ (text : List ℕ) (got : IsGot (FitsText MANIFEST_LIMIT) target a b text) where
     noted : (reply : Reply) → Accounts shape url (text ∷ []) a b (target ∷ []) reply → Served shape url (text ∷ []) a b reply
-    noted reply accounts = served_by shape url a (text ∷ []) b (target ∷ []) reply one (target, read, got.from) tt got.asked (front_one (text ∷ [])) accounts
+    noted reply accounts = served_by shape url a (text ∷ []) b (target ∷ []) reply (but_text (text ∷ [])) (target, read, got.from) tt got.asked (front_one (text ∷ [])) accounts
 
     no_room : (reply : Reply) → reply ≡ says.Memory → Ended shape url (text ∷ []) a b reply
     no_room reply memory = record {
@@ -202,9 +208,21 @@ module _ (shape : Shape) (url : List ℕ) (target : Target) (read : target_of_te
 
     module _ (base : Target) (joined : app_target_of target d.codebase ≡ Ok base)
         (first : PassesAll (deployment_checks shape d (app_target_of target d.codebase)))
-        (c : LinksState) (two : Kept b c) where
+        (c : LinksState) (two : KeptBut (IsThis base d.app_list d.app_size) b c) where
       both : Kept a c
-      both = kept_then a b c one two
+      both = kept_then a b c one.kept two.kept
+
+      -- those that are gone gave another application manifest than is listed
+      listed_there : (others : List (List ℕ)) (t : Target) (l : List Digest) (s : ℕ) → IsThis base d.app_list d.app_size t l s
+          → IsListedBy shape url (text ∷ others) t l s
+      listed_there others t l s is =
+          inl (of_d others (λ x. (base_of url x ≡ Ok t) × (l ≡ x.app_list) × (s ≡ x.app_size))
+          (base_is url d target (Ok base) read joined ∙ ap Ok (sym is.0), is.1, is.2))
+
+      but_both : (others : List (List ℕ)) → KeptBut (IsListedBy shape url (text ∷ others)) a c
+      but_both others =
+          but_then (IsListedBy shape url (text ∷ others)) a b c (but_text (text ∷ others))
+          (but_weaker (IsThis base d.app_list d.app_size) (IsListedBy shape url (text ∷ others)) b c (listed_there others) two)
 
       -- the refusals of the deployment are passed, whatever else is heard
       deployed : (others : List (List ℕ)) → PassesAll (deployments shape url (text ∷ others))
@@ -230,12 +248,12 @@ module _ (shape : Shape) (url : List ℕ) (target : Target) (read : target_of_te
           (rest.0, asks.2 ∙ ap (λ (t : Target). t ∷ asks.1) (ok_one (target_of_text url) asks.0 target asks.3 read) ∙ ap (λ (ts : List Target). target ∷ ts) rest.1)
 
       deployment_text : IsDeploymentText url a c text
-      deployment_text = (target, read, from_on a b c one two (FitsText MANIFEST_LIMIT) target text got.from)
+      deployment_text = (target, read, from_on a b c one.kept two.kept (FitsText MANIFEST_LIMIT) target text got.from)
 
       -- only the deployment manifest is noted
       alone : (asked : List Target) (reply : Reply) → c.asked ≡ a.asked ++ asked → ((targets : List Target) → AsksInstall url (text ∷ []) shape targets → IsFront asked targets)
           → Accounts shape url (text ∷ []) a c asked reply → Served shape url (text ∷ []) a c reply
-      alone asked reply grown front accounts = served_by shape url a (text ∷ []) c asked reply both deployment_text tt grown front accounts
+      alone asked reply grown front accounts = served_by shape url a (text ∷ []) c asked reply (but_both []) deployment_text tt grown front accounts
 
       asked_two : Asked base b c → c.asked ≡ a.asked ++ target ∷ base ∷ []
       asked_two second = two_more a.asked b.asked c.asked target base got.asked second
@@ -250,7 +268,7 @@ module _ (shape : Shape) (url : List ℕ) (target : Target) (read : target_of_te
       base_no_link : (reply : Reply) → IsNotGiven (IsFileCause d.app_list d.app_size base) (Matches d.app_list d.app_size) base b c (text ∷ []) (text ∷ []) reply → Ended shape url (text ∷ []) a c reply
       base_no_link reply is =
           let replied : reply ≡ says.AllLinks base is.reasons = is.replied ∙ ap (λ (t : Target). says.AllLinks t is.reasons) is.gave.shown in
-          let ungiven = ungiven_from a b c one two (IsFileCause d.app_list d.app_size base) (Matches d.app_list d.app_size) base is.named is.reasons (file_follows d.app_list d.app_size base) is.gave in
+          let ungiven = ungiven_from a b c one.kept two.kept (IsFileCause d.app_list d.app_size base) (Matches d.app_list d.app_size) base is.named is.reasons one.remain (file_follows d.app_list d.app_size base) is.gave in
           record {
             hears = passes;
             refused = by_release shape url (text ∷ []) reply passes (deployed []) (inr (λ old. inl ((base, is.reasons, (at_base [], refl), replied), refl)));
@@ -267,10 +285,10 @@ module _ (shape : Shape) (url : List ℕ) (target : Target) (read : target_of_te
 
         application_text : IsApplicationText url (text ∷ other ∷ []) a c other
         application_text = of_d (other ∷ []) (λ x. (t : Target) × (base_of url x ≡ Ok t) × IsFrom (Matches x.app_list x.app_size) t a c other)
-            (base, base_is url d target (Ok base) read joined, got_from a b c one two (Matches d.app_list d.app_size) base other second.from)
+            (base, base_is url d target (Ok base) read joined, got_from a b c one.kept two.kept one.remain (Matches d.app_list d.app_size) base other second.from)
 
         noted_both : (reply : Reply) → Accounts shape url (text ∷ other ∷ []) a c (target ∷ base ∷ []) reply → Served shape url (text ∷ other ∷ []) a c reply
-        noted_both reply accounts = served_by shape url a (text ∷ other ∷ []) c (target ∷ base ∷ []) reply both deployment_text application_text (asked_two second.asked) (front_two (other ∷ [])) accounts
+        noted_both reply accounts = served_by shape url a (text ∷ other ∷ []) c (target ∷ base ∷ []) reply (but_both (other ∷ [])) deployment_text application_text (asked_two second.asked) (front_two (other ∷ [])) accounts
 
         -- there was no memory behind them
         pub memory_end : (reply : Reply) → reply ≡ says.Memory → Ended shape url (text ∷ other ∷ []) a c reply
@@ -347,7 +365,7 @@ module _ (shape : Shape) (url : List ℕ) (target : Target) (read : target_of_te
                 release = release_passed shape url (text ∷ other ∷ []) d app told_both last;
               };
               hearing = record {
-                kept = both;
+                kept = but_both (other ∷ []);
                 deployment = deployment_text;
                 application = application_text other second;
                 asked = target ∷ base ∷ [];

@@ -18,7 +18,7 @@ use Rattle.store_state.specs.Contents.{held_key}
 use Rattle.links.specs.Links.{LinksState}
 use Rattle.install_plan.specs.Brought.{AreContentsFor, IsContentFor}
 use Rattle.install_plan.specs.Changes.{data_part, is_data, program_part}
-use Rattle.install_plan.specs.Given.{IsFrom}
+use Rattle.install_plan.specs.Given.{IsFromLeft}
 use Rattle.install_plan.specs.Held.{given_bytes}
 use Rattle.install_plan.proofs.Aligning.{count_for, oks, rest_is, somes, whole_for}
 use Rattle.install_plan.proofs.Sufficing.{IsWholeContent, wanted_required}
@@ -117,7 +117,7 @@ module _ (a c : LinksState) where
     pub local : file.entry.local ≡ true
     pub target : Target
     pub named : at file.entry ≡ Ok target
-    pub from : IsFrom (Matches file.entry.list file.entry.size) target a c file.bytes
+    pub from : IsFromLeft (Matches file.entry.list file.entry.size) target a c file.bytes
 
   original_later : (at : FileEntry → Result Target UrlFault) (entry : FileEntry) (entries : List FileEntry) (file : ListedFile) → IsOriginal at entries file → IsOriginal at (entry ∷ entries) file
   original_later at entry entries file is = record {
@@ -177,4 +177,4 @@ module _ (a c : LinksState) where
 
 -- the data files are whole
 pub whole_originals : (a c : LinksState) (at : FileEntry → Result Target UrlFault) (entries : List FileEntry) (files : List ListedFile) → ((file : ListedFile) → In file files → IsOriginal a c at entries file) → All IsWhole files
-whole_originals a c at entries files each = in_all IsWhole files (λ file there. (each file there).from.fits)
+whole_originals a c at entries files each = in_all IsWhole files (λ file there. (each file there).from.from.fits)

@@ -31,9 +31,10 @@ use Rattle.store_state.specs.Shows.{Shows, shown_view}
 use Rattle.store_state.specs.Tables.{Tables, bare_row, table_shape}
 use Rattle.store_state.proofs.Showing.{shape_shown}
 use Rattle.links.specs.Links.{LinksState}
-use Rattle.fetcher.specs.Fetched.{Kept}
+use Rattle.fetcher.specs.Fetched.{KeptBut}
+use Rattle.fetcher.proofs.Liars.{but_all}
 use Rattle.install_plan.specs.Downs.{CountsDowns}
-use Rattle.install_plan.specs.GroupAsked.{AccountsGroup, GroupServed}
+use Rattle.install_plan.specs.GroupAsked.{AccountsGroup, GroupServed, IsListedOfGroup}
 use Rattle.install_plan.specs.GroupReady.{AreUnasked, IsGroupOver, IsNoFiles, address_in, lacking, need_of, space_checks, ungrouped, weight_in}
 use Rattle.install_plan.specs.Judges.{Refused, room_checks}
 use Rattle.install_plan.proofs.Downs.{counts_none}
@@ -82,7 +83,8 @@ module _ (room : Room) (tables : Tables) (lease : ℕ) (group : List ℕ) where
     pub answers : Answers now [] old (command.Group lease group) reply old
     pub served : GroupServed lease group (table_shape room tables) a c reply
 
-  pub over_by : (a c : LinksState) (reply : Reply) → Kept a c
+  pub over_by : (a c : LinksState) (reply : Reply)
+      → KeptBut (IsListedOfGroup lease group (table_shape room tables)) a c
       → ((now : ℕ) → moment_after now (Some reply) ≡ now)
       → CountsDowns a c reply
       → ((now : ℕ) (image : List ℕ) (old : Session) → old.jobs ≡ []
@@ -107,11 +109,15 @@ module _ (room : Room) (tables : Tables) (lease : ℕ) (group : List ℕ) where
 
   -- ---- nothing was asked
 
+  none_gone : (a c : LinksState) → AreUnasked a c
+      → KeptBut (IsListedOfGroup lease group (table_shape room tables)) a c
+  none_gone a c none = but_all (IsListedOfGroup lease group (table_shape room tables)) a c none.kept
+
   served_none : (a c : LinksState) (reply : Reply) → AreUnasked a c
       → AccountsGroup lease group (table_shape room tables) a c [] reply
       → GroupServed lease group (table_shape room tables) a c reply
   served_none a c reply none accounts = record {
-    kept = none.kept;
+    kept = none_gone a c none;
     asked = [];
     grown = none.same ∙ sym (append-nil a.asked);
     front = λ all asks. (all, refl);
@@ -120,13 +126,13 @@ module _ (room : Room) (tables : Tables) (lease : ℕ) (group : List ℕ) where
 
   pub memory_over : (a c : LinksState) → AreUnasked a c
       → IsGroupOver room tables lease group a c says.Memory
-  memory_over a c unasked = over_by a c says.Memory unasked.kept (λ now. refl) (counts_none refl)
+  memory_over a c unasked = over_by a c says.Memory (none_gone a c unasked) (λ now. refl) (counts_none refl)
       (λ now image old idle shows sound.
       record { answers = inl (inl (refl, refl)); served = served_none a c says.Memory unasked tt })
 
   pub no_lease_over : (a c : LinksState) → AreUnasked a c → leased_row lease tables ≡ None
       → IsGroupOver room tables lease group a c says.NoLease
-  no_lease_over a c unasked none = over_by a c says.NoLease unasked.kept (λ now. refl) (counts_none refl)
+  no_lease_over a c unasked none = over_by a c says.NoLease (none_gone a c unasked) (λ now. refl) (counts_none refl)
       (λ now image old idle shows sound. (
       let gone = no_lease shows lease sound.valid.ordered none in
       record {
@@ -146,7 +152,7 @@ module _ (room : Room) (tables : Tables) (lease : ℕ) (group : List ℕ) where
     pub no_group_over : (a c : LinksState) → AreUnasked a c
         → group_files group view.application ≡ []
         → IsGroupOver room tables lease group a c says.NoGroup
-    no_group_over a c unasked none = over_by a c says.NoGroup unasked.kept (λ now. refl) (counts_none refl)
+    no_group_over a c unasked none = over_by a c says.NoGroup (none_gone a c unasked) (λ now. refl) (counts_none refl)
         (λ now image old idle shows sound. record {
           answers = by_refusal now image old says.NoGroup idle shows
               (inr (lives, inl (((bare_row view, leased.bare, none), refl), refl)));
@@ -181,7 +187,7 @@ module _ (room : Room) (tables : Tables) (lease : ℕ) (group : List ℕ) where
           (says.Group (length (group_files group view.application)))
       stands_over a c unasked stands =
           let reply = says.Group (length (group_files group view.application)) in
-          over_by a c reply unasked.kept (λ now. refl) (counts_none refl) (λ now image old idle shows sound. record {
+          over_by a c reply (none_gone a c unasked) (λ now. refl) (counts_none refl) (λ now image old idle shows sound. record {
             answers = by_effect now image old reply old idle shows (
               lives,
               (
@@ -225,7 +231,7 @@ module _ (room : Room) (tables : Tables) (lease : ℕ) (group : List ℕ) where
             → IsGroupOver room tables lease group a c says.BadUrl
         bad_url_over a c unasked any =
             let bad = bad_wanted tables view group any in
-            over_by a c says.BadUrl unasked.kept (λ now. refl) (counts_none refl)
+            over_by a c says.BadUrl (none_gone a c unasked) (λ now. refl) (counts_none refl)
             (λ now image old idle shows sound. record {
               answers = by_refusal now image old says.BadUrl idle shows
                   (inr (
@@ -298,7 +304,7 @@ module _ (room : Room) (tables : Tables) (lease : ℕ) (group : List ℕ) where
               (says.Full need (free_blocks (table_shape room tables)))
           full_over need own less =
               let reply = says.Full need (free_blocks (table_shape room tables)) in
-              over_by a c reply unasked.kept (λ now. refl) (counts_none refl)
+              over_by a c reply (none_gone a c unasked) (λ now. refl) (counts_none refl)
               (λ now image old idle shows sound. (
               let same = need_is need (view_valid shows leased sound) own in
               record {
@@ -332,7 +338,7 @@ module _ (room : Room) (tables : Tables) (lease : ℕ) (group : List ℕ) where
               (says.TableFull (told_weight weight) (table_room room))
           heavy_over has weight own heavy =
               let reply = says.TableFull (told_weight weight) (table_room room) in
-              over_by a c reply unasked.kept (λ now. refl) (counts_none refl)
+              over_by a c reply (none_gone a c unasked) (λ now. refl) (counts_none refl)
               (λ now image old idle shows sound. record {
                 answers = by_refusal now image old reply idle shows
                     (inr (

@@ -41,7 +41,7 @@ use Rattle.install_plan.proofs.Aligning.{contents_for, count_for, keys_for, whol
 use Rattle.install_plan.proofs.Coming.{brings_group}
 use Rattle.install_plan.proofs.Downs.{counts_none}
 use Rattle.install_plan.proofs.GroupOver.{by_effect}
-use Rattle.install_plan.proofs.GroupServing.{asks, at_addresses, at_places, entries, memory_behind, passes_all, served_of}
+use Rattle.install_plan.proofs.GroupServing.{asks, at_addresses, at_places, entries, line, memory_behind, passes_all, served_of}
 use Rattle.install_plan.proofs.GroupStanding.{led_brought, led_grouped, led_other}
 use Rattle.install_plan.proofs.LeasedRows.{IsLeased, row_is, row_there, view_shown, view_valid}
 use Rattle.install_plan.proofs.NewFiles.{leads_over}
@@ -152,7 +152,9 @@ module _ (room : Room) (tables : Tables) (lease : ℕ) (group : List ℕ) (view 
       served : GroupServed lease group (table_shape room tables) a c reply
       served =
           served_of room tables lease group view leased some absent got.wanted got.are a c reply
-          (addresses got.wanted) [] got.fetched.kept is got.fetched.grown
+          (addresses got.wanted) []
+          (line room tables lease group view leased some absent got.wanted got.are a c got.fetched.kept)
+          is got.fetched.grown
           (sym (append-nil (addresses got.wanted)))
           (asks room tables lease group view leased some absent got.wanted got.are is)
 
@@ -181,7 +183,7 @@ module _ (room : Room) (tables : Tables) (lease : ℕ) (group : List ℕ) (view 
     ready : IsGroupReady room tables lease group a c
         (change.Group view.number group contents) reply
     ready = record {
-      kept = got.fetched.kept;
+      kept = line room tables lease group view leased some absent got.wanted got.are a c got.fetched.kept;
       still = λ now. refl;
       downs = counts_none refl;
       of = (refl, few_contents);

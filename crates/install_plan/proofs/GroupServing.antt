@@ -10,6 +10,7 @@ use Rattle.addresses.specs.declared.fault.UrlFault.{UrlFault}
 use Rattle.addresses.specs.declared.fault.UrlFault.TheVariants.{BadUrl}
 use Rattle.addresses.specs.Join.{file_target_of}
 use Rattle.causes.specs.declared.cause.Cause.{Cause}
+use Rattle.digest_list.specs.declared.digest.Digest.{Digest}
 use Rattle.digest_list.specs.Matches.{Matches}
 use Rattle.manifests.specs.declared.facts.FileEntry.{FileEntry}
 use Rattle.machine.specs.declared.reply.Reply.{Reply}
@@ -21,25 +22,26 @@ use Rattle.machine.specs.Groups.{group_files, group_stands, group_wanted}
 use Rattle.machine.specs.Rows.{PassesAll}
 use Rattle.machine.specs.Shape.{BareView}
 use Rattle.machine.specs.Weight.{IsTooHeavy}
-use Rattle.machine.proofs.Members.{In, in_right}
+use Rattle.machine.proofs.Members.{In, in_right, map_in}
 use Rattle.machine.proofs.Ungrouped.{group_ungrouped}
 use Rattle.store_state.specs.declared.view.View.{View}
 use Rattle.store_state.specs.Tables.{Tables, bare_row, table_shape}
 use Rattle.links.specs.Links.{LinksState}
 use Rattle.fetcher.specs.Causes.{IsFileCause}
-use Rattle.fetcher.specs.Fetched.{Kept}
+use Rattle.fetcher.specs.Fetched.{Kept, KeptBut}
+use Rattle.fetcher.proofs.Liars.{but_weaker}
 use Rattle.install_plan.specs.declared.plan.WantedFile.{WantedFile}
 use Rattle.install_plan.specs.Brought.{AreContentsFor}
-use Rattle.install_plan.specs.FetchedFiles.{IsFileUngiven, IsStopped, Stops, StopsAt, addresses}
-use Rattle.install_plan.specs.GroupAsked.{AccountsGroup, GroupServed, LacksOfGroup}
+use Rattle.install_plan.specs.FetchedFiles.{IsFileUngiven, IsListedIn, IsStopped, Stops, StopsAt, addresses}
+use Rattle.install_plan.specs.GroupAsked.{AccountsGroup, GroupServed, IsListedOfGroup, LacksOfGroup}
 use Rattle.install_plan.specs.GroupReady.{AreLacking, AreUnasked, IsGroupOver, IsNotBrought, IsUnasked, address_in, lacking, ungrouped}
-use Rattle.install_plan.specs.Hearing.{WereGiven}
+use Rattle.install_plan.specs.Hearing.{IsListedFor, WereGiven}
 use Rattle.install_plan.proofs.Aligning.{IsAmong, among, contents_for, given_for}
 use Rattle.install_plan.proofs.Asking.{same_oks}
 use Rattle.install_plan.proofs.Downs.{counts_none, group_counts}
-use Rattle.install_plan.proofs.Extends.{ungiven_end}
 use Rattle.install_plan.proofs.GroupOver.{bad_url_over, blocks_pass, by_refusal, has_group, memory_over, of_view, over_by, reached, space_over}
 use Rattle.install_plan.proofs.LeasedRows.{IsLeased, lease_lives, view_valid}
+use Rattle.install_plan.proofs.ListedFiles.{listed_among}
 use Rattle.install_plan.proofs.Ungrouping.{IsSplit, same_addresses, same_contents, split}
 use Rattle.install_plan.proofs.Wants.{in_any, none_refused}
 
@@ -140,7 +142,8 @@ module _ (room : Room) (tables : Tables) (lease : ℕ) (group : List ℕ) (view 
         map (λ entry. file_target_of v.base v.deployment.mapped entry.name)
         (group_wanted views group v.application) ≡ map Ok all} asked.1) ∙ at_addresses)
 
-    pub served_of : (a c : LinksState) (reply : Reply) (asked rest : List Target) → Kept a c
+    pub served_of : (a c : LinksState) (reply : Reply) (asked rest : List Target)
+        → KeptBut (IsListedOfGroup lease group (table_shape room tables)) a c
         → IsApplication view.application → c.asked ≡ a.asked ++ asked
         → addresses wanted ≡ asked ++ rest
         → AccountsGroup lease group (table_shape room tables) a c asked reply
@@ -155,16 +158,39 @@ module _ (room : Room) (tables : Tables) (lease : ℕ) (group : List ℕ) (view 
 
     -- ---- where not all files were fetched
 
-    module _ (a c : LinksState) (kept : Kept a c) where
+    module _ (a c : LinksState) (but : KeptBut (IsListedIn files wanted) a c) where
+      abbrev kept : Kept a c
+      kept = but.kept
+
+      -- those that are gone gave other bytes than a wanted file
+      listed_file : (t : Target) (l : List Digest) (s : ℕ) → IsListedIn files wanted t l s
+          → IsListedOfGroup lease group (table_shape room tables) t l s
+      listed_file t l s is =
+          let found = listed_among files (address_in view) (map ungrouped entries) wanted at_places
+          on_addresses t l s is in
+          let own = map_in ungrouped entries found.0 found.1 in (
+            bare_row view,
+            leased.bare,
+            absent,
+            in_any (IsListedFor view.base view.deployment.mapped t l s) entries own.0 own.1
+                (subst (λ (e : FileEntry). (address_in view e ≡ Ok t) × (l ≡ e.list) × (s ≡ e.size)) (sym own.2)
+                (found.2, found.3, found.4)),
+          )
+
+      pub line : KeptBut (IsListedOfGroup lease group (table_shape room tables)) a c
+      line =
+          but_weaker (IsListedIn files wanted) (IsListedOfGroup lease group (table_shape room tables)) a c
+          listed_file but
+
       -- there was no memory
       pub memory_behind : (asked rest : List Target) → c.asked ≡ a.asked ++ asked
           → addresses wanted ≡ asked ++ rest
           → IsGroupOver room tables lease group a c says.Memory
       memory_behind asked rest grown front =
-          over_by room tables lease group a c says.Memory kept (λ now. refl) (counts_none refl)
+          over_by room tables lease group a c says.Memory line (λ now. refl) (counts_none refl)
           (λ now image old idle shows sound. record {
             answers = inl (inl (refl, refl));
-            served = served_of a c says.Memory asked rest kept (view_valid shows leased sound) grown
+            served = served_of a c says.Memory asked rest line (view_valid shows leased sound) grown
                 front tt;
           })
 
@@ -228,9 +254,7 @@ module _ (room : Room) (tables : Tables) (lease : ℕ) (group : List ℕ) (view 
           at = at_named;
           order = refl;
           gave = gave;
-          ungiven = ungiven_end
-              (IsFileCause parts.entry.list parts.entry.size named)
-              (Matches parts.entry.list parts.entry.size) named reasons a c kept ungiven;
+          ungiven = ungiven;
         }
 
         among_wanted : Any (λ (entry : FileEntry). address_in view entry ≡ Ok named) entries
@@ -242,7 +266,7 @@ module _ (room : Room) (tables : Tables) (lease : ℕ) (group : List ℕ) (view 
 
         pub links_over : IsGroupOver room tables lease group a c (says.AllLinks named reasons)
         links_over =
-            over_by room tables lease group a c (says.AllLinks named reasons) kept (λ now. refl)
+            over_by room tables lease group a c (says.AllLinks named reasons) line (λ now. refl)
             (group_counts a c kept (table_shape room tables) group asked named reasons (bare_row view)
             lacks)
             (λ now image old idle shows sound. (
@@ -275,7 +299,7 @@ module _ (room : Room) (tables : Tables) (lease : ℕ) (group : List ℕ) (view 
                       ),
                     ),
                   ));
-              served = served_of a c (says.AllLinks named reasons) asked (addresses stop.later) kept
+              served = served_of a c (says.AllLinks named reasons) asked (addresses stop.later) line
                   is stop.grown front (bare_row view, leased.bare, absent, lacks);
             }
             ))

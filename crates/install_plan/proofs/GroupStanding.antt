@@ -36,7 +36,7 @@ use Rattle.store_state.specs.Tables.{Tables, bare_row, table_shape}
 use Rattle.store_state.proofs.Keyed.{of_key}
 use Rattle.links.specs.Links.{LinksState}
 use Rattle.install_plan.specs.Brought.{AreContentsFor, IsFileFrom, IsHeldOrCame}
-use Rattle.install_plan.specs.Given.{IsFrom}
+use Rattle.install_plan.specs.Given.{IsFromLeft}
 use Rattle.install_plan.specs.GroupAsked.{AreBrought}
 use Rattle.install_plan.specs.GroupReady.{address_in}
 use Rattle.install_plan.specs.Held.{given_bytes}
@@ -82,7 +82,7 @@ module _ (room : Room) (tables : Tables) (image : List ℕ) (lease : ℕ) (group
     IsFor entry wish = (target : Target)
         × (address_in view wish ≡ Ok target)
         × (same_content wish entry ≡ true)
-        × IsFrom (Matches wish.list wish.size) target a c (shown_file room image after entry).bytes
+        × IsFromLeft (Matches wish.list wish.size) target a c (shown_file room image after entry).bytes
 
     kept_one : (entry : FileEntry) → IsSome (content_of tables.contents entry)
         → is_held held entry ≡ true
@@ -114,7 +114,7 @@ module _ (room : Room) (tables : Tables) (image : List ℕ) (lease : ℕ) (group
           one.named,
           is_same one.entry entry (sym key ∙ sym (of_key entry first.item first.passes)),
           subst (λ (bs : List ℕ).
-              IsFrom (Matches one.entry.list one.entry.size) one.target a c bs) (sym bytes)
+              IsFromLeft (Matches one.entry.list one.entry.size) one.target a c bs) (sym bytes)
               one.is.from,
         )
 

@@ -28,6 +28,7 @@ pub mod Knowing
 pub mod LeasedRows
 pub mod Light
 pub mod Listed
+pub mod ListedFiles
 pub mod NewFiles
 pub mod Noted
 pub mod Outcome

@@ -70,7 +70,7 @@ module _ (room : Room) (tables : Tables) (url : List â„•) (texts : List (List â„
   entries = wanted (map bare_row tables.views) plan.application
 
   contents_are : AreContentsFor a c entries (targets_of plan) contents
-  contents_are = contents_for plan.application.files a c plan.wanted entries contents planned.is.places (all_from a b c planned.hearing.kept got.kept plan.application.files plan.wanted contents got.each)
+  contents_are = contents_for plan.application.files a c plan.wanted entries contents planned.is.places (all_from a b c planned.hearing.kept.kept got.kept.kept plan.application.files plan.wanted contents got.each)
 
   few_contents : length contents â‰¤ FILE_COUNT_LIMIT
   few_contents =
@@ -113,7 +113,7 @@ module _ (room : Room) (tables : Tables) (url : List â„•) (texts : List (List â„
     ready : IsReady room tables url texts a c now (change_of_plan tables plan plans contents now) (installed_of tables plan)
     ready = record {
       hears = planned.hears;
-      kept = kept_then a b c planned.hearing.kept got.kept;
+      kept = kept_then a b c planned.hearing.kept.kept got.kept.kept;
       passes = plan_passes room tables url texts plan planned.is;
       replied = (plan.deployment.identity.key, plan.deployment.identity.version, tables.next_view, refl);
       served = served_all (table_shape room tables) url texts a b c plan planned got.kept plan.deployment.identity.key plan.deployment.identity.version tables.next_view got.grown;

@@ -9,13 +9,14 @@ use Rattle.addresses.specs.Join.{file_target_of}
 use Rattle.causes.specs.declared.cause.Cause.{Cause}
 use Rattle.identity.specs.declared.key.Key.{Key}
 use Rattle.identity.specs.declared.version.Version.{Version}
+use Rattle.digest_list.specs.declared.digest.Digest.{Digest}
 use Rattle.digest_list.specs.Matches.{Matches}
 use Rattle.manifests.specs.declared.facts.Application.{Application}
 use Rattle.manifests.specs.declared.facts.Deployment.{Deployment}
 use Rattle.manifests.specs.declared.facts.FileEntry.{FileEntry}
 use Rattle.machine.specs.declared.reply.Reply.{Reply}
 use Rattle.machine.specs.declared.reply.Reply.TheVariants.{AllLinks, Installed, Memory}
-use Rattle.machine.specs.InstallRow.{OfRelease, OfWanted, address_refusals, deployment_refusals, file_refusals, install_refusals, release_refusals}
+use Rattle.machine.specs.InstallRow.{OfRelease, OfWanted, base_of, address_refusals, deployment_refusals, file_refusals, install_refusals, release_refusals}
 use Rattle.machine.specs.Rows.{PassesAll, Refusal, Refuses}
 use Rattle.machine.specs.Shape.{Shape}
 use Rattle.machine.specs.Store.{Session}
@@ -23,20 +24,23 @@ use Rattle.machine.specs.Wanted.{wanted}
 use Rattle.machine.proofs.Members.{In, contains_in, in_right}
 use Rattle.links.specs.Links.{LinksState}
 use Rattle.fetcher.specs.Causes.{IsFileCause}
-use Rattle.fetcher.specs.Fetched.{Kept}
+use Rattle.fetcher.specs.Fetched.{Kept, KeptBut}
 use Rattle.fetcher.specs.Given.{FitsText}
+use Rattle.fetcher.proofs.Liars.{but_then, but_weaker}
 use Rattle.fetcher.proofs.Sequence.{kept_then}
 use Rattle.install_plan.specs.declared.plan.Plan.{Plan}
 use Rattle.install_plan.specs.declared.plan.WantedFile.{WantedFile}
-use Rattle.install_plan.specs.FetchedFiles.{IsFileUngiven, IsStopped, Stops, StopsAt, addresses}
-use Rattle.install_plan.specs.Hearing.{Hearing, IsApplicationText, IsDeploymentText, LacksFile, LacksTarget, Served}
+use Rattle.install_plan.specs.FetchedFiles.{IsFileUngiven, IsListedIn, IsStopped, Stops, StopsAt, addresses}
+use Rattle.install_plan.specs.Hearing.{Hearing, IsApplicationText, IsDeploymentText, IsListedBy, IsListedFor, LacksFile, LacksTarget, Served}
 use Rattle.install_plan.specs.Plans.{IsPlanned, IsRefused, targets_of}
 use Rattle.install_plan.proofs.Downs.{counts_none, file_counts}
 use Rattle.install_plan.proofs.Aligning.{IsAmong, among, contents_for, given_for}
 use Rattle.install_plan.proofs.Asking.{plan_asks, plan_asks_only}
-use Rattle.install_plan.proofs.Extends.{from_on, ungiven_end}
+use Rattle.install_plan.proofs.Extends.{from_on}
 use Rattle.install_plan.proofs.Fetches.{all_from, lack_from}
+use Rattle.install_plan.proofs.ListedFiles.{listed_among}
 use Rattle.install_plan.proofs.Told.{base_is, release_map}
+use Rattle.install_plan.proofs.Wants.{in_any}
 
 some_map : {X : Type 0} (P Q : X → Type 0) (o : Option X) → ((x : X) → P x → Q x) → IfSome o P → IfSome o Q
 some_map P Q None each is = tt
@@ -58,9 +62,12 @@ lacks_file shape url (text ∷ []) a c asked named reasons lacks = absurd (no_te
     no_text text e = cc
 lacks_file shape url (text ∷ other ∷ others) a c asked named reasons lacks = lacks
 
-module _ (shape : Shape) (url : List ℕ) (texts : List (List ℕ)) (a b c : LinksState) (plan : Plan) (planned : IsPlanned shape url texts a b plan) (kept : Kept b c) where
+module _ (shape : Shape) (url : List ℕ) (texts : List (List ℕ)) (a b c : LinksState) (plan : Plan) (planned : IsPlanned shape url texts a b plan) (but : KeptBut (IsListedIn plan.application.files plan.wanted) b c) where
   abbrev one : Kept a b
-  one = planned.hearing.kept
+  one = planned.hearing.kept.kept
+
+  abbrev kept : Kept b c
+  kept = but.kept
 
   of_release : {P : Deployment → Application → Type 0} → P plan.deployment plan.application → OfRelease texts P
   of_release {P} holds = release_map {Q = P} texts (λ x y same. subst (λ (z : Deployment). P z y) (sym same.0) (subst (P plan.deployment) (sym same.1) holds)) planned.is.told
@@ -71,11 +78,27 @@ module _ (shape : Shape) (url : List ℕ) (texts : List (List ℕ)) (a b c : Lin
   application_on : (text : List ℕ) → IsApplicationText url texts a b text → IsApplicationText url texts a c text
   application_on text is = (is.0, is.1, is.2, is.3, (is.4.0, is.4.1, from_on a b c one kept (Matches is.1.app_list is.1.app_size) is.4.0 text is.4.2))
 
+  -- those that are gone gave other bytes than a wanted file
+  listed_file : (t : Target) (l : List Digest) (s : ℕ) → IsListedIn plan.application.files plan.wanted t l s → IsListedBy shape url texts t l s
+  listed_file t l s is =
+      let entry = listed_among plan.application.files (λ (e : FileEntry). file_target_of plan.base plan.deployment.mapped e.name)
+      (wanted shape.views plan.application) plan.wanted planned.is.places planned.is.targets t l s is in
+      inr (of_release {P = λ d x. (base : Target) × (base_of url d ≡ Ok base) × Any (IsListedFor base d.mapped t l s) (wanted shape.views x)} (
+        plan.base,
+        base_is url plan.deployment plan.url (Ok plan.base) planned.is.read planned.is.joined,
+        in_any (IsListedFor plan.base plan.deployment.mapped t l s) (wanted shape.views plan.application) entry.0 entry.1 (entry.2, entry.3, entry.4),
+      ))
+
+  but_line : KeptBut (IsListedBy shape url texts) a c
+  but_line =
+      but_then (IsListedBy shape url texts) a b c planned.hearing.kept
+      (but_weaker (IsListedIn plan.application.files plan.wanted) (IsListedBy shape url texts) b c listed_file but)
+
   -- ---- what was asked
 
   pub hearing_on : (files rest : List Target) → c.asked ≡ b.asked ++ files → targets_of plan ≡ files ++ rest → Hearing shape url texts a c
   hearing_on files rest more front = record {
-    kept = kept_then a b c one kept;
+    kept = but_line;
     deployment = some_map (IsDeploymentText url a b) (IsDeploymentText url a c) (slice_get texts 0) deployment_on planned.hearing.deployment;
     application = some_map (IsApplicationText url texts a b) (IsApplicationText url texts a c) (slice_get texts 1) application_on planned.hearing.application;
     asked = plan.url ∷ plan.base ∷ files;
@@ -134,8 +157,8 @@ module _ (shape : Shape) (url : List ℕ) (texts : List (List ℕ)) (a b c : Lin
       order = refl;
       gave = given_for a c part.earlier (addresses stop.earlier) stop.contents
           (contents_for files a c stop.earlier part.earlier stop.contents part.places (all_from a b c one kept files stop.earlier stop.contents stop.gave));
-      ungiven = ungiven_end (IsFileCause part.entry.list part.entry.size named) (Matches part.entry.list part.entry.size) named reasons a c (kept_then a b c one kept)
-          (lack_from a b c one kept part.entry named reasons (subst (λ (o : Option FileEntry). IfSome o (λ e. IsFileUngiven e named b c reasons)) part.place stop.ungiven));
+      ungiven = lack_from a b c one kept part.entry named reasons
+          (subst (λ (o : Option FileEntry). IfSome o (λ e. IsFileUngiven e named b c reasons)) part.place stop.ungiven);
     }
 
     pub unserved : Served shape url texts a c (AllLinks named reasons)

@@ -1,5 +1,5 @@
 -- How a manifest is heard, and why not.
-use Rattle.std.proofs.Common.{◌≡◌, ◌≢◌, ◌++◌, inl, inr, refl, sym, subst, ℕ, List, [], ◌∷◌, Ok, arith}
+use Rattle.std.proofs.Common.{◌≡◌, ◌≢◌, ◌++◌, inl, inr, refl, sym, subst, ℕ, List, [], ◌∷◌, None, Ok, arith}
 use Rattle.outside.specs.Streams.{Rose}
 use Rattle.small_types.specs.declared.target.Target.{Target}
 use Rattle.causes.specs.declared.cause.Cause.{Cause}
@@ -18,8 +18,9 @@ use Rattle.links.specs.Links.{LinksState}
 use Rattle.fetcher.specs.declared.fault.FetchFault.{FetchFault}
 use Rattle.fetcher.specs.declared.fault.FetchFault.TheVariants.{AllLinks, BasketFault, Memory}
 use Rattle.fetcher.specs.Causes.{IsFileCause, IsTextCause}
-use Rattle.fetcher.specs.Fetched.{IsFile, IsFileFault, IsText, IsTextFault}
+use Rattle.fetcher.specs.Fetched.{IsFile, IsFileFault, IsText, IsTextFault, Kept}
 use Rattle.fetcher.specs.Given.{FitsText}
+use Rattle.fetcher.proofs.Sequence.{given_after}
 use Rattle.install_plan.specs.Replies.{IsFetchReply, manifest_reply}
 use Rattle.install_plan.specs.FetchedFiles.{IsLack}
 use Rattle.install_plan.specs.Stages.{HearsOne, IsGot, StopsOne}
@@ -57,10 +58,17 @@ module _ (target : Target) (a b : LinksState) where
   file_fault list size BasketFault is = absurd (no_rise is.rose)
   file_fault list size Memory is = λ e. cc
 
-  pub file_lacks : (entry : FileEntry) (reason : FetchFault) (reply : Reply) → IsFileFault entry.list entry.size target a b 0 0 reason → IsFetchReply reason reply → IsLack entry target a b reply
-  file_lacks entry (AllLinks named reasons) reply is replied = subst (IsLack entry target a b) (sym replied) (is.shown, is.asked, record { causes = is.causes; none = is.none })
-  file_lacks entry BasketFault reply is replied = absurd replied
-  file_lacks entry Memory reply is replied = subst (IsLack entry target a b) (sym replied) is
+  pub file_lacks : (entry : FileEntry) → Kept a b → (reason : FetchFault) (reply : Reply) → IsFileFault entry.list entry.size target a b 0 0 reason → IsFetchReply reason reply → IsLack entry target a b reply
+  file_lacks entry kept (AllLinks named reasons) reply is replied = subst (IsLack entry target a b) (sym replied) (
+    is.shown,
+    is.asked,
+    record {
+      causes = is.causes;
+      none = λ quiet. given_after a b target kept is.remain quiet.tell (Matches entry.list entry.size) None (is.none quiet);
+    },
+  )
+  file_lacks entry kept BasketFault reply is replied = absurd replied
+  file_lacks entry kept Memory reply is replied = subst (IsLack entry target a b) (sym replied) is
 
   module _ {A : Type 0} (facts : Tree → Read A) (old new : List (List ℕ)) (same : new ≡ old) where
     pub text_stops : (limit : ℕ) (reason : FetchFault) (reply : Reply) → IsTextFault limit target a b reason → IsFetchReply reason reply → StopsOne facts (IsTextCause limit target) (FitsText limit) target a b old new reply

@@ -13,7 +13,7 @@ use Rattle.machine.specs.Views.{DataFile, ListedFile, View, key_of, same_content
 use Rattle.machine.specs.Wanted.{is_held, wanted}
 use Rattle.store_state.specs.declared.view.Content.{Content}
 use Rattle.links.specs.Links.{LinksState}
-use Rattle.install_plan.specs.Given.{IsFrom}
+use Rattle.install_plan.specs.Given.{IsFromLeft}
 use Rattle.install_plan.specs.Held.{given_bytes}
 
 -- ---- contents
@@ -23,7 +23,7 @@ pub record IsContentFor (before after : LinksState) (entry : FileEntry) (target 
     (content : Content) : Type 0 where
   pub size : content.size ≡ entry.size
   pub list : content.list ≡ entry.list
-  pub from : IsFrom (Matches entry.list entry.size) target before after
+  pub from : IsFromLeft (Matches entry.list entry.size) target before after
       (given_bytes content.held)
 
 -- one for each file, in order
@@ -52,7 +52,7 @@ IsHeldOrCame Came shape wants view file =
 -- Bytes that match the file were got at the target.
 abbrev pub IsFileFrom : LinksState → LinksState → FileEntry → Target → List ℕ → Type 0
 IsFileFrom before after entry target bytes =
-    IsFrom (Matches entry.list entry.size) target before after bytes
+    IsFromLeft (Matches entry.list entry.size) target before after bytes
 
 -- It is a data file of the view that was current, which stays or is kept aside; or its bytes were
 -- got at the address of a data file that the release deploys under the name.
@@ -65,7 +65,7 @@ IsCarriedOrFetched old before after view file =
     ⊎ Any (λ (entry : FileEntry). (target : Target) × (entry.local ≡ true)
     × (entry.name ≡ file.name)
     × (file_target_of view.base view.deployment.mapped entry.name ≡ Ok target)
-    × IsFrom (Matches entry.list entry.size) target before after file.bytes)
+    × IsFromLeft (Matches entry.list entry.size) target before after file.bytes)
     view.application.files
 
 -- so are all files of a view that an install brings to a session

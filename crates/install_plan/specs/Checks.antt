@@ -18,7 +18,7 @@ use Rattle.store_state.specs.Change.{Fits}
 use Rattle.store_state.specs.Shows.{Shows}
 use Rattle.store_state.specs.Tables.{Tables, table_shape}
 use Rattle.links.specs.Links.{LinksState}
-use Rattle.fetcher.specs.Fetched.{Kept}
+use Rattle.fetcher.specs.Fetched.{KeptAll}
 use Rattle.install_plan.specs.declared.check.Offered.{Offered}
 use Rattle.install_plan.specs.declared.prepared.Prepared.{Prepared}
 use Rattle.install_plan.specs.declared.prepared.Prepared.TheVariants as to
@@ -106,7 +106,7 @@ IsOfCheck key _ = ⊥
 pub record IsCheckReady (room : Room) (tables : Tables) (key : Key) (texts : List (List ℕ))
     (before after : LinksState) (now : ℕ) (change : Change) (reply : Reply) : Type 0 where
   pub hears : HearsOffer key (table_shape room tables) texts
-  pub kept : Kept before after
+  pub kept : KeptAll before after
   pub still : moment_after now (Some reply) ≡ now
   pub downs : CountsDowns before after reply
   pub of : IsOfCheck key change
@@ -117,7 +117,7 @@ pub record IsCheckReady (room : Room) (tables : Tables) (key : Key) (texts : Lis
 pub record IsCheckOver (room : Room) (tables : Tables) (key : Key) (texts : List (List ℕ))
     (before after : LinksState) (now : ℕ) (reply : Reply) : Type 0 where
   pub hears : HearsOffer key (table_shape room tables) texts
-  pub kept : Kept before after
+  pub kept : KeptAll before after
   pub still : moment_after now (Some reply) ≡ now
   pub downs : CountsDowns before after reply
   pub step : ChecksTo room tables key texts before after now reply (λ old new. new ≡ old)

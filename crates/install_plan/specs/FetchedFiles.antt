@@ -1,8 +1,9 @@
 -- What is fetched of the files that a plan wants.
-use Rattle.std.specs.Prelude.{◌≡◌, ◌<◌, ◌^◌, List, [], ◌∷◌, ◌++◌, All, IfSome, length, map, slice_get}
+use Rattle.std.specs.Prelude.{◌≡◌, ◌⊎◌, ◌<◌, ◌^◌, ℕ, List, [], ◌∷◌, ◌++◌, All, IfSome, IsSomeAnd, length, map, slice_get}
 use Rattle.std.specs.List.{AllZip}
 use Rattle.small_types.specs.declared.target.Target.{Target}
 use Rattle.causes.specs.declared.cause.Cause.{Cause}
+use Rattle.digest_list.specs.declared.digest.Digest.{Digest}
 use Rattle.digest_list.specs.Matches.{Matches}
 use Rattle.manifests.specs.declared.facts.FileEntry.{FileEntry}
 use Rattle.machine.specs.declared.reply.Reply.{Reply}
@@ -10,7 +11,7 @@ use Rattle.machine.specs.declared.reply.Reply.TheVariants.{AllLinks, Memory}
 use Rattle.store_state.specs.declared.view.Content.{Content}
 use Rattle.links.specs.Links.{LinksState}
 use Rattle.fetcher.specs.Causes.{IsFileCause}
-use Rattle.fetcher.specs.Fetched.{Asked, Kept, MayAsk}
+use Rattle.fetcher.specs.Fetched.{Asked, IsThis, Kept, KeptBut, MayAsk}
 use Rattle.install_plan.specs.declared.plan.WantedFile.{WantedFile}
 use Rattle.install_plan.specs.Brought.{IsContentFor}
 use Rattle.install_plan.specs.Given.{IsUngiven}
@@ -21,7 +22,11 @@ use Rattle.install_plan.specs.Given.{IsUngiven}
 abbrev pub IsFileUngiven : FileEntry → Target → LinksState → LinksState → List Cause → Type 0
 IsFileUngiven entry target before after reasons =
     IsUngiven (IsFileCause entry.list entry.size target) (Matches entry.list entry.size) target
-    before after before reasons
+    before after after reasons
+
+-- what is listed at its address is its size and digests
+abbrev pub IsEntryAt : FileEntry → Target → Target → List Digest → ℕ → Type 0
+IsEntryAt entry target = IsThis target entry.list entry.size
 
 -- its content was fetched
 pub record IsFetched (entry : FileEntry) (target : Target) (before after : LinksState)
@@ -48,6 +53,13 @@ pub record ArePlaces (files : List FileEntry) (wanted : List WantedFile) : Type 
   pub within : All (λ file. file.place < length files) wanted
   pub sized : All (λ entry. entry.size < 2 ^ 61) files
 
+-- what is listed at an address is the size and digests of one of these files
+abbrev pub IsListedIn : List FileEntry → List WantedFile → Target → List Digest → ℕ → Type 0
+IsListedIn files [] target list size = ⊥
+IsListedIn files (file ∷ wanted) target list size =
+    IsSomeAnd (slice_get files file.place) (λ entry. IsEntryAt entry file.target target list size)
+    ⊎ IsListedIn files wanted target list size
+
 -- the content of the file at the place
 abbrev pub IsContentAt :
     LinksState → LinksState → List FileEntry → WantedFile → Content → Type 0
@@ -58,7 +70,7 @@ IsContentAt before after files file content =
 -- the contents of these files were fetched, in order
 pub record HasFetched (files : List FileEntry) (wanted : List WantedFile)
     (before after : LinksState) (contents : List Content) : Type 0 where
-  pub kept : Kept before after
+  pub kept : KeptBut (IsListedIn files wanted) before after
   pub grown : after.asked ≡ before.asked ++ addresses wanted
   pub each : AllZip (IsContentAt before after files) wanted contents
 
@@ -92,5 +104,5 @@ Stops files wanted before after _ = ⊥
 
 pub record IsStopped (files : List FileEntry) (wanted : List WantedFile)
     (before after : LinksState) (reply : Reply) : Type 0 where
-  pub kept : Kept before after
+  pub kept : KeptBut (IsListedIn files wanted) before after
   pub stops : Stops files wanted before after reply

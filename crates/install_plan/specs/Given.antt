@@ -1,11 +1,11 @@
 -- What links gave for a target, or why they did not, from the beginning of a line to its end.
-use Rattle.std.specs.Prelude.{ℕ, List, Some, None}
+use Rattle.std.specs.Prelude.{ℕ, Bool, List, Some, None}
 use Rattle.small_types.specs.declared.target.Target.{Target}
 use Rattle.causes.specs.declared.cause.Cause.{Cause}
 use Rattle.links.specs.Link.{LinkState}
 use Rattle.links.specs.Links.{LinksState}
 use Rattle.fetcher.specs.Causes.{AreCauses}
-use Rattle.fetcher.specs.Fetched.{AllTell, AreGiven, AreQuiet}
+use Rattle.fetcher.specs.Fetched.{AllTell, AreGiven, AreQuiet, Kept}
 use Rattle.fetcher.specs.Given.{Given, IsOfSite}
 
 -- Bytes that fit were got at the target. Over links that tell they are those of one link's site,
@@ -17,6 +17,19 @@ pub record IsFrom (Fits : List ℕ → Type 0) (target : Target) (before after :
   pub enough : AreGiven Fits target before after bytes
   pub site : AllTell before → IsOfSite before target bytes
   pub given : AreQuiet before after → Given Fits before target (Some bytes)
+
+-- of the links these are left
+abbrev pub narrowed : LinksState → List Bool → LinksState
+narrowed links left = record links { there = left }
+
+-- The same of a file, for which those links were asked that were left by then. Where no link went they
+-- are those from before.
+pub record IsFromLeft (Fits : List ℕ → Type 0) (target : Target) (before after : LinksState)
+    (bytes : List ℕ) : Type 0 where
+  pub left : List Bool
+  pub earlier : Kept before (narrowed before left)
+  pub later : Kept (narrowed before left) after
+  pub from : IsFrom Fits target (narrowed before left) after bytes
 
 -- No link gave the target, each for its cause. Where no link failed, none of these has bytes that
 -- fit.

@@ -1,8 +1,9 @@
 -- What a group asked of its links, from the beginning of its line to the end.
-use Rattle.std.specs.Prelude.{◌≡◌, ℕ, List, ◌∷◌, [], ◌++◌, All, Some, Ok, map}
+use Rattle.std.specs.Prelude.{◌≡◌, ℕ, List, ◌∷◌, [], ◌++◌, All, Any, Some, Ok, map}
 use Rattle.small_types.specs.declared.target.Target.{Target}
 use Rattle.addresses.specs.Join.{file_target_of}
 use Rattle.causes.specs.declared.cause.Cause.{Cause}
+use Rattle.digest_list.specs.declared.digest.Digest.{Digest}
 use Rattle.digest_list.specs.Matches.{Matches}
 use Rattle.manifests.specs.declared.facts.FileEntry.{FileEntry}
 use Rattle.machine.specs.declared.reply.Reply.{Reply}
@@ -16,10 +17,10 @@ use Rattle.machine.specs.Store.{Store}
 use Rattle.machine.specs.Views.{View}
 use Rattle.links.specs.Links.{LinksState}
 use Rattle.fetcher.specs.Causes.{IsFileCause}
-use Rattle.fetcher.specs.Fetched.{Kept}
+use Rattle.fetcher.specs.Fetched.{KeptBut}
 use Rattle.install_plan.specs.Brought.{IsFileFrom, IsHeldOrCame}
 use Rattle.install_plan.specs.Given.{IsUngiven}
-use Rattle.install_plan.specs.Hearing.{IsFront, WereGiven}
+use Rattle.install_plan.specs.Hearing.{IsFront, IsListedFor, WereGiven}
 
 -- ---- what was asked
 
@@ -48,10 +49,18 @@ AccountsGroup lease group shape before after asked (AllLinks named reasons) =
 AccountsGroup lease group shape before after asked Memory = Unit {0}
 AccountsGroup lease group shape before after asked _ = AsksGroup lease group shape asked
 
--- no target was asked for but the first of those that the group asks for
+-- what is listed at an address is the size and digests of a file that the group wants
+abbrev pub IsListedOfGroup : ℕ → List ℕ → Shape → Target → List Digest → ℕ → Type 0
+IsListedOfGroup lease group shape target list size =
+    OfComing lease group shape (λ view.
+    Any (IsListedFor view.base view.deployment.mapped target list size)
+    (group_wanted shape.views group view.application))
+
+-- No target was asked for but the first of those that the group asks for. Of the links that tell only
+-- those went that gave other bytes than are listed.
 pub record GroupServed (lease : ℕ) (group : List ℕ) (shape : Shape) (before after : LinksState)
     (reply : Reply) : Type 0 where
-  pub kept : Kept before after
+  pub kept : KeptBut (IsListedOfGroup lease group shape) before after
   pub asked : List Target
   pub grown : after.asked ≡ before.asked ++ asked
   pub front : (all : List Target) → AsksGroup lease group shape all → IsFront asked all

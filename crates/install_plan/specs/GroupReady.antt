@@ -32,12 +32,12 @@ use Rattle.table_weight.specs.Weight.{tables_weight}
 use Rattle.file_groups.specs.declared.fault.GroupFault.{GroupFault}
 use Rattle.file_groups.specs.declared.fault.GroupFault.TheVariants as fault
 use Rattle.links.specs.Links.{LinksState}
-use Rattle.fetcher.specs.Fetched.{Kept}
+use Rattle.fetcher.specs.Fetched.{KeptAll, KeptBut}
 use Rattle.install_plan.specs.declared.plan.WantedFile.{WantedFile}
 use Rattle.install_plan.specs.Checks.{LedBy}
 use Rattle.install_plan.specs.Downs.{CountsDowns}
 use Rattle.install_plan.specs.FetchedFiles.{HasFetched, IsStopped}
-use Rattle.install_plan.specs.GroupAsked.{AreBrought, GroupServed}
+use Rattle.install_plan.specs.GroupAsked.{AreBrought, GroupServed, IsListedOfGroup}
 use Rattle.install_plan.specs.Judges.{Refused, room_checks, weight_checks}
 
 -- ---- files without their group, which are wanted as required ones are
@@ -107,7 +107,7 @@ IsUnasked room tables view group files reply =
 
 -- no link was asked
 pub record AreUnasked (before after : LinksState) : Type 0 where
-  pub kept : Kept before after
+  pub kept : KeptAll before after
   pub same : after.asked ≡ before.asked
 
 -- or not all were fetched
@@ -146,7 +146,7 @@ IsOfGroup group _ = ⊥
 -- A change is to be made, which fits. The changed tables have room in a half of the journal.
 pub record IsGroupReady (room : Room) (tables : Tables) (lease : ℕ) (group : List ℕ)
     (before after : LinksState) (change : Change) (reply : Reply) : Type 0 where
-  pub kept : Kept before after
+  pub kept : KeptBut (IsListedOfGroup lease group (table_shape room tables)) before after
   pub still : (now : ℕ) → moment_after now (Some reply) ≡ now
   pub downs : CountsDowns before after reply
   pub of : IsOfGroup group change
@@ -157,7 +157,7 @@ pub record IsGroupReady (room : Room) (tables : Tables) (lease : ℕ) (group : L
 -- Nothing is to be changed.
 pub record IsGroupOver (room : Room) (tables : Tables) (lease : ℕ) (group : List ℕ)
     (before after : LinksState) (reply : Reply) : Type 0 where
-  pub kept : Kept before after
+  pub kept : KeptBut (IsListedOfGroup lease group (table_shape room tables)) before after
   pub still : (now : ℕ) → moment_after now (Some reply) ≡ now
   pub downs : CountsDowns before after reply
   pub step : GroupsTo room tables lease group before after reply (λ old new. new ≡ old)

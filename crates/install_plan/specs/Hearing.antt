@@ -1,10 +1,11 @@
 -- What an install asked of its links and heard of them, from the beginning of its line to the end.
-use Rattle.std.specs.Prelude.{◌≡◌, ℕ, List, [], ◌∷◌, ◌++◌, map, IfSome, Ok, slice_get}
+use Rattle.std.specs.Prelude.{◌≡◌, ◌⊎◌, ℕ, Bool, List, [], ◌∷◌, ◌++◌, map, Any, IfSome, Ok, slice_get}
 use Rattle.small_types.specs.declared.limits.TheConstants.{MANIFEST_LIMIT}
 use Rattle.small_types.specs.declared.target.Target.{Target}
 use Rattle.addresses.specs.Address.{target_of_text}
 use Rattle.addresses.specs.Join.{app_target_of, file_target_of}
 use Rattle.causes.specs.declared.cause.Cause.{Cause}
+use Rattle.digest_list.specs.declared.digest.Digest.{Digest}
 use Rattle.digest_list.specs.Matches.{Matches}
 use Rattle.manifests.specs.declared.facts.Application.{Application}
 use Rattle.manifests.specs.declared.facts.Deployment.{Deployment}
@@ -17,9 +18,9 @@ use Rattle.machine.specs.Shape.{Shape}
 use Rattle.machine.specs.Wanted.{wanted}
 use Rattle.links.specs.Links.{LinksState}
 use Rattle.fetcher.specs.Causes.{IsFileCause, IsTextCause}
-use Rattle.fetcher.specs.Fetched.{Kept}
+use Rattle.fetcher.specs.Fetched.{KeptBut}
 use Rattle.fetcher.specs.Given.{FitsText}
-use Rattle.install_plan.specs.Given.{IsFrom, IsUngiven}
+use Rattle.install_plan.specs.Given.{IsFrom, IsFromLeft, IsUngiven}
 
 -- ---- the texts
 
@@ -36,17 +37,40 @@ IsApplicationText url texts before after text =
     OfDeployment texts (λ d. (base : Target) × (base_of url d ≡ Ok base)
     × IsFrom (Matches d.app_list d.app_size) base before after text)
 
+-- ---- what is listed
+
+-- at an address beside the application manifest, for the file
+abbrev pub IsListedFor : Target → Bool → Target → List Digest → ℕ → FileEntry → Type 0
+IsListedFor base mapped target list size entry =
+    (file_target_of base mapped entry.name ≡ Ok target) × (list ≡ entry.list) × (size ≡ entry.size)
+
+-- for the application manifest, by the deployment that was heard
+abbrev pub IsListedManifest : List ℕ → List (List ℕ) → Target → List Digest → ℕ → Type 0
+IsListedManifest url texts target list size =
+    OfDeployment texts (λ d. (base_of url d ≡ Ok target) × (list ≡ d.app_list) × (size ≡ d.app_size))
+
+-- for a wanted file, by the release that was heard
+abbrev pub IsListedFile : Shape → List ℕ → List (List ℕ) → Target → List Digest → ℕ → Type 0
+IsListedFile shape url texts target list size =
+    OfRelease texts (λ d a. (base : Target) × (base_of url d ≡ Ok base)
+    × Any (IsListedFor base d.mapped target list size) (wanted shape.views a))
+
+abbrev pub IsListedBy : Shape → List ℕ → List (List ℕ) → Target → List Digest → ℕ → Type 0
+IsListedBy shape url texts target list size =
+    IsListedManifest url texts target list size ⊎ IsListedFile shape url texts target list size
+
 -- ---- the line so far
 
 -- the first of a list
 abbrev pub IsFront : List Target → List Target → Type 0
 IsFront front all = (rest : List Target) × (all ≡ front ++ rest)
 
--- The links went on from before to after. Each text came from its target, and no target was asked
--- for but the first of those that the install asks for.
+-- The links went on from before to after. Of those that tell only those went that gave other bytes
+-- than the texts list. Each text came from its target, and no target was asked for but the first of
+-- those that the install asks for.
 pub record Hearing (shape : Shape) (url : List ℕ) (texts : List (List ℕ))
     (before after : LinksState) : Type 0 where
-  pub kept : Kept before after
+  pub kept : KeptBut (IsListedBy shape url texts) before after
   pub deployment : IfSome (slice_get texts 0) (IsDeploymentText url before after)
   pub application : IfSome (slice_get texts 1) (IsApplicationText url texts before after)
   pub asked : List Target
@@ -60,7 +84,7 @@ pub record Hearing (shape : Shape) (url : List ℕ) (texts : List (List ℕ))
 abbrev pub WereGiven : LinksState → LinksState → List FileEntry → List Target → Type 0
 WereGiven before after [] [] = Unit {0}
 WereGiven before after (entry ∷ entries) (target ∷ targets) =
-    ((bytes : List ℕ) × IsFrom (Matches entry.list entry.size) target before after bytes)
+    ((bytes : List ℕ) × IsFromLeft (Matches entry.list entry.size) target before after bytes)
     × WereGiven before after entries targets
 WereGiven before after entries targets = ⊥
 

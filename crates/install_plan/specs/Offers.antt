@@ -12,7 +12,7 @@ use Rattle.machine.specs.CheckRow.{provider_of}
 use Rattle.machine.specs.Shape.{Shape}
 use Rattle.links.specs.Links.{LinksState}
 use Rattle.fetcher.specs.Causes.{IsTextCause}
-use Rattle.fetcher.specs.Fetched.{Kept}
+use Rattle.fetcher.specs.Fetched.{KeptAll}
 use Rattle.fetcher.specs.Given.{FitsText}
 use Rattle.install_plan.specs.Given.{IsFrom, IsUngiven}
 use Rattle.install_plan.specs.Hearing.{IsFront}
@@ -26,11 +26,11 @@ IsOfferText key shape before after text =
     (target : Target) × (provider_of key shape.apps ≡ Some target)
     × IsFrom (FitsText MANIFEST_LIMIT) target before after text
 
--- The links went on from before to after. The text came from the provider, and nothing was asked
+-- The links went on from before to after, and none is gone. The text came from the provider, and nothing was asked
 -- for but what the check asks for.
 pub record OfferHearing (key : Key) (shape : Shape) (texts : List (List ℕ))
     (before after : LinksState) : Type 0 where
-  pub kept : Kept before after
+  pub kept : KeptAll before after
   pub text : IfSome (slice_get texts 0) (IsOfferText key shape before after)
   pub asked : List Target
   pub grown : after.asked ≡ before.asked ++ asked
@@ -57,7 +57,7 @@ pub record OfferServed (key : Key) (shape : Shape) (texts : List (List ℕ))
 -- the manifest of the key was got and noted
 pub record IsOffer (key : Key) (provider : Target) (old new : List (List ℕ))
     (before after : LinksState) (d : Deployment) : Type 0 where
-  pub kept : Kept before after
+  pub kept : KeptAll before after
   pub heard : HearsOne deployment_of (FitsText MANIFEST_LIMIT) provider before after old new d
   pub same : d.identity.key ≡ key
 
@@ -73,7 +73,7 @@ pub record IsOfOther (key : Key) (provider : Target) (old new : List (List ℕ))
 -- why none was heard
 pub record IsNoOffer (key : Key) (provider : Target) (old new : List (List ℕ))
     (before after : LinksState) (reply : Reply) : Type 0 where
-  pub kept : Kept before after
+  pub kept : KeptAll before after
   pub why :
       StopsOne deployment_of (IsTextCause MANIFEST_LIMIT provider) (FitsText MANIFEST_LIMIT)
       provider before after old new reply

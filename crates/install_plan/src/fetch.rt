@@ -1,7 +1,8 @@
 // The files that an install or a group fetches.
 ghost use Rattle.std.specs.Prelude.{◌≡◌, ◌≢◌, ◌≤◌, ◌<◌, ◌^◌, IfOk, IfErr, OnOk, Err};
 ghost use Rattle.fetcher.specs.declared.fault.FetchFault.TheVariants as fetch;
-ghost use Rattle.fetcher.specs.Fetched.{IsFile, IsFileFault, Kept};
+ghost use Rattle.fetcher.specs.Fetched.{IsFile, IsFileFault, IsThis, KeptBut};
+ghost use Rattle.links.specs.Links.{Remain};
 ghost use Rattle.install_plan.specs.FetchedFiles.{ArePlaces, HasFetched, IsFetched, IsLack, IsStopped};
 
 use crate::WantedFile;
@@ -30,7 +31,9 @@ pub fn fetch_file_into<L: Links, B: Basket>(
         (L.links links.old) (L.links links.new) B.tells (B.taken basket.new)) }
     ensures fault { IfErr result (IsFileFault entry.now.list entry.now.size target.now
         (L.links links.old) (L.links links.new) (B.count basket.old) (B.count basket.new)) }
-    ensures kept { Kept (L.links links.old) (L.links links.new) }
+    ensures kept { KeptBut (IsThis target.now entry.now.list entry.now.size)
+        (L.links links.old) (L.links links.new) }
+    ensures remain { IfErr result (λ _. Remain (L.links links.old) (L.links links.new)) }
     ensures later { B.count basket.old ≤ B.count basket.new }
     ensures quiet { result ≢ Err fetch.BasketFault → B.count basket.new ≡ B.count basket.old }
     ensures turned { B.turns_to basket.old basket.new }
@@ -51,7 +54,8 @@ fn fetch_content<L: Links>(
         (L.links links.old) (L.links links.new)) }
     ensures lack { IfErr result (IsLack entry.now target.now
         (L.links links.old) (L.links links.new)) }
-    ensures kept { Kept (L.links links.old) (L.links links.new) }
+    ensures kept { KeptBut (IsThis target.now entry.now.list entry.now.size)
+        (L.links links.old) (L.links links.new) }
 {
     let list = match entry.list.copy(alloc) {
         Ok(list) => list,

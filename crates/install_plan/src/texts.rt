@@ -2,7 +2,7 @@
 ghost use Rattle.std.specs.Prelude.{◌≡◌, ◌<◌, ◌^◌, IfErr, IfOk, List, ℕ};
 ghost use Rattle.digest_list.specs.Matches.{Matches};
 ghost use Rattle.fetcher.specs.Causes.{IsFileCause, IsTextCause};
-ghost use Rattle.fetcher.specs.Fetched.{Kept};
+ghost use Rattle.fetcher.specs.Fetched.{IsThis, KeptAll, KeptBut};
 ghost use Rattle.fetcher.specs.Given.{FitsText};
 ghost use Rattle.manifest_parts.specs.Elements.{Read};
 ghost use Rattle.manifest_tree.specs.Tree.{Tree};
@@ -35,7 +35,7 @@ pub(crate) fn hear_deployment<L: Links>(
         (IsTextCause limits.MANIFEST_LIMIT target.now)
         (FitsText limits.MANIFEST_LIMIT) target.now (L.links links.old) (L.links links.new)
         heard.old.texts heard.new.texts) }
-    ensures kept { Kept (L.links links.old) (L.links links.new) }
+    ensures kept { KeptAll (L.links links.old) (L.links links.new) }
 {
     let text = match fetch_text(alloc, links, target, MANIFEST_LIMIT as u64) {
         Ok(text) => text,
@@ -65,7 +65,8 @@ fn fetch_listed<L: Links>(
         → IfErr result (StopsOne facts (IsFileCause d.now.app_list d.now.app_size base.now)
         (Matches d.now.app_list d.now.app_size) base.now (L.links links.old) (L.links links.new)
         texts texts) }
-    ensures kept { Kept (L.links links.old) (L.links links.new) }
+    ensures kept { KeptBut (IsThis base.now d.now.app_list d.now.app_size)
+        (L.links links.old) (L.links links.new) }
 {
     let mut basket = ByteBasket::new(alloc, d.app_size);
     match fetch_file(alloc, links, base, d.app_size, &d.app_list, &mut basket) {
@@ -90,7 +91,8 @@ pub(crate) fn hear_application<L: Links>(
         (IsFileCause d.now.app_list d.now.app_size base.now)
         (Matches d.now.app_list d.now.app_size) base.now (L.links links.old) (L.links links.new)
         heard.old.texts heard.new.texts) }
-    ensures kept { Kept (L.links links.old) (L.links links.new) }
+    ensures kept { KeptBut (IsThis base.now d.now.app_list d.now.app_size)
+        (L.links links.old) (L.links links.new) }
 {
     let text = match fetch_listed(alloc, links, base, d) {
         Ok(text) => text,

@@ -1,9 +1,9 @@
 // The links of a session.
-ghost use Rattle.std.specs.Prelude.{◌≡◌, ◌<◌, ◌≤◌, length};
+ghost use Rattle.std.specs.Prelude.{◌≡◌, ◌<◌, ◌≤◌, [], ◌∷◌, length, true};
 ghost use Rattle.small_types.specs.declared.limits.TheConstants.{LINK_LIMIT};
 ghost use Rattle.links.specs.Asked.{NotesAsk, NotesPiece};
 ghost use Rattle.links.specs.Link.{Asks, Takes};
-ghost use Rattle.links.specs.Links.{LinksState, IsLast, ChangesOnly, Retires, Wants, failures_of};
+ghost use Rattle.links.specs.Links.{LinksState, IsLast, ChangesOnly, Retires, Wants, failures_of, link_at, sources_of};
 ghost use Rattle.links.specs.declared.links.WantFault.TheVariants.{Memory};
 
 use crate::{Link, LinkFault};
@@ -53,12 +53,12 @@ impl<T: Drop> From<AllocFailed<T>> for WantFault {
 
 /// 1 to 8 links, by their places from 0 on, and the list of the targets that were asked for.
 pub trait Links {
-    /// The links, how often those failed that are gone, and the targets.
+    /// The links, those that are gone included, and the targets.
     ghost links: { Self → LinksState };
 
     /// How many links there are.
     fn sources(&self) -> u32
-        ensures count { result ≡ (links self.now).sources }
+        ensures count { result ≡ sources_of (links self.now) }
         ensures some { 1 ≤ result }
         ensures within { result ≤ LINK_LIMIT };
 
@@ -68,36 +68,36 @@ pub trait Links {
 
     /// Asks the link at the place for the target that was added last. See `Link::ask`.
     fn ask(&mut self, alloc: Global, place: u32, target: &Target) -> Result<u64, LinkFault>
-        requires place { place < (links self.old).sources }
+        requires place { place < sources_of (links self.old) }
         requires wanted { IsLast target.now (links self.old).asked }
-        ensures asks { Asks target.now ((links self.old).link place) ((links self.new).link place)
-            result }
-        ensures noted { NotesAsk target.now ((links self.old).link place)
-            ((links self.new).link place) result }
+        ensures asks { Asks target.now (link_at (links self.old) place)
+            (link_at (links self.new) place) result }
+        ensures noted { NotesAsk target.now (link_at (links self.old) place)
+            (link_at (links self.new) place) result }
         ensures only { ChangesOnly place (links self.old) (links self.new) };
 
     /// Takes a piece of the rest of the link at the place. See `Link::piece`.
     fn piece(&mut self, place: u32, buf: &mut [u8]) -> Result<usize, LinkFault>
-        requires place { place < (links self.old).sources }
+        requires place { place < sources_of (links self.old) }
         requires room { 0 < length buf.old }
-        ensures takes { Takes ((links self.old).link place) ((links self.new).link place) buf.old
-            buf.new result }
-        ensures noted { NotesPiece ((links self.old).link place) ((links self.new).link place)
+        ensures takes { Takes (link_at (links self.old) place) (link_at (links self.new) place)
+            buf.old buf.new result }
+        ensures noted { NotesPiece (link_at (links self.old) place) (link_at (links self.new) place)
             buf.new result }
         ensures only { ChangesOnly place (links self.old) (links self.new) };
 
     /// Drops the link at the place. Those behind it move up by one place. How often it failed stays counted. It takes no
     /// memory.
     fn retire(&mut self, place: u32)
-        requires place { place < (links self.old).sources }
-        requires others { 2 ≤ (links self.old).sources }
+        requires place { place < sources_of (links self.old) }
+        requires others { 2 ≤ sources_of (links self.old) }
         ensures retires { Retires place (links self.old) (links self.new) }
         ensures failures { failures_of (links self.new) ≡ failures_of (links self.old) };
 
     /// How often the link at the place failed. The count never falls.
     fn faults(&self, place: u32) -> u64
-        requires { place < (links self.now).sources }
-        ensures { result ≡ ((links self.now).link place).count };
+        requires { place < sources_of (links self.now) }
+        ensures { result ≡ (link_at (links self.now) place).count };
 
     /// How often links failed, those that are gone included. The count never falls.
     fn failures(&self) -> u64
@@ -114,7 +114,7 @@ pub struct Single<K: Link> {
 
 impl<K: Link> Links for Single<K> {
     ghost links = { λ s.
-        record { sources = 1; link = λ _. K.state s.link; gone = 0; asked = s.asked } };
+        record { there = true ∷ []; link = λ _. K.state s.link; asked = s.asked } };
 
     fn sources(&self) -> u32 {
         1

@@ -3,8 +3,11 @@ ghost use Rattle.std.specs.Prelude.{◌≡◌, ◌<◌, ◌≤◌, length, vec_l
 ghost use Rattle.small_types.specs.declared.limits.TheConstants.{LINK_LIMIT};
 ghost use Rattle.links.specs.Asked.{NotesAsk, NotesPiece};
 ghost use Rattle.links.specs.Link.{Asks, Takes};
-ghost use Rattle.mirrors.specs.Mirrors.{AreNew};
+ghost use Rattle.links.specs.Links.{count_there};
+ghost use Rattle.mirrors.specs.Mirrors.{AreNew, gone_in, marks_of, there_of};
 
+use crate::gone::{Gone, GoneNote};
+use call_record::Record;
 use links::{Link, LinkFault, Links, WantFault};
 use small_types::{Duplicate, List, Target};
 use std::alloc::Global;
@@ -41,8 +44,13 @@ pub struct Mirrors {
     pub asked: List<Target>,
     // How often those failed that are gone.
     gone: u64,
+    // Those that are gone, in the order in which they went.
+    retired: Record<Gone>,
     ghost some: { 1 ≤ vec_len links },
     ghost within: { vec_len links ≤ LINK_LIMIT },
+    ghost even: { count_there (there_of (marks_of (λ g. g.place) (length links.items) retired.noted))
+        ≡ length links.items },
+    ghost summed: { gone_in (λ g. g.count) (marks_of (λ g. g.place) (length links.items) retired.noted) ≡ gone },
 }
 
 impl Mirrors {
@@ -56,15 +64,18 @@ impl Mirrors {
             links,
             asked: List::from_vec(Vec::new(alloc)),
             gone: 0,
+            retired: Record::new(),
         }
     }
 }
 
 impl Links for Mirrors {
-    ghost use Rattle.mirrors.specs.Mirrors.{boxes_state};
+    ghost use Rattle.std.specs.Prelude.{length};
+    ghost use Rattle.mirrors.specs.Mirrors.{boxes_state, marks_of};
 
-    ghost links = { λ m. boxes_state (λ b. (Link-box b).state b.value) m.links.items m.gone
-        m.asked };
+    ghost links = { λ m. boxes_state (λ b. (Link-box b).state b.value)
+        (λ g. record ((Link-box g.link).state g.link.value) { count = g.count })
+        (marks_of (λ g. g.place) (length m.links.items) m.retired.noted) m.links.items m.asked };
 
     fn sources(&self) -> u32 {
         self.links.len() as u32
@@ -85,7 +96,13 @@ impl Links for Mirrors {
 
     fn retire(&mut self, place: u32) {
         let link = self.links.remove(place as usize);
-        self.gone = self.gone.saturating_add(faults_of_box(&link));
+        let count = faults_of_box(&link);
+        self.retired.note(&GoneNote {
+            place,
+            count,
+            link: &link,
+        });
+        self.gone = self.gone.saturating_add(count);
     }
 
     fn faults(&self, place: u32) -> u64 {

@@ -2,5 +2,7 @@
 #![tactic(auto)]
 
 mod boxed;
+mod gone;
 
 pub use boxed::Mirrors;
+pub use gone::Gone;

@@ -84,8 +84,11 @@ fn received<D: Door>(door: &mut D) -> Result<(usize, [u8; 4]), Failed> {
 }
 
 fn sent_long<D: Door>(door: &mut D) -> Result<(), Failed> {
-    let mut left = 65_536;
-    while left > 0 {
+    let mut left: usize = 65_536;
+    for _ in 0..65_536 {
+        if left == 0 {
+            return Ok(());
+        }
         left -= door.send(&[0; 4096][..left.min(4096)])?;
     }
     Ok(())

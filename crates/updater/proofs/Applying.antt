@@ -4,16 +4,19 @@ use Rattle.small_types.specs.declared.limits.TheConstants.{NUMBER_LIMIT}
 use Rattle.disks.specs.declared.disk.Disk.{Ghosts}
 use Rattle.links.specs.declared.links.Links.{Ghosts as LinksGhosts}
 use Rattle.links.specs.Links.{LinksState}
-use Rattle.fetcher.proofs.Sequence.{kept_same}
+use Rattle.fetcher.proofs.Liars.{but_all}
+use Rattle.fetcher.proofs.Sequence.{all_same}
 use Rattle.identity.specs.declared.key.Key.{Key}
 use Rattle.machine.specs.declared.command.Command.{Command}
 use Rattle.machine.specs.declared.command.Command.TheVariants.{Check, Group, Install}
 use Rattle.machine.specs.declared.reply.Reply.TheVariants as says
 use Rattle.machine.specs.CheckRow.{HearsOffer}
 use Rattle.machine.specs.InstallRow.{HearsRelease}
-use Rattle.machine.specs.Shape.{Shape}
+use Rattle.machine.specs.Shape.{Shape, shape_of}
 use Rattle.machine.specs.Store.{Session}
 use Rattle.machine.specs.Valid.{Ordered}
+use Rattle.install_plan.specs.GroupAsked.{IsListedOfGroup}
+use Rattle.install_plan.specs.Hearing.{IsListedBy}
 use Rattle.install_plan.proofs.Downs.{counts_none}
 use Rattle.install_plan.proofs.LeasedRows.{still_brought}
 use Rattle.updater.specs.Shown.{Updater}
@@ -28,7 +31,7 @@ served_at_once : (command : Command) (links : LinksState) (old : Session) → Or
 served_at_once (Install url) links old ordered = (
   record {
     hearing = record {
-      kept = kept_same links;
+      kept = but_all (IsListedBy (shape_of old) url []) links links (all_same links);
       deployment = tt;
       application = tt;
       asked = [];
@@ -41,7 +44,7 @@ served_at_once (Install url) links old ordered = (
 )
 served_at_once (Check key) links old ordered = record {
   hearing = record {
-    kept = kept_same links;
+    kept = all_same links;
     text = tt;
     asked = [];
     grown = sym (append-nil links.asked);
@@ -51,7 +54,7 @@ served_at_once (Check key) links old ordered = record {
 }
 served_at_once (Group lease group) links old ordered = (
   record {
-    kept = kept_same links;
+    kept = but_all (IsListedOfGroup lease group (shape_of old)) links links (all_same links);
     asked = [];
     grown = sym (append-nil links.asked);
     front = λ all asks. (all, refl);

@@ -17,14 +17,16 @@ use Rattle.machine.specs.Shape.{Shape}
 use Rattle.machine.specs.Store.{Session}
 use Rattle.machine.proofs.Stepping.{step_valid}
 use Rattle.store_state.specs.declared.change.Change.{Change}
+use Rattle.fetcher.proofs.Liars.{but_all}
 use Rattle.install_plan.specs.Checks.{CheckStep, IsCheckOver, IsCheckReady, LedBy}
 use Rattle.install_plan.specs.LeadsIn.{LeadsIn}
 use Rattle.install_plan.proofs.Downs.{counts_none}
 use Rattle.table_log.specs.declared.fault.StepFault.{StepFault}
 use Rattle.updater.specs.Shown.{Updater}
 use Rattle.updater.specs.Answer.{IsAnswer}
-use Rattle.updater.specs.Commanded.{Commanded}
+use Rattle.updater.specs.Commanded.{Commanded, IsListedOf}
 use Rattle.updater.specs.MakesDurable.{MakesDurable, LeadsBetween}
+use Rattle.store_state.specs.Tables.{table_shape}
 use Rattle.updater.specs.Updater.{room_of, tables_of}
 use Rattle.updater.proofs.Commanding.{Does, Linked, LeavesStore, Shown, kept, rested}
 
@@ -100,7 +102,7 @@ module _ {D L : Type 0} (on : Ghosts D) (net : LinksGhosts L) (now : ℕ) (key :
       links_new
   check_over reply over =
       rested on net now heard (Check key) updater disk links_old links_new seen_left moment
-      (record { kept = over.kept; left = tt; hears = over.hears }) reply
+      (record { kept = but_all (IsListedOf (Check key) (table_shape (room_of updater) (tables_of updater)) heard) before after over.kept; left = tt; hears = over.hears }) reply
       (subst (λ (n : ℕ). n ≤ NUMBER_LIMIT) (sym over.still) moment) over.downs (λ e. tt)
       (over_rests now key heard before after updater (on.seen disk) is_key moment reply over)
 
@@ -114,7 +116,7 @@ module _ {D L : Type 0} (on : Ghosts D) (net : LinksGhosts L) (now : ℕ) (key :
       links_new
   check_kept change reply ready updater_new disk_new tried result keeps is =
       let linked : Linked net heard (Check key) updater links_old links_new =
-      record { kept = ready.kept; left = tt; hears = ready.hears } in
+      record { kept = but_all (IsListedOf (Check key) (table_shape (room_of updater) (tables_of updater)) heard) before after ready.kept; left = tt; hears = ready.hears } in
       kept on net now heard (Check key) updater disk links_old links_new seen_left moment linked
       change reply (subst (λ (n : ℕ). n ≤ NUMBER_LIMIT) (sym ready.still) moment) ready.downs (λ e. tt)
       (ready_does now key heard before after updater (on.seen disk) is_key moment change reply ready)

@@ -7,8 +7,9 @@ use Rattle.disks.specs.declared.disk.Disk.{Ghosts}
 use Rattle.disks.proofs.MomentLemmas.{untouched_start}
 use Rattle.links.specs.declared.links.Links.{Ghosts as LinksGhosts}
 use Rattle.links.specs.Links.{LinksState}
-use Rattle.fetcher.specs.Fetched.{Kept}
-use Rattle.fetcher.proofs.Sequence.{kept_same}
+use Rattle.fetcher.specs.Fetched.{KeptBut}
+use Rattle.fetcher.proofs.Liars.{but_all}
+use Rattle.fetcher.proofs.Sequence.{all_same}
 use Rattle.machine.specs.declared.command.Command.{Command}
 use Rattle.machine.specs.declared.command.Command.TheVariants.{At, Check, Group, Install}
 use Rattle.machine.specs.declared.event.Event.TheVariants.{Line}
@@ -32,7 +33,7 @@ use Rattle.table_log.specs.declared.fault.StepFault.{StepFault}
 use Rattle.table_log.specs.declared.fault.StepFault.TheVariants.{Memory, DiskFault}
 use Rattle.updater.specs.Shown.{Updater}
 use Rattle.updater.specs.Answer.{IsAnswer}
-use Rattle.updater.specs.Commanded.{Commanded, LeavesLinks, LinksServe, MayLack, SoundFor}
+use Rattle.updater.specs.Commanded.{Commanded, IsListedOf, LeavesLinks, LinksServe, MayLack, SoundFor}
 use Rattle.updater.specs.Costs.{Costs}
 use Rattle.updater.specs.MakesDurable.{MakesDurable, LeadsBetween}
 use Rattle.updater.specs.Updater.{Holds, room_of, tables_of}
@@ -83,14 +84,14 @@ pub record Does (now : ℕ) (heard : List (List ℕ)) (command : Command) (befor
 
 -- what was heard of the links, and what is left of them
 pub record Linked {L : Type 0} (net : LinksGhosts L) (heard : List (List ℕ)) (command : Command) (updater : Updater) (links_old links_new : L) : Type 0 where
-  pub kept : Kept (net.links links_old) (net.links links_new)
+  pub kept : KeptBut (IsListedOf command (table_shape (room_of updater) (tables_of updater)) heard) (net.links links_old) (net.links links_new)
   pub left : LeavesLinks command links_old links_new
   pub hears : Hears (table_shape (room_of updater) (tables_of updater)) command heard
 
 -- nothing was asked
 pub unlinked : {L : Type 0} (net : LinksGhosts L) (command : Command) (updater : Updater) (links : L) → Linked net [] command updater links links
 unlinked net command updater links = record {
-  kept = kept_same (net.links links);
+  kept = but_all (IsListedOf command (table_shape (room_of updater) (tables_of updater)) []) (net.links links) (net.links links) (all_same (net.links links));
   left = nothing_left command links;
   hears = hears_nothing (table_shape (room_of updater) (tables_of updater)) command;
 }

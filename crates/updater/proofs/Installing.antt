@@ -111,7 +111,7 @@ module _ {D L : Type 0} (on : Ghosts D) (net : LinksGhosts L) (now : ℕ) (url :
       → Commanded on net now heard (Install url) updater disk links_old (Ok reply) updater disk links_new
   install_refused reply refused =
       rested on net now heard (Install url) updater disk links_old links_new seen_left moment
-      (record { kept = refused.kept; left = tt; hears = refused.hears }) reply
+      (record { kept = refused.served.hearing.kept; left = tt; hears = refused.hears }) reply
       (subst (λ (n : ℕ). n ≤ NUMBER_LIMIT) (sym (refused.still now)) moment)
       refused.downs (λ e. tt)
       (refused_rests now url heard (net.links links_old) (net.links links_new) updater (on.seen disk) moment reply refused)
@@ -121,7 +121,7 @@ module _ {D L : Type 0} (on : Ghosts D) (net : LinksGhosts L) (now : ℕ) (url :
       → (updater_new : Updater) (disk_new : D) (tried : Result T StepFault) (result : Result Reply Failed) → MakesDurable on change updater disk tried updater_new disk_new → IsAnswer reply tried result
       → Commanded on net now heard (Install url) updater disk links_old result updater_new disk_new links_new
   install_kept change reply ready updater_new disk_new tried result keeps is =
-      let linked : Linked net heard (Install url) updater links_old links_new = record { kept = ready.kept; left = tt; hears = ready.hears } in
+      let linked : Linked net heard (Install url) updater links_old links_new = record { kept = ready.served.hearing.kept; left = tt; hears = ready.hears } in
       let before = net.links links_old in
       let after = net.links links_new in
       kept on net now heard (Install url) updater disk links_old links_new seen_left moment linked change reply

@@ -3,22 +3,24 @@ use Rattle.std.specs.Prelude.{◌≡◌, ◌≢◌, ◌+◌, ◌≤◌, ℕ, Lis
 use Rattle.outside.specs.declared.failed.Failed.{Failed}
 use Rattle.outside.specs.Streams.{Causes}
 use Rattle.small_types.specs.declared.limits.TheConstants.{NUMBER_LIMIT}
+use Rattle.small_types.specs.declared.target.Target.{Target}
+use Rattle.digest_list.specs.declared.digest.Digest.{Digest}
 use Rattle.disks.specs.declared.disk.Disk.{Ghosts}
 use Rattle.disks.specs.Moments.{LeavesOnly, Rests}
 use Rattle.links.specs.declared.links.Links.{Ghosts as LinksGhosts}
 use Rattle.links.specs.Links.{LinksState}
-use Rattle.fetcher.specs.Fetched.{Kept}
+use Rattle.fetcher.specs.Fetched.{KeptBut}
 use Rattle.install_plan.specs.Brought.{IsBrought}
 use Rattle.install_plan.specs.Downs.{CountsDowns}
-use Rattle.install_plan.specs.GroupAsked.{AreBrought, GroupServed}
-use Rattle.install_plan.specs.Hearing.{Served}
+use Rattle.install_plan.specs.GroupAsked.{AreBrought, GroupServed, IsListedOfGroup}
+use Rattle.install_plan.specs.Hearing.{IsListedBy, Served}
 use Rattle.install_plan.specs.Offers.{OfferServed}
 use Rattle.machine.specs.declared.command.Command.{Command}
 use Rattle.machine.specs.declared.command.Command.TheVariants.{At, Install, Check, Skip, Rollback, Launch, Group, Finish}
 use Rattle.machine.specs.declared.reply.Reply.{Reply}
 use Rattle.machine.specs.declared.reply.Reply.TheVariants as says
 use Rattle.machine.specs.Machine.{Answers, Hears, moment_after}
-use Rattle.machine.specs.Shape.{shape_of}
+use Rattle.machine.specs.Shape.{Shape, shape_of}
 use Rattle.machine.specs.Sound.{Sound}
 use Rattle.machine.specs.Store.{Session, Store}
 use Rattle.machine.specs.Views.{View}
@@ -71,6 +73,15 @@ LinksServe (Group lease group) heard before after old reply new =
     × AreBrought lease group (shape_of old) before after new.store
 LinksServe _ heard before after old reply new = Unit {0}
 
+-- What is listed at an address for a file that the command wants, by the tables and what it heard. Only
+-- an install and a group want files.
+abbrev pub IsListedOf :
+    Command → Shape → List (List ℕ) → Target → List Digest → ℕ → Type 0
+IsListedOf (Install url) shape heard target list size = IsListedBy shape url heard target list size
+IsListedOf (Group lease group) shape heard target list size =
+    IsListedOfGroup lease group shape target list size
+IsListedOf _ shape heard target list size = ⊥
+
 -- ---- what it did
 
 -- It answered: a step of the machine, whose session is held from now on. A stop at any moment of
@@ -108,8 +119,8 @@ pub record Faulted {D L : Type 0} (on : Ghosts D) (net : LinksGhosts L) (now : �
 
 -- What a command does, for each session that is held, and whose store is sound where the command
 -- asks it, where the disk tells afterwards. What it tells then it told before. The count of faults
--- rises exactly where the disk failed. The links and their sites stay. What it heard, its tables
--- let it hear; and the moment of the next command is within its limit. Whatever session is held or
+-- rises exactly where the disk failed. The links and their sites stay, but for links that gave other
+-- bytes than are listed for a file that the command wants. What it heard, its tables let it hear; and the moment of the next command is within its limit. Whatever session is held or
 -- none, where the reply says of a link that it failed, the number of failures rose, and it is want of
 -- memory only where the command may find none.
 pub record Commanded {D L : Type 0} (on : Ghosts D) (net : LinksGhosts L) (now : ℕ)
@@ -126,7 +137,9 @@ pub record Commanded {D L : Type 0} (on : Ghosts D) (net : LinksGhosts L) (now :
   pub later : on.moment disk_old ≤ on.moment disk_new
   pub told : on.tells disk_new → on.tells disk_old
   pub cause : Causes (on.count disk_old) (on.count disk_new) result
-  pub kept : Kept (net.links links_old) (net.links links_new)
+  pub kept : KeptBut
+      (IsListedOf command (table_shape (room_of updater_old) (tables_of updater_old)) heard)
+      (net.links links_old) (net.links links_new)
   pub left : LeavesLinks command links_old links_new
   pub hears : Hears (table_shape (room_of updater_old) (tables_of updater_old)) command heard
   pub few : IfOk result (λ reply. moment_after now (Some reply) ≤ NUMBER_LIMIT)

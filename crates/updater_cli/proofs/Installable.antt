@@ -21,10 +21,8 @@ use Rattle.manifests.specs.declared.releases.ReleaseFault.TheVariants as unlike
 use Rattle.manifests.specs.Applications.{application_of}
 use Rattle.manifests.specs.Deployments.{deployment_of}
 use Rattle.manifests.specs.Releases.{IsRelease, RefusesIdentity}
-use Rattle.links.specs.Links.{LinksState}
-use Rattle.fetcher.specs.Fetched.{AllTell, Kept}
+use Rattle.links.specs.Links.{LinksState, link_at}
 use Rattle.fetcher.specs.Given.{FitsText, Given, GivenFile, GivenText, IsFirst}
-use Rattle.fetcher.proofs.Sequence.{given_after}
 use Rattle.machine.specs.declared.command.Command.TheVariants.{Install}
 use Rattle.machine.specs.declared.reply.Reply.{Reply}
 use Rattle.machine.specs.declared.reply.Reply.TheVariants as says
@@ -57,7 +55,7 @@ module _ (Fits : List ℕ → Type 0) (links : LinksState) (target : Target) whe
   not_before : (a b : List ℕ) (x : IsFirst Fits links target a)
       (y : IsFirst Fits links target b) → x.place < y.place → ⊥
   not_before a b x y less =
-      if_at (λ bytes. ¬ Fits bytes) ((links.link x.place).site target) a (y.first x.place less)
+      if_at (λ bytes. ¬ Fits bytes) ((link_at links x.place).site target) a (y.first x.place less)
       x.there x.fits
 
   one_given : (a b : List ℕ) → Given Fits links target (Some a) → Given Fits links target (Some b)
@@ -70,12 +68,12 @@ module _ (Fits : List ℕ → Type 0) (links : LinksState) (target : Target) whe
       by _ (inl less) = absurd (not_before b a y x less)
       by (inr high) (inr low) =
           let same : x.place ≡ y.place = omega (arith, high, low) in
-          same_Some a b (sym (subst (λ (k : ℕ). (links.link k).site target ≡ Some a) same x.there)
+          same_Some a b (sym (subst (λ (k : ℕ). (link_at links k).site target ≡ Some a) same x.there)
           ∙ y.there)
 
   none_given : (a : List ℕ) → Given Fits links target (Some a) → Given Fits links target None → ⊥
   none_given a x none =
-      if_at (λ bytes. ¬ Fits bytes) ((links.link x.place).site target) a (none x.place x.within)
+      if_at (λ bytes. ¬ Fits bytes) ((link_at links x.place).site target) a (none x.place x.within)
       x.there x.fits
 
 -- ---- the refusals of four lists, one behind another
@@ -157,7 +155,8 @@ same_identity d a text is (VersionDiffers listed found) refuses other =
     refuses.other (refuses.listed_is ∙ sym is.version ∙ sym refuses.found_is)
 same_identity d a text is unlike.Memory refuses other = other refl
 
-module _ (links : LinksState) (shape : Shape) (url : List ℕ) (can : CanInstall links shape url)
+module _ (links after : LinksState) (shape : Shape) (url : List ℕ)
+    (can : CanInstall links after shape url)
   where
     base_read : base_of url can.deployment ≡ Ok can.base
     base_read = base_is url can.deployment can.target (Ok can.base) can.address can.joined
@@ -250,9 +249,9 @@ module _ (links : LinksState) (shape : Shape) (url : List ℕ) (can : CanInstall
 
         -- a wanted file has its address
         file_at : (entry : FileEntry) → Contains (wanted shape.views can.application) entry
-            → HasFile links can.base can.deployment.mapped entry
+            → HasFile after can.base can.deployment.mapped entry
         file_at entry there =
-            all_in (HasFile links can.base can.deployment.mapped)
+            all_in (HasFile after can.base can.deployment.mapped)
             (wanted shape.views can.application) entry can.wanted_files
             (in_contains (wanted shape.views can.application) entry there)
 
@@ -327,8 +326,8 @@ module _ (links : LinksState) (shape : Shape) (url : List ℕ) (can : CanInstall
 
 -- ---- its line
 
-module _ (before after : LinksState) (kept : Kept before after) (tell : AllTell before)
-    (old : Session) (url : List ℕ) (can : CanInstall before (shape_of old) url) where
+module _ (before after : LinksState) (old : Session) (url : List ℕ)
+    (can : CanInstall before after (shape_of old) url) where
   abbrev shape : Shape
   shape = shape_of old
 
@@ -347,11 +346,11 @@ module _ (before after : LinksState) (kept : Kept before after) (tell : AllTell 
       → OfDeployment heard (λ d. (base : Target) × (base_of url d ≡ Ok base)
       × GivenFile d.app_list d.app_size before base (Some text)) → text ≡ can.app_text
   second_is heard first text came =
-      let at = of_deployment before shape url can heard first
+      let at = of_deployment before after shape url can heard first
       (λ d. (base : Target) × (base_of url d ≡ Ok base)
       × GivenFile d.app_list d.app_size before base (Some text)) came in
       let same : at.0 ≡ can.base = ok_one (base_of url can.deployment) at.0 can.base at.1
-      (base_read before shape url can) in
+      (base_read before after shape url can) in
       one_given (Matches can.deployment.app_list can.deployment.app_size) before can.base text
       can.app_text
       (subst (λ (t : Target). GivenFile can.deployment.app_list can.deployment.app_size before t
@@ -362,7 +361,7 @@ module _ (before after : LinksState) (kept : Kept before after) (tell : AllTell 
     no_address_refusal : Refuses (address_refusals url) old reply new → ⊥
     no_address_refusal =
         none_refuses (address_refusals url) old reply new (address_exact url)
-        (address_passes before shape url can)
+        (address_passes before after shape url can)
 
     -- nothing was heard
     none_heard : InstallFinds shape url [] before after reply
@@ -393,7 +392,7 @@ module _ (before after : LinksState) (kept : Kept before after) (tell : AllTell 
         no_address_refusal
         (none_refuses (deployment_refusals url (text ∷ []) shape) old reply new
         (deployment_exact url text [] shape)
-        (deployment_passes before shape url can (text ∷ []) first))
+        (deployment_passes before after shape url can (text ∷ []) first))
         (λ passes. no_release)
         (λ passes more refuses. more.0 can.base lacking)
       where
@@ -404,8 +403,8 @@ module _ (before after : LinksState) (kept : Kept before after) (tell : AllTell 
             × (slice_get (text ∷ []) 1 ≡ None)
         lacking = (
           of_it shape url (text ∷ []) can.deployment can.target can.address
-              (told before shape url can (text ∷ []) first) (λ d. base_of url d ≡ Ok can.base)
-              (base_read before shape url can),
+              (told before after shape url can (text ∷ []) first) (λ d. base_of url d ≡ Ok can.base)
+              (base_read before after shape url can),
           refl,
         )
 
@@ -414,11 +413,11 @@ module _ (before after : LinksState) (kept : Kept before after) (tell : AllTell 
             let why = given.0 in
             let same : why.0 ≡ can.base =
             ok_one (base_of url can.deployment) why.0 can.base
-            (of_deployment before shape url can (text ∷ []) first
+            (of_deployment before after shape url can (text ∷ []) first
             (λ d. base_of url d ≡ Ok why.0) why.2.0)
-            (base_read before shape url can) in
+            (base_read before after shape url can) in
             let none : GivenFile can.deployment.app_list can.deployment.app_size before why.0 None =
-            of_deployment before shape url can (text ∷ []) first
+            of_deployment before after shape url can (text ∷ []) first
             (λ d. GivenFile d.app_list d.app_size before why.0 None)
             (finds.lacks why.0 why.1 why.3) in
             none_given (Matches can.deployment.app_list can.deployment.app_size) before can.base
@@ -437,10 +436,10 @@ module _ (before after : LinksState) (kept : Kept before after) (tell : AllTell 
         no_address_refusal
         (none_refuses (deployment_refusals url heard shape) old reply new
         (deployment_exact url text (other ∷ []) shape)
-        (deployment_passes before shape url can heard first))
+        (deployment_passes before after shape url can heard first))
         (λ passes. none_refuses (release_refusals url heard shape) old reply new
         (release_exact url text other [] shape)
-        (release_passes before shape url can heard first second))
+        (release_passes before after shape url can heard first second))
         (λ passes more. no_file)
       where
         heard : List (List ℕ)
@@ -455,24 +454,22 @@ module _ (before after : LinksState) (kept : Kept before after) (tell : AllTell 
         no_file : Refuses (file_refusals url heard shape) old reply new → ⊥
         no_file (inl given) =
             let why = given.0 in
-            let lacked = of_release before shape url can heard first second
+            let lacked = of_release before after shape url can heard first second
             (λ d a. (base : Target) × (base_of url d ≡ Ok base)
             × Any (IsLacked base d.mapped after why.0) (wanted shape.views a))
             (finds.lacks why.0 why.1 why.3) in
             let entry = lacked.2.1 in
-            let file = file_at before shape url can heard first second entry
+            let file = file_at before after shape url can heard first second entry
             (lacked.2.0, lacked.2.2, lacked.2.3) in
             let mapped = can.deployment.mapped in
             let same : lacked.0 ≡ can.base = ok_one (base_of url can.deployment) lacked.0 can.base
-            lacked.1 (base_read before shape url can) in
+            lacked.1 (base_read before after shape url can) in
             let there : why.0 ≡ file.target =
             ok_one (file_target_of can.base mapped entry.name) why.0 file.target
             (subst (λ (t : Target). file_target_of t mapped entry.name ≡ Ok why.0) same
             lacked.2.4.at)
             file.at in
-            none_given (Matches entry.list entry.size) after file.target file.bytes
-            (given_after (Matches entry.list entry.size) before after file.target (Some file.bytes)
-            kept tell file.given)
+            none_given (Matches entry.list entry.size) after file.target file.bytes file.given
             (subst (λ (t : Target). GivenFile entry.list entry.size after t None) there
             lacked.2.4.none)
         no_file (inr later) = later.1

@@ -1,3 +1,4 @@
+pub mod AllThere
 pub mod Answering
 pub mod Asked
 pub mod Asking
@@ -18,6 +19,7 @@ pub mod Pieces
 pub mod Prefix
 pub mod Premises
 pub mod PublishWords
+pub mod Publishable
 pub mod PublishedDigests
 pub mod PublishedFiles
 pub mod PublishedLaw
@@ -26,7 +28,6 @@ pub mod PublishedRelease
 pub mod PublishedRuns
 pub mod PublishedTexts
 pub mod PublishedUses
-pub mod Publishable
 pub mod Publishing
 pub mod Quiet
 pub mod Reading

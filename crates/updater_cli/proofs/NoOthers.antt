@@ -6,7 +6,7 @@ use Rattle.std.proofs.lemmas.List.Folds.{Any-from_list_any}
 use Rattle.small_types.specs.declared.target.Target.{Target}
 use Rattle.folders.specs.declared.folder.Held.{Held}
 use Rattle.identity.specs.declared.key.Key.{Key}
-use Rattle.links.specs.Links.{LinksState}
+use Rattle.links.specs.Links.{IsLeft, LinksState}
 use Rattle.fetcher.specs.Given.{IsOfSite}
 use Rattle.manifests.specs.declared.facts.FileEntry.{FileEntry}
 use Rattle.install_plan.specs.Brought.{IsHeldOrCame}
@@ -114,9 +114,9 @@ module _ (Good : List ℕ → Type 0) where
       subst Good (sym same) ((good view by.2).program from.0 from.1)
 
   module _ (links : LinksState)
-      (have : (k : ℕ) (target : Target) (bytes : List ℕ) → k < links.sources → (links.link k).site target ≡ Some bytes → Good bytes) where
+      (have : (n : ℕ) (target : Target) (bytes : List ℕ) → IsLeft links n → (links.link n).site target ≡ Some bytes → Good bytes) where
     of_site : (target : Target) (bytes : List ℕ) → IsOfSite links target bytes → Good bytes
-    of_site target bytes is = have is.place target bytes is.within is.there
+    of_site target bytes is = have is.number target bytes is.left is.there
 
     came_good : (old : Session) (wants : List FileEntry) (view : View) (files : List ListedFile)
         (file : ListedFile) → All IsView old.store.views → ShareBytes (program_files_of old.store ++ files)

@@ -10,7 +10,8 @@ use Rattle.addresses.specs.Join.{app_target_of}
 use Rattle.folders.specs.declared.folder.Held.{Held}
 use Rattle.folders.specs.Files.{file_in}
 use Rattle.digest_list.specs.Matches.{Matches}
-use Rattle.links.specs.Links.{LinksState}
+use Rattle.links.specs.Links.{LinksState, link_at, number_at, sources_of}
+use Rattle.links.proofs.Numbers.{place_of}
 use Rattle.fetcher.specs.Given.{FitsText, Given, GivenFile, GivenText, IsFirst, IsOfSite}
 use Rattle.manifest_parts.specs.Parts.{Tells}
 use Rattle.manifests.specs.declared.facts.Deployment.{Deployment}
@@ -26,6 +27,7 @@ use Rattle.install_plan.proofs.Told.{base_is}
 use Rattle.updater_cli.specs.Offered.{HasFiles, IsFirstSite, PublishInput, WritesRelease, links_of}
 use Rattle.updater_cli.specs.Premises.{OneSiteIsGiven, PublishesWrite, ServedIsGiven, sites_of}
 use Rattle.updater_cli.specs.Published.{HeardGiven}
+use Rattle.updater_cli.proofs.AllThere.{count_all, number_all}
 use Rattle.updater_cli.proofs.PublishedDigests.{digests_match}
 use Rattle.updater_cli.proofs.PublishedLaw.{at_name}
 use Rattle.updater_cli.proofs.PublishedOut.{IsOut}
@@ -87,25 +89,26 @@ module _ (links : LinksState) (Came : (List ℕ → Type 0) → Target → List 
     (reaches : (given : Target) → target_of_text url ≡ Ok given
     → Reaches given (deployment_name p.options))
     (same : (Fits : List ℕ → Type 0) (target : Target) (bytes other : List ℕ)
-    → Came Fits target bytes → (links.link 0).site target ≡ Some other → Fits other
+    → Came Fits target bytes → (link_at links 0).site target ≡ Some other → Fits other
     → bytes ≡ other) where
   out : IsOut p folder
   out = is_out p files folder w holds
 
   given_there : (Fits : List ℕ → Type 0) (target : Target) (bytes other : List ℕ)
-      → Came Fits target bytes → (links.link 0).site target ≡ Some other → Fits other
+      → Came Fits target bytes → (link_at links 0).site target ≡ Some other → Fits other
       → Given Fits (links_of (sites_of links)) target (Some bytes)
   given_there Fits target bytes other came there fits =
       let is : bytes ≡ other = same Fits target bytes other came there fits in record {
         place = 0;
-        within = first.some;
-        there = there ∙ ap Some (sym is);
+        within = omega (arith, first.some, count_all (sources_of links));
+        there = subst (λ (k : ℕ). (link_at links k).site target ≡ Some bytes)
+            (sym (number_all (sources_of links) 0 first.some)) (there ∙ ap Some (sym is));
         fits = subst Fits (sym is) fits;
         first = λ k less. absurd (omega (arith, less));
       }
 
   deployment_at : (given : Target) → target_of_text url ≡ Ok given
-      → (links.link 0).site given ≡ Some out.last
+      → (link_at links 0).site given ≡ Some out.last
   deployment_at given read =
       at_name folder (sites_of links) given (deployment_name p.options) out.last
       (first.shows given given read (inl refl)) (reaches given read).named out.deployment
@@ -181,7 +184,7 @@ module _ (links : LinksState) (Came : (List ℕ → Type 0) → Target → List 
 
 -- the first link is the first that has bytes that fit
 abbrev first_at : (links : LinksState) (Fits : List ℕ → Type 0) (target : Target)
-    (bytes : List ℕ) → 0 < links.sources → (links.link 0).site target ≡ Some bytes → Fits bytes
+    (bytes : List ℕ) → 0 < sources_of links → (link_at links 0).site target ≡ Some bytes → Fits bytes
     → IsFirst Fits links target bytes
 first_at links Fits target bytes some there fits = record {
   place = 0;
@@ -203,11 +206,14 @@ served_is_given before after p files folder shape url texts reply w holds first 
 -- ---- what a session heard
 
 -- bytes of the only link's site are what it has there
-same_there : (links : LinksState) (target : Target) (bytes other : List ℕ) → links.sources ≡ 1
-    → IsOfSite links target bytes → (links.link 0).site target ≡ Some other → bytes ≡ other
+same_there : (links : LinksState) (target : Target) (bytes other : List ℕ) → sources_of links ≡ 1
+    → IsOfSite links target bytes → (link_at links 0).site target ≡ Some other → bytes ≡ other
 same_there links target bytes other only of there =
-    let place : of.place ≡ 0 = omega (arith, of.within, only) in
-    same_Some bytes other (sym (subst (λ (k : ℕ). (links.link k).site target ≡ Some bytes) place
+    let at = place_of links.there of.number of.left in
+    let first : at.place ≡ 0 = omega (arith, at.within, only) in
+    let number : of.number ≡ number_at links.there 0 =
+    sym at.is ∙ ap (number_at links.there) first in
+    same_Some bytes other (sym (subst (λ (n : ℕ). (links.link n).site target ≡ Some bytes) number
     of.there) ∙ there)
 
 pub one_site_is_given : (links : LinksState) → OneSiteIsGiven links

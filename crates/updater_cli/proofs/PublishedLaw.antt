@@ -57,6 +57,7 @@ use Rattle.machine.proofs.Names.{aside_below}
 use Rattle.machine.proofs.ViewSteps.{view_below}
 use Rattle.updater_cli.specs.Offered.{IsAskedFor, PublishInput, Sites, input_file, links_of, listed}
 use Rattle.updater_cli.specs.Published.{PublishedRun, GivesInput, IsFreshData, IsGiven, IsOffered, KeepsBytes, KeepsNoOthers, RunsOn, PublishedDataIsRead, PublishedIsGiven, PublishedIsRead, ReadsInput, ReadsInputData, ShowsInput}
+use Rattle.updater_cli.proofs.AllThere.{count_all, number_all}
 use Rattle.updater_cli.proofs.PublishedDigests.{digests_match}
 use Rattle.updater_cli.proofs.PublishedOut.{IsOut}
 use Rattle.updater_cli.proofs.PublishedRelease.{is_out}
@@ -71,8 +72,15 @@ no_some P None x is not holds = none-some x is
 
 first_given : (Fits : List ℕ → Type 0) (sites : Sites) (target : Target) (bytes : List ℕ) (found : Option (List ℕ)) → 0 < sites.sources → sites.site 0 target ≡ Some bytes → Fits bytes
     → Given Fits (links_of sites) target found → found ≡ Some bytes
-first_given Fits sites target bytes None some there fits given = absurd (no_some Fits (sites.site 0 target) bytes there (given 0 some) fits)
-first_given Fits sites target bytes (Some other) some there fits given = by given.place given.there given.first
+first_given Fits sites target bytes None some there fits given =
+    let none : IfSome (sites.site 0 target) (λ b. ¬ Fits b) =
+    subst (λ (m : ℕ). IfSome (sites.site m target) (λ b. ¬ Fits b)) (number_all sites.sources 0 some)
+    (given 0 (omega (arith, some, count_all sites.sources))) in
+    absurd (no_some Fits (sites.site 0 target) bytes there none fits)
+first_given Fits sites target bytes (Some other) some there fits given =
+    let within : given.place < sites.sources = omega (arith, given.within, count_all sites.sources) in
+    by given.place (subst (λ (m : ℕ). sites.site m target ≡ Some other) (number_all sites.sources given.place within) given.there)
+    (λ k less. subst (λ (m : ℕ). IfSome (sites.site m target) (λ b. ¬ Fits b)) (number_all sites.sources k (omega (arith, less, within))) (given.first k less))
   where
     by : (place : ℕ) → sites.site place target ≡ Some other → ((k : ℕ) → k < place → IfSome (sites.site k target) (λ b. ¬ Fits b)) → Some other ≡ Some bytes
     by zero is before = sym is ∙ there
@@ -352,8 +360,9 @@ module _ (runs_sound : RunsKeepSound) (data_stay : KeptDataFilesStay) (data_is :
         f.input,
         record {
           place = 0;
-          within = offered.first.some;
-          there = at_name folder sites target (target_name p.options entry.name) f.whole (shown target (inr (inr (done.base, entry, base_joined, there, at)))) way f.out;
+          within = omega (arith, offered.first.some, count_all sites.sources);
+          there = subst (λ (m : ℕ). sites.site m target ≡ Some f.whole) (sym (number_all sites.sources 0 offered.first.some))
+              (at_name folder sites target (target_name p.options entry.name) f.whole (shown target (inr (inr (done.base, entry, base_joined, there, at)))) way f.out);
           fits = f.matching;
           first = λ k less. absurd (omega (arith, less));
         },

@@ -129,27 +129,27 @@ module _ (before after : LinksState) (quiet : AreQuiet before after) where
       some_map reply (λ answer serve. command_finds command heard.texts answer old new serve) serves
   event_finds (Unread fault) reply old new serves = tt
 
-  installs_where : Kept before after → (now : ℕ) (event : Event) (reply : Option Reply)
+  installs_where : (now : ℕ) (event : Event) (reply : Option Reply)
       (old new : Session) → Step now old event reply new → EventFinds event reply before after old
-      → InstallsWhereItCan before event reply old
-  installs_where kept now (Line (Install url) at heard) reply old new step finds = λ can.
+      → InstallsWhereItCan before after event reply old
+  installs_where now (Line (Install url) at heard) reply old new step finds = λ can.
       subst (λ (r : Option Reply). IsSomeAnd r
       (IsInstalledOrMemory can.deployment old.store.next_view)) (sym step.replied)
-      (installs before after kept quiet.tell old url can step.answer new now heard.texts step.hears
+      (installs before after old url can step.answer new now heard.texts step.hears
       (subst (λ (r : Option Reply). IfSome r
       (λ answer. InstallFinds (shape_of old) url heard.texts before after answer)) step.replied
       finds)
       step.answers)
-  installs_where kept now _ reply old new step finds = tt
+  installs_where now _ reply old new step finds = tt
 
-  pub line_finds : Kept before after → (now : ℕ) (l : ReportLine) (old new : Session)
+  pub line_finds : (now : ℕ) (l : ReportLine) (old new : Session)
       → Step now old l.event l.reply new → ServesLine l.event l.reply before after old new
       → LineFinds l before after old
-  line_finds kept now l old new step serves =
+  line_finds now l old new step serves =
       let finds = event_finds l.event l.reply old new serves in record {
         quiet = quiet;
         finds = finds;
-        installs = installs_where kept now l.event l.reply old new step finds;
+        installs = installs_where now l.event l.reply old new step finds;
       }
 
 -- ---- all lines
@@ -174,7 +174,7 @@ module _ {L : Type 0} (net : LinksGhosts L) (first : LinksState) where
             (failures_still (net.links before) (net.links walk.1) kept tell
             (sym walk.5.failures ∙ quiet.same ∙ is)
             (subst (λ (n : ℕ). n < 0xffff_ffff_ffff_ffff) is quiet.below))
-            kept from.now l from.session walk.0 walk.5.step walk.5.served.serves,
+            from.now l from.session walk.0 walk.5.step walk.5.served.serves,
         lines_find l.failures (origin_after from l.reply walk.0) l.mark walk.1 lines new last walk.3
             behind walk.6 (tell_after (net.links before) (net.links walk.1) kept tell)
             walk.5.failures,
@@ -212,7 +212,7 @@ module _ {L : Type 0} (net : LinksGhosts L) (first : LinksState) where
         λ any.
             line_finds (net.links before) (net.links walk.1)
             (quiet_first (net.links before) (net.links walk.1) (net.links behind) kept rest quiet)
-            kept from.now l from.session walk.0 walk.5.step walk.5.served.serves,
+            from.now l from.session walk.0 walk.5.step walk.5.served.serves,
         all_find l.failures (origin_after from l.reply walk.0) l.mark walk.1 lines new last walk.3
             behind walk.6
             (quiet_second (net.links before) (net.links walk.1) (net.links behind) kept rest quiet),

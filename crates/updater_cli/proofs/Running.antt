@@ -87,11 +87,11 @@ module _ {D L : Type 0} (on : Ghosts D) (net : LinksGhosts L) (now : ℕ) (few :
             counted = record { same = λ same. (made.quiet same).untouched.no_tick; marked = made.marked; costs = made.costs };
             written = made.written;
             settled = step_settled now old (Line command now heard) (Some reply) made.new (is, few) step settled;
-            served = record { kept = commanded.kept; left = commanded.left; serves = made.served };
+            served = record { kept = commanded.kept.kept; left = commanded.left; serves = made.served };
           };
       fault = λ told old settled holds. tt;
       asks = asks_call on disk disk_new _ commanded.told commanded.later commanded.cause;
-      kept = commanded.kept;
+      kept = commanded.kept.kept;
       downs = commanded.downs;
       lacks = λ e. commanded.lacks (ap Ok e);
     }
@@ -119,10 +119,10 @@ module _ {D L : Type 0} (on : Ghosts D) (net : LinksGhosts L) (now : ℕ) (few :
             bytes = broke.bytes;
             costs = broke.costs;
             written = broke.written;
-            served = record { kept = commanded.kept; left = commanded.left; serves = broke.served };
+            served = record { kept = commanded.kept.kept; left = commanded.left; serves = broke.served };
           };
       asks = asks_call on disk disk_new _ commanded.told commanded.later commanded.cause;
-      kept = commanded.kept;
+      kept = commanded.kept.kept;
       downs = tt;
       lacks = tt;
     }

@@ -2,12 +2,15 @@
 use Rattle.std.proofs.Common.{inl, inr, ℕ, List, All, Option, Some, None, subst}
 use Rattle.std.proofs.lemmas.List.Elements.{All-weaker}
 use Rattle.std.specs.Prelude.{IfSome, slice_get}
+use Rattle.small_types.specs.declared.target.Target.{Target}
 use Rattle.links.specs.declared.links.Links.{Ghosts as LinksGhosts}
 use Rattle.links.specs.Links.{LinksState}
 use Rattle.fetcher.specs.Fetched.{AllTell, Kept}
-use Rattle.fetcher.proofs.Sequence.{site_before, tell_after}
+use Rattle.fetcher.specs.Given.{IsOfSite}
+use Rattle.fetcher.proofs.Sequence.{kept_then, site_before, tell_after}
 use Rattle.identity.specs.declared.key.Key.{Key}
 use Rattle.install_plan.specs.Brought.{IsBrought, IsCarriedOrFetched, IsFileFrom, IsHeldOrCame}
+use Rattle.install_plan.specs.Given.{IsFromLeft, narrowed}
 use Rattle.install_plan.specs.GroupAsked.{AreBrought}
 use Rattle.install_plan.specs.Hearing.{Hearing, IsApplicationText, IsDeploymentText}
 use Rattle.install_plan.specs.Offers.{IsOfferText, OfferHearing}
@@ -32,6 +35,12 @@ some_as None P Q on is = tt
 some_as (Some x) P Q on is = on x is
 
 module _ (first before after : LinksState) (kept : Kept first before) (tell : AllTell first) where
+  -- bytes that were got of links that were left
+  left_site : {Fits : List ℕ → Type 0} (target : Target) (bytes : List ℕ) → IsFromLeft Fits target before after bytes → IsOfSite first target bytes
+  left_site target bytes is =
+      let here : Kept first (narrowed before is.left) = kept_then first before (narrowed before is.left) kept is.earlier in
+      site_before first (narrowed before is.left) target bytes here tell (is.from.site (tell_after first (narrowed before is.left) here tell))
+
   -- what was heard
   heard_of : (shape : Shape) (url : List ℕ) (texts : List (List ℕ)) → Hearing shape url texts before after → HeardOfSites first url texts
   heard_of shape url texts hearing = record {
@@ -52,14 +61,14 @@ module _ (first before after : LinksState) (kept : Kept first before) (tell : Al
   file_of shape wants view file (inl held) = inl held
   file_of shape wants view file (inr fetched) =
       let from = fetched.4 in
-      inr (fetched.0, fetched.1, fetched.2, fetched.3, (from.0, from.1, from.2, site_before first before from.0 file.bytes kept tell (from.3.site (tell_after first before kept tell))))
+      inr (fetched.0, fetched.1, fetched.2, fetched.3, (from.0, from.1, from.2, left_site from.0 file.bytes from.3))
 
   carried_of : (old : Store) (view : View) (file : DataFile) → IsCarriedOrFetched old before after view file → IsCarriedOrOfSite first old view file
   carried_of old view file (inl kept) = inl kept
   carried_of old view file (inr (inl aside)) = inr (inl aside)
   carried_of old view file (inr (inr fetched)) =
       let from = fetched.4 in
-      inr (inr (fetched.0, fetched.1, fetched.2, fetched.3, (from.0, from.1, from.2, from.3, from.4.fits, site_before first before from.0 file.bytes kept tell (from.4.site (tell_after first before kept tell)))))
+      inr (inr (fetched.0, fetched.1, fetched.2, fetched.3, (from.0, from.1, from.2, from.3, from.4.from.fits, left_site from.0 file.bytes from.4)))
 
   files_of : (shape : Shape) (wants : List FileEntry) (view : View) → All (IsHeldOrCame (IsFileFrom before after) shape wants view) view.program_files
       → All (IsHeldOrCame (IsFileOfSite first) shape wants view) view.program_files

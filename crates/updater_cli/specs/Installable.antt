@@ -40,7 +40,8 @@ pub record HasFile (links : LinksState) (base : Target) (mapped : Bool) (entry :
 
 -- ---- what an install needs
 
-pub record CanInstall (links : LinksState) (shape : Shape) (url : List ℕ) : Type 0 where
+-- by the links as its line begins, and as it ends
+pub record CanInstall (links after : LinksState) (shape : Shape) (url : List ℕ) : Type 0 where
   -- The URL is an address, and there the links give a deployment manifest.
   pub target : Target
   pub address : target_of_text url ≡ Ok target
@@ -56,8 +57,8 @@ pub record CanInstall (links : LinksState) (shape : Shape) (url : List ℕ) : Ty
   pub app_given : GivenFile deployment.app_list deployment.app_size links base (Some app_text)
   pub application : Application
   pub release : IsRelease deployment application app_text
-  -- Each file that has to be fetched has an address, and there they give it.
-  pub wanted_files : All (HasFile links base deployment.mapped) (wanted shape.views application)
+  -- Each file that has to be fetched has an address, and there the links give it that are left.
+  pub wanted_files : All (HasFile after base deployment.mapped) (wanted shape.views application)
   -- The version is above the current one, and not below the minimum, where there are such.
   pub newer : IfSome (current_version deployment.identity.key shape)
       (λ have. IsBelow have deployment.identity.version)
@@ -85,8 +86,9 @@ IsInstalledOrMemory d number reply =
     (reply ≡ says.Installed d.identity.key d.identity.version number) ⊎ (reply ≡ says.Memory)
 
 -- an install that can be made is answered so
-abbrev pub InstallsWhereItCan : LinksState → Event → Option Reply → Session → Type 0
-InstallsWhereItCan links (Line (Install url) now heard) reply old =
-    (can : CanInstall links (shape_of old) url)
+abbrev pub InstallsWhereItCan :
+    LinksState → LinksState → Event → Option Reply → Session → Type 0
+InstallsWhereItCan before after (Line (Install url) now heard) reply old =
+    (can : CanInstall before after (shape_of old) url)
     → IsSomeAnd reply (IsInstalledOrMemory can.deployment old.store.next_view)
-InstallsWhereItCan links _ reply old = Unit {0}
+InstallsWhereItCan before after _ reply old = Unit {0}

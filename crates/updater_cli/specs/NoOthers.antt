@@ -1,8 +1,8 @@
 -- How the premise comes that no other bytes are kept that match an entry of a release.
-use Rattle.std.specs.Prelude.{◌≡◌, ◌<◌, ℕ, List, All, Some}
+use Rattle.std.specs.Prelude.{◌≡◌, ℕ, List, All, Some}
 use Rattle.small_types.specs.declared.target.Target.{Target}
 use Rattle.folders.specs.declared.folder.Held.{Held}
-use Rattle.links.specs.Links.{LinksState}
+use Rattle.links.specs.Links.{IsLeft, LinksState}
 use Rattle.machine.specs.declared.command.Command.{Command}
 use Rattle.machine.specs.declared.command.Command.TheVariants.{Put}
 use Rattle.machine.specs.declared.event.Event.{Event}
@@ -15,10 +15,10 @@ use Rattle.updater_cli.specs.Published.{AreNoOthers, KeepsNoOthers}
 use Rattle.updater_cli.specs.Report.{AreRunFrom, Origin}
 use Rattle.updater_cli.specs.Sites.{AreOfSites}
 
--- no link's site has others
+-- the site of no link that is left has others
 abbrev pub SitesHaveNoOthers : PublishInput → List Held → LinksState → Type 0
-SitesHaveNoOthers p folder links = (k : ℕ) (target : Target) (bytes : List ℕ) → k < links.sources
-    → (links.link k).site target ≡ Some bytes → AreNoOthers p folder bytes
+SitesHaveNoOthers p folder links = (n : ℕ) (target : Target) (bytes : List ℕ) → IsLeft links n
+    → (links.link n).site target ≡ Some bytes → AreNoOthers p folder bytes
 
 -- a line puts none among data files
 abbrev pub PutsNoOthers : PublishInput → List Held → Command → Type 0

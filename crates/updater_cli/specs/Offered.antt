@@ -1,5 +1,5 @@
 -- What a publish writes, and where it is offered.
-use Rattle.std.specs.Prelude.{◌≡◌, ◌⊎◌, ◌<◌, ℕ, List, [], All, Contains, IfSome, map, Option, Some, Ok}
+use Rattle.std.specs.Prelude.{◌≡◌, ◌⊎◌, ◌<◌, ℕ, List, [], All, Contains, IfSome, map, Option, Some, Ok, zero, suc, Bool, true, ◌∷◌}
 use Rattle.std.specs.Cmp.Lexicographic.{slice_cmp}
 use Rattle.std.specs.List.Sorted.{IsStrictlySortedBy}
 use Rattle.std.specs.Ordering.{nat_cmp}
@@ -60,12 +60,16 @@ pub record Sites : Type 0 where
   pub sources : ℕ
   pub site : ℕ → Target → Option (List ℕ)
 
+-- so many links, none of which is gone
+abbrev pub all_there : ℕ → List Bool
+all_there zero = []
+all_there (suc n) = true ∷ all_there n
+
 -- links that tell these sites
 abbrev pub links_of : Sites → LinksState
 links_of sites = record {
-  sources = sites.sources;
+  there = all_there sites.sources;
   link = λ k. record { tells = Unit {0}; site = sites.site k; rest = []; count = 0; history = [] };
-  gone = 0;
   asked = [];
 }
 

@@ -10,7 +10,7 @@ use Rattle.folders.specs.declared.folder.Held.{Held}
 use Rattle.folders.specs.Files.{IsNames}
 use Rattle.addresses.specs.Address.{target_of_text}
 use Rattle.identity.specs.Version.{IsVersion}
-use Rattle.links.specs.Links.{LinksState}
+use Rattle.links.specs.Links.{LinksState, link_at, sources_of}
 use Rattle.fetcher.specs.Fetched.{AreQuietTo}
 use Rattle.publish_plan.specs.Places.{deployment_name}
 use Rattle.publisher.specs.declared.published.Published.{Published}
@@ -39,7 +39,7 @@ PublishesWrite = (p : PublishInput) (new : List Held) (published : Published)
 
 -- links by the sites that they tell
 abbrev pub sites_of : LinksState → Sites
-sites_of links = record { sources = links.sources; site = λ k. (links.link k).site }
+sites_of links = record { sources = sources_of links; site = λ k. (link_at links k).site }
 
 -- Of what a command says of an install: where both texts were heard, the first link tells that its
 -- site is a folder that holds what was published, at what the install asks for, and its count did not
@@ -61,7 +61,7 @@ ServedIsGiven before after = (p : PublishInput) (files folder : List Held) (shap
 abbrev pub OneSiteIsGiven : LinksState → Type 0
 OneSiteIsGiven links = (p : PublishInput) (files folder : List Held) (url : List ℕ)
     (texts : List (List ℕ)) → WritesRelease p files → HasFiles folder files
-    → IsFirstSite p url folder (sites_of links) → links.sources ≡ 1
+    → IsFirstSite p url folder (sites_of links) → sources_of links ≡ 1
     → ((given : Target) → target_of_text url ≡ Ok given → Reaches given (deployment_name p.options))
     → HeardOfSites links url texts → IsSome (slice_get texts 0) → IsSome (slice_get texts 1)
     → HeardGiven (sites_of links) url texts

@@ -114,11 +114,11 @@ EventFinds (Line command now heard) reply before after old =
 EventFinds (Unread fault) reply before after old = Unit {0}
 
 -- A line from that session, from the links before it to those after it. The count of none of them
--- rose, it found what they had, and an install that can be made was made.
+-- rose, of one that went neither; it found what they had, and an install that can be made was made.
 pub record LineFinds (l : ReportLine) (before after : LinksState) (old : Session) : Type 0 where
   pub quiet : AreQuiet before after
   pub finds : EventFinds l.event l.reply before after old
-  pub installs : InstallsWhereItCan before l.event l.reply old
+  pub installs : InstallsWhereItCan before after l.event l.reply old
 
 -- ---- all lines
 

@@ -1,6 +1,12 @@
-use Rattle.std.proofs.Common.{◌≡◌, ◌<◌, ◌∙◌, arith}
-use Rattle.links.specs.Links.{LinksState}
-use Rattle.fetcher.proofs.Ending.{count_stays, file_more, file_refused, file_served}
+use Rattle.std.proofs.Common.{◌≡◌, ◌<◌, ◌∙◌, List, refl, sym, subst, arith}
+use Rattle.links.specs.Links.{LinksState, sources_of}
+use Rattle.causes.specs.declared.cause.Cause.{Cause}
+use Rattle.fetcher.specs.Causes.{IsFileCause}
+use Rattle.fetcher.specs.Fetched.{IsThis}
+use Rattle.fetcher.specs.Stopped.{DropsLiars}
+use Rattle.fetcher.proofs.Ending.{count_stays, file_kept, file_more, file_refused, file_served}
+use Rattle.fetcher.proofs.InOrder.{Refused, all_stay, refused_none}
+use Rattle.fetcher.proofs.Liars.{but_all}
 use Rattle.fetcher.proofs.file.fetch_file.Goals as goal
 
 pub returns-in-Ok-clause-file : goal.returns-in-Ok-clause-file
@@ -8,12 +14,28 @@ returns-in-Ok-clause-file g c =
     let a : LinksState = g.L.Links.links c.args.links.now in
     let b : LinksState = g.L.Links.links c.loop-place.links in
     let left : LinksState = g.L.Links.links c.file_of.new.links in
+    let d : LinksState = g.L.Links.links c.retire_liars.new.links in
     let count = c.sources-place-end.ensures.count in
-    let less : c.loop-place.place < a.sources = omega (arith, count, c.in_ok-want.ensures.remain.sources) in
+    let less : c.loop-place.place < sources_of a = omega (arith, count, c.in_ok-want.ensures.remain.sources) in
     file_served c.loop-place.place a b left c.loop-place.causes.items c.args.target.now
     c.in-Ok.ensures.moves less c.args.list.now c.args.size
     g.B.Basket.tells (g.B.Basket.taken c.file_of.new.basket)
-    c.loop-place.invariant.refused c.in-Ok.ensures.file
+    c.loop-place.invariant.refused c.in-Ok.ensures.file d
+    (subst (λ (cs : List Cause). DropsLiars cs left d) c.deref.ensures.value c.retire_liars.ensures)
+
+pub returns-in-Ok-clause-kept : goal.returns-in-Ok-clause-kept
+returns-in-Ok-clause-kept g c =
+    let a : LinksState = g.L.Links.links c.args.links.now in
+    let b : LinksState = g.L.Links.links c.loop-place.links in
+    let left : LinksState = g.L.Links.links c.file_of.new.links in
+    let d : LinksState = g.L.Links.links c.retire_liars.new.links in
+    let count = c.sources-place-end.ensures.count in
+    let less : c.loop-place.place < sources_of a = omega (arith, count, c.in_ok-want.ensures.remain.sources) in
+    file_kept c.loop-place.place a b left c.loop-place.causes.items c.args.target.now
+    c.in-Ok.ensures.moves less c.args.list.now c.args.size
+    g.B.Basket.tells (g.B.Basket.taken c.file_of.new.basket)
+    c.loop-place.invariant.refused c.in-Ok.ensures.file d
+    (subst (λ (cs : List Cause). DropsLiars cs left d) c.deref.ensures.value c.retire_liars.ensures)
 
 pub loop-place-preserved : goal.loop-place-preserved
 loop-place-preserved g c =
@@ -21,7 +43,7 @@ loop-place-preserved g c =
     let b : LinksState = g.L.Links.links c.loop-place.links in
     let left : LinksState = g.L.Links.links c.file_of.new.links in
     let count = c.sources-place-end.ensures.count in
-    let less : c.loop-place.place < a.sources = omega (arith, count, c.in_ok-want.ensures.remain.sources) in
+    let less : c.loop-place.place < sources_of a = omega (arith, count, c.in_ok-want.ensures.remain.sources) in
     let before = g.B.Basket.count c.loop-place.basket in
     let after = g.B.Basket.count c.file_of.new.basket in
     let added = c.in_default.ensures.added in
@@ -41,8 +63,28 @@ returns-clause-fault g c =
     let a : LinksState = g.L.Links.links c.args.links.now in
     let left : LinksState = g.L.Links.links c.loop-place.links in
     let count = c.sources-place-end.ensures.count in
-    let all : c.loop-place.place ≡ a.sources = omega (arith, count, c.in_ok-want.ensures.remain.sources) in
+    let all : c.loop-place.place ≡ sources_of a = omega (arith, count, c.in_ok-want.ensures.remain.sources) in
     file_refused c.loop-place.place a left c.loop-place.causes.items c.args.target.now all
     c.args.list.now c.args.size (g.B.Basket.count c.args.basket.now)
     (g.B.Basket.count c.loop-place.basket) c.loop-place.invariant.refused
     c.all_links.result c.all_links.ensures
+
+pub returns-in_err-want-clause-kept : goal.returns-in_err-want-clause-kept
+returns-in_err-want-clause-kept g c =
+    let a : LinksState = g.L.Links.links c.args.links.now in
+    let b : LinksState = g.L.Links.links c.want.new.self in
+    but_all (IsThis c.args.target.now c.args.list.now c.args.size) a b
+    (all_stay a b c.in_err-want.ensures.err c.in_err-want.ensures.remain c.in_err-want.ensures.links)
+
+pub loop-place-init : goal.loop-place-init
+loop-place-init g c =
+    let a : LinksState = g.L.Links.links c.args.links.now in
+    let b : LinksState = g.L.Links.links c.want.new.self in
+    record {
+      refused = subst (Refused (IsFileCause c.args.list.now c.args.size c.args.target.now) c.args.target.now 0 a b)
+          (sym c.new-causes.ensures.items)
+          (refused_none (IsFileCause c.args.list.now c.args.size c.args.target.now) c.args.target.now a b
+          (record { asked = c.in_ok-want.ensures.ok; remain = c.in_ok-want.ensures.remain; links = c.in_ok-want.ensures.links }));
+      basket = refl;
+      turned = g.met.B.Basket.turns_same _;
+    }

@@ -1,19 +1,20 @@
 use Rattle.std.proofs.Common.{◌≡◌, refl, ◌∙◌, arith}
 use Rattle.links.specs.Link.{LinkState}
+use Rattle.links.specs.Links.{link_at}
 use Rattle.fetcher.proofs.Checked.{file_given, other_given, size_differs}
 use Rattle.fetcher.proofs.file.file_of.Goals as goal
 
 pub returns-then-length-size-clause-stop : goal.returns-then-length-size-clause-stop
 returns-then-length-size-clause-stop g c =
-    let first : LinkState = (g.L.Links.links c.args.links.now).link c.args.place in
-    let asked : LinkState = (g.L.Links.links c.ask.new.self).link c.args.place in
+    let first : LinkState = link_at (g.L.Links.links c.args.links.now) c.args.place in
+    let asked : LinkState = link_at (g.L.Links.links c.ask.new.self) c.args.place in
     size_differs c.args.list.now c.args.size c.in-Ok.length c.args.target.now first asked c.in-Ok.ensures.asks.opens c.if-length-size.true
 
 pub returns-in-None-clause-file : goal.returns-in-None-clause-file
 returns-in-None-clause-file g c =
-    let first : LinkState = (g.L.Links.links c.args.links.now).link c.args.place in
-    let asked : LinkState = (g.L.Links.links c.ask.new.self).link c.args.place in
-    let left : LinkState = (g.L.Links.links c.pour.new.links).link c.args.place in
+    let first : LinkState = link_at (g.L.Links.links c.args.links.now) c.args.place in
+    let asked : LinkState = link_at (g.L.Links.links c.ask.new.self) c.args.place in
+    let left : LinkState = link_at (g.L.Links.links c.pour.new.links) c.args.place in
     let same : c.in-Ok.length ≡ c.args.size = omega arith in
     file_given c.args.list.now c.args.size c.in-Ok.length c.args.target.now first asked left c.in-Ok-new.checker c.pour.new.checker
     g.B.Basket.tells (g.B.Basket.taken c.restart.new.self) (g.B.Basket.taken c.pour.new.basket)
@@ -23,9 +24,9 @@ returns-in-None-clause-file g c =
 
 pub returns-in-Some-clause-stop : goal.returns-in-Some-clause-stop
 returns-in-Some-clause-stop g c =
-    let first : LinkState = (g.L.Links.links c.args.links.now).link c.args.place in
-    let asked : LinkState = (g.L.Links.links c.ask.new.self).link c.args.place in
-    let left : LinkState = (g.L.Links.links c.pour.new.links).link c.args.place in
+    let first : LinkState = link_at (g.L.Links.links c.args.links.now) c.args.place in
+    let asked : LinkState = link_at (g.L.Links.links c.ask.new.self) c.args.place in
+    let left : LinkState = link_at (g.L.Links.links c.pour.new.links) c.args.place in
     let same : c.in-Ok.length ≡ c.args.size = omega arith in
     other_given c.args.list.now c.args.size c.in-Ok.length c.args.target.now first asked left c.in-Ok-new.checker c.pour.new.checker
     g.B.Basket.tells (g.B.Basket.taken c.restart.new.self) (g.B.Basket.taken c.pour.new.basket) c.in-Some.difference

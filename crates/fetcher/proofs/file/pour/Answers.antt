@@ -1,6 +1,7 @@
 use Rattle.std.proofs.Common.{rules, ◌+◌, ◌≤◌, ◌∙◌, length, arith}
 use Rattle.std.proofs.lemmas.Grind.{common_steps}
 use Rattle.links.specs.Link.{LinkState}
+use Rattle.links.specs.Links.{link_at}
 use Rattle.fetcher.proofs.Moving.{moves_then}
 use Rattle.fetcher.proofs.Pouring.{nothing_left, poured_end, poured_more}
 use Rattle.fetcher.proofs.file.pour.Goals as goal
@@ -8,9 +9,9 @@ use Rattle.fetcher.proofs.file.pour.Goals as goal
 pub returns-then-n-eq0-clause-poured : goal.returns-then-n-eq0-clause-poured
 returns-then-n-eq0-clause-poured g c =
     let so = c.loop-done.invariant in
-    let first : LinkState = (g.L.Links.links c.args.links.now).link c.args.place in
-    let now : LinkState = (g.L.Links.links c.loop-done.links).link c.args.place in
-    let next : LinkState = (g.L.Links.links c.pour_piece.new.links).link c.args.place in
+    let first : LinkState = link_at (g.L.Links.links c.args.links.now) c.args.place in
+    let now : LinkState = link_at (g.L.Links.links c.loop-done.links) c.args.place in
+    let next : LinkState = link_at (g.L.Links.links c.pour_piece.new.links) c.args.place in
     let T = g.B.Basket.taken in
     let fits : c.in-Ok.n ≤ length c.pour_piece.new.buf = omega (arith, c.if-n-eq0.true) in
     let more = poured_more c.loop-done.done c.in-Ok.n first now next c.args.checker.now c.loop-done.checker c.pour_piece.new.checker
@@ -23,9 +24,9 @@ returns-then-n-eq0-clause-poured g c =
 pub loop-done-preserved : goal.loop-done-preserved
 loop-done-preserved g c =
     let so = c.loop-done.invariant in
-    let first : LinkState = (g.L.Links.links c.args.links.now).link c.args.place in
-    let now : LinkState = (g.L.Links.links c.loop-done.links).link c.args.place in
-    let next : LinkState = (g.L.Links.links c.pour_piece.new.links).link c.args.place in
+    let first : LinkState = link_at (g.L.Links.links c.args.links.now) c.args.place in
+    let now : LinkState = link_at (g.L.Links.links c.loop-done.links) c.args.place in
+    let next : LinkState = link_at (g.L.Links.links c.pour_piece.new.links) c.args.place in
     let T = g.B.Basket.taken in
     let fits : c.in-Ok.n ≤ length c.pour_piece.new.buf = first_of (search rules, grind (arith, common_steps)) in
     record {

@@ -1,17 +1,18 @@
 use Rattle.std.specs.Prelude.{◌≡◌, ◌≤◌, ◌+◌, ◌-◌}
 use Rattle.digest_list.specs.Checker.{count_of}
+use Rattle.links.specs.Links.{link_at}
 use Rattle.fetcher.specs.Stopped.{Moves}
 use Rattle.fetcher.proofs.Pouring.{Poured}
 use Rattle.fetcher.proofs.file.pour.Given as goal
 
 abbrev pub invariant-loop-done : goal.invariant-loop-done
 invariant-loop-done g l = record {
-  poured : Poured l.done ((g.L.Links.links l.initial.links).link l.place) ((g.L.Links.links l.links).link l.place) l.initial.checker l.checker
+  poured : Poured l.done (link_at (g.L.Links.links l.initial.links) l.place) (link_at (g.L.Links.links l.links) l.place) l.initial.checker l.checker
       g.B.Basket.tells (g.B.Basket.taken l.initial.basket) (g.B.Basket.taken l.basket);
   within : l.done ≤ l.size;
   counted : count_of l.checker ≡ count_of l.initial.checker + l.done;
   moves : Moves l.place (g.L.Links.links l.initial.links) (g.L.Links.links l.links);
-  link : ((g.L.Links.links l.links).link l.place).count ≡ ((g.L.Links.links l.initial.links).link l.place).count;
+  link : (link_at (g.L.Links.links l.links) l.place).count ≡ (link_at (g.L.Links.links l.initial.links) l.place).count;
   basket : g.B.Basket.count l.basket ≡ g.B.Basket.count l.initial.basket;
   turned : g.B.Basket.turns_to l.initial.basket l.basket;
 }

@@ -1,6 +1,7 @@
 use Rattle.std.proofs.Common.{List, ℕ, refl, subst, sym}
 use Rattle.digest_list.specs.Matches.{Matches}
-use Rattle.install_plan.specs.Given.{IsFrom}
+use Rattle.install_plan.specs.Given.{IsFromLeft}
+use Rattle.install_plan.proofs.Extends.{got_here}
 use Rattle.install_plan.proofs.Stops.{file_fault, file_got, file_lacks}
 use Rattle.install_plan.proofs.fetch.fetch_content.Goals as goal
 
@@ -12,9 +13,14 @@ returns-in-Ok-fetch_file_into-clause-fetched g c =
     let got = file_got c.args.target.now a b entry.list entry.size
     c.fetch_file_into.new.basket.bytes.items c.in-Ok-fetch_file_into.ensures.file in
     record {
-      kept = c.fetch_file_into.ensures.kept;
+      kept = c.fetch_file_into.ensures.kept.kept;
       asked = got.asked;
-      is = record { size = refl; list = c.in-Ok.ensures; from = subst (λ (l : List ℕ). IsFrom (Matches entry.list entry.size) c.args.target.now a b l) (sym c.from_vec.ensures) got.from };
+      is = record {
+        size = refl;
+        list = c.in-Ok.ensures;
+        from = subst (λ (l : List ℕ). IsFromLeft (Matches entry.list entry.size) c.args.target.now a b l) (sym c.from_vec.ensures)
+            (got_here a b c.fetch_file_into.ensures.kept.kept (Matches entry.list entry.size) c.args.target.now c.fetch_file_into.new.basket.bytes.items got.from);
+      };
     }
 
 pub fetch_reply-requires : goal.fetch_reply-requires
@@ -25,4 +31,4 @@ fetch_reply-requires g c =
 pub returns-in-Err-clause-lack : goal.returns-in-Err-clause-lack
 returns-in-Err-clause-lack g c =
     file_lacks c.args.target.now (g.L.Links.links c.args.links.now) (g.L.Links.links c.fetch_file_into.new.links) c.args.entry.now
-    c.in-Err.fault c.fetch_reply.result c.in-Err.ensures.fault c.fetch_reply.ensures
+    c.fetch_file_into.ensures.kept.kept c.in-Err.fault c.fetch_reply.result c.in-Err.ensures.fault c.fetch_reply.ensures

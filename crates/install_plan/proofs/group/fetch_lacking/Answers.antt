@@ -1,6 +1,6 @@
 use Rattle.std.proofs.Common.{◌∙◌, ◌<◌, ap, inl, inr, refl, sym, subst, All, List, length, map}
 use Rattle.std.specs.Prelude.{slice_get}
-use Rattle.fetcher.proofs.Sequence.{kept_same}
+use Rattle.fetcher.proofs.Sequence.{all_same}
 use Rattle.install_plan.specs.declared.plan.WantedFile.{WantedFile}
 use Rattle.install_plan.specs.FetchedFiles.{HasFetched, IsStopped}
 use Rattle.install_plan.specs.GroupReady.{lacking}
@@ -20,7 +20,7 @@ pub returns-in-Err-judge_space-clause-refused : goal.returns-in-Err-judge_space-
 returns-in-Err-judge_space-clause-refused g c =
     inl (
       inr (inr (c.in-Ok.wants.files, c.in-Ok.ensures.targets, c.in-Err-judge_space.ensures)),
-      record { kept = kept_same (g.L.Links.links c.args.links.now); same = refl },
+      record { kept = all_same (g.L.Links.links c.args.links.now); same = refl },
     )
 
 pub fetch_wanted-requires : goal.fetch_wanted-requires

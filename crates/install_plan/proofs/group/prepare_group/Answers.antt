@@ -3,7 +3,7 @@ use Rattle.std.proofs.lemmas.List.{length-map}
 use Rattle.manifests.specs.declared.facts.FileEntry.{FileEntry}
 use Rattle.machine.specs.declared.reply.Reply.TheVariants as says
 use Rattle.machine.specs.Groups.{group_files}
-use Rattle.fetcher.proofs.Sequence.{kept_same}
+use Rattle.fetcher.proofs.Sequence.{all_same}
 use Rattle.install_plan.specs.GroupReady.{HasBrought, IsGroupOver, IsNotBrought, ungrouped}
 use Rattle.install_plan.proofs.GroupOver.{no_files_over, no_lease_over, stands_over}
 use Rattle.install_plan.proofs.GroupReadying.{leased_held, memory_last, ready_with}
@@ -16,14 +16,14 @@ pub returns-in_default : goal.returns-in_default
 returns-in_default g c =
     let a = g.L.Links.links c.args.links.now in
     no_lease_over c.args.room c.args.state.now c.args.lease c.args.group.now a a
-    (record { kept = kept_same a; same = refl }) (sym c.in_default.ensures.row)
+    (record { kept = all_same a; same = refl }) (sym c.in_default.ensures.row)
 
 pub returns-in-Err : goal.returns-in-Err
 returns-in-Err g c =
     let a = g.L.Links.links c.args.links.now in
     no_files_over c.args.room c.args.state.now c.args.lease c.args.group.now c.in-Some.view.now
     (record { row = sym c.in-Some.ensures.row; bare = sym (c.in-Some.ensures.bare c.args.room) })
-    a a c.in-Err.reply (record { kept = kept_same a; same = refl }) c.in-Err.ensures.refused
+    a a c.in-Err.reply (record { kept = all_same a; same = refl }) c.in-Err.ensures.refused
 
 pub returns-then-has_group : goal.returns-then-has_group
 returns-then-has_group g c =
@@ -34,7 +34,7 @@ returns-then-has_group g c =
     (sym (ap length (c.as_slice.ensures ∙ c.in-Ok.ensures.files) ∙ length-map files ungrouped))
     (stands_over c.args.room c.args.state.now c.args.lease c.args.group.now c.in-Some.view.now
     (record { row = sym c.in-Some.ensures.row; bare = sym (c.in-Some.ensures.bare c.args.room) })
-    c.in-Ok.ensures.some a a (record { kept = kept_same a; same = refl })
+    c.in-Ok.ensures.some a a (record { kept = all_same a; same = refl })
     (sym c.has_group.ensures ∙ c.if-has_group.true))
 
 pub fetch_lacking-requires : goal.fetch_lacking-requires

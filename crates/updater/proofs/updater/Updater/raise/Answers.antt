@@ -36,3 +36,8 @@ returns g c =
     (required_does c.args._now c.args.key.now c.args.version _ c.args.self.now.state _ _ _ old s.jobs s.shows c.requires.passed fits s.valid c.requires.raises))
     (λ takes. memory_missed g.D.Disk g.L.Links c.args._now command c.args.self.now c.args.disk.now c.args._links.now (g.met.D.Disk.seen_left c.args.disk.now) c.requires.moment tt tt)
     c.keep.new.self c.keep.new.disk c.keep.result c.answer.result c.keep.ensures c.answer.ensures
+
+pub returns-in-Err-Memory : goal.returns-in-Err-Memory
+returns-in-Err-Memory g c =
+    memory_missed g.D.Disk g.L.Links c.args._now (command.Require c.args.key.now c.args.version) c.args.self.now c.args.disk.now
+    c.args._links.now (g.met.D.Disk.seen_left c.args.disk.now) c.requires.moment tt tt

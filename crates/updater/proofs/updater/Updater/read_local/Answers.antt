@@ -4,7 +4,7 @@ use Rattle.machine.specs.declared.command.Command.TheVariants as command
 use Rattle.machine.specs.declared.reply.Reply.TheVariants as says
 use Rattle.machine.specs.ReadRow.{part}
 use Rattle.install_plan.proofs.Downs.{counts_none}
-use Rattle.updater.proofs.Commanding.{refused, rested, unlinked}
+use Rattle.updater.proofs.Commanding.{memory_missed, refused, rested, unlinked}
 use Rattle.updater.proofs.LeasedData.{data_rests}
 use Rattle.updater.proofs.ShownViews.{keeps_view}
 use Rattle.updater.proofs.Seen.{rested_as, seen}
@@ -40,3 +40,8 @@ returns-in-Ok-part_of g c =
     (ap length c.as_slice-held.ensures)
     (◌∙◌ {b = part c.args.from c.args.count c.as_slice-held.result.now} c.in-Ok-part_of.ensures
     (ap (part c.args.from c.args.count) c.as_slice-held.ensures))))
+
+pub returns-in-Err-part_of : goal.returns-in-Err-part_of
+returns-in-Err-part_of g c =
+    memory_missed g.D.Disk g.L.Links c.args.now (command.Local c.args.lease c.args.name.now c.args.from c.args.count) c.args.self.now c.args._disk.now
+    c.args._links.now (g.met.D.Disk.seen_left c.args._disk.now) c.requires tt tt

@@ -3,7 +3,7 @@ use Rattle.machine.specs.declared.command.Command.TheVariants as command
 use Rattle.machine.specs.declared.reply.Reply.TheVariants as says
 use Rattle.machine.specs.Entries.{entry_of}
 use Rattle.install_plan.proofs.Downs.{counts_none}
-use Rattle.updater.proofs.Commanding.{refused, rested, unlinked}
+use Rattle.updater.proofs.Commanding.{memory_missed, refused, rested, unlinked}
 use Rattle.updater.proofs.Lists.{not_shown, shown_rests}
 use Rattle.updater.proofs.Seen.{rested_as, seen}
 use Rattle.updater.proofs.updater.Updater.show.Goals as goal
@@ -32,3 +32,8 @@ returns-in-Ok g c =
     (λ old s. shown_rests c.args.now u.room u.state
     _ _ _ old s.jobs s.shows c.args.key.now c.in-Some.app.now c.in-Ok.row
     (sym {b = entry_of c.args.key.now c.self.inside.state.apps} c.in-Some.ensures) c.in-Ok.ensures))
+
+pub returns-in-Err-Memory : goal.returns-in-Err-Memory
+returns-in-Err-Memory g c =
+    memory_missed g.D.Disk g.L.Links c.args.now (command.Show c.args.key.now) c.args.self.now c.args._disk.now
+    c.args._links.now (g.met.D.Disk.seen_left c.args._disk.now) c.requires tt tt

@@ -1,0 +1,16 @@
+pub mod AbandonRow
+pub mod BeginRow
+pub mod CommitRow
+pub mod Folding
+pub mod FreeBytes
+pub mod GroupBeside
+pub mod InstallBeside
+pub mod Interleaving
+pub mod JobLaws
+pub mod JobWords
+pub mod Jobs
+pub mod Needs
+pub mod Replies
+pub mod Sessions
+pub mod Settled
+pub mod StepRow
