@@ -1,5 +1,5 @@
 -- How a call that adds a draft ends where it adds none.
-use Rattle.std.proofs.Common.{◌≡◌, ◌≢◌, ℕ, ◌+◌, ◌-◌, ◌<◌, ◌≤◌, List, ◌++◌, length, Result, Ok, Err, refl, sym, ◌∙◌, ap, arith, inl, IsErr}
+use Rattle.std.proofs.Common.{◌≡◌, ◌≢◌, ℕ, ◌-◌, ◌<◌, ◌≤◌, List, length, Result, Err, refl, ◌∙◌, ap, arith, inl}
 use Rattle.outside.specs.Streams.{Rose}
 use Rattle.small_types.specs.Blocks.{count_for}
 use Rattle.small_types.specs.declared.target.Target.{Target}
@@ -20,7 +20,7 @@ use Rattle.file_store.specs.declared.store.FileStore.{FileStore}
 use Rattle.line_drafts.specs.Added.{SpendsSome}
 use Rattle.line_drafts.specs.Faults.{AreUnasked, IsFetchFault, IsWriteFault, LacksBlocks, fault_of_fetch, fault_of_files}
 use Rattle.line_drafts.specs.declared.fault.DraftFault.{DraftFault}
-use Rattle.line_drafts.specs.declared.fault.DraftFault.TheVariants.{DiskFault, Full, Memory}
+use Rattle.line_drafts.specs.declared.fault.DraftFault.TheVariants.{DiskFault, Full}
 
 pub unasked_same : (links : LinksState) → AreUnasked links links
 unasked_same links = record {

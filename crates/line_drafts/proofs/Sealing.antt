@@ -1,5 +1,5 @@
 -- What drafts held stands in their blocks once they are sealed.
-use Rattle.std.proofs.Common.{◌≡◌, ℕ, List, [], ◌∷◌, ◌++◌, map, Contains, arith, refl, sym, subst}
+use Rattle.std.proofs.Common.{◌≡◌, ℕ, List, [], ◌∷◌, map, Contains, arith, refl, sym, subst}
 use Rattle.std.proofs.lemmas.List.Elements.{Contains-append_left, Contains-append_right}
 use Rattle.small_types.specs.Blocks.{IsContent}
 use Rattle.file_store.specs.Stores.{DraftHolds, draft_blocks}

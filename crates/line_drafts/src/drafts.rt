@@ -166,7 +166,7 @@ impl LineDrafts {
         files: &mut FileStore,
         bytes: &[u8],
     ) -> Result<(), DraftFault>
-        requires used { AreUsed files.old (blocks_of_all self.old) }
+        requires { AreUsed files.old (blocks_of_all self.old) }
         ensures added { OnOk result
             (AddsDraft D.Disk self.old self.new files.old files.new disk.old disk.new bytes.now) }
         ensures none { OnErr result
@@ -207,7 +207,7 @@ impl LineDrafts {
         disk: &mut D,
         files: &mut FileStore,
     ) -> Result<List<List<u32>>, DraftFault>
-        requires used { AreUsed files.old (blocks_of_all self) }
+        requires { AreUsed files.old (blocks_of_all self) }
 
         // What the drafts held stands in their blocks in all that a stop may leave from now on.
         ensures contents { (contents : List (List ℕ))
@@ -244,7 +244,7 @@ impl LineDrafts {
 
     /// Gives all drafts up: their blocks are free. It takes no memory.
     pub fn abandon(self, files: &mut FileStore)
-        requires used { AreUsed files.old (blocks_of_all self) }
+        requires { AreUsed files.old (blocks_of_all self) }
         ensures freed { free_of files.new ≡ blocks_of_all self ++ free_of files.old }
         ensures range { SameRange files.old files.new }
     {

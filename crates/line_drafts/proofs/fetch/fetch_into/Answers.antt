@@ -1,4 +1,4 @@
-use Rattle.std.proofs.Common.{◌≡◌, ◌∙◌, arith, rules}
+use Rattle.std.proofs.Common.{◌≡◌, arith, rules}
 use Rattle.file_store.specs.Stores.{draft_size, filled_of, store_base}
 use Rattle.draft_basket.specs.Basket.{held_bytes}
 use Rattle.line_drafts.proofs.Whole.{file_exact, file_fills, file_held}

@@ -1,8 +1,8 @@
-use Rattle.std.proofs.Common.{◌≡◌, ◌∙◌, ℕ, List, length, refl, sym, ap, subst, inr}
+use Rattle.std.proofs.Common.{◌∙◌, length, refl, sym, subst, inr}
 use Rattle.small_types.specs.Blocks.{count_for}
-use Rattle.file_store.specs.Stores.{DraftHolds, free_of, store_base}
+use Rattle.file_store.specs.Stores.{free_of, store_base}
 use Rattle.fetcher.proofs.Sequence.{kept_same}
-use Rattle.line_drafts.specs.Faults.{IsFetchFault, fault_of_fetch}
+use Rattle.line_drafts.specs.Faults.{IsFetchFault}
 use Rattle.line_drafts.specs.declared.fault.DraftFault.{DraftFault}
 use Rattle.line_drafts.specs.declared.fault.DraftFault.TheVariants.{DiskFault}
 use Rattle.line_drafts.proofs.Course.{kept_adds, kept_others, kept_range, kept_used, none_adds, none_only, none_others, none_used, only_taken, up_adds, up_others, up_range, up_used, used_here}

@@ -1,11 +1,10 @@
-use Rattle.std.proofs.Common.{◌≡◌, ◌∙◌, Ok, Err, [], List, length, refl, sym, ap, subst, arith, rules, map, Contains, ℕ}
+use Rattle.std.proofs.Common.{◌≡◌, ◌∙◌, [], List, refl, sym, ap, subst, arith, map, Contains, ℕ}
 use Rattle.std.proofs.lemmas.Grind.{common_steps}
 use Rattle.disks.proofs.Books.{spends_as}
 use Rattle.disks.proofs.MomentLemmas.{started}
-use Rattle.file_store.specs.Stores.{AreUsed, SameRange, blocks_of_all, draft_blocks, free_of, store_base}
+use Rattle.file_store.specs.Stores.{AreUsed, blocks_of_all, draft_blocks, store_base}
 use Rattle.file_store.specs.declared.draft.Draft.{Draft}
-use Rattle.line_drafts.specs.Held.{AreContents, AreHeld, AreWhole}
-use Rattle.line_drafts.specs.declared.fault.DraftFault.TheVariants.{DiskFault}
+use Rattle.line_drafts.specs.Held.{AreContents, AreWhole}
 use Rattle.line_drafts.proofs.Ends.{nothing_spent}
 use Rattle.line_drafts.proofs.Sealing.{none_stand, sealed_stand}
 use Rattle.line_drafts.proofs.drafts.LineDrafts.seal.Goals as goal
@@ -25,7 +24,7 @@ pub seal_all-requires-clause-whole : goal.seal_all-requires-clause-whole
 seal_all-requires-clause-whole g c = subst AreWhole (sym c.from_vec-2.ensures) c.self.invariant.whole
 
 pub seal_all-requires-clause-used : goal.seal_all-requires-clause-used
-seal_all-requires-clause-used g c = subst (λ (l : List Draft). AreUsed c.args.files.now (blocks_of_all l)) (sym (c.from_vec-2.ensures ∙ c.self.view_is)) c.requires.used
+seal_all-requires-clause-used g c = subst (λ (l : List Draft). AreUsed c.args.files.now (blocks_of_all l)) (sym (c.from_vec-2.ensures ∙ c.self.view_is)) c.requires
 
 pub returns-in-Ok-clause-contents : goal.returns-in-Ok-clause-contents
 returns-in-Ok-clause-contents g c =

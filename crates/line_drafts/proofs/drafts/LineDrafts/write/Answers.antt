@@ -11,7 +11,7 @@ use Rattle.line_drafts.proofs.drafts.LineDrafts.write.Goals as goal
 
 pub returns-in-Err-clause-none : goal.returns-in-Err-clause-none
 returns-in-Err-clause-none g c =
-    none_adds g.D.Disk c.args.self.now c.args.files.now c.requires.used c.args.disk.now c.begin.new.self c.in-Err.ensures.kept c.in-Err.ensures.range
+    none_adds g.D.Disk c.args.self.now c.args.files.now c.requires c.args.disk.now c.begin.new.self c.in-Err.ensures.kept c.in-Err.ensures.range
 
 pub returns-in-Err-clause-fault : goal.returns-in-Err-clause-fault
 returns-in-Err-clause-fault g c =
@@ -27,15 +27,15 @@ returns-in-Err-clause-spends g c =
 
 pub returns-in-Err-clause-only : goal.returns-in-Err-clause-only
 returns-in-Err-clause-only g c =
-    none_only g.D.Disk c.args.self.now c.args.files.now c.requires.used c.args.disk.now c.begin.new.self c.in-Err.ensures.kept c.in-Err.ensures.range
+    none_only g.D.Disk c.args.self.now c.args.files.now c.requires c.args.disk.now c.begin.new.self c.in-Err.ensures.kept c.in-Err.ensures.range
 
 pub returns-in-Err-clause-used : goal.returns-in-Err-clause-used
 returns-in-Err-clause-used g c =
-    none_used g.D.Disk c.args.self.now c.args.files.now c.requires.used c.args.disk.now c.begin.new.self c.in-Err.ensures.kept c.in-Err.ensures.range
+    none_used g.D.Disk c.args.self.now c.args.files.now c.requires c.args.disk.now c.begin.new.self c.in-Err.ensures.kept c.in-Err.ensures.range
 
 pub returns-in-Err-clause-others : goal.returns-in-Err-clause-others
 returns-in-Err-clause-others g c =
-    none_others g.D.Disk c.args.self.now c.args.files.now c.requires.used c.args.disk.now c.begin.new.self c.in-Err.ensures.kept c.in-Err.ensures.range
+    none_others g.D.Disk c.args.self.now c.args.files.now c.requires c.args.disk.now c.begin.new.self c.in-Err.ensures.kept c.in-Err.ensures.range
 
 pub returns-in-Err-clause-range : goal.returns-in-Err-clause-range
 returns-in-Err-clause-range g c =
@@ -46,12 +46,12 @@ store_piece-requires g c = omega (arith, c.in-Ok.ensures.empty, c.in-Ok.ensures.
 
 pub abandon-requires : goal.abandon-requires
 abandon-requires g c =
-    used_here g.D.Disk c.args.self.now c.args.files.now c.requires.used c.begin.new.self c.store_piece.new.self c.in-Ok.draft c.store_piece.new.draft c.args.disk.now c.store_piece.new.disk
+    used_here g.D.Disk c.args.self.now c.args.files.now c.requires c.begin.new.self c.store_piece.new.self c.in-Ok.draft c.store_piece.new.draft c.args.disk.now c.store_piece.new.disk
     c.in-Ok.ensures.takes c.in-Ok.ensures.used c.in-Ok.ensures.range c.store_piece.ensures.blocks c.store_piece.ensures.store c.store_piece.ensures.only
 
 pub returns-in-Err-store_piece-clause-none : goal.returns-in-Err-store_piece-clause-none
 returns-in-Err-store_piece-clause-none g c =
-    up_adds g.D.Disk c.args.self.now c.args.files.now c.requires.used c.begin.new.self c.store_piece.new.self c.in-Ok.draft c.store_piece.new.draft c.args.disk.now c.store_piece.new.disk
+    up_adds g.D.Disk c.args.self.now c.args.files.now c.requires c.begin.new.self c.store_piece.new.self c.in-Ok.draft c.store_piece.new.draft c.args.disk.now c.store_piece.new.disk
     c.in-Ok.ensures.takes c.in-Ok.ensures.used c.in-Ok.ensures.range c.store_piece.ensures.blocks c.store_piece.ensures.store c.store_piece.ensures.only
     c.args.self.now c.abandon.new.self refl c.abandon.ensures.freed c.abandon.ensures.range
 
@@ -69,30 +69,30 @@ returns-in-Err-store_piece-clause-spends g c =
 
 pub returns-in-Err-store_piece-clause-only : goal.returns-in-Err-store_piece-clause-only
 returns-in-Err-store_piece-clause-only g c =
-    only_taken g.D.Disk c.args.self.now c.args.files.now c.requires.used c.begin.new.self c.store_piece.new.self c.in-Ok.draft c.store_piece.new.draft c.args.disk.now c.store_piece.new.disk
+    only_taken g.D.Disk c.args.self.now c.args.files.now c.requires c.begin.new.self c.store_piece.new.self c.in-Ok.draft c.store_piece.new.draft c.args.disk.now c.store_piece.new.disk
     c.in-Ok.ensures.takes c.in-Ok.ensures.used c.in-Ok.ensures.range c.store_piece.ensures.blocks c.store_piece.ensures.store c.store_piece.ensures.only
 
 pub returns-in-Err-store_piece-clause-used : goal.returns-in-Err-store_piece-clause-used
 returns-in-Err-store_piece-clause-used g c =
-    up_used g.D.Disk c.args.self.now c.args.files.now c.requires.used c.begin.new.self c.store_piece.new.self c.in-Ok.draft c.store_piece.new.draft c.args.disk.now c.store_piece.new.disk
+    up_used g.D.Disk c.args.self.now c.args.files.now c.requires c.begin.new.self c.store_piece.new.self c.in-Ok.draft c.store_piece.new.draft c.args.disk.now c.store_piece.new.disk
     c.in-Ok.ensures.takes c.in-Ok.ensures.used c.in-Ok.ensures.range c.store_piece.ensures.blocks c.store_piece.ensures.store c.store_piece.ensures.only
     c.args.self.now c.abandon.new.self refl c.abandon.ensures.freed c.abandon.ensures.range
 
 pub returns-in-Err-store_piece-clause-others : goal.returns-in-Err-store_piece-clause-others
 returns-in-Err-store_piece-clause-others g c =
-    up_others g.D.Disk c.args.self.now c.args.files.now c.requires.used c.begin.new.self c.store_piece.new.self c.in-Ok.draft c.store_piece.new.draft c.args.disk.now c.store_piece.new.disk
+    up_others g.D.Disk c.args.self.now c.args.files.now c.requires c.begin.new.self c.store_piece.new.self c.in-Ok.draft c.store_piece.new.draft c.args.disk.now c.store_piece.new.disk
     c.in-Ok.ensures.takes c.in-Ok.ensures.used c.in-Ok.ensures.range c.store_piece.ensures.blocks c.store_piece.ensures.store c.store_piece.ensures.only
     c.args.self.now c.abandon.new.self refl c.abandon.ensures.freed c.abandon.ensures.range
 
 pub returns-in-Err-store_piece-clause-range : goal.returns-in-Err-store_piece-clause-range
 returns-in-Err-store_piece-clause-range g c =
-    up_range g.D.Disk c.args.self.now c.args.files.now c.requires.used c.begin.new.self c.store_piece.new.self c.in-Ok.draft c.store_piece.new.draft c.args.disk.now c.store_piece.new.disk
+    up_range g.D.Disk c.args.self.now c.args.files.now c.requires c.begin.new.self c.store_piece.new.self c.in-Ok.draft c.store_piece.new.draft c.args.disk.now c.store_piece.new.disk
     c.in-Ok.ensures.takes c.in-Ok.ensures.used c.in-Ok.ensures.range c.store_piece.ensures.blocks c.store_piece.ensures.store c.store_piece.ensures.only
     c.args.self.now c.abandon.new.self refl c.abandon.ensures.freed c.abandon.ensures.range
 
 pub keep-requires-clause-used : goal.keep-requires-clause-used
 keep-requires-clause-used g c =
-    used_here g.D.Disk c.args.self.now c.args.files.now c.requires.used c.begin.new.self c.store_piece.new.self c.in-Ok.draft c.store_piece.new.draft c.args.disk.now c.store_piece.new.disk
+    used_here g.D.Disk c.args.self.now c.args.files.now c.requires c.begin.new.self c.store_piece.new.self c.in-Ok.draft c.store_piece.new.draft c.args.disk.now c.store_piece.new.disk
     c.in-Ok.ensures.takes c.in-Ok.ensures.used c.in-Ok.ensures.range c.store_piece.ensures.blocks c.store_piece.ensures.store c.store_piece.ensures.only
 
 pub keep-requires-clause-whole : goal.keep-requires-clause-whole
@@ -100,7 +100,7 @@ keep-requires-clause-whole g c = omega (arith, c.in_default.ensures.filled, c.st
 
 pub returns-in-Ok-keep-clause-added : goal.returns-in-Ok-keep-clause-added
 returns-in-Ok-keep-clause-added g c =
-    kept_adds g.D.Disk c.args.self.now c.args.files.now c.requires.used c.begin.new.self c.store_piece.new.self c.in-Ok.draft c.store_piece.new.draft c.args.disk.now c.store_piece.new.disk
+    kept_adds g.D.Disk c.args.self.now c.args.files.now c.requires c.begin.new.self c.store_piece.new.self c.in-Ok.draft c.store_piece.new.draft c.args.disk.now c.store_piece.new.disk
     c.in-Ok.ensures.takes c.in-Ok.ensures.used c.in-Ok.ensures.range c.store_piece.ensures.blocks c.store_piece.ensures.store c.store_piece.ensures.only
     c.keep.new.self c.keep.new.files c.in-Ok-keep.ensures.added c.in-Ok-keep.ensures.store
     c.args.bytes.now (c.store_piece.ensures.size ∙ c.in-Ok.ensures.size)
@@ -119,30 +119,30 @@ returns-in-Ok-keep-clause-spends g c =
 
 pub returns-in-Ok-keep-clause-only : goal.returns-in-Ok-keep-clause-only
 returns-in-Ok-keep-clause-only g c =
-    only_taken g.D.Disk c.args.self.now c.args.files.now c.requires.used c.begin.new.self c.store_piece.new.self c.in-Ok.draft c.store_piece.new.draft c.args.disk.now c.store_piece.new.disk
+    only_taken g.D.Disk c.args.self.now c.args.files.now c.requires c.begin.new.self c.store_piece.new.self c.in-Ok.draft c.store_piece.new.draft c.args.disk.now c.store_piece.new.disk
     c.in-Ok.ensures.takes c.in-Ok.ensures.used c.in-Ok.ensures.range c.store_piece.ensures.blocks c.store_piece.ensures.store c.store_piece.ensures.only
 
 pub returns-in-Ok-keep-clause-used : goal.returns-in-Ok-keep-clause-used
 returns-in-Ok-keep-clause-used g c =
-    kept_used g.D.Disk c.args.self.now c.args.files.now c.requires.used c.begin.new.self c.store_piece.new.self c.in-Ok.draft c.store_piece.new.draft c.args.disk.now c.store_piece.new.disk
+    kept_used g.D.Disk c.args.self.now c.args.files.now c.requires c.begin.new.self c.store_piece.new.self c.in-Ok.draft c.store_piece.new.draft c.args.disk.now c.store_piece.new.disk
     c.in-Ok.ensures.takes c.in-Ok.ensures.used c.in-Ok.ensures.range c.store_piece.ensures.blocks c.store_piece.ensures.store c.store_piece.ensures.only
     c.keep.new.self c.keep.new.files c.in-Ok-keep.ensures.added c.in-Ok-keep.ensures.store
 
 pub returns-in-Ok-keep-clause-others : goal.returns-in-Ok-keep-clause-others
 returns-in-Ok-keep-clause-others g c =
-    kept_others g.D.Disk c.args.self.now c.args.files.now c.requires.used c.begin.new.self c.store_piece.new.self c.in-Ok.draft c.store_piece.new.draft c.args.disk.now c.store_piece.new.disk
+    kept_others g.D.Disk c.args.self.now c.args.files.now c.requires c.begin.new.self c.store_piece.new.self c.in-Ok.draft c.store_piece.new.draft c.args.disk.now c.store_piece.new.disk
     c.in-Ok.ensures.takes c.in-Ok.ensures.used c.in-Ok.ensures.range c.store_piece.ensures.blocks c.store_piece.ensures.store c.store_piece.ensures.only
     c.keep.new.self c.keep.new.files c.in-Ok-keep.ensures.added c.in-Ok-keep.ensures.store
 
 pub returns-in-Ok-keep-clause-range : goal.returns-in-Ok-keep-clause-range
 returns-in-Ok-keep-clause-range g c =
-    kept_range g.D.Disk c.args.self.now c.args.files.now c.requires.used c.begin.new.self c.store_piece.new.self c.in-Ok.draft c.store_piece.new.draft c.args.disk.now c.store_piece.new.disk
+    kept_range g.D.Disk c.args.self.now c.args.files.now c.requires c.begin.new.self c.store_piece.new.self c.in-Ok.draft c.store_piece.new.draft c.args.disk.now c.store_piece.new.disk
     c.in-Ok.ensures.takes c.in-Ok.ensures.used c.in-Ok.ensures.range c.store_piece.ensures.blocks c.store_piece.ensures.store c.store_piece.ensures.only
     c.keep.new.self c.keep.new.files c.in-Ok-keep.ensures.added c.in-Ok-keep.ensures.store
 
 pub returns-in-Err-keep-clause-none : goal.returns-in-Err-keep-clause-none
 returns-in-Err-keep-clause-none g c =
-    up_adds g.D.Disk c.args.self.now c.args.files.now c.requires.used c.begin.new.self c.store_piece.new.self c.in-Ok.draft c.store_piece.new.draft c.args.disk.now c.store_piece.new.disk
+    up_adds g.D.Disk c.args.self.now c.args.files.now c.requires c.begin.new.self c.store_piece.new.self c.in-Ok.draft c.store_piece.new.draft c.args.disk.now c.store_piece.new.disk
     c.in-Ok.ensures.takes c.in-Ok.ensures.used c.in-Ok.ensures.range c.store_piece.ensures.blocks c.store_piece.ensures.store c.store_piece.ensures.only
     c.keep.new.self c.keep.new.files c.in-Err-keep.ensures.none c.in-Err-keep.ensures.freed c.keep.ensures.range
 
@@ -159,23 +159,23 @@ returns-in-Err-keep-clause-spends g c =
 
 pub returns-in-Err-keep-clause-only : goal.returns-in-Err-keep-clause-only
 returns-in-Err-keep-clause-only g c =
-    only_taken g.D.Disk c.args.self.now c.args.files.now c.requires.used c.begin.new.self c.store_piece.new.self c.in-Ok.draft c.store_piece.new.draft c.args.disk.now c.store_piece.new.disk
+    only_taken g.D.Disk c.args.self.now c.args.files.now c.requires c.begin.new.self c.store_piece.new.self c.in-Ok.draft c.store_piece.new.draft c.args.disk.now c.store_piece.new.disk
     c.in-Ok.ensures.takes c.in-Ok.ensures.used c.in-Ok.ensures.range c.store_piece.ensures.blocks c.store_piece.ensures.store c.store_piece.ensures.only
 
 pub returns-in-Err-keep-clause-used : goal.returns-in-Err-keep-clause-used
 returns-in-Err-keep-clause-used g c =
-    up_used g.D.Disk c.args.self.now c.args.files.now c.requires.used c.begin.new.self c.store_piece.new.self c.in-Ok.draft c.store_piece.new.draft c.args.disk.now c.store_piece.new.disk
+    up_used g.D.Disk c.args.self.now c.args.files.now c.requires c.begin.new.self c.store_piece.new.self c.in-Ok.draft c.store_piece.new.draft c.args.disk.now c.store_piece.new.disk
     c.in-Ok.ensures.takes c.in-Ok.ensures.used c.in-Ok.ensures.range c.store_piece.ensures.blocks c.store_piece.ensures.store c.store_piece.ensures.only
     c.keep.new.self c.keep.new.files c.in-Err-keep.ensures.none c.in-Err-keep.ensures.freed c.keep.ensures.range
 
 pub returns-in-Err-keep-clause-others : goal.returns-in-Err-keep-clause-others
 returns-in-Err-keep-clause-others g c =
-    up_others g.D.Disk c.args.self.now c.args.files.now c.requires.used c.begin.new.self c.store_piece.new.self c.in-Ok.draft c.store_piece.new.draft c.args.disk.now c.store_piece.new.disk
+    up_others g.D.Disk c.args.self.now c.args.files.now c.requires c.begin.new.self c.store_piece.new.self c.in-Ok.draft c.store_piece.new.draft c.args.disk.now c.store_piece.new.disk
     c.in-Ok.ensures.takes c.in-Ok.ensures.used c.in-Ok.ensures.range c.store_piece.ensures.blocks c.store_piece.ensures.store c.store_piece.ensures.only
     c.keep.new.self c.keep.new.files c.in-Err-keep.ensures.none c.in-Err-keep.ensures.freed c.keep.ensures.range
 
 pub returns-in-Err-keep-clause-range : goal.returns-in-Err-keep-clause-range
 returns-in-Err-keep-clause-range g c =
-    up_range g.D.Disk c.args.self.now c.args.files.now c.requires.used c.begin.new.self c.store_piece.new.self c.in-Ok.draft c.store_piece.new.draft c.args.disk.now c.store_piece.new.disk
+    up_range g.D.Disk c.args.self.now c.args.files.now c.requires c.begin.new.self c.store_piece.new.self c.in-Ok.draft c.store_piece.new.draft c.args.disk.now c.store_piece.new.disk
     c.in-Ok.ensures.takes c.in-Ok.ensures.used c.in-Ok.ensures.range c.store_piece.ensures.blocks c.store_piece.ensures.store c.store_piece.ensures.only
     c.keep.new.self c.keep.new.files c.in-Err-keep.ensures.none c.in-Err-keep.ensures.freed c.keep.ensures.range
