@@ -15,6 +15,8 @@ mod folders_tests;
 #[cfg(test)]
 mod journal_tests;
 #[cfg(test)]
+mod line_drafts_tests;
+#[cfg(test)]
 mod links_tests;
 #[cfg(test)]
 mod made;
