@@ -168,11 +168,14 @@ module _ (room : Room) (tables : Tables) (lease : ℕ) (group : List ℕ) (view 
       listed_file t l s is =
           let found = listed_among files (address_in view) (map ungrouped entries) wanted at_places
           on_addresses t l s is in
-          let own = map_in ungrouped entries found.0 found.1 in
-          (bare_row view, leased.bare, absent,
-          in_any (IsListedFor view.base view.deployment.mapped t l s) entries own.0 own.1
-          (subst (λ (e : FileEntry). (address_in view e ≡ Ok t) × (l ≡ e.list) × (s ≡ e.size)) (sym own.2)
-          (found.2, found.3, found.4)))
+          let own = map_in ungrouped entries found.0 found.1 in (
+            bare_row view,
+            leased.bare,
+            absent,
+            in_any (IsListedFor view.base view.deployment.mapped t l s) entries own.0 own.1
+                (subst (λ (e : FileEntry). (address_in view e ≡ Ok t) × (l ≡ e.list) × (s ≡ e.size)) (sym own.2)
+                (found.2, found.3, found.4)),
+          )
 
       pub line : KeptBut (IsListedOfGroup lease group (table_shape room tables)) a c
       line =

@@ -83,9 +83,11 @@ module _ (shape : Shape) (url : List ℕ) (texts : List (List ℕ)) (a b c : Lin
   listed_file t l s is =
       let entry = listed_among plan.application.files (λ (e : FileEntry). file_target_of plan.base plan.deployment.mapped e.name)
       (wanted shape.views plan.application) plan.wanted planned.is.places planned.is.targets t l s is in
-      inr (of_release {P = λ d x. (base : Target) × (base_of url d ≡ Ok base) × Any (IsListedFor base d.mapped t l s) (wanted shape.views x)}
-      (plan.base, base_is url plan.deployment plan.url (Ok plan.base) planned.is.read planned.is.joined,
-      in_any (IsListedFor plan.base plan.deployment.mapped t l s) (wanted shape.views plan.application) entry.0 entry.1 (entry.2, entry.3, entry.4)))
+      inr (of_release {P = λ d x. (base : Target) × (base_of url d ≡ Ok base) × Any (IsListedFor base d.mapped t l s) (wanted shape.views x)} (
+        plan.base,
+        base_is url plan.deployment plan.url (Ok plan.base) planned.is.read planned.is.joined,
+        in_any (IsListedFor plan.base plan.deployment.mapped t l s) (wanted shape.views plan.application) entry.0 entry.1 (entry.2, entry.3, entry.4),
+      ))
 
   but_line : KeptBut (IsListedBy shape url texts) a c
   but_line =

@@ -59,10 +59,14 @@ module _ (target : Target) (a b : LinksState) where
   file_fault list size Memory is = λ e. cc
 
   pub file_lacks : (entry : FileEntry) → Kept a b → (reason : FetchFault) (reply : Reply) → IsFileFault entry.list entry.size target a b 0 0 reason → IsFetchReply reason reply → IsLack entry target a b reply
-  file_lacks entry kept (AllLinks named reasons) reply is replied = subst (IsLack entry target a b) (sym replied) (is.shown, is.asked, record {
-    causes = is.causes;
-    none = λ quiet. given_after a b target kept is.remain quiet.tell (Matches entry.list entry.size) None (is.none quiet);
-  })
+  file_lacks entry kept (AllLinks named reasons) reply is replied = subst (IsLack entry target a b) (sym replied) (
+    is.shown,
+    is.asked,
+    record {
+      causes = is.causes;
+      none = λ quiet. given_after a b target kept is.remain quiet.tell (Matches entry.list entry.size) None (is.none quiet);
+    },
+  )
   file_lacks entry kept BasketFault reply is replied = absurd replied
   file_lacks entry kept Memory reply is replied = subst (IsLack entry target a b) (sym replied) is
 

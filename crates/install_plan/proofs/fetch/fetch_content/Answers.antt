@@ -15,8 +15,12 @@ returns-in-Ok-fetch_file_into-clause-fetched g c =
     record {
       kept = c.fetch_file_into.ensures.kept.kept;
       asked = got.asked;
-      is = record { size = refl; list = c.in-Ok.ensures; from = subst (λ (l : List ℕ). IsFromLeft (Matches entry.list entry.size) c.args.target.now a b l) (sym c.from_vec.ensures)
-          (got_here a b c.fetch_file_into.ensures.kept.kept (Matches entry.list entry.size) c.args.target.now c.fetch_file_into.new.basket.bytes.items got.from) };
+      is = record {
+        size = refl;
+        list = c.in-Ok.ensures;
+        from = subst (λ (l : List ℕ). IsFromLeft (Matches entry.list entry.size) c.args.target.now a b l) (sym c.from_vec.ensures)
+            (got_here a b c.fetch_file_into.ensures.kept.kept (Matches entry.list entry.size) c.args.target.now c.fetch_file_into.new.basket.bytes.items got.from);
+      };
     }
 
 pub fetch_reply-requires : goal.fetch_reply-requires
