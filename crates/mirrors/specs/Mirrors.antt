@@ -3,7 +3,7 @@ use Rattle.std.specs.Prelude.{◌≡◌, ◌+◌, ℕ, zero, suc, Bool, true, fa
 use Rattle.outside.specs.Streams.{total}
 use Rattle.small_types.specs.declared.target.Target.{Target}
 use Rattle.links.specs.Link.{LinkState, Stays}
-use Rattle.links.specs.Links.{LinksState, count_there, link_at, number_at, sources_of}
+use Rattle.links.specs.Links.{LinksState, count_there, link_at, sources_of}
 
 -- ---- which links are gone
 
