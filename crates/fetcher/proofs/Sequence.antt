@@ -1,5 +1,5 @@
 -- Several fetches, one after another.
-use Rattle.std.proofs.Common.{◌≡◌, ℕ, ◌+◌, ◌<◌, ◌≤◌, Bool, true, List, [], ◌++◌, length, Option, Some, None, inl, inr, refl, sym, ap, subst, ◌∙◌, append_assoc, arith}
+use Rattle.std.proofs.Common.{◌≡◌, ℕ, ◌<◌, ◌≤◌, Bool, true, List, [], ◌++◌, length, Option, Some, None, inl, inr, refl, sym, ap, subst, ◌∙◌, append_assoc, arith}
 use Rattle.std.specs.Prelude.{IfSome}
 use Rattle.std.proofs.lemmas.List.{append-nil}
 use Rattle.outside.specs.Streams.{Rose}
@@ -7,7 +7,7 @@ use Rattle.outside.proofs.Counts.{rose_within}
 use Rattle.small_types.specs.declared.target.Target.{Target}
 use Rattle.links.specs.Links.{LinksState, Remain, counted, failures_of, is_there, link_at, number_at, sources_of}
 use Rattle.links.proofs.Counted.{counted_later, counted_rose}
-use Rattle.links.proofs.Numbers.{known_at, known_there, there_at}
+use Rattle.links.proofs.Numbers.{known_there, there_at}
 use Rattle.fetcher.specs.Fetched.{AllTell, AreQuiet, Kept, KeptAll}
 use Rattle.fetcher.specs.Given.{Given, IsOfSite}
 use Rattle.fetcher.proofs.Moving.{keeps_same, keeps_then}

@@ -13,8 +13,8 @@ use Rattle.fetcher.specs.declared.fault.FetchFault.TheVariants.{AllLinks, Basket
 use Rattle.fetcher.specs.Causes.{AreCauses, IsTextCause, IsFileCause}
 use Rattle.fetcher.specs.Given.{FitsText, Given, GivenText, GivenFile, IsFirst, IsOfSite}
 
--- Those that are left were left before. Every site stays, and no count falls, of those that are gone
--- too. More targets may have been asked for.
+-- Those that are left were left before. Every site stays, and no count falls, of those that are
+-- gone too. More targets may have been asked for.
 pub record Kept (old new : LinksState) : Type 0 where
   pub all : length new.there ≡ length old.there
   pub left : (n : ℕ) → IsLeft new n → IsLeft old n
@@ -107,7 +107,8 @@ pub record KeptAll (old new : LinksState) : Type 0 where
   pub remain : Remain old new
 
 -- they are kept, but for those that lied
-pub record KeptBut (IsListed : Target → List Digest → ℕ → Type 0) (old new : LinksState) : Type 0 where
+pub record KeptBut (IsListed : Target → List Digest → ℕ → Type 0) (old new : LinksState)
+    : Type 0 where
   pub kept : Kept old new
   pub went : OnlyLiarsWent IsListed old new
 
@@ -134,8 +135,8 @@ pub record IsText (limit : ℕ) (target : Target) (old new : LinksState) (bytes 
   pub site : AllTell old → IsOfSite old target bytes
   pub given : AreQuiet old new → GivenText limit old target (Some bytes)
 
--- A file that was fetched into a basket, which may tell what it holds. The links that were asked before
--- and gave other bytes are gone, and no other is.
+-- A file that was fetched into a basket, which may tell what it holds. The links that were asked
+-- before and gave other bytes are gone, and no other is.
 pub record IsFile (list : List Digest) (size : ℕ) (target : Target) (old new : LinksState)
     (tells : Type 0) (held : List ℕ) : Type 0 where
   pub asked : Asked target old new
@@ -148,8 +149,8 @@ pub record IsFile (list : List Digest) (size : ℕ) (target : Target) (old new :
   pub site : AllTell old → IsOfSite old target bytes
   pub given : AreQuiet old new → GivenFile list size old target (Some bytes)
 
--- No link gave it, each for its cause, and none is gone. Where they are quiet none has it, and a link
--- that has it is not quiet or is behind one that is not.
+-- No link gave it, each for its cause, and none is gone. Where they are quiet none has it, and a
+-- link that has it is not quiet or is behind one that is not.
 pub record NoneGave (IsCause : LinkState → LinkState → Cause → Type 0) (Fits : List ℕ → Type 0)
     (target : Target) (old new : LinksState) (named : Target) (reasons : List Cause) : Type 0 where
   pub asked : Asked target old new

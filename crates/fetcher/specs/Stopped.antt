@@ -33,15 +33,15 @@ pub record StaysAll (old new : LinksState) : Type 0 where
   pub asked : new.asked ≡ old.asked
   pub links : (n : ℕ) → n < length old.there → Stays (old.link n) (new.link n)
 
--- Of the first links, which did not serve for these causes, those are gone that gave other bytes, and
--- nothing else changed.
+-- Of the first links, which did not serve for these causes, those are gone that gave other bytes,
+-- and nothing else changed.
 pub record DropsLiars (causes : List Cause) (old new : LinksState) : Type 0 where
   pub there : new.there ≡ without_liars causes old.there
   pub asked : new.asked ≡ old.asked
   pub links : (n : ℕ) → n < length old.there → Stays (old.link n) (new.link n)
 
--- the place of the next link behind one that did not serve for this cause, once a link that gave other
--- bytes is gone
+-- the place of the next link behind one that did not serve for this cause, once a link that gave
+-- other bytes is gone
 abbrev pub next_place : Cause → ℕ → ℕ
 next_place (Differs difference) place = place
 next_place _ place = place + 1

@@ -33,8 +33,8 @@ fn pour_piece<L: Links, B: Basket>(
         PoursPiece checker.old checker.new B.tells (B.taken basket.old) (B.taken basket.new)
         (take n buf.new)) }
     ensures told { (link_at (L.links links.old) place).tells → IfOk result (λ n.
-        Consumes (link_at (L.links links.old) place).rest (link_at (L.links links.new) place).rest buf.new
-        n) }
+        Consumes (link_at (L.links links.old) place).rest (link_at (L.links links.new) place).rest
+        buf.new n) }
     ensures stop { IfErr result
         (IsPourStop (link_at (L.links links.old) place) (link_at (L.links links.new) place)
         (B.count basket.old) (B.count basket.new)) }

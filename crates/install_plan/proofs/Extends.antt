@@ -1,5 +1,5 @@
 -- What links gave, seen over more of the line.
-use Rattle.std.proofs.Common.{◌≡◌, ◌∙◌, ◌+◌, ◌<◌, ◌≤◌, ℕ, Bool, true, List, length, Option, Some, None, [], ◌++◌, refl, sym, subst, arith}
+use Rattle.std.proofs.Common.{◌≡◌, ◌∙◌, ◌+◌, ◌<◌, ◌≤◌, ℕ, Bool, true, List, length, Option, Some, None, [], refl, sym, subst, arith}
 use Rattle.std.specs.Prelude.{IfSome}
 use Rattle.std.proofs.lemmas.List.{append-nil}
 use Rattle.outside.specs.Streams.{Rose}
@@ -12,7 +12,7 @@ use Rattle.links.proofs.Numbers.{known_at}
 use Rattle.fetcher.specs.Fetched.{AreQuietTo, Kept, NoneGave, became}
 use Rattle.fetcher.specs.Given.{IsFirst}
 use Rattle.fetcher.proofs.Moving.{keeps_same}
-use Rattle.fetcher.proofs.Sequence.{given_after, given_before, kept_then, quiet_first, quiet_second, site_before, tell_after}
+use Rattle.fetcher.proofs.Sequence.{given_before, kept_then, quiet_first, quiet_second, site_before, tell_after}
 use Rattle.install_plan.specs.Given.{IsFrom, IsFromLeft, IsUngiven, narrowed}
 use Rattle.install_plan.proofs.Causes.{Follows, causes_from}
 

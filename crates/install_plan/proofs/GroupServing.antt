@@ -11,7 +11,6 @@ use Rattle.addresses.specs.declared.fault.UrlFault.TheVariants.{BadUrl}
 use Rattle.addresses.specs.Join.{file_target_of}
 use Rattle.causes.specs.declared.cause.Cause.{Cause}
 use Rattle.digest_list.specs.declared.digest.Digest.{Digest}
-use Rattle.digest_list.specs.Matches.{Matches}
 use Rattle.manifests.specs.declared.facts.FileEntry.{FileEntry}
 use Rattle.machine.specs.declared.reply.Reply.{Reply}
 use Rattle.machine.specs.declared.reply.Reply.TheVariants as says
@@ -27,7 +26,6 @@ use Rattle.machine.proofs.Ungrouped.{group_ungrouped}
 use Rattle.store_state.specs.declared.view.View.{View}
 use Rattle.store_state.specs.Tables.{Tables, bare_row, table_shape}
 use Rattle.links.specs.Links.{LinksState}
-use Rattle.fetcher.specs.Causes.{IsFileCause}
 use Rattle.fetcher.specs.Fetched.{Kept, KeptBut}
 use Rattle.fetcher.proofs.Liars.{but_weaker}
 use Rattle.install_plan.specs.declared.plan.WantedFile.{WantedFile}

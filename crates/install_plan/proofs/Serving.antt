@@ -23,7 +23,6 @@ use Rattle.machine.specs.Store.{Session}
 use Rattle.machine.specs.Wanted.{wanted}
 use Rattle.machine.proofs.Members.{In, contains_in, in_right}
 use Rattle.links.specs.Links.{LinksState}
-use Rattle.fetcher.specs.Causes.{IsFileCause}
 use Rattle.fetcher.specs.Fetched.{Kept, KeptBut}
 use Rattle.fetcher.specs.Given.{FitsText}
 use Rattle.fetcher.proofs.Liars.{but_then, but_weaker}

@@ -22,8 +22,8 @@ pub record IsFrom (Fits : List ℕ → Type 0) (target : Target) (before after :
 abbrev pub narrowed : LinksState → List Bool → LinksState
 narrowed links left = record links { there = left }
 
--- The same of a file, for which those links were asked that were left by then. Where no link went they
--- are those from before.
+-- The same of a file, for which those links were asked that were left by then. Where no link went
+-- they are those from before.
 pub record IsFromLeft (Fits : List ℕ → Type 0) (target : Target) (before after : LinksState)
     (bytes : List ℕ) : Type 0 where
   pub left : List Bool

@@ -56,8 +56,8 @@ IsListedOfGroup lease group shape target list size =
     Any (IsListedFor view.base view.deployment.mapped target list size)
     (group_wanted shape.views group view.application))
 
--- No target was asked for but the first of those that the group asks for. Of the links that tell only
--- those went that gave other bytes than are listed.
+-- No target was asked for but the first of those that the group asks for. Of the links that tell
+-- only those went that gave other bytes than are listed.
 pub record GroupServed (lease : ℕ) (group : List ℕ) (shape : Shape) (before after : LinksState)
     (reply : Reply) : Type 0 where
   pub kept : KeptBut (IsListedOfGroup lease group shape) before after

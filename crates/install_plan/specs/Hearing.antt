@@ -47,7 +47,8 @@ IsListedFor base mapped target list size entry =
 -- for the application manifest, by the deployment that was heard
 abbrev pub IsListedManifest : List ℕ → List (List ℕ) → Target → List Digest → ℕ → Type 0
 IsListedManifest url texts target list size =
-    OfDeployment texts (λ d. (base_of url d ≡ Ok target) × (list ≡ d.app_list) × (size ≡ d.app_size))
+    OfDeployment texts
+    (λ d. (base_of url d ≡ Ok target) × (list ≡ d.app_list) × (size ≡ d.app_size))
 
 -- for a wanted file, by the release that was heard
 abbrev pub IsListedFile : Shape → List ℕ → List (List ℕ) → Target → List Digest → ℕ → Type 0

@@ -26,8 +26,8 @@ IsOfferText key shape before after text =
     (target : Target) × (provider_of key shape.apps ≡ Some target)
     × IsFrom (FitsText MANIFEST_LIMIT) target before after text
 
--- The links went on from before to after, and none is gone. The text came from the provider, and nothing was asked
--- for but what the check asks for.
+-- The links went on from before to after, and none is gone. The text came from the provider, and
+-- nothing was asked for but what the check asks for.
 pub record OfferHearing (key : Key) (shape : Shape) (texts : List (List ℕ))
     (before after : LinksState) : Type 0 where
   pub kept : KeptAll before after

@@ -6,8 +6,8 @@ use Rattle.links.specs.declared.links.WantFault.{WantFault}
 use Rattle.links.specs.Link.{LinkState, Stays}
 
 -- links: of each that there was at first, by its number, whether it is left, and the link itself;
--- and the targets that were asked for. A link that is gone keeps its number, and stays as it was when
--- it went.
+-- and the targets that were asked for. A link that is gone keeps its number, and stays as it was
+-- when it went.
 pub record LinksState : Type 1 where
   pub there : List Bool
   pub link : ℕ → LinkState

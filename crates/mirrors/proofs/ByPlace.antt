@@ -1,11 +1,10 @@
 -- Links in boxes, by their numbers and places.
-use Rattle.std.proofs.Common.{◌≡◌, ◌≢◌, ℕ, zero, suc, ◌+◌, ◌<◌, ◌≤◌, Bool, true, false, List, [], ◌∷◌, ◌++◌, length, get_or, set, Option, Some, None, refl, ap, sym, subst, ◌∙◌, arith}
+use Rattle.std.proofs.Common.{◌≡◌, ◌≢◌, ℕ, zero, suc, ◌+◌, ◌<◌, Bool, true, false, List, [], ◌∷◌, ◌++◌, length, get_or, set, Option, Some, None, refl, ap, sym, subst, ◌∙◌, arith}
 use Rattle.std.proofs.lemmas.List.{length-append, length-set}
 use Rattle.std.specs.Prelude.{IfSome, remove, slice_get}
-use Rattle.outside.specs.Streams.{total}
 use Rattle.small_types.specs.declared.target.Target.{Target}
 use Rattle.links.specs.Link.{LinkState, Stays}
-use Rattle.links.specs.Links.{ChangesOnly, Retires, count_there, counted, is_there, number_at}
+use Rattle.links.specs.Links.{ChangesOnly, Retires, count_there, number_at}
 use Rattle.mirrors.specs.Mirrors.{AreNew, all_left, boxes_state, gone_in, link_in, mark, mark_all, marks_of, no_link, there_of}
 
 stays_same : (s : LinkState) → Stays s s

@@ -1,5 +1,5 @@
 -- Sums of the counts of boxes, and of those that are gone.
-use Rattle.std.proofs.Common.{◌≡◌, ℕ, zero, suc, ◌+◌, ◌<◌, ◌≤◌, List, [], ◌∷◌, ◌++◌, length, Option, Some, None, refl, ap, sym, ◌∙◌, arith}
+use Rattle.std.proofs.Common.{◌≡◌, ℕ, zero, suc, ◌<◌, ◌≤◌, List, [], ◌∷◌, length, Option, Some, None, refl, ap, sym, ◌∙◌, arith}
 use Rattle.outside.specs.Streams.{total}
 use Rattle.links.specs.Link.{LinkState}
 use Rattle.links.specs.Links.{count_there, counted}

@@ -3,12 +3,12 @@ use Rattle.std.specs.Prelude.{◌≡◌, ◌+◌, ℕ, zero, suc, Bool, true, fa
 use Rattle.outside.specs.Streams.{total}
 use Rattle.small_types.specs.declared.target.Target.{Target}
 use Rattle.links.specs.Link.{LinkState, Stays}
-use Rattle.links.specs.Links.{LinksState, count_there, link_at, number_at, sources_of}
+use Rattle.links.specs.Links.{LinksState, count_there, link_at, sources_of}
 
 -- ---- which links are gone
 
--- of each link that there was at first, by its number: what was noted of it when it went, or nothing
--- while it is left
+-- of each link that there was at first, by its number: what was noted of it when it went, or
+-- nothing while it is left
 abbrev pub all_left : {G : Type 0} → ℕ → List (Option G)
 all_left zero = []
 all_left (suc n) = None ∷ all_left n
@@ -40,6 +40,13 @@ gone_in count_of [] = 0
 gone_in count_of (None ∷ marks) = gone_in count_of marks
 gone_in count_of (Some one ∷ marks) = total (count_of one) (gone_in count_of marks)
 
+-- so many are left, and those that went failed so often
+abbrev pub AreEven : {G : Type 0} → (G → ℕ) → ℕ → List G → Type 0
+AreEven place_of left gone = count_there (there_of (marks_of place_of left gone)) ≡ left
+
+abbrev pub AreSummed : {G : Type 0} → (G → ℕ) → (G → ℕ) → ℕ → List G → ℕ → Type 0
+AreSummed place_of count_of left gone sum = gone_in count_of (marks_of place_of left gone) ≡ sum
+
 -- ---- the links
 
 -- where there is no link
@@ -57,8 +64,8 @@ link_in state last (Some one ∷ marks) boxes zero = last one
 link_in state last (Some one ∷ marks) boxes (suc n) = link_in state last marks boxes n
 
 -- all of them
-abbrev pub boxes_state : {B G : Type 0} → (B → LinkState) → (G → LinkState) → List (Option G) → List B
-    → List Target → LinksState
+abbrev pub boxes_state : {B G : Type 0} → (B → LinkState) → (G → LinkState) → List (Option G)
+    → List B → List Target → LinksState
 boxes_state state last marks boxes asked =
     record { there = there_of marks; link = link_in state last marks boxes; asked = asked }
 

@@ -3,8 +3,7 @@ ghost use Rattle.std.specs.Prelude.{◌≡◌, ◌<◌, ◌≤◌, length, vec_l
 ghost use Rattle.small_types.specs.declared.limits.TheConstants.{LINK_LIMIT};
 ghost use Rattle.links.specs.Asked.{NotesAsk, NotesPiece};
 ghost use Rattle.links.specs.Link.{Asks, Takes};
-ghost use Rattle.links.specs.Links.{count_there};
-ghost use Rattle.mirrors.specs.Mirrors.{AreNew, gone_in, marks_of, there_of};
+ghost use Rattle.mirrors.specs.Mirrors.{AreEven, AreNew, AreSummed};
 
 use crate::gone::{Gone, GoneNote};
 use call_record::Record;
@@ -48,9 +47,8 @@ pub struct Mirrors {
     retired: Record<Gone>,
     ghost some: { 1 ≤ vec_len links },
     ghost within: { vec_len links ≤ LINK_LIMIT },
-    ghost even: { count_there (there_of (marks_of (λ g. g.place) (length links.items) retired.noted))
-        ≡ length links.items },
-    ghost summed: { gone_in (λ g. g.count) (marks_of (λ g. g.place) (length links.items) retired.noted) ≡ gone },
+    ghost even: { AreEven (λ g. g.place) (length links.items) retired.noted },
+    ghost summed: { AreSummed (λ g. g.place) (λ g. g.count) (length links.items) retired.noted gone },
 }
 
 impl Mirrors {

@@ -73,8 +73,8 @@ LinksServe (Group lease group) heard before after old reply new =
     × AreBrought lease group (shape_of old) before after new.store
 LinksServe _ heard before after old reply new = Unit {0}
 
--- What is listed at an address for a file that the command wants, by the tables and what it heard. Only
--- an install and a group want files.
+-- What is listed at an address for a file that the command wants, by the tables and what it heard.
+-- Only an install and a group want files.
 abbrev pub IsListedOf :
     Command → Shape → List (List ℕ) → Target → List Digest → ℕ → Type 0
 IsListedOf (Install url) shape heard target list size = IsListedBy shape url heard target list size
@@ -119,10 +119,11 @@ pub record Faulted {D L : Type 0} (on : Ghosts D) (net : LinksGhosts L) (now : �
 
 -- What a command does, for each session that is held, and whose store is sound where the command
 -- asks it, where the disk tells afterwards. What it tells then it told before. The count of faults
--- rises exactly where the disk failed. The links and their sites stay, but for links that gave other
--- bytes than are listed for a file that the command wants. What it heard, its tables let it hear; and the moment of the next command is within its limit. Whatever session is held or
--- none, where the reply says of a link that it failed, the number of failures rose, and it is want of
--- memory only where the command may find none.
+-- rises exactly where the disk failed. The links and their sites stay, but for those that gave other
+-- bytes than are listed for a file that the command wants. What it heard, its tables let it hear;
+-- and the moment of the next command is within its limit. Whatever session is held or none, where the
+-- reply says of a link that it failed, the number of failures rose, and it is want of memory only
+-- where the command may find none.
 pub record Commanded {D L : Type 0} (on : Ghosts D) (net : LinksGhosts L) (now : ℕ)
     (heard : List (List ℕ)) (command : Command) (updater_old : Updater) (disk_old : D)
     (links_old : L) (result : Result Reply Failed) (updater_new : Updater) (disk_new : D)

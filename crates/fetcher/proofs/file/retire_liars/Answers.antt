@@ -1,5 +1,4 @@
 use Rattle.std.proofs.Common.{subst, List}
-use Rattle.links.specs.Links.{LinksState}
 use Rattle.causes.specs.declared.cause.Cause.{Cause}
 use Rattle.fetcher.proofs.Liars.{Dropping, drop_all, dropping_end, dropping_next}
 use Rattle.fetcher.proofs.file.retire_liars.Goals as goal

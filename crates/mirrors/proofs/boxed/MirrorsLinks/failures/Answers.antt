@@ -1,4 +1,4 @@
-use Rattle.std.proofs.Common.{◌≡◌, ◌∙◌, ap, length, refl, subst, sym, arith}
+use Rattle.std.proofs.Common.{◌≡◌, ◌∙◌, ap, length, refl, sym, arith}
 use Rattle.links.specs.Links.{counted}
 use Rattle.mirrors.specs.Mirrors.{link_in, marks_of}
 use Rattle.mirrors.proofs.ByPlace.{box_at, there_length}
