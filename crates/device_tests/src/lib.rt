@@ -1,7 +1,9 @@
-//! Tests of the devices in memory, of what a device notes, of the file store and of the journal:
-//! that calls succeed and fail by their numbers.
+//! Tests of the devices in memory, of what a device notes, of the file store, of contents in blocks
+//! and of the journal: that calls succeed and fail by their numbers.
 #![tactic(auto)]
 
+#[cfg(test)]
+mod block_files_tests;
 #[cfg(test)]
 mod call_record_tests;
 #[cfg(test)]

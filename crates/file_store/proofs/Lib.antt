@@ -1,6 +1,7 @@
 pub mod Apart
 pub mod Fronts
 pub mod Giving
+pub mod Judging
 pub mod Marking
 pub mod Overwriting
 pub mod Places

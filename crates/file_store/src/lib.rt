@@ -12,4 +12,5 @@ mod store;
 pub use draft::Draft;
 pub use fault::FileFault;
 pub use laws::{freed_contents_stay, images_stay};
+pub use marks::are_apart;
 pub use store::FileStore;

@@ -1,0 +1,4 @@
+pub mod Begun
+pub mod Copies
+pub mod Parts
+pub mod Wider
