@@ -280,13 +280,13 @@ const LINES: &[(u64, Came)] = &[
 #[test]
 fn a_line_is_sealed_or_given_up(rt: HostRuntime) -> Result<(), Fail> {
     let alloc = rt.alloc();
-    let mut boxes: Vec<Box<dyn Link>> = Vec::new(alloc);
-    for content in [b"abd", b"abc"] {
-        boxes.push(Box::new(alloc, link_of(alloc, content)?)?)?;
-    }
-    assert!(rt; boxes.len() == 2);
-    let mut links = Mirrors::new(alloc, boxes);
     for (failing, want) in LINES.iter() {
+        let mut boxes: Vec<Box<dyn Link>> = Vec::new(alloc);
+        for content in [b"abd", b"abc"] {
+            boxes.push(Box::new(alloc, link_of(alloc, content)?)?)?;
+        }
+        assert!(rt; boxes.len() == 2);
+        let mut links = Mirrors::new(alloc, boxes);
         let came = line_with(alloc, &mut links, *failing)?;
         assert!(rt; came == *want, "the call {failing} fails");
     }
