@@ -158,7 +158,15 @@ fn steps(
     let same = has_bytes(files, disk, &copied, size, content)?;
     let elsewhere = size == 0 || copied.as_slice() != blocks.as_slice();
     let kept = has_bytes(files, disk, &blocks, size, content)?;
-    let steps = [written, parts, only, same, elsewhere, kept, disk.written() == 2 * size];
+    let steps = [
+        written,
+        parts,
+        only,
+        same,
+        elsewhere,
+        kept,
+        disk.written() == 2 * size,
+    ];
     Ok(steps.iter().position(|right| !*right))
 }
 
