@@ -20,11 +20,13 @@ pub record ArePast (draft : Draft) (is_over : Bool) (past : List ℕ) : Type 0 w
   pub none : is_over ≡ false → past ≡ []
   pub many : is_over ≡ true → draft_size draft < filled_of draft + length past
 
--- What calls of the basket make of its draft and of the disk: only the draft's blocks are written.
-pub record Turned {D : Type 0} (on : Ghosts D) (base : ℕ) (draft_old draft_new : Draft)
+-- What calls of the basket that hand it so many bytes make of its draft and of the disk: only the
+-- draft's blocks are written, and no more bytes than these.
+pub record Turned {D : Type 0} (on : Ghosts D) (base n : ℕ) (draft_old draft_new : Draft)
     (disk_old disk_new : D) : Type 0 where
   pub blocks : draft_blocks draft_new ≡ draft_blocks draft_old
   pub size : draft_size draft_new ≡ draft_size draft_old
   pub only : WritesOnly on base (draft_blocks draft_old) disk_old disk_new
   pub told : on.tells disk_new → on.tells disk_old
   pub total : on.total disk_old ≤ on.total disk_new
+  pub within : on.total disk_new ≤ on.total disk_old + n

@@ -1,7 +1,7 @@
 //! A draft of a file store as the basket of a fetch.
 #![tactic(auto)]
 
-ghost use Rattle.std.specs.Prelude.{◌≡◌, ◌≤◌, ◌++◌, refl, length, IfErr, OnOk};
+ghost use Rattle.std.specs.Prelude.{◌≡◌, ◌≤◌, ◌+◌, ◌++◌, refl, length, IfErr, OnOk};
 ghost use Rattle.std.proofs.Common.{◌∙◌};
 ghost use Rattle.file_store.specs.Stores.{draft_blocks, draft_size, filled_of, store_base};
 ghost use Rattle.file_store.specs.Writes.{WritesOnly};
@@ -40,25 +40,26 @@ impl<D: Disk> Basket for DraftBasket<'_, D> {
 
     ghost count = { λ b. D.count b.disk.now };
 
-    ghost turns_to = { λ a b. (b.disk.ghost_name ≡ a.disk.ghost_name)
+    ghost turns_to = { λ n a b. (b.disk.ghost_name ≡ a.disk.ghost_name)
         × (b.draft.ghost_name ≡ a.draft.ghost_name) × (b.store.ghost_name ≡ a.store.ghost_name)
         × (b.store.now ≡ a.store.now)
-        × Turned D.Disk (store_base a.store.now) a.draft.now b.draft.now a.disk.now b.disk.now };
+        × Turned D.Disk (store_base a.store.now) n a.draft.now b.draft.now a.disk.now
+        b.disk.now };
 
     ghost turns_same = { λ a. (
       refl,
       refl,
       refl,
       refl,
-      turned_same _ (store_base a.store.now) a.draft.now a.disk.now,
+      turned_same _ (store_base a.store.now) 0 a.draft.now a.disk.now,
     ) };
 
-    ghost turns_on = { λ a b c one two. (
+    ghost turns_on = { λ m n a b c one two. (
       two.0 ∙ one.0,
       two.1 ∙ one.1,
       two.2 ∙ one.2,
       two.3 ∙ one.3,
-      turned_on _ a.store.now b.store.now a.draft.now b.draft.now c.draft.now a.disk.now
+      turned_on _ m n a.store.now b.store.now a.draft.now b.draft.now c.draft.now a.disk.now
           b.disk.now c.disk.now one.3 one.4 two.4,
     ) };
 
@@ -73,8 +74,8 @@ impl<D: Disk> Basket for DraftBasket<'_, D> {
             × (self.new.draft.ghost_name ≡ self.old.draft.ghost_name)
             × (self.new.store.ghost_name ≡ self.old.store.ghost_name)
             × (self.new.store.now ≡ self.old.store.now)
-            × Turned D.Disk (store_base self.old.store.now) self.old.draft.now self.new.draft.now
-            self.old.disk.now self.new.disk.now }
+            × Turned D.Disk (store_base self.old.store.now) (length bytes.now) self.old.draft.now
+            self.new.draft.now self.old.disk.now self.new.disk.now }
         ensures bytes { OnOk result (Appends
             (held_bytes (store_base self.old.store.now) self.old.draft.now
             (D.seen self.old.disk.now) ++ self.old.past.noted)
@@ -129,7 +130,7 @@ impl<'a, D: Disk> DraftBasket<'a, D> {
 
 // Hands all these bytes to an emptied basket.
 fn fill<B: Basket>(basket: &mut B, bytes: &[u8]) -> Result<(), BasketFault>
-    ensures turned { B.turns_to basket.old basket.new }
+    ensures turned { B.turns_to (length bytes.now) basket.old basket.new }
     ensures bytes { B.tells → OnOk result (B.taken basket.new ≡ bytes.now) }
     ensures counts { BasketCounts (B.count basket.old) (B.count basket.new) result }
 {
@@ -153,6 +154,7 @@ pub fn fill_draft<D: Disk>(
     ensures blocks { draft_blocks draft.new ≡ draft_blocks draft.old }
     ensures size { draft_size draft.new ≡ draft_size draft.old }
     ensures store { store.new ≡ store.old }
+    ensures written { D.total disk.new ≤ D.total disk.old + length bytes.now }
     ensures counts { BasketCounts (D.count disk.old) (D.count disk.new) result }
 {
     let mut basket = DraftBasket::new(disk, store, draft);

@@ -1,6 +1,6 @@
 // What no clause says of fetching: that it succeeds, and worked values.
-ghost use Rattle.std.specs.Prelude.{◌≡◌, refl};
-ghost use Rattle.std.proofs.Common.{◌∙◌};
+ghost use Rattle.std.specs.Prelude.{◌≡◌, ◌+◌, ◌≤◌, refl};
+ghost use Rattle.std.proofs.Common.{◌∙◌, arith};
 ghost use Rattle.links.specs.Link.{LinkState};
 
 use crate::made::{bytes, failing, same};
@@ -389,10 +389,12 @@ fn loose_links_give_files_that_match(rt: HostRuntime) -> Result<(), Fail> {
     Ok(done?)
 }
 
-// A basket that stands for a shelf: its calls leave the shelf's number as it is.
+// A basket that stands for a shelf: its calls leave the shelf's number as it is, and the bytes that they hand to it are
+// counted.
 #[derive(Drop)]
 struct Shelf {
     number: u64,
+    handed: u64,
     bytes: Bytes,
 }
 
@@ -403,17 +405,18 @@ impl Basket for Shelf {
 
     ghost count = { λ b. 0 };
 
-    ghost turns_to = { λ a b. b.number ≡ a.number };
+    ghost turns_to = { λ n a b. (b.number ≡ a.number) × (b.handed ≤ a.handed + n) };
 
-    ghost turns_same = { λ a. refl };
+    ghost turns_same = { λ a. (refl, Prim.omega arith) };
 
-    ghost turns_on = { λ a b c one two. two ∙ one };
+    ghost turns_on = { λ m n a b c one two. (two.0 ∙ one.0, Prim.omega (arith, one.1, two.1)) };
 
     fn restart(&mut self) {
         self.bytes.shorten(0);
     }
 
     fn take(&mut self, bytes: &[u8]) -> Result<(), BasketFault> {
+        self.handed = self.handed.saturating_add(bytes.len() as u64);
         match self.bytes.extend(bytes) {
             Ok(()) => Ok(()),
             Err(_) => Err(BasketFault::Memory),
@@ -425,14 +428,15 @@ impl Basket for Shelf {
     }
 }
 
-// Whatever comes of a fetch, it is the same shelf afterwards.
+// Whatever comes of a fetch of three bytes from one link, it is the same shelf afterwards, and no more were handed to it.
 fn fetch_to_shelf(
     alloc: Global,
     links: &mut Single<MemLink>,
     list: &DigestList,
     shelf: &mut Shelf,
 ) -> Said
-    ensures { shelf.new.number ≡ shelf.old.number }
+    ensures number { shelf.new.number ≡ shelf.old.number }
+    ensures handed { shelf.new.handed ≤ shelf.old.handed + 3 }
 {
     let Ok(target) = target(alloc, "/a") else {
         return Said::Memory;
@@ -449,6 +453,7 @@ fn said_shelf(alloc: Global, content: &[u8]) -> Result<(Said, Shelf), LinkFault>
     let mut links = link_of(alloc, content, 0)?;
     let mut shelf = Shelf {
         number: 7,
+        handed: 0,
         bytes: bytes(alloc, b"before")?,
     };
     let said = fetch_to_shelf(alloc, &mut links, &list, &mut shelf);
@@ -459,7 +464,7 @@ fn said_shelf(alloc: Global, content: &[u8]) -> Result<(Said, Shelf), LinkFault>
 fn baskets_keep_what_stands_behind_them(rt: HostRuntime) -> Result<(), Fail> {
     for (content, want) in [(b"abc", Said::Given(3)), (b"abd", Said::OtherDigest)] {
         let (said, shelf) = said_shelf(rt.alloc(), content)?;
-        assert!(rt; said == want && shelf.number == 7);
+        assert!(rt; said == want && shelf.number == 7 && shelf.handed == 3);
         drop(shelf);
     }
     Ok(())

@@ -1,5 +1,6 @@
 pub mod Checked
 pub mod Ending
+pub mod Handing
 pub mod InOrder
 pub mod Liars
 pub mod Moving

@@ -1,6 +1,7 @@
 // Files that match their size and digests.
-ghost use Rattle.std.specs.Prelude.{◌≡◌, ◌≢◌, ◌<◌, ◌≤◌, ◌+◌, ◌^◌, length, take, IfOk, IfErr, OnOk, Err};
+ghost use Rattle.std.specs.Prelude.{◌≡◌, ◌≢◌, ◌<◌, ◌≤◌, ◌+◌, ◌*◌, ◌^◌, length, take, IfOk, IfErr, OnOk, Err};
 ghost use Rattle.digest_list.specs.Checker.{count_of};
+ghost use Rattle.links.specs.Basket.{Turns};
 ghost use Rattle.links.specs.Links.{IsLast, Remain, link_at, sources_of};
 ghost use Rattle.outside.specs.Streams.{Consumes};
 ghost use Rattle.small_types.specs.declared.limits.TheConstants.{LINK_LIMIT};
@@ -42,7 +43,8 @@ fn pour_piece<L: Links, B: Basket>(
         ((link_at (L.links links.new) place).count ≡ (link_at (L.links links.old) place).count) }
     ensures moves { Moves place (L.links links.old) (L.links links.new) }
     ensures basket { KeepsBasket (B.count basket.old) (B.count basket.new) result }
-    ensures turned { B.turns_to basket.old basket.new }
+    ensures turned { Turns B.turns_to (length buf.old) basket.old basket.new }
+    ensures handed { IfOk result (λ n. Turns B.turns_to n basket.old basket.new) }
 {
     let n = match links.piece(place, buf) {
         Ok(n) => n,
@@ -78,7 +80,7 @@ fn pour<L: Links, B: Basket>(
         ((link_at (L.links links.new) place).count ≡ (link_at (L.links links.old) place).count) }
     ensures moves { Moves place (L.links links.old) (L.links links.new) }
     ensures basket { KeepsBasket (B.count basket.old) (B.count basket.new) result }
-    ensures turned { B.turns_to basket.old basket.new }
+    ensures turned { Turns B.turns_to size basket.old basket.new }
 {
     let mut done: u64 = 0;
     let mut piece = [0; PIECE];
@@ -117,7 +119,7 @@ fn file_of<L: Links, B: Basket>(
         (B.count basket.old) (B.count basket.new)) }
     ensures moves { Moves place (L.links links.old) (L.links links.new) }
     ensures basket { KeepsBasket (B.count basket.old) (B.count basket.new) result }
-    ensures turned { B.turns_to basket.old basket.new }
+    ensures turned { Turns B.turns_to size basket.old basket.new }
 {
     let length = match links.ask(alloc, place, target) {
         Ok(length) => length,
@@ -176,7 +178,8 @@ fn retire_liars<L: Links>(links: &mut L, causes: &[Cause])
 /// Fetches the file at the target into the basket: the bytes of the first link that gives bytes of that size which
 /// match every digest of the list. Each link before it has its cause not to serve: the sizes where it answers another
 /// length, and then no piece of it is taken. No link behind it is asked. No more than `size` bytes are taken of a link,
-/// and each is hashed once. The target is asked for once. After a fault the basket may hold any bytes.
+/// and each is hashed once. The target is asked for once. After a fault the basket may hold any bytes. Whatever comes of
+/// it, the basket was handed at most `size` bytes for each link that was left.
 ///
 /// Each of those links that gave another length or other bytes is then retired, and no other link is. After a fault
 /// none is.
@@ -200,7 +203,7 @@ pub fn fetch_file<L: Links, B: Basket>(
     ensures remain { IfErr result (λ _. Remain (L.links links.old) (L.links links.new)) }
     ensures later { B.count basket.old ≤ B.count basket.new }
     ensures quiet { result ≢ Err BasketFault → B.count basket.new ≡ B.count basket.old }
-    ensures turned { B.turns_to basket.old basket.new }
+    ensures turned { Turns B.turns_to (size * sources_of (L.links links.old)) basket.old basket.new }
 {
     links.want(alloc, target)?;
     let mut causes = Vec::new(alloc);

@@ -31,11 +31,11 @@ impl Basket for ByteBasket {
 
     ghost count = { λ b. 0 };
 
-    ghost turns_to = { λ a b. Unit {0} };
+    ghost turns_to = { λ n a b. Unit {0} };
 
     ghost turns_same = { λ a. tt };
 
-    ghost turns_on = { λ a b c one two. tt };
+    ghost turns_on = { λ m n a b c one two. tt };
 
     fn restart(&mut self) {
         self.bytes.clear();

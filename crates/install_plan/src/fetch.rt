@@ -1,8 +1,9 @@
 // The files that an install or a group fetches.
-ghost use Rattle.std.specs.Prelude.{◌≡◌, ◌≢◌, ◌≤◌, ◌<◌, ◌^◌, IfOk, IfErr, OnOk, Err};
+ghost use Rattle.std.specs.Prelude.{◌≡◌, ◌≢◌, ◌≤◌, ◌<◌, ◌*◌, ◌^◌, IfOk, IfErr, OnOk, Err};
 ghost use Rattle.fetcher.specs.declared.fault.FetchFault.TheVariants as fetch;
 ghost use Rattle.fetcher.specs.Fetched.{IsFile, IsFileFault, IsThis, KeptBut};
-ghost use Rattle.links.specs.Links.{Remain};
+ghost use Rattle.links.specs.Basket.{Turns};
+ghost use Rattle.links.specs.Links.{Remain, sources_of};
 ghost use Rattle.install_plan.specs.FetchedFiles.{ArePlaces, HasFetched, IsFetched, IsLack, IsStopped};
 
 use crate::WantedFile;
@@ -36,7 +37,8 @@ pub fn fetch_file_into<L: Links, B: Basket>(
     ensures remain { IfErr result (λ _. Remain (L.links links.old) (L.links links.new)) }
     ensures later { B.count basket.old ≤ B.count basket.new }
     ensures quiet { result ≢ Err fetch.BasketFault → B.count basket.new ≡ B.count basket.old }
-    ensures turned { B.turns_to basket.old basket.new }
+    ensures turned { Turns B.turns_to (entry.now.size * sources_of (L.links links.old))
+        basket.old basket.new }
 {
     fetch_file(alloc, links, target, entry.size, &entry.list, basket)
 }

@@ -10,3 +10,11 @@ pub record BasketCounts {T : Type 0} (old new : ℕ) (result : Result T BasketFa
   pub failed : result ≡ Err Failed → Rose old new
   pub quiet : OnOk result (new ≡ old)
   pub memory : result ≡ Err Memory → new ≡ old
+
+-- calls may have made this of it that handed it at most so many bytes, those from before it was
+-- emptied counted too
+pub record Turns {B : Type 0} (turns_to : ℕ → B → B → Type 0) (most : ℕ) (old new : B) : Type 0
+  where
+    pub handed : ℕ
+    pub within : handed ≤ most
+    pub turns : turns_to handed old new

@@ -1,5 +1,5 @@
 // Where a fetched file goes.
-ghost use Rattle.std.specs.Prelude.{◌≡◌, ℕ, List, [], OnOk};
+ghost use Rattle.std.specs.Prelude.{◌≡◌, ◌+◌, ℕ, List, [], length, OnOk};
 ghost use Rattle.outside.specs.Streams.{Appends};
 ghost use Rattle.links.specs.Basket.{BasketCounts};
 ghost use Rattle.links.specs.declared.basket.BasketFault.TheVariants.{Memory};
@@ -47,18 +47,18 @@ pub trait Basket {
     /// How often it failed.
     ghost count: { Self → ℕ };
 
-    /// What its calls may make of it, and of what stands behind it.
-    ghost turns_to: { Self → Self → Type 0 };
+    /// What its calls may make of it, and of what stands behind it, where they hand it so many bytes.
+    ghost turns_to: { ℕ → Self → Self → Type 0 };
 
     /// Empties it.
     fn restart(&mut self)
-        ensures turned { turns_to self.old self.new }
+        ensures turned { turns_to 0 self.old self.new }
         ensures empty { tells → taken self.new ≡ [] }
         ensures count { count self.new ≡ count self.old };
 
     /// Takes the bytes behind those that it has. After a fault it may have any bytes.
     fn take(&mut self, bytes: &[u8]) -> Result<(), BasketFault>
-        ensures turned { turns_to self.old self.new }
+        ensures turned { turns_to (length bytes.now) self.old self.new }
         ensures bytes { tells → OnOk result (Appends (taken self.old) (taken self.new) bytes.now) }
         ensures counts { BasketCounts (count self.old) (count self.new) result };
 
@@ -66,9 +66,10 @@ pub trait Basket {
     fn faults(&self) -> u64
         ensures { result ≡ count self.now };
 
-    /// No call at all is one thing that may become of it.
-    ghost turns_same: { (basket : Self) → turns_to basket basket };
+    /// No call at all is one thing that may become of it. It hands it no byte.
+    ghost turns_same: { (basket : Self) → turns_to 0 basket basket };
 
-    /// And calls after calls are another.
-    ghost turns_on: { (a b c : Self) → turns_to a b → turns_to b c → turns_to a c };
+    /// And calls after calls are another. Their bytes add up.
+    ghost turns_on: { (m n : ℕ) (a b c : Self) → turns_to m a b → turns_to n b c
+        → turns_to (m + n) a c };
 }

@@ -49,11 +49,11 @@ impl Basket for MemBasket {
 
     ghost count = { λ b. b.failing.faults };
 
-    ghost turns_to = { λ a b. Unit {0} };
+    ghost turns_to = { λ n a b. Unit {0} };
 
     ghost turns_same = { λ a. tt };
 
-    ghost turns_on = { λ a b c one two. tt };
+    ghost turns_on = { λ m n a b c one two. tt };
 
     fn restart(&mut self)
         ensures turned { Unit {0} }

@@ -1,5 +1,5 @@
-use Rattle.std.proofs.Common.{◌≡◌, ap, arith, rules}
-use Rattle.file_store.specs.Stores.{draft_size, store_base}
+use Rattle.std.proofs.Common.{◌≡◌, arith, rules}
+use Rattle.file_store.specs.Stores.{store_base}
 use Rattle.draft_basket.specs.Basket.{held_bytes}
 use Rattle.draft_basket.proofs.Holding.{held_from_taken}
 use Rattle.draft_basket.proofs.fill_draft.Goals as goal

@@ -1,4 +1,3 @@
-use Rattle.std.proofs.Common.{refl}
 use Rattle.file_store.specs.Stores.{store_base}
 use Rattle.draft_basket.proofs.Holding.{past_none, whole_empty}
 use Rattle.draft_basket.proofs.DraftBasket.new.Goals as goal

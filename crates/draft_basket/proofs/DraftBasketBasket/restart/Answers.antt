@@ -1,4 +1,4 @@
-use Rattle.std.proofs.Common.{refl}
+use Rattle.std.proofs.Common.{refl, arith}
 use Rattle.std.proofs.Math.Nat.{le_refl}
 use Rattle.file_store.specs.Stores.{draft_blocks, store_base}
 use Rattle.file_store.proofs.Writing.{only_start}
@@ -23,5 +23,6 @@ returns-clause-turned g c = (
     only = only_start g.D.Disk (store_base c.args.self.now.store.now) (draft_blocks c.args.self.now.draft.now) c.args.self.now.disk.now;
     told = λ tells. tells;
     total = le_refl (g.D.Disk.total c.args.self.now.disk.now);
+    within = omega arith;
   },
 )

@@ -1,4 +1,4 @@
-use Rattle.std.proofs.Common.{ap, refl}
+use Rattle.std.proofs.Common.{ap, refl, length}
 use Rattle.file_store.specs.Stores.{store_base}
 use Rattle.draft_basket.specs.Turning.{turned_same}
 use Rattle.draft_basket.proofs.Holding.{past_kept, taken_after, whole_after}
@@ -17,4 +17,4 @@ returns-in-Ok-clause-bytes g c =
     (ap store_base c.in-Ok.ensures.store) (c.args.self.now.past_size.none c.if-self.false) c.args.self.now.whole c.in-Ok.ensures.held
 
 pub returns-then-self-clause-turned : goal.returns-then-self-clause-turned
-returns-then-self-clause-turned g c = (refl, refl, refl, refl, turned_same g.D.Disk (store_base c.args.self.now.store.now) c.args.self.now.draft.now c.args.self.now.disk.now)
+returns-then-self-clause-turned g c = (refl, refl, refl, refl, turned_same g.D.Disk (store_base c.args.self.now.store.now) (length c.args.bytes.now) c.args.self.now.draft.now c.args.self.now.disk.now)

@@ -1,10 +1,11 @@
-use Rattle.std.proofs.Common.{◌≡◌, ◌<◌, ◌∙◌, List, refl, sym, subst, arith}
+use Rattle.std.proofs.Common.{◌≡◌, ◌*◌, ◌<◌, ◌∙◌, List, refl, sym, subst, arith}
 use Rattle.links.specs.Links.{LinksState, sources_of}
 use Rattle.causes.specs.declared.cause.Cause.{Cause}
 use Rattle.fetcher.specs.Causes.{IsFileCause}
 use Rattle.fetcher.specs.Fetched.{IsThis}
 use Rattle.fetcher.specs.Stopped.{DropsLiars}
 use Rattle.fetcher.proofs.Ending.{count_stays, file_kept, file_more, file_refused, file_served}
+use Rattle.fetcher.proofs.Handing.{handed_all, handed_last, handed_next, handed_none}
 use Rattle.fetcher.proofs.InOrder.{Refused, all_stay, refused_none}
 use Rattle.fetcher.proofs.Liars.{but_all}
 use Rattle.fetcher.proofs.file.fetch_file.Goals as goal
@@ -55,7 +56,7 @@ loop-place-preserved g c =
       basket = count_stays before after c.in-Err.stop c.file_of.result c.loop-place.causes.items
           c.add_cause.new.causes.items c.in-Err.is c.file_of.ensures.basket added
           ∙ c.loop-place.invariant.basket;
-      turned = g.met.B.Basket.turns_on _ _ _ c.loop-place.invariant.turned c.in-Err.ensures.turned;
+      turned = handed_next g.B.Basket.turns_to g.met.B.Basket.turns_on c.args.size c.loop-place.place _ _ _ c.loop-place.invariant.turned c.in-Err.ensures.turned;
     }
 
 pub returns-clause-fault : goal.returns-clause-fault
@@ -86,5 +87,33 @@ loop-place-init g c =
           (refused_none (IsFileCause c.args.list.now c.args.size c.args.target.now) c.args.target.now a b
           (record { asked = c.in_ok-want.ensures.ok; remain = c.in_ok-want.ensures.remain; links = c.in_ok-want.ensures.links }));
       basket = refl;
-      turned = g.met.B.Basket.turns_same _;
+      turned = handed_none g.B.Basket.turns_to g.met.B.Basket.turns_same (c.args.size * 0) _;
     }
+
+pub returns-in_err-want-clause-turned : goal.returns-in_err-want-clause-turned
+returns-in_err-want-clause-turned g c =
+    handed_none g.B.Basket.turns_to g.met.B.Basket.turns_same (c.args.size * sources_of (g.L.Links.links c.args.links.now)) _
+
+pub returns-in-Ok-clause-turned : goal.returns-in-Ok-clause-turned
+returns-in-Ok-clause-turned g c =
+    let a : LinksState = g.L.Links.links c.args.links.now in
+    let count = c.sources-place-end.ensures.count in
+    let less : c.loop-place.place < sources_of a = omega (arith, count, c.in_ok-want.ensures.remain.sources) in
+    handed_last g.B.Basket.turns_to g.met.B.Basket.turns_on c.args.size c.loop-place.place (sources_of a) _ _ _ less
+    c.loop-place.invariant.turned c.in-Ok.ensures.turned
+
+pub returns-in-Err-add_cause-clause-turned : goal.returns-in-Err-add_cause-clause-turned
+returns-in-Err-add_cause-clause-turned g c =
+    let a : LinksState = g.L.Links.links c.args.links.now in
+    let count = c.sources-place-end.ensures.count in
+    let less : c.loop-place.place < sources_of a = omega (arith, count, c.in_ok-want.ensures.remain.sources) in
+    handed_last g.B.Basket.turns_to g.met.B.Basket.turns_on c.args.size c.loop-place.place (sources_of a) _ _ _ less
+    c.loop-place.invariant.turned c.in-Err.ensures.turned
+
+pub returns-clause-turned : goal.returns-clause-turned
+returns-clause-turned g c =
+    let a : LinksState = g.L.Links.links c.args.links.now in
+    let count = c.sources-place-end.ensures.count in
+    let all : c.loop-place.place ≡ sources_of a = omega (arith, count, c.in_ok-want.ensures.remain.sources) in
+    handed_all g.B.Basket.turns_to c.args.size c.loop-place.place (sources_of a) _ _ (omega arith)
+    c.loop-place.invariant.turned

@@ -1,4 +1,5 @@
-use Rattle.std.proofs.Common.{◌≡◌}
+use Rattle.std.proofs.Common.{◌≡◌, ◌*◌}
+use Rattle.links.specs.Basket.{Turns}
 use Rattle.fetcher.specs.Causes.{IsFileCause}
 use Rattle.fetcher.proofs.InOrder.{Refused}
 use Rattle.fetcher.proofs.file.fetch_file.Given as goal
@@ -8,5 +9,5 @@ invariant-loop-place g l = record {
   refused : Refused (IsFileCause l.list l.size l.target) l.target l.place
       (g.L.Links.links l.fn.links) (g.L.Links.links l.links) l.causes.items;
   basket : g.B.Basket.count l.basket ≡ g.B.Basket.count l.fn.basket;
-  turned : g.B.Basket.turns_to l.fn.basket l.basket;
+  turned : Turns g.B.Basket.turns_to (l.size * l.place) l.fn.basket l.basket;
 }

@@ -2,6 +2,7 @@ use Rattle.std.proofs.Common.{◌≡◌, refl, ◌∙◌, arith}
 use Rattle.links.specs.Link.{LinkState}
 use Rattle.links.specs.Links.{link_at}
 use Rattle.fetcher.proofs.Checked.{file_given, other_given, size_differs}
+use Rattle.fetcher.proofs.Handing.{handed_behind, handed_none}
 use Rattle.fetcher.proofs.file.file_of.Goals as goal
 
 pub returns-then-length-size-clause-stop : goal.returns-then-length-size-clause-stop
@@ -33,3 +34,24 @@ returns-in-Some-clause-stop g c =
     c.in-Ok.ensures.asks.opens same c.in-Ok.ensures.asks.site c.in_default.ensures.poured c.in-Ok-new.ensures.fresh
     (λ bytes fed. c.in-Some.ensures.exact c.args.list.now c.args.size bytes fed)
     c.in-Some.ensures.shown
+
+pub returns-in-Err-clause-turned : goal.returns-in-Err-clause-turned
+returns-in-Err-clause-turned g c = handed_none g.B.Basket.turns_to g.met.B.Basket.turns_same c.args.size _
+
+pub returns-then-length-size-clause-turned : goal.returns-then-length-size-clause-turned
+returns-then-length-size-clause-turned g c = handed_none g.B.Basket.turns_to g.met.B.Basket.turns_same c.args.size _
+
+pub returns-in-Err-Memory-clause-turned : goal.returns-in-Err-Memory-clause-turned
+returns-in-Err-Memory-clause-turned g c = handed_none g.B.Basket.turns_to g.met.B.Basket.turns_same c.args.size _
+
+pub returns-in-Err-pour-clause-turned : goal.returns-in-Err-pour-clause-turned
+returns-in-Err-pour-clause-turned g c =
+    handed_behind g.B.Basket.turns_to g.met.B.Basket.turns_on c.args.size _ _ _ c.restart.ensures.turned c.in-Err-pour.ensures.turned
+
+pub returns-in-None-clause-turned : goal.returns-in-None-clause-turned
+returns-in-None-clause-turned g c =
+    handed_behind g.B.Basket.turns_to g.met.B.Basket.turns_on c.args.size _ _ _ c.restart.ensures.turned c.in_default.ensures.turned
+
+pub returns-in-Some-clause-turned : goal.returns-in-Some-clause-turned
+returns-in-Some-clause-turned g c =
+    handed_behind g.B.Basket.turns_to g.met.B.Basket.turns_on c.args.size _ _ _ c.restart.ensures.turned c.in_default.ensures.turned

@@ -2,6 +2,7 @@ use Rattle.std.proofs.Common.{rules, ◌+◌, ◌≤◌, ◌∙◌, length, arit
 use Rattle.std.proofs.lemmas.Grind.{common_steps}
 use Rattle.links.specs.Link.{LinkState}
 use Rattle.links.specs.Links.{link_at}
+use Rattle.fetcher.proofs.Handing.{handed_rest, handed_then}
 use Rattle.fetcher.proofs.Moving.{moves_then}
 use Rattle.fetcher.proofs.Pouring.{nothing_left, poured_end, poured_more}
 use Rattle.fetcher.proofs.file.pour.Goals as goal
@@ -38,5 +39,15 @@ loop-done-preserved g c =
       moves = moves_then c.args.place (g.L.Links.links c.args.links.now) (g.L.Links.links c.loop-done.links) (g.L.Links.links c.pour_piece.new.links) so.moves c.in-Ok.ensures.moves;
       link = c.in-Ok.ensures.quiet ∙ so.link;
       basket = c.in-Ok.ensures.basket.quiet (λ e. cc e) ∙ so.basket;
-      turned = g.met.B.Basket.turns_on _ _ _ so.turned c.in-Ok.ensures.turned;
+      turned = handed_then g.B.Basket.turns_to g.met.B.Basket.turns_on c.loop-done.done c.in-Ok.n _ _ _ so.turned c.in-Ok.ensures.handed;
     }
+
+pub returns-in-Err-clause-turned : goal.returns-in-Err-clause-turned
+returns-in-Err-clause-turned g c =
+    handed_rest g.B.Basket.turns_to g.met.B.Basket.turns_on c.loop-done.done _ c.args.size _ _ _
+    c.loop-done.invariant.turned c.in-Err.ensures.turned (first_of (search rules, grind (arith, common_steps)))
+
+pub returns-then-n-eq0-clause-turned : goal.returns-then-n-eq0-clause-turned
+returns-then-n-eq0-clause-turned g c =
+    handed_rest g.B.Basket.turns_to g.met.B.Basket.turns_on c.loop-done.done c.in-Ok.n c.args.size _ _ _
+    c.loop-done.invariant.turned c.in-Ok.ensures.handed (omega (arith, c.if-n-eq0.true, c.loop-done.invariant.within))

@@ -1,5 +1,6 @@
 use Rattle.std.specs.Prelude.{◌≡◌, ◌≤◌, ◌+◌, ◌-◌}
 use Rattle.digest_list.specs.Checker.{count_of}
+use Rattle.links.specs.Basket.{Turns}
 use Rattle.links.specs.Links.{link_at}
 use Rattle.fetcher.specs.Stopped.{Moves}
 use Rattle.fetcher.proofs.Pouring.{Poured}
@@ -14,7 +15,7 @@ invariant-loop-done g l = record {
   moves : Moves l.place (g.L.Links.links l.initial.links) (g.L.Links.links l.links);
   link : (link_at (g.L.Links.links l.links) l.place).count ≡ (link_at (g.L.Links.links l.initial.links) l.place).count;
   basket : g.B.Basket.count l.basket ≡ g.B.Basket.count l.initial.basket;
-  turned : g.B.Basket.turns_to l.initial.basket l.basket;
+  turned : Turns g.B.Basket.turns_to l.done l.initial.basket l.basket;
 }
 
 abbrev pub decreases-loop-done : goal.decreases-loop-done
