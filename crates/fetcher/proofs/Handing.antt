@@ -1,6 +1,8 @@
 -- How many bytes calls hand to a basket.
-use Rattle.std.proofs.Common.{◌≡◌, ℕ, ◌+◌, ◌*◌, ◌<◌, ◌≤◌, arith, subst}
+use Rattle.std.proofs.Common.{◌≡◌, ◌∙◌, ℕ, ◌+◌, ◌*◌, ◌<◌, ◌≤◌, List, [], ◌∷◌, ◌++◌, length, ap, arith, subst}
+use Rattle.std.proofs.lemmas.List.{length-append}
 use Rattle.std.proofs.Math.Nat.{mul-le-mul_left}
+use Rattle.small_types.specs.declared.target.Target.{Target}
 use Rattle.links.specs.Basket.{Turns}
 
 module _ {B : Type 0} (turns_to : ℕ → B → B → Type 0) where
@@ -57,3 +59,10 @@ module _ {B : Type 0} (turns_to : ℕ → B → B → Type 0) where
       → Turns turns_to (size * place) a b → Turns turns_to (size * sources) a b
   handed_all size place sources a b within one =
       handed_within (size * place) (size * sources) a b one (mul-le-mul_left size within)
+
+-- a target that was asked for makes the list longer
+pub not_same : (target : Target) (old new : List Target) → new ≡ old ++ target ∷ [] → new ≡ old → ⊥
+not_same target old new asked same =
+    let long : length new ≡ length old + 1 = ap length asked ∙ length-append old (target ∷ []) in
+    let short : length new ≡ length old = ap length same in
+    omega (arith, long, short)

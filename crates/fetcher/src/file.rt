@@ -179,7 +179,7 @@ fn retire_liars<L: Links>(links: &mut L, causes: &[Cause])
 /// match every digest of the list. Each link before it has its cause not to serve: the sizes where it answers another
 /// length, and then no piece of it is taken. No link behind it is asked. No more than `size` bytes are taken of a link,
 /// and each is hashed once. The target is asked for once. After a fault the basket may hold any bytes. Whatever comes of
-/// it, the basket was handed at most `size` bytes for each link that was left.
+/// it, the basket was handed at most `size` bytes for each link that was left, and none where the target was not asked for.
 ///
 /// Each of those links that gave another length or other bytes is then retired, and no other link is. After a fault
 /// none is.
@@ -204,6 +204,8 @@ pub fn fetch_file<L: Links, B: Basket>(
     ensures later { B.count basket.old ≤ B.count basket.new }
     ensures quiet { result ≢ Err BasketFault → B.count basket.new ≡ B.count basket.old }
     ensures turned { Turns B.turns_to (size * sources_of (L.links links.old)) basket.old basket.new }
+    ensures idle { (L.links links.new).asked ≡ (L.links links.old).asked
+        → Turns B.turns_to 0 basket.old basket.new }
 {
     links.want(alloc, target)?;
     let mut causes = Vec::new(alloc);

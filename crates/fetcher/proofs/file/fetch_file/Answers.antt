@@ -5,7 +5,7 @@ use Rattle.fetcher.specs.Causes.{IsFileCause}
 use Rattle.fetcher.specs.Fetched.{IsThis}
 use Rattle.fetcher.specs.Stopped.{DropsLiars}
 use Rattle.fetcher.proofs.Ending.{count_stays, file_kept, file_more, file_refused, file_served}
-use Rattle.fetcher.proofs.Handing.{handed_all, handed_last, handed_next, handed_none}
+use Rattle.fetcher.proofs.Handing.{handed_all, handed_last, handed_next, handed_none, not_same}
 use Rattle.fetcher.proofs.InOrder.{Refused, all_stay, refused_none}
 use Rattle.fetcher.proofs.Liars.{but_all}
 use Rattle.fetcher.proofs.file.fetch_file.Goals as goal
@@ -117,3 +117,34 @@ returns-clause-turned g c =
     let all : c.loop-place.place ≡ sources_of a = omega (arith, count, c.in_ok-want.ensures.remain.sources) in
     handed_all g.B.Basket.turns_to c.args.size c.loop-place.place (sources_of a) _ _ (omega arith)
     c.loop-place.invariant.turned
+
+pub returns-in_err-want-clause-idle : goal.returns-in_err-want-clause-idle
+returns-in_err-want-clause-idle g c = λ same. handed_none g.B.Basket.turns_to g.met.B.Basket.turns_same 0 _
+
+pub returns-in-Ok-clause-idle : goal.returns-in-Ok-clause-idle
+returns-in-Ok-clause-idle g c = λ same.
+    let a : LinksState = g.L.Links.links c.args.links.now in
+    let b : LinksState = g.L.Links.links c.loop-place.links in
+    let left : LinksState = g.L.Links.links c.file_of.new.links in
+    let d : LinksState = g.L.Links.links c.retire_liars.new.links in
+    let count = c.sources-place-end.ensures.count in
+    let less : c.loop-place.place < sources_of a = omega (arith, count, c.in_ok-want.ensures.remain.sources) in
+    let file = file_served c.loop-place.place a b left c.loop-place.causes.items c.args.target.now
+    c.in-Ok.ensures.moves less c.args.list.now c.args.size
+    g.B.Basket.tells (g.B.Basket.taken c.file_of.new.basket)
+    c.loop-place.invariant.refused c.in-Ok.ensures.file d
+    (subst (λ (cs : List Cause). DropsLiars cs left d) c.deref.ensures.value c.retire_liars.ensures) in
+    absurd (not_same c.args.target.now a.asked d.asked file.asked same)
+
+pub returns-in-Err-add_cause-clause-idle : goal.returns-in-Err-add_cause-clause-idle
+returns-in-Err-add_cause-clause-idle g c = λ same.
+    let a : LinksState = g.L.Links.links c.args.links.now in
+    let left : LinksState = g.L.Links.links c.file_of.new.links in
+    absurd (not_same c.args.target.now a.asked left.asked
+    (c.in-Err.ensures.moves.only.asked ∙ c.loop-place.invariant.refused.asked) same)
+
+pub returns-clause-idle : goal.returns-clause-idle
+returns-clause-idle g c = λ same.
+    let a : LinksState = g.L.Links.links c.args.links.now in
+    let left : LinksState = g.L.Links.links c.loop-place.links in
+    absurd (not_same c.args.target.now a.asked left.asked c.loop-place.invariant.refused.asked same)
