@@ -1,5 +1,5 @@
 -- What the bytes of one link were found to be.
-use Rattle.std.proofs.Common.{◌≡◌, ◌≢◌, ℕ, List, [], ◌++◌, length, take, Option, Some, None, find, refl, sym, ap, ◌∙◌, arith}
+use Rattle.std.proofs.Common.{◌≡◌, ◌≢◌, ℕ, List, [], ◌∷◌, ◌++◌, length, take, Ok, Option, Some, None, find, refl, sym, ap, ◌∙◌, arith}
 use Rattle.std.specs.Prelude.{option_map, replicate}
 use Rattle.std.proofs.lemmas.List.{length-replicate, take_all}
 use Rattle.small_types.specs.declared.target.Target.{Target}
@@ -11,9 +11,12 @@ use Rattle.digest_list.specs.Checker.{IsFed}
 use Rattle.digest_list.specs.Difference.{AreDistinct, difference_of, is_other, other_digest}
 use Rattle.digest_list.specs.Matches.{Matches}
 use Rattle.digest_list.proofs.DifferenceLemmas.{difference_of-found, difference_of-none, difference_of-size}
+use Rattle.links.specs.declared.history.LinkCall.TheVariants.{Asked}
+use Rattle.links.specs.Asked.{Calls}
 use Rattle.links.specs.Link.{LinkState, KeepsSite, Opens}
 use Rattle.fetcher.specs.Causes.{IsOther}
 use Rattle.fetcher.specs.Stopped.{IsFileOf, Pours}
+use Rattle.fetcher.proofs.Histories.{served_pieces}
 
 -- the whole of the rest
 whole : (n : ℕ) (rest bytes : List ℕ) → n ≡ length rest → bytes ≡ take n rest → rest ≡ bytes
@@ -40,9 +43,11 @@ site_poured size n target a b bytes opens same site taken t =
     (opens t).found ∙ ap (λ (l : List ℕ). Some l) (whole size b.rest bytes (sym same ∙ (opens t).sized) (taken (site.tells.0 t)))
 
 pub file_given : (list : List Digest) (size n : ℕ) (target : Target) (a b c : LinkState) (old new : Checker) (tells : Type 0) (before after : List ℕ)
-    → (a.tells → Opens target a b n) → n ≡ size → KeepsSite a b → Pours size b old new tells before after → (tells → before ≡ []) → IsFed old list size []
-    → ((bytes : List ℕ) → IsFed new list size bytes → Matches list size bytes) → c.count ≡ a.count → IsFileOf list size target a c tells after
-file_given list size n target a b c old new tells before after opens same site pours empty fresh fits sound = record {
+    → (a.tells → Opens target a b n) → n ≡ size → KeepsSite a b → Pours size b c old new tells before after → (tells → before ≡ []) → IsFed old list size []
+    → ((bytes : List ℕ) → IsFed new list size bytes → Matches list size bytes) → c.count ≡ a.count → Calls a b (Asked target (Ok n) ∷ [])
+    → IsFileOf list size target a c tells after
+file_given list size n target a b c old new tells before after opens same site pours empty fresh fits sound asks = record {
+  served = served_pieces (λ k. k ≡ size) n target a b c pours.bytes asks same pours.took;
   sound = sound;
   bytes = pours.bytes;
   taken = λ t. pours.taken t ∙ ap (λ (l : List ℕ). l ++ pours.bytes) (empty t);
@@ -61,7 +66,7 @@ sized_alike list size m listed found sized is = by (find (is_other m) list) refl
         cc
 
 pub other_given : (list : List Digest) (size n : ℕ) (target : Target) (a b c : LinkState) (old new : Checker) (tells : Type 0) (before after : List ℕ) (d : Difference)
-    → (a.tells → Opens target a b n) → n ≡ size → KeepsSite a b → Pours size b old new tells before after → IsFed old list size []
+    → (a.tells → Opens target a b n) → n ≡ size → KeepsSite a b → Pours size b c old new tells before after → IsFed old list size []
     → ((bytes : List ℕ) → IsFed new list size bytes → Some d ≡ difference_of list size bytes) → AreDistinct d → IsOther list size target a c d
 other_given list size n target a b c old new tells before after d opens same site pours fresh exact distinct =
     let differ : difference_of list size pours.bytes ≡ Some d = sym (exact pours.bytes (pours.fed list size [] fresh)) in

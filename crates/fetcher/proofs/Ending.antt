@@ -1,5 +1,5 @@
 -- How a fetch that asks the links in order goes on and ends.
-use Rattle.std.proofs.Common.{◌≡◌, ℕ, ◌+◌, ◌<◌, inr, List, Err, sym, ap, ◌∙◌}
+use Rattle.std.proofs.Common.{◌≡◌, ℕ, ◌+◌, ◌<◌, ◌≤◌, inr, List, Err, refl, sym, ap, subst, ◌∙◌}
 use Rattle.std.specs.Prelude.{Result}
 use Rattle.small_types.specs.declared.target.Target.{Target}
 use Rattle.digest_list.specs.declared.digest.Digest.{Digest}
@@ -13,8 +13,9 @@ use Rattle.fetcher.specs.declared.stopped.Stopped.TheVariants.{By, Basket, Memor
 use Rattle.fetcher.specs.Causes.{IsFileCause, IsTextCause}
 use Rattle.fetcher.specs.Fetched.{Asked, IsFile, IsFileFault, IsOfLink, IsText, IsTextFault, IsThis, KeptAll, KeptBut, without_liars}
 use Rattle.fetcher.specs.Given.{FitsText}
+use Rattle.fetcher.specs.Once.{AskedUpTo, AskedUpToFile, AskedUpToText}
 use Rattle.fetcher.specs.Stopped.{AddsCause, DropsLiars, IsFileOf, IsFileStop, IsTextOf, IsTextStop, KeepsBasket, Moves, TellsCauses}
-use Rattle.fetcher.proofs.InOrder.{Refused, asked_on, kept_on, none_gave, refused_more, remain_on, served_causes, served_enough, served_given, served_next, served_site}
+use Rattle.fetcher.proofs.InOrder.{Refused, asked_on, kept_on, none_gave, refused_more, remain_on, served_causes, served_enough, served_given, served_next, served_place, served_site}
 use Rattle.fetcher.proofs.Liars.{drops_keep, none_went, only_liars}
 use Rattle.fetcher.proofs.Moving.{stays_same}
 use Rattle.fetcher.proofs.Reasons.{CauseOf, IsKind, file_kind, text_kind}
@@ -48,21 +49,40 @@ module _ (place : ℕ) (a b c : LinksState) (old : List Cause) (target : Target)
 
   -- ---- it served
 
-  pub text_served : (limit : ℕ) → Refused (IsTextCause limit target) target place a b old
-      → (bytes : List ℕ) → IsTextOf limit target (link_at b place) (link_at c place) bytes
-      → IsText limit target a c bytes
-  text_served limit so bytes of =
-      let kind = text_kind limit target in
-      let served = served_next (IsTextCause limit target) (FitsText limit) target kind place a b c old so moves less
-      c (λ n below. stays_same (c.link n)) bytes of.told of.sound in
-      record {
-        asked = asked_on (IsTextCause limit target) (FitsText limit) target kind place a b c old so moves less;
-        within = of.within;
-        served = served;
-        enough = served_enough (IsTextCause limit target) (FitsText limit) target kind a c bytes served of.within;
-        site = served_site (IsTextCause limit target) (FitsText limit) target kind a c bytes served of.within;
-        given = served_given (IsTextCause limit target) (FitsText limit) target kind a c bytes served of.within;
-      }
+  module _ (limit : ℕ) (so : Refused (IsTextCause limit target) target place a b old) (bytes : List ℕ)
+      (of : IsTextOf limit target (link_at b place) (link_at c place) bytes) where
+    text_link : IsOfLink (IsTextCause limit target) target a c bytes
+    text_link = served_next (IsTextCause limit target) (FitsText limit) target (text_kind limit target)
+        place a b c old so moves less c (λ n below. stays_same (c.link n)) bytes of.told of.sound
+
+    text_place : text_link.place ≡ place
+    unfolding text_link
+    text_place = served_place (IsTextCause limit target) (FitsText limit) target (text_kind limit target)
+        place a b c old so moves less c (λ n below. stays_same (c.link n)) bytes of.told of.sound
+
+    pub text_served : IsText limit target a c bytes
+    text_served =
+        let kind = text_kind limit target in
+        record {
+          asked = asked_on (IsTextCause limit target) (FitsText limit) target kind place a b c old so moves less;
+          within = of.within;
+          served = text_link;
+          enough = served_enough (IsTextCause limit target) (FitsText limit) target kind a c bytes text_link of.within;
+          site = served_site (IsTextCause limit target) (FitsText limit) target kind a c bytes text_link of.within;
+          given = served_given (IsTextCause limit target) (FitsText limit) target kind a c bytes text_link of.within;
+        }
+
+    same_text : text_served.served.place ≡ place
+    unfolding text_served
+    same_text = text_place
+
+    -- the link that served was asked last
+    pub text_once : AskedUpTo (λ n. n ≤ limit) limit target a c place bytes
+        → AskedUpToText limit target a c bytes
+    text_once up_to = record {
+      text = text_served;
+      up_to = subst (λ (k : ℕ). AskedUpTo (λ n. n ≤ limit) limit target a c k bytes) (sym same_text) up_to;
+    }
 
   -- those that gave other bytes are gone then
   module _ (list : List Digest) (size : ℕ) (tells : Type 0) (held : List ℕ)
@@ -106,6 +126,29 @@ module _ (place : ℕ) (a b c : LinksState) (old : List Cause) (target : Target)
           given = served_given (IsFileCause list size target) (Matches list size)
               target kind a d of.bytes its_link of.matches;
         }
+
+    its_place : its_link.place ≡ place
+    unfolding its_link
+    its_place = served_place (IsFileCause list size target) (Matches list size) target (file_kind list size target)
+        place a b c old so moves less d drops.links of.bytes of.told of.sound
+
+    same_file : file_served.served.place ≡ place
+    unfolding file_served
+    same_file = its_place
+
+    same_bytes : file_served.bytes ≡ of.bytes
+    unfolding file_served
+    same_bytes = refl
+
+    -- the link that served was asked last
+    pub file_once : AskedUpTo (λ n. n ≡ size) size target a d place of.bytes
+        → AskedUpToFile list size target a d tells held
+    file_once up_to = record {
+      file = file_served;
+      up_to =
+          subst (λ (k : ℕ). AskedUpTo (λ n. n ≡ size) size target a d k file_served.bytes) (sym same_file)
+          (subst (λ (l : List ℕ). AskedUpTo (λ n. n ≡ size) size target a d place l) (sym same_bytes) up_to);
+    }
 
     pub file_kept : KeptBut (IsThis target list size) a d
     file_kept = record {

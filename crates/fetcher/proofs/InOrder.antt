@@ -226,6 +226,14 @@ module _ (IsCause : CauseOf) (Fits : List ℕ → Type 0) (target : Target)
       unfolding served_next
       served_causes bytes told sound = refl
 
+      -- and the link is the one that was asked
+      pub served_place : (bytes : List ℕ)
+          (told : (link_at b place).tells → (link_at b place).site target ≡ Some bytes)
+          (sound : (link_at c place).count ≡ (link_at b place).count)
+          → (served_next bytes told sound).place ≡ place
+      unfolding served_next
+      served_place bytes told sound = refl
+
   -- ---- what follows where one served
 
   module _ (a c : LinksState) (bytes : List ℕ) (served : IsOfLink IsCause target a c bytes) (fits : Fits bytes) where

@@ -1,7 +1,9 @@
 pub mod Checked
 pub mod Ending
 pub mod Handing
+pub mod Histories
 pub mod InOrder
+pub mod InTurn
 pub mod Liars
 pub mod Moving
 pub mod Pouring

@@ -10,6 +10,7 @@ use Rattle.links.specs.declared.basket.BasketFault.{BasketFault}
 use Rattle.links.specs.declared.basket.BasketFault.TheVariants.{Failed, Memory as NoRoom}
 use Rattle.links.specs.declared.link.LinkFault.{LinkFault}
 use Rattle.links.specs.declared.link.LinkFault.TheVariants.{Missing as IsMissing, Down as IsDown, Memory as NoMemory}
+use Rattle.links.specs.Asked.{StopAtEnd}
 use Rattle.links.specs.Link.{LinkState, KeepsSite, Stays}
 use Rattle.links.specs.Links.{LinksState, ChangesOnly, Retires, link_at}
 use Rattle.causes.specs.declared.cause.Cause.{Cause}
@@ -20,6 +21,7 @@ use Rattle.fetcher.specs.declared.stopped.Stopped.{Stopped}
 use Rattle.fetcher.specs.declared.stopped.Stopped.TheVariants.{By, Basket, Memory}
 use Rattle.fetcher.specs.Causes.{IsTextCause, IsFileCause}
 use Rattle.fetcher.specs.Fetched.{without_liars}
+use Rattle.fetcher.specs.Once.{HasServed, Took}
 
 -- nothing changed but the link at the place, whose site stays and whose count did not fall
 pub record Moves (place : ℕ) (old new : LinksState) : Type 0 where
@@ -66,6 +68,7 @@ pub record IsFileOf (list : List Digest) (size : ℕ) (target : Target) (old new
   pub matches : Matches list size bytes
   pub told : old.tells → old.site target ≡ Some bytes
   pub sound : new.count ≡ old.count
+  pub served : HasServed (λ n. n ≡ size) target old new bytes
 
 -- why one link gave no text
 abbrev pub IsTextStop : ℕ → Target → LinkState → LinkState → Stopped → Type 0
@@ -122,13 +125,14 @@ pub record KeepsBasket {T : Type 0} (before after : ℕ) (result : Result T Stop
   pub quiet : result ≢ Err Basket → after ≡ before
 
 -- bytes of a link were checked and taken: at most so many, and fewer only where no more were left
-pub record Pours (most : ℕ) (link : LinkState) (old new : Checker) (tells : Type 0)
+pub record Pours (most : ℕ) (link now : LinkState) (old new : Checker) (tells : Type 0)
     (before after : List ℕ) : Type 0 where
   pub bytes : List ℕ
   pub fed : (list : List Digest) (size : ℕ) (m : List ℕ) → IsFed old list size m
       → IsFed new list size (m ++ bytes)
   pub taken : tells → after ≡ before ++ bytes
   pub told : link.tells → bytes ≡ take most link.rest
+  pub took : Took StopAtEnd link now bytes
 
 -- these bytes were checked and taken
 pub record PoursPiece (old new : Checker) (tells : Type 0) (before after bytes : List ℕ)

@@ -1,11 +1,14 @@
 // Files that match their size and digests.
-ghost use Rattle.std.specs.Prelude.{◌≡◌, ◌≢◌, ◌<◌, ◌≤◌, ◌+◌, ◌*◌, ◌^◌, length, take, IfOk, IfErr, OnOk, Err};
+ghost use Rattle.std.specs.Prelude.{◌≡◌, ◌≢◌, ◌<◌, ◌≤◌, ◌+◌, ◌*◌, ◌^◌, [], ◌∷◌, length, take, IfOk, IfErr, OnOk, OnErr, Err};
 ghost use Rattle.digest_list.specs.Checker.{count_of};
+ghost use Rattle.links.specs.Asked.{Calls};
 ghost use Rattle.links.specs.Basket.{Turns};
 ghost use Rattle.links.specs.Links.{IsLast, Remain, link_at, sources_of};
 ghost use Rattle.outside.specs.Streams.{Consumes};
 ghost use Rattle.small_types.specs.declared.limits.TheConstants.{LINK_LIMIT};
 ghost use Rattle.fetcher.specs.Fetched.{IsFile, IsFileFault, IsThis, KeptBut};
+ghost use Rattle.links.specs.declared.history.LinkCall.TheVariants.{Gave};
+ghost use Rattle.fetcher.specs.Once.{AskedForFile, IsAsked, TookAtMost, TookPiece};
 ghost use Rattle.fetcher.specs.Stopped.{DropsLiar, DropsLiars, IsFileOf, IsFileStop, IsPourStop, KeepsBasket, Moves, Pours, PoursPiece, next_place};
 ghost use Rattle.fetcher.specs.declared.fault.FetchFault.TheVariants.{BasketFault};
 
@@ -41,6 +44,10 @@ fn pour_piece<L: Links, B: Basket>(
         (B.count basket.old) (B.count basket.new)) }
     ensures quiet { OnOk result
         ((link_at (L.links links.new) place).count ≡ (link_at (L.links links.old) place).count) }
+    ensures noted { IfOk result (λ n. Calls (link_at (L.links links.old) place)
+        (link_at (L.links links.new) place) (Gave (take n buf.new) ∷ [])) }
+    ensures piece { OnErr result (TookPiece (length buf.old)
+        (link_at (L.links links.old) place) (link_at (L.links links.new) place)) }
     ensures moves { Moves place (L.links links.old) (L.links links.new) }
     ensures basket { KeepsBasket (B.count basket.old) (B.count basket.new) result }
     ensures turned { Turns B.turns_to (length buf.old) basket.old basket.new }
@@ -71,13 +78,15 @@ fn pour<L: Links, B: Basket>(
     requires place { place < sources_of (L.links links.old) }
     requires count { count_of checker.old + size < 2 ^ 61 }
     ensures poured { OnOk result
-        (Pours size (link_at (L.links links.old) place) checker.old checker.new
-        B.tells (B.taken basket.old) (B.taken basket.new)) }
+        (Pours size (link_at (L.links links.old) place) (link_at (L.links links.new) place)
+        checker.old checker.new B.tells (B.taken basket.old) (B.taken basket.new)) }
     ensures stop { IfErr result
         (IsPourStop (link_at (L.links links.old) place) (link_at (L.links links.new) place)
         (B.count basket.old) (B.count basket.new)) }
     ensures quiet { OnOk result
         ((link_at (L.links links.new) place).count ≡ (link_at (L.links links.old) place).count) }
+    ensures took { TookAtMost size (link_at (L.links links.old) place)
+        (link_at (L.links links.new) place) }
     ensures moves { Moves place (L.links links.old) (L.links links.new) }
     ensures basket { KeepsBasket (B.count basket.old) (B.count basket.new) result }
     ensures turned { Turns B.turns_to size basket.old basket.new }
@@ -117,6 +126,8 @@ fn file_of<L: Links, B: Basket>(
     ensures stop { IfErr result (IsFileStop list.now size target.now
         (link_at (L.links links.old) place) (link_at (L.links links.new) place)
         (B.count basket.old) (B.count basket.new)) }
+    ensures once { IsAsked (λ n. n ≡ size) size target.now
+        (link_at (L.links links.old) place) (link_at (L.links links.new) place) }
     ensures moves { Moves place (L.links links.old) (L.links links.new) }
     ensures basket { KeepsBasket (B.count basket.old) (B.count basket.new) result }
     ensures turned { Turns B.turns_to size basket.old basket.new }
@@ -178,8 +189,9 @@ fn retire_liars<L: Links>(links: &mut L, causes: &[Cause])
 /// Fetches the file at the target into the basket: the bytes of the first link that gives bytes of that size which
 /// match every digest of the list. Each link before it has its cause not to serve: the sizes where it answers another
 /// length, and then no piece of it is taken. No link behind it is asked. No more than `size` bytes are taken of a link,
-/// and each is hashed once. The target is asked for once. After a fault the basket may hold any bytes. Whatever comes of
-/// it, the basket was handed at most `size` bytes for each link that was left, and none where the target was not asked for.
+/// and each is hashed once. The target is asked for once, and of each link once, whatever it answers: one that failed is
+/// not asked again. After a fault the basket may hold any bytes. Whatever comes of it, the basket was handed at most
+/// `size` bytes for each link that was left, and none where the target was not asked for.
 ///
 /// Each of those links that gave another length or other bytes is then retired, and no other link is. After a fault
 /// none is.
@@ -198,6 +210,8 @@ pub fn fetch_file<L: Links, B: Basket>(
     ensures fault { IfErr result
         (IsFileFault list.now size target.now (L.links links.old) (L.links links.new)
         (B.count basket.old) (B.count basket.new)) }
+    ensures once { AskedForFile list.now size target.now (L.links links.old) (L.links links.new)
+        B.tells (B.taken basket.new) result }
     ensures kept { KeptBut (IsThis target.now list.now size)
         (L.links links.old) (L.links links.new) }
     ensures remain { IfErr result (λ _. Remain (L.links links.old) (L.links links.new)) }

@@ -1,9 +1,11 @@
 // Texts of at most so many bytes.
 ghost use Rattle.std.specs.Prelude.{◌≡◌, ◌≢◌, ◌<◌, ◌≤◌, length, take, IfOk, IfErr, Err};
 ghost use Rattle.links.specs.declared.link.LinkFault.TheVariants.{Missing};
+ghost use Rattle.links.specs.Asked.{StopAtEnd};
 ghost use Rattle.links.specs.Link.{Counts};
 ghost use Rattle.links.specs.Links.{IsLast, link_at, sources_of};
 ghost use Rattle.fetcher.specs.Fetched.{IsText, IsTextFault, KeptAll};
+ghost use Rattle.fetcher.specs.Once.{AskedForText, HasServed, IsAsked, Took, TookAtMost};
 ghost use Rattle.fetcher.specs.Stopped.{IsTextOf, IsTextStop, Moves};
 
 use crate::FetchFault;
@@ -24,6 +26,10 @@ fn read_rest<L: Links>(
     ensures bytes { (link_at (L.links links.old) place).tells
         → IfOk result (λ v. v.items ≡ take most (link_at (L.links links.old) place).rest) }
     ensures within { IfOk result (λ v. length v.items ≤ most) }
+    ensures took { IfOk result (λ v. Took StopAtEnd (link_at (L.links links.old) place)
+        (link_at (L.links links.new) place) v.items) }
+    ensures most { TookAtMost most (link_at (L.links links.old) place)
+        (link_at (L.links links.new) place) }
     ensures there { result ≢ Err Missing }
     ensures counts { Counts (link_at (L.links links.old) place) (link_at (L.links links.new) place)
         result }
@@ -59,6 +65,10 @@ fn text_of<L: Links>(
         (link_at (L.links links.old) place) (link_at (L.links links.new) place)) }
     ensures stop { IfErr result (IsTextStop limit target.now
         (link_at (L.links links.old) place) (link_at (L.links links.new) place)) }
+    ensures once { IsAsked (λ n. n ≤ limit) limit target.now
+        (link_at (L.links links.old) place) (link_at (L.links links.new) place) }
+    ensures served { IfOk result (HasServed (λ n. n ≤ limit) target.now
+        (link_at (L.links links.old) place) (link_at (L.links links.new) place)) }
     ensures moves { Moves place (L.links links.old) (L.links links.new) }
 {
     let length = match links.ask(alloc, place, target) {
@@ -76,7 +86,7 @@ fn text_of<L: Links>(
 
 /// The text at the target: the bytes of the first link that gives at most `limit` of them. Each link before it has its
 /// cause not to serve: `TooLong` where it answers a greater length, and then no piece of it is taken. No link behind it
-/// is asked. The target is asked for once. No link is retired.
+/// is asked. The target is asked for once, and of each link once, whatever it answers. No link is retired.
 pub fn fetch_text<L: Links>(
     alloc: Global,
     links: &mut L,
@@ -86,6 +96,7 @@ pub fn fetch_text<L: Links>(
     ensures text { IfOk result (IsText limit target.now (L.links links.old) (L.links links.new)) }
     ensures fault { IfErr result
         (IsTextFault limit target.now (L.links links.old) (L.links links.new)) }
+    ensures once { AskedForText limit target.now (L.links links.old) (L.links links.new) result }
     ensures kept { KeptAll (L.links links.old) (L.links links.new) }
 {
     links.want(alloc, target)?;

@@ -1,5 +1,5 @@
 -- What was asked of a link between two moments.
-use Rattle.std.specs.Prelude.{◌≡◌, ℕ, List, [], ◌∷◌, ◌++◌, Result}
+use Rattle.std.specs.Prelude.{◌≡◌, ◌⊎◌, ℕ, List, [], ◌∷◌, ◌++◌, Result}
 use Rattle.small_types.specs.declared.target.Target.{Target}
 use Rattle.links.specs.declared.history.LinkCall.{LinkCall}
 use Rattle.links.specs.declared.history.LinkCall.TheVariants.{Asked, Gave, Broke}
@@ -25,6 +25,26 @@ targets_in [] = []
 targets_in (Asked target answer ∷ calls) = target ∷ targets_in calls
 targets_in (Gave bytes ∷ calls) = targets_in calls
 targets_in (Broke ∷ calls) = targets_in calls
+
+-- the bytes that calls gave, one piece after another
+abbrev pub bytes_given : List LinkCall → List ℕ
+bytes_given [] = []
+bytes_given (Asked target answer ∷ calls) = bytes_given calls
+bytes_given (Gave bytes ∷ calls) = bytes ++ bytes_given calls
+bytes_given (Broke ∷ calls) = bytes_given calls
+
+-- the call gave a byte at least
+abbrev pub GaveSome : LinkCall → Type 0
+GaveSome (Asked target answer) = ⊥
+GaveSome (Gave []) = ⊥
+GaveSome (Gave (byte ∷ bytes)) = Unit {0}
+GaveSome Broke = ⊥
+
+-- each of the calls is the last one or gave a byte, so no call came behind the end of a body or
+-- behind a failure
+abbrev pub StopAtEnd : List LinkCall → Type 0
+StopAtEnd [] = Unit {0}
+StopAtEnd (call ∷ calls) = (calls ≡ []) ⊎ (GaveSome call × StopAtEnd calls)
 
 -- it was asked for the target once, which it answered so, and then for these pieces alone, each of
 -- which stands there, an empty one too

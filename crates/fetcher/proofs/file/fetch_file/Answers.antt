@@ -1,12 +1,14 @@
-use Rattle.std.proofs.Common.{◌≡◌, ◌*◌, ◌<◌, ◌∙◌, List, refl, sym, subst, arith}
+use Rattle.std.proofs.Common.{◌≡◌, ℕ, ◌+◌, ◌*◌, ◌<◌, ◌∙◌, List, refl, sym, subst, arith}
+use Rattle.std.proofs.lemmas.Result.{err_from_is_err_and}
 use Rattle.links.specs.Links.{LinksState, sources_of}
 use Rattle.causes.specs.declared.cause.Cause.{Cause}
 use Rattle.fetcher.specs.Causes.{IsFileCause}
 use Rattle.fetcher.specs.Fetched.{IsThis}
 use Rattle.fetcher.specs.Stopped.{DropsLiars}
-use Rattle.fetcher.proofs.Ending.{count_stays, file_kept, file_more, file_refused, file_served}
+use Rattle.fetcher.proofs.Ending.{count_stays, file_kept, file_more, file_once, file_refused, file_served}
 use Rattle.fetcher.proofs.Handing.{handed_all, handed_last, handed_next, handed_none, not_same}
 use Rattle.fetcher.proofs.InOrder.{Refused, all_stay, refused_none}
+use Rattle.fetcher.proofs.InTurn.{first_next, first_none, up_to, vain_all, vain_stop}
 use Rattle.fetcher.proofs.Liars.{but_all}
 use Rattle.fetcher.proofs.file.fetch_file.Goals as goal
 
@@ -53,6 +55,8 @@ loop-place-preserved g c =
           c.in-Err.ensures.moves less c.args.list.now c.args.size before after
           c.loop-place.invariant.refused c.in-Err.stop c.add_cause.new.causes.items
           c.in-Err.ensures.stop added;
+      once = first_next (λ (n : ℕ). n ≡ c.args.size) c.args.size c.args.target.now c.loop-place.place a b left
+          c.loop-place.invariant.refused.remain c.loop-place.invariant.once c.in-Err.ensures.moves less c.in-Err.ensures.once;
       basket = count_stays before after c.in-Err.stop c.file_of.result c.loop-place.causes.items
           c.add_cause.new.causes.items c.in-Err.is c.file_of.ensures.basket added
           ∙ c.loop-place.invariant.basket;
@@ -86,6 +90,7 @@ loop-place-init g c =
           (sym c.new-causes.ensures.items)
           (refused_none (IsFileCause c.args.list.now c.args.size c.args.target.now) c.args.target.now a b
           (record { asked = c.in_ok-want.ensures.ok; remain = c.in_ok-want.ensures.remain; links = c.in_ok-want.ensures.links }));
+      once = first_none (λ (n : ℕ). n ≡ c.args.size) c.args.size c.args.target.now a b c.in_ok-want.ensures.links;
       basket = refl;
       turned = handed_none g.B.Basket.turns_to g.met.B.Basket.turns_same (c.args.size * 0) _;
     }
@@ -148,3 +153,51 @@ returns-clause-idle g c = λ same.
     let a : LinksState = g.L.Links.links c.args.links.now in
     let left : LinksState = g.L.Links.links c.loop-place.links in
     absurd (not_same c.args.target.now a.asked left.asked c.loop-place.invariant.refused.asked same)
+
+pub returns-in_err-want-clause-once : goal.returns-in_err-want-clause-once
+returns-in_err-want-clause-once g c =
+    let p = err_from_is_err_and c.from_residual.result c.from_residual.ensures.1 in
+    rw (p.1, p.2) (
+      0,
+      first_none (λ (n : ℕ). n ≡ c.args.size) c.args.size c.args.target.now (g.L.Links.links c.args.links.now)
+          (g.L.Links.links c.want.new.self) c.in_err-want.ensures.links,
+    )
+
+pub returns-in-Ok-clause-once : goal.returns-in-Ok-clause-once
+returns-in-Ok-clause-once g c =
+    let a : LinksState = g.L.Links.links c.args.links.now in
+    let b : LinksState = g.L.Links.links c.loop-place.links in
+    let left : LinksState = g.L.Links.links c.file_of.new.links in
+    let count = c.sources-place-end.ensures.count in
+    let less : c.loop-place.place < sources_of a = omega (arith, count, c.in_ok-want.ensures.remain.sources) in
+    let d : LinksState = g.L.Links.links c.retire_liars.new.links in
+    let of = c.in-Ok.ensures.file in
+    let drops : DropsLiars c.loop-place.causes.items left d =
+    subst (λ (cs : List Cause). DropsLiars cs left d) c.deref.ensures.value c.retire_liars.ensures in
+    file_once c.loop-place.place a b left c.loop-place.causes.items c.args.target.now
+    c.in-Ok.ensures.moves less c.args.list.now c.args.size
+    g.B.Basket.tells (g.B.Basket.taken c.file_of.new.basket) c.loop-place.invariant.refused of d drops
+    (up_to (λ (n : ℕ). n ≡ c.args.size) c.args.size c.args.target.now c.loop-place.place a b left
+    c.loop-place.invariant.refused.remain c.loop-place.invariant.once c.in-Ok.ensures.moves less of.bytes
+    c.in-Ok.ensures.once of.served d drops.links)
+
+pub returns-in-Err-add_cause-clause-once : goal.returns-in-Err-add_cause-clause-once
+returns-in-Err-add_cause-clause-once g c =
+    let a : LinksState = g.L.Links.links c.args.links.now in
+    let b : LinksState = g.L.Links.links c.loop-place.links in
+    let left : LinksState = g.L.Links.links c.file_of.new.links in
+    let count = c.sources-place-end.ensures.count in
+    let less : c.loop-place.place < sources_of a = omega (arith, count, c.in_ok-want.ensures.remain.sources) in
+    vain_stop (λ (n : ℕ). n ≡ c.args.size) c.args.size c.args.target.now a left (c.loop-place.place + 1)
+    (first_next (λ (n : ℕ). n ≡ c.args.size) c.args.size c.args.target.now c.loop-place.place a b left
+    c.loop-place.invariant.refused.remain c.loop-place.invariant.once c.in-Err.ensures.moves less c.in-Err.ensures.once)
+    c.in-Err.stop c.in-Err-add_cause.fault c.in-Err-add_cause.ensures.ends
+
+pub returns-clause-once : goal.returns-clause-once
+returns-clause-once g c =
+    let a : LinksState = g.L.Links.links c.args.links.now in
+    let left : LinksState = g.L.Links.links c.loop-place.links in
+    let count = c.sources-place-end.ensures.count in
+    let all : c.loop-place.place ≡ sources_of a = omega (arith, count, c.in_ok-want.ensures.remain.sources) in
+    vain_all (λ (n : ℕ). n ≡ c.args.size) c.args.size c.args.target.now a left c.loop-place.place all
+    c.loop-place.invariant.once c.loop-place.causes.items c.all_links.result c.all_links.ensures
