@@ -36,6 +36,13 @@ impl Draft {
         self.filled
     }
 
+    /// Its blocks, in the order of its bytes.
+    pub fn blocks(&self) -> &List<u32>
+        ensures { result.now ≡ draft_blocks self.now }
+    {
+        &self.blocks
+    }
+
     /// The blocks of a draft, in the order of its bytes, in place of the draft.
     pub fn into_blocks(self) -> List<u32>
         ensures { result ≡ draft_blocks self }
