@@ -1,5 +1,6 @@
 -- A call that adds a draft, from the blocks that it takes to its end.
 use Rattle.std.proofs.Common.{◌≡◌, ℕ, List, [], ◌∷◌, ◌++◌, length, refl, sym, ◌∙◌, ap, subst}
+use Rattle.std.proofs.lemmas.List.{append-nil}
 use Rattle.disks.specs.declared.disk.Disk.{Ghosts}
 use Rattle.file_store.specs.Stores.{AreUsed, DraftHolds, SameRange, blocks_of_all, draft_blocks, draft_size, free_of, store_base}
 use Rattle.file_store.specs.Writes.{WritesOnly}
@@ -7,8 +8,10 @@ use Rattle.file_store.specs.declared.draft.Draft.{Draft}
 use Rattle.file_store.specs.declared.store.FileStore.{FileStore}
 use Rattle.file_store.proofs.Giving.{range_then}
 use Rattle.file_store.proofs.Writing.{only_start}
-use Rattle.line_drafts.specs.Added.{AddsDraft, AddsNone, StayUsed}
-use Rattle.line_drafts.proofs.Keeping.{adds_draft, adds_none, only_free, used_same, used_with}
+use Rattle.line_drafts.specs.Added.{AddsDraft, AddsNone, AddsOne, StayUsed}
+use Rattle.line_drafts.specs.Works.{SpendsWithin, Works}
+use Rattle.line_drafts.proofs.Ends.{nothing_spent}
+use Rattle.line_drafts.proofs.Keeping.{adds_draft, adds_none, drafts_stay, only_free, used_same, used_with}
 
 module _ {D : Type 0} (on : Ghosts D) (drafts : List Draft) (store : FileStore) (used : AreUsed store (blocks_of_all drafts)) where
   -- no blocks were taken
@@ -24,6 +27,19 @@ module _ {D : Type 0} (on : Ghosts D) (drafts : List Draft) (store : FileStore) 
 
     pub none_used : AreUsed last (blocks_of_all drafts)
     none_used = none_others [] used
+
+    pub none_works : (most : ℕ) (fault : Type 0) → (fault → ⊥) → Works on drafts drafts store last disk disk most fault
+    none_works most fault none = record {
+      only = none_only;
+      range = range;
+      more = [];
+      added = sym (append-nil drafts);
+      taken = sym (ap free_of kept);
+      used = none_used;
+      others = none_others;
+      held = λ contents held. held;
+      spends = (0, nothing_spent on 0 most disk fault none);
+    }
 
   -- blocks were taken, and only they were written
   module _ (mid here : FileStore) (begun draft : Draft) (old new : D) (takes : free_of store ≡ draft_blocks begun ++ free_of mid) (there : AreUsed mid (draft_blocks begun)) (range : SameRange store mid)
@@ -59,6 +75,19 @@ module _ {D : Type 0} (on : Ghosts D) (drafts : List Draft) (store : FileStore) 
       pub up_used : AreUsed last (blocks_of_all drafts')
       up_used = up_others [] used
 
+      pub up_works : (most : ℕ) (fault : Type 0) → SpendsWithin on most old new fault → Works on drafts drafts' store last old new most fault
+      up_works most fault spends = record {
+        only = only_taken;
+        range = up_range;
+        more = [];
+        added = kept ∙ sym (append-nil drafts);
+        taken = sym free;
+        used = up_used;
+        others = up_others;
+        held = drafts_stay on drafts store used old new only_taken;
+        spends = spends;
+      }
+
     -- it was added
     module _ (drafts' : List Draft) (last : FileStore) (added : drafts' ≡ drafts ++ draft ∷ []) (still : last ≡ here) where
       pub kept_range : SameRange store last
@@ -77,3 +106,19 @@ module _ {D : Type 0} (on : Ghosts D) (drafts : List Draft) (store : FileStore) 
       kept_adds bytes size holds =
           adds_draft on drafts store used old new only_taken drafts' last draft bytes added taken size
           (subst (λ (base : ℕ). DraftHolds base draft bytes (on.seen new)) range.base holds)
+
+      pub kept_one : (size : ℕ) → draft_size draft ≡ size → AddsOne drafts drafts' size
+      kept_one size is = record { draft = draft; added = added; size = is }
+
+      pub kept_works : (most : ℕ) (fault : Type 0) → SpendsWithin on most old new fault → Works on drafts drafts' store last old new most fault
+      kept_works most fault spends = record {
+        only = only_taken;
+        range = kept_range;
+        more = draft ∷ [];
+        added = added;
+        taken = taken ∙ ap (λ (l : List ℕ). l ++ free_of last) (sym (append-nil (draft_blocks draft)));
+        used = kept_used;
+        others = kept_others;
+        held = drafts_stay on drafts store used old new only_taken;
+        spends = spends;
+      }

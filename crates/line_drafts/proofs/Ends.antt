@@ -1,5 +1,5 @@
 -- How a call that adds a draft ends where it adds none.
-use Rattle.std.proofs.Common.{◌≡◌, ◌≢◌, ℕ, ◌-◌, ◌<◌, ◌≤◌, List, length, Result, Err, refl, ◌∙◌, ap, arith, inl}
+use Rattle.std.proofs.Common.{◌≡◌, ◌≢◌, ◌⊎◌, ℕ, ◌+◌, ◌-◌, ◌<◌, ◌≤◌, List, length, Result, Err, refl, sym, ◌∙◌, ap, subst, arith, inl, inr}
 use Rattle.outside.specs.Streams.{Rose}
 use Rattle.small_types.specs.Blocks.{count_for}
 use Rattle.small_types.specs.declared.target.Target.{Target}
@@ -17,10 +17,10 @@ use Rattle.file_store.specs.Writes.{touched}
 use Rattle.file_store.specs.declared.fault.FileFault.{FileFault}
 use Rattle.file_store.specs.declared.fault.FileFault.TheVariants as files
 use Rattle.file_store.specs.declared.store.FileStore.{FileStore}
-use Rattle.line_drafts.specs.Added.{SpendsSome}
 use Rattle.line_drafts.specs.Faults.{AreUnasked, IsFetchFault, IsWriteFault, LacksBlocks, fault_of_fetch, fault_of_files}
+use Rattle.line_drafts.specs.Works.{SpendsWithin}
 use Rattle.line_drafts.specs.declared.fault.DraftFault.{DraftFault}
-use Rattle.line_drafts.specs.declared.fault.DraftFault.TheVariants.{DiskFault, Full}
+use Rattle.line_drafts.specs.declared.fault.DraftFault.TheVariants.{DiskFault, Full, Memory}
 
 pub unasked_same : (links : LinksState) → AreUnasked links links
 unasked_same links = record {
@@ -58,6 +58,11 @@ pub not_the_disk : (size : ℕ) (store : FileStore) (fault : FileFault) → IsBe
 not_the_disk size store (files.Full need free) why same = cc
 not_the_disk size store files.DiskFault why same = absurd (let both = why (λ same. cc) in let is = both.0 in cc)
 not_the_disk size store files.Memory why same = cc
+
+-- why a content was not copied
+pub copied_fault : (size : ℕ) (store : FileStore) (fault : DraftFault) → (fault ≡ DiskFault) ⊎ (fault ≡ Memory) → IsWriteFault size store fault
+copied_fault size store fault (inl is) = subst (IsWriteFault size store) (sym is) tt
+copied_fault size store fault (inr is) = subst (IsWriteFault size store) (sym is) tt
 
 pub same_error : (one other : DraftFault) → ◌≡◌ {A = Result (Unit {0}) DraftFault} (Err one) (Err other) → one ≡ other
 same_error one other same = cc
@@ -99,18 +104,17 @@ module _ {D : Type 0} (on : Ghosts D) where
       spends_within on 0 0 calls bytes disk disk fault (omega arith) (omega arith)
       (spends_as on 0 0 disk disk ⊥ fault (λ no. absurd no) none (spends_none on disk))
 
-  -- as many calls and bytes as there were
-  pub some_spent : (old new : D) (fault : Type 0) → (on.tells new → on.tells old) → on.moment old ≤ on.moment new → on.total old ≤ on.total new → on.count old ≤ on.count new
-      → (fault → Rose (on.count old) (on.count new)) → ((fault → ⊥) → on.count new ≡ on.count old) → SpendsSome on old new fault
-  some_spent old new fault told later total more cause quiet = (
+  -- as many calls as there were
+  pub some_spent : (most : ℕ) (old new : D) (fault : Type 0) → (on.tells new → on.tells old) → on.moment old ≤ on.moment new → on.total old ≤ on.total new → on.total new ≤ on.total old + most → on.count old ≤ on.count new
+      → (fault → Rose (on.count old) (on.count new)) → ((fault → ⊥) → on.count new ≡ on.count old) → SpendsWithin on most old new fault
+  some_spent most old new fault told later total within more cause quiet = (
     on.moment new - on.moment old,
-    on.total new - on.total old,
     record {
       told = told;
       later = later;
       within = omega (arith, later);
       total_later = total;
-      total_within = omega (arith, total);
+      total_within = within;
       count = more;
       cause = cause;
       quiet = quiet;
@@ -122,3 +126,8 @@ module _ {D : Type 0} (on : Ghosts D) where
   piece_spent filled n old new fault other empty to from spends =
       let few : touched filled n ≤ count_for n = omega (arith, empty) in
       spends_within on (touched filled n) n (count_for n) n old new other few (omega arith) (spends_as on (touched filled n) n old new fault other to from spends)
+
+  -- as many as a size needs that is the draft's
+  pub size_spent : (n size : ℕ) (old new : D) (fault other : Type 0) → n ≡ size → (fault → other) → (other → fault) → Spends on (count_for n) n old new fault → Spends on (count_for size) size old new other
+  size_spent n size old new fault other is to from spends =
+      subst (λ (k : ℕ). Spends on (count_for k) k old new other) is (spends_as on (count_for n) n old new fault other to from spends)

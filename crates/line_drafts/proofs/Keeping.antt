@@ -36,7 +36,7 @@ only_free on base taken left all old new handed writes =
     only_wider on base taken all old new (λ block there. subst (λ (l : List ℕ). Contains l block) (sym handed) (Contains-append_left taken left block there)) writes
 
 -- drafts hold what they held, where none of their blocks was written
-held_stay : (base : ℕ) (written old new : List ℕ) (drafts : List Draft) (contents : List (List ℕ)) → ShareNone (blocks_of_all drafts) written → KeepsOutside base written old new
+pub held_stay : (base : ℕ) (written old new : List ℕ) (drafts : List Draft) (contents : List (List ℕ)) → ShareNone (blocks_of_all drafts) written → KeepsOutside base written old new
     → AreHeld base drafts contents old → AreHeld base drafts contents new
 held_stay base written old new [] [] none keeps held = held
 held_stay base written old new [] (content ∷ contents) none keeps held = held
@@ -48,8 +48,8 @@ held_stay base written old new (draft ∷ drafts) (content ∷ contents) none ke
 
 -- a call that writes free blocks alone
 module _ {D : Type 0} (on : Ghosts D) (drafts : List Draft) (store : FileStore) (used : AreUsed store (blocks_of_all drafts)) (old new : D) (only : WritesOnly on (store_base store) (free_of store) old new) where
-  stays : (contents : List (List ℕ)) → AreHeld (store_base store) drafts contents (on.seen old) → AreHeld (store_base store) drafts contents (on.seen new)
-  stays contents held =
+  pub drafts_stay : (contents : List (List ℕ)) → AreHeld (store_base store) drafts contents (on.seen old) → AreHeld (store_base store) drafts contents (on.seen new)
+  drafts_stay contents held =
       held_stay (store_base store) (free_of store) (on.seen old) (on.seen new) drafts contents (λ block there free. apart_other (blocks_of_all drafts) (free_of store) block used.apart there free) only.reads held
 
   -- and added no draft
@@ -57,7 +57,7 @@ module _ {D : Type 0} (on : Ghosts D) (drafts : List Draft) (store : FileStore) 
   adds_none drafts' store' same free = record {
     drafts = same;
     blocks = free;
-    held = λ contents held. subst (λ (l : List Draft). AreHeld (store_base store) l contents (on.seen new)) (sym same) (stays contents held);
+    held = λ contents held. subst (λ (l : List Draft). AreHeld (store_base store) l contents (on.seen new)) (sym same) (drafts_stay contents held);
   }
 
   -- or one that holds these bytes
@@ -70,7 +70,7 @@ module _ {D : Type 0} (on : Ghosts D) (drafts : List Draft) (store : FileStore) 
     size = size;
     held = λ contents held.
         subst (λ (l : List Draft). AreHeld (store_base store) l (contents ++ bytes ∷ []) (on.seen new)) (sym added)
-        (all_zipped_more (λ (d : Draft) (content : List ℕ). DraftHolds (store_base store) d content (on.seen new)) drafts contents draft bytes (stays contents held) holds);
+        (all_zipped_more (λ (d : Draft) (content : List ℕ). DraftHolds (store_base store) d content (on.seen new)) drafts contents draft bytes (drafts_stay contents held) holds);
   }
 
 -- the same blocks are in use

@@ -4,3 +4,4 @@ pub mod Keeping
 pub mod Lines
 pub mod Sealing
 pub mod Whole
+pub mod Works

@@ -1,7 +1,6 @@
 -- What a call that adds a draft does to the drafts, to the store and to the disk.
 use Rattle.std.specs.Prelude.{◌≡◌, ℕ, List, [], ◌∷◌, ◌++◌, length}
 use Rattle.disks.specs.declared.disk.Disk.{Ghosts}
-use Rattle.disks.specs.Spends.{Spends}
 use Rattle.file_store.specs.Stores.{AreUsed, blocks_of_all, draft_blocks, draft_size, free_of, store_base}
 use Rattle.file_store.specs.declared.draft.Draft.{Draft}
 use Rattle.file_store.specs.declared.store.FileStore.{FileStore}
@@ -28,13 +27,15 @@ pub record AddsNone {D : Type 0} (on : Ghosts D) (drafts_old drafts_new : List D
       → AreHeld (store_base files_old) drafts_old contents (on.seen disk_old)
       → AreHeld (store_base files_old) drafts_new contents (on.seen disk_new)
 
+-- One draft more, behind the others, which is to have so many bytes.
+pub record AddsOne (drafts_old drafts_new : List Draft) (bytes : ℕ) : Type 0 where
+  pub draft : Draft
+  pub added : drafts_new ≡ drafts_old ++ draft ∷ []
+  pub size : draft_size draft ≡ bytes
+
 -- where the blocks of the drafts and any others are in use, those of the new drafts and these
 -- others are
 abbrev pub StayUsed : List Draft → List Draft → FileStore → FileStore → Type 0
 StayUsed drafts_old drafts_new files_old files_new = (others : List ℕ)
     → AreUsed files_old (others ++ blocks_of_all drafts_old)
     → AreUsed files_new (others ++ blocks_of_all drafts_new)
-
--- the books of calls of a disk that are as many as they may be
-abbrev pub SpendsSome : {D : Type 0} → Ghosts D → D → D → Type 0 → Type 0
-SpendsSome on old new fault = (calls bytes : ℕ) × Spends on calls bytes old new fault

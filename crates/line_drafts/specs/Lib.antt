@@ -1,3 +1,4 @@
 pub mod Added
 pub mod Faults
 pub mod Held
+pub mod Works

@@ -1,16 +1,17 @@
 // The drafts of a line.
-ghost use Rattle.std.specs.Prelude.{◌≡◌, ◌<◌, ◌≤◌, ◌+◌, ◌^◌, ℕ, List, [], ◌∷◌, ◌++◌, length, map, IfErr, IfOk, OnErr, OnOk, Ok, Err, vec_capacity, vec_len};
+ghost use Rattle.std.specs.Prelude.{◌≡◌, ◌<◌, ◌≤◌, ◌+◌, ◌*◌, ◌^◌, ℕ, List, [], ◌∷◌, ◌++◌, length, map, IfErr, IfOk, OnErr, OnOk, Ok, Err, vec_capacity, vec_len};
 ghost use Rattle.disks.specs.Disk.{Only};
 ghost use Rattle.disks.specs.Moments.{Each, LeavesOnly};
 ghost use Rattle.disks.specs.Spends.{Spends};
-ghost use Rattle.small_types.specs.Blocks.{count_for};
+ghost use Rattle.small_types.specs.Blocks.{IsContent, ShareNone, count_for};
+ghost use Rattle.links.specs.Links.{sources_of};
 ghost use Rattle.fetcher.specs.Fetched.{IsFile, IsThis, KeptBut};
 ghost use Rattle.file_store.specs.Stores.{AreUsed, SameRange, blocks_of_all, draft_blocks, draft_size, filled_of, free_of, store_base};
-ghost use Rattle.file_store.specs.Writes.{WritesOnly};
 ghost use Rattle.file_store.specs.declared.store.FileStore.{FileStore};
 ghost use Rattle.line_drafts.specs.declared.fault.DraftFault.TheVariants.{DiskFault, Full};
 
 use crate::DraftFault;
+use crate::copy::copy_into;
 use crate::fetch::fetch_into;
 use digest_list::DigestList;
 use disks::Disk;
@@ -70,9 +71,10 @@ fn lists_of(room: Vec<List<u32>>, drafts: List<Draft>) -> List<List<u32>>
 }
 
 impl LineDrafts {
-    ghost use Rattle.line_drafts.specs.Added.{AddsDraft, AddsNone, SpendsSome, StayUsed};
+    ghost use Rattle.line_drafts.specs.Added.{AddsDraft, AddsNone, AddsOne};
     ghost use Rattle.line_drafts.specs.Faults.{IsFetchFault, IsWriteFault};
     ghost use Rattle.line_drafts.specs.Held.{AreContents, AreHeld};
+    ghost use Rattle.line_drafts.specs.Works.{Works};
 
     /// No drafts: in no store is a block of theirs free. It takes no memory.
     pub fn new(alloc: Global) -> LineDrafts
@@ -126,6 +128,7 @@ impl LineDrafts {
             × IsFile list.now size target.now (L.links links.old) (L.links links.new) (Unit {0})
             bytes
             × AddsDraft D.Disk self.old self.new files.old files.new disk.old disk.new bytes) }
+        ensures added { OnOk result (AddsOne self.old self.new size) }
         ensures none { OnErr result
             (AddsNone D.Disk self.old self.new files.old files.new disk.old disk.new) }
         ensures fault { IfErr result (IsFetchFault list.now size target.now (L.links links.old)
@@ -135,13 +138,13 @@ impl LineDrafts {
         ensures kept { KeptBut (IsThis target.now list.now size)
             (L.links links.old) (L.links links.new) }
 
-        // At each moment, also where it fails, nothing is written but in blocks that were free.
-        ensures only { WritesOnly D.Disk (store_base files.old) (free_of files.old) disk.old
-            disk.new }
-        ensures used { AreUsed files.new (blocks_of_all self.new) }
-        ensures others { StayUsed self.old self.new files.old files.new }
-        ensures range { SameRange files.old files.new }
-        ensures spends { SpendsSome D.Disk disk.old disk.new (result ≡ Err DiskFault) }
+        // Each link gives no more than the size, and what it gives is written once.
+        ensures works { Works D.Disk self.old self.new files.old files.new disk.old disk.new
+            (size * sources_of (L.links links.old)) (result ≡ Err DiskFault) }
+
+        // Where nothing is asked of the links, nothing is written.
+        ensures idle { (L.links links.new).asked ≡ (L.links links.old).asked
+            → D.total disk.new ≡ D.total disk.old }
     {
         let mut draft = match files.begin(alloc, size) {
             Ok(draft) => draft,
@@ -176,12 +179,8 @@ impl LineDrafts {
         ensures too_many { length (free_of files.old) < count_for (length bytes.now)
             → result ≡ Err (Full (count_for (length bytes.now)) (length (free_of files.old))) }
 
-        // At each moment, also where it fails, nothing is written but in blocks that were free.
-        ensures only { WritesOnly D.Disk (store_base files.old) (free_of files.old) disk.old
-            disk.new }
-        ensures used { AreUsed files.new (blocks_of_all self.new) }
-        ensures others { StayUsed self.old self.new files.old files.new }
-        ensures range { SameRange files.old files.new }
+        ensures works { Works D.Disk self.old self.new files.old files.new disk.old disk.new
+            (length bytes.now) (result ≡ Err DiskFault) }
         ensures written { OnOk result (D.total disk.new ≡ D.total disk.old + length bytes.now) }
         ensures spends { Spends D.Disk (count_for (length bytes.now)) (length bytes.now) disk.old
             disk.new (result ≡ Err DiskFault) }
@@ -198,6 +197,73 @@ impl LineDrafts {
             Ok(()) => Ok(()),
             Err(AllocError) => Err(DraftFault::Memory),
         }
+    }
+
+    /// Writes a copy of the content of this size that lies in these blocks into a draft, each of its
+    /// bytes once. It takes memory for a buffer of at most 65,536 bytes. Bytes that the disk does not
+    /// have, as those of a file that was cut off, are zeros in the draft. `Full`: its blocks are more
+    /// than are free. `DiskFault`: the disk failed. `Memory`: there was none. After a fault the
+    /// drafts and the free blocks are as they were.
+    pub fn copy<D: Disk>(
+        &mut self,
+        alloc: Global,
+        disk: &mut D,
+        files: &mut FileStore,
+        blocks: &List<u32>,
+        size: u64,
+    ) -> Result<(), DraftFault>
+        requires counted { length blocks.now ≡ count_for size }
+        requires used { AreUsed files.old (blocks_of_all self.old) }
+        ensures added { OnOk result (AddsOne self.old self.new size) }
+
+        // A content in blocks that were not free is then the draft's too.
+        ensures copied { D.tells disk.new → (content : List ℕ) → length content ≡ size
+            → IsContent (store_base files.old) blocks.now content (D.seen disk.old)
+            → ShareNone blocks.now (free_of files.old)
+            → OnOk result (AddsDraft D.Disk self.old self.new files.old files.new disk.old disk.new
+            content) }
+        ensures none { OnErr result
+            (AddsNone D.Disk self.old self.new files.old files.new disk.old disk.new) }
+        ensures fault { IfErr result (IsWriteFault size files.old) }
+        ensures too_many { length (free_of files.old) < count_for size
+            → result ≡ Err (Full (count_for size) (length (free_of files.old))) }
+        ensures works { Works D.Disk self.old self.new files.old files.new disk.old disk.new size
+            (result ≡ Err DiskFault) }
+        ensures written { OnOk result (D.total disk.new ≡ D.total disk.old + size) }
+        ensures spends { Spends D.Disk (count_for size) size disk.old disk.new
+            (result ≡ Err DiskFault) }
+    {
+        let begun = files.begin(alloc, size);
+        let mut draft = match begun {
+            Ok(draft) => draft,
+            Err(fault) => return Err(DraftFault::from(fault)),
+        };
+        if let Err(fault) = copy_into(alloc, disk, files, blocks, &mut draft) {
+            files.abandon(draft);
+            return Err(fault);
+        }
+        match self.keep(files, draft) {
+            Ok(()) => Ok(()),
+            Err(AllocError) => Err(DraftFault::Memory),
+        }
+    }
+
+    /// The drafts, in their order.
+    pub fn as_slice(&self) -> &[Draft]
+        ensures { result.now ≡ self.now }
+    {
+        &self.drafts
+    }
+
+    /// The blocks of all drafts, those of the first one first.
+    pub fn all_blocks(&self, alloc: Global) -> Result<List<u32>, AllocError>
+        ensures { IfOk result (λ blocks. blocks ≡ blocks_of_all self.now) }
+    {
+        let mut blocks = Vec::new(alloc);
+        for draft in self.as_slice() {
+            blocks.extend_from_slice(draft.blocks().as_slice())?;
+        }
+        Ok(List::from_vec(blocks))
     }
 
     /// Makes all drafts durable by one sync, and answers the blocks of each, in their order. It

@@ -1,10 +1,11 @@
 // The fetch of a file into a draft.
-ghost use Rattle.std.specs.Prelude.{◌≡◌, ◌≢◌, ◌<◌, ◌≤◌, ◌^◌, ℕ, List, IfErr, OnOk, Err};
+ghost use Rattle.std.specs.Prelude.{◌≡◌, ◌≢◌, ◌<◌, ◌≤◌, ◌+◌, ◌*◌, ◌^◌, ℕ, List, IfErr, OnOk, Err};
 ghost use Rattle.draft_basket.specs.Basket.{ReadsWhole, held_bytes};
 ghost use Rattle.fetcher.specs.Fetched.{IsFile, IsFileFault, IsThis, KeptBut};
 ghost use Rattle.fetcher.specs.declared.fault.FetchFault.TheVariants.{BasketFault};
 ghost use Rattle.file_store.specs.Stores.{draft_blocks, draft_size, filled_of, store_base};
 ghost use Rattle.file_store.specs.Writes.{WritesOnly};
+ghost use Rattle.links.specs.Links.{sources_of};
 
 use digest_list::DigestList;
 use disks::Disk;
@@ -47,6 +48,10 @@ pub(crate) fn fetch_into<D: Disk, L: Links>(
     ensures store { files.new ≡ files.old }
     ensures told { D.tells disk.new → D.tells disk.old }
     ensures total { D.total disk.old ≤ D.total disk.new }
+    ensures written { D.total disk.new
+        ≤ D.total disk.old + size * sources_of (L.links links.old) }
+    ensures idle { (L.links links.new).asked ≡ (L.links links.old).asked
+        → D.total disk.new ≡ D.total disk.old }
     ensures later { D.count disk.old ≤ D.count disk.new }
     ensures quiet { result ≢ Err BasketFault → D.count disk.new ≡ D.count disk.old }
 {

@@ -2,6 +2,7 @@
 //! one sync, or all are given up.
 #![tactic(auto)]
 
+mod copy;
 mod drafts;
 mod fault;
 mod fetch;

@@ -1,5 +1,6 @@
-use Rattle.std.proofs.Common.{◌∙◌, length, refl, sym, subst, inr}
+use Rattle.std.proofs.Common.{◌∙◌, ◌*◌, length, refl, sym, subst, inr}
 use Rattle.small_types.specs.Blocks.{count_for}
+use Rattle.links.specs.Links.{sources_of}
 use Rattle.file_store.specs.Stores.{free_of, store_base}
 use Rattle.fetcher.specs.Fetched.{IsThis}
 use Rattle.fetcher.proofs.Liars.{but_all}
@@ -7,8 +8,8 @@ use Rattle.fetcher.proofs.Sequence.{all_same}
 use Rattle.line_drafts.specs.Faults.{IsFetchFault}
 use Rattle.line_drafts.specs.declared.fault.DraftFault.{DraftFault}
 use Rattle.line_drafts.specs.declared.fault.DraftFault.TheVariants.{DiskFault}
-use Rattle.line_drafts.proofs.Course.{kept_adds, kept_others, kept_range, kept_used, none_adds, none_only, none_others, none_used, only_taken, up_adds, up_others, up_range, up_used, used_here}
-use Rattle.line_drafts.proofs.Ends.{basket_rose, begun_fetch, fetched_fault, not_basket, not_the_disk, nothing_spent, same_error, some_spent, too_many_full}
+use Rattle.line_drafts.proofs.Course.{kept_adds, kept_one, kept_works, none_adds, none_works, up_adds, up_works, used_here}
+use Rattle.line_drafts.proofs.Ends.{basket_rose, begun_fetch, fetched_fault, not_basket, not_the_disk, same_error, some_spent, too_many_full}
 use Rattle.line_drafts.proofs.Whole.{whole_holds, whole_size}
 use Rattle.line_drafts.proofs.drafts.LineDrafts.fetch.Goals as goal
 
@@ -28,29 +29,10 @@ pub returns-in-Err-clause-kept : goal.returns-in-Err-clause-kept
 returns-in-Err-clause-kept g c =
     but_all (IsThis c.args.target.now c.args.list.now c.args.size) (g.L.Links.links c.args.links.now) (g.L.Links.links c.args.links.now) (all_same (g.L.Links.links c.args.links.now))
 
-pub returns-in-Err-clause-spends : goal.returns-in-Err-clause-spends
-returns-in-Err-clause-spends g c = (
-  0,
-  0,
-  nothing_spent g.D.Disk 0 0 c.args.disk.now _
-      (λ is. not_the_disk c.args.size c.args.files.now c.in-Err.fault c.in-Err.ensures.full (sym c.from.ensures ∙ same_error c.from.result DiskFault is)),
-)
-
-pub returns-in-Err-clause-only : goal.returns-in-Err-clause-only
-returns-in-Err-clause-only g c =
-    none_only g.D.Disk c.args.self.now c.args.files.now c.requires.used c.args.disk.now c.begin.new.self c.in-Err.ensures.kept c.in-Err.ensures.range
-
-pub returns-in-Err-clause-used : goal.returns-in-Err-clause-used
-returns-in-Err-clause-used g c =
-    none_used g.D.Disk c.args.self.now c.args.files.now c.requires.used c.args.disk.now c.begin.new.self c.in-Err.ensures.kept c.in-Err.ensures.range
-
-pub returns-in-Err-clause-others : goal.returns-in-Err-clause-others
-returns-in-Err-clause-others g c =
-    none_others g.D.Disk c.args.self.now c.args.files.now c.requires.used c.args.disk.now c.begin.new.self c.in-Err.ensures.kept c.in-Err.ensures.range
-
-pub returns-in-Err-clause-range : goal.returns-in-Err-clause-range
-returns-in-Err-clause-range g c =
-    c.in-Err.ensures.range
+pub returns-in-Err-clause-works : goal.returns-in-Err-clause-works
+returns-in-Err-clause-works g c =
+    none_works g.D.Disk c.args.self.now c.args.files.now c.requires.used c.args.disk.now c.begin.new.self c.in-Err.ensures.kept c.in-Err.ensures.range (c.args.size * sources_of (g.L.Links.links c.args.links.now)) _
+    (λ is. not_the_disk c.args.size c.args.files.now c.in-Err.fault c.in-Err.ensures.full (sym c.from.ensures ∙ same_error c.from.result DiskFault is))
 
 pub fetch_into-requires-clause-below : goal.fetch_into-requires-clause-below
 fetch_into-requires-clause-below g c = c.requires.below
@@ -80,34 +62,15 @@ returns-in-Err-fetch_into-clause-too_many g c = λ short. absurd (let no = c.in-
 pub returns-in-Err-fetch_into-clause-kept : goal.returns-in-Err-fetch_into-clause-kept
 returns-in-Err-fetch_into-clause-kept g c = c.fetch_into.ensures.kept
 
-pub returns-in-Err-fetch_into-clause-spends : goal.returns-in-Err-fetch_into-clause-spends
-returns-in-Err-fetch_into-clause-spends g c =
-    some_spent g.D.Disk c.args.disk.now c.fetch_into.new.disk _ c.fetch_into.ensures.told c.fetch_into.ensures.only.stops.later c.fetch_into.ensures.total c.fetch_into.ensures.later
+pub returns-in-Err-fetch_into-clause-works : goal.returns-in-Err-fetch_into-clause-works
+returns-in-Err-fetch_into-clause-works g c =
+    up_works g.D.Disk c.args.self.now c.args.files.now c.requires.used c.begin.new.self c.fetch_into.new.files c.in-Ok.draft c.fetch_into.new.draft c.args.disk.now c.fetch_into.new.disk
+    c.in-Ok.ensures.takes c.in-Ok.ensures.used c.in-Ok.ensures.range c.fetch_into.ensures.blocks c.fetch_into.ensures.store c.fetch_into.ensures.only
+    c.args.self.now c.abandon.new.self refl c.abandon.ensures.freed c.abandon.ensures.range
+    (c.args.size * sources_of (g.L.Links.links c.args.links.now)) _
+    (some_spent g.D.Disk (c.args.size * sources_of (g.L.Links.links c.args.links.now)) c.args.disk.now c.fetch_into.new.disk _ c.fetch_into.ensures.told c.fetch_into.ensures.only.stops.later c.fetch_into.ensures.total c.fetch_into.ensures.written c.fetch_into.ensures.later
     (λ is. basket_rose c.args.list.now c.args.size c.args.target.now (g.L.Links.links c.args.links.now) (g.L.Links.links c.fetch_into.new.links) (g.D.Disk.count c.args.disk.now) (g.D.Disk.count c.fetch_into.new.disk) c.in-Err-fetch_into.fault c.in-Err-fetch_into.ensures.fault (sym c.from-in-Err-fetch_into.ensures ∙ same_error c.from-in-Err-fetch_into.result DiskFault is))
-    (λ none. c.in-Err-fetch_into.ensures.quiet (not_basket c.in-Err-fetch_into.fault c.from-in-Err-fetch_into.result c.from-in-Err-fetch_into.ensures none))
-
-pub returns-in-Err-fetch_into-clause-only : goal.returns-in-Err-fetch_into-clause-only
-returns-in-Err-fetch_into-clause-only g c =
-    only_taken g.D.Disk c.args.self.now c.args.files.now c.requires.used c.begin.new.self c.fetch_into.new.files c.in-Ok.draft c.fetch_into.new.draft c.args.disk.now c.fetch_into.new.disk
-    c.in-Ok.ensures.takes c.in-Ok.ensures.used c.in-Ok.ensures.range c.fetch_into.ensures.blocks c.fetch_into.ensures.store c.fetch_into.ensures.only
-
-pub returns-in-Err-fetch_into-clause-used : goal.returns-in-Err-fetch_into-clause-used
-returns-in-Err-fetch_into-clause-used g c =
-    up_used g.D.Disk c.args.self.now c.args.files.now c.requires.used c.begin.new.self c.fetch_into.new.files c.in-Ok.draft c.fetch_into.new.draft c.args.disk.now c.fetch_into.new.disk
-    c.in-Ok.ensures.takes c.in-Ok.ensures.used c.in-Ok.ensures.range c.fetch_into.ensures.blocks c.fetch_into.ensures.store c.fetch_into.ensures.only
-    c.args.self.now c.abandon.new.self refl c.abandon.ensures.freed c.abandon.ensures.range
-
-pub returns-in-Err-fetch_into-clause-others : goal.returns-in-Err-fetch_into-clause-others
-returns-in-Err-fetch_into-clause-others g c =
-    up_others g.D.Disk c.args.self.now c.args.files.now c.requires.used c.begin.new.self c.fetch_into.new.files c.in-Ok.draft c.fetch_into.new.draft c.args.disk.now c.fetch_into.new.disk
-    c.in-Ok.ensures.takes c.in-Ok.ensures.used c.in-Ok.ensures.range c.fetch_into.ensures.blocks c.fetch_into.ensures.store c.fetch_into.ensures.only
-    c.args.self.now c.abandon.new.self refl c.abandon.ensures.freed c.abandon.ensures.range
-
-pub returns-in-Err-fetch_into-clause-range : goal.returns-in-Err-fetch_into-clause-range
-returns-in-Err-fetch_into-clause-range g c =
-    up_range g.D.Disk c.args.self.now c.args.files.now c.requires.used c.begin.new.self c.fetch_into.new.files c.in-Ok.draft c.fetch_into.new.draft c.args.disk.now c.fetch_into.new.disk
-    c.in-Ok.ensures.takes c.in-Ok.ensures.used c.in-Ok.ensures.range c.fetch_into.ensures.blocks c.fetch_into.ensures.store c.fetch_into.ensures.only
-    c.args.self.now c.abandon.new.self refl c.abandon.ensures.freed c.abandon.ensures.range
+    (λ none. c.in-Err-fetch_into.ensures.quiet (not_basket c.in-Err-fetch_into.fault c.from-in-Err-fetch_into.result c.from-in-Err-fetch_into.ensures none)))
 
 pub keep-requires-clause-used : goal.keep-requires-clause-used
 keep-requires-clause-used g c =
@@ -132,39 +95,27 @@ returns-in-Ok-keep-clause-fetched g c =
           (whole_holds base draft seen file.0 c.fetch_into.ensures.whole file.2),
     )
 
+pub returns-in-Ok-keep-clause-added : goal.returns-in-Ok-keep-clause-added
+returns-in-Ok-keep-clause-added g c =
+    kept_one g.D.Disk c.args.self.now c.args.files.now c.requires.used c.begin.new.self c.fetch_into.new.files c.in-Ok.draft c.fetch_into.new.draft c.args.disk.now c.fetch_into.new.disk
+    c.in-Ok.ensures.takes c.in-Ok.ensures.used c.in-Ok.ensures.range c.fetch_into.ensures.blocks c.fetch_into.ensures.store c.fetch_into.ensures.only
+    c.keep.new.self c.keep.new.files c.in-Ok-keep.ensures.added c.in-Ok-keep.ensures.store
+    c.args.size (c.fetch_into.ensures.size ∙ c.in-Ok.ensures.size)
+
 pub returns-in-Ok-keep-clause-too_many : goal.returns-in-Ok-keep-clause-too_many
 returns-in-Ok-keep-clause-too_many g c = λ short. absurd (let no = c.in-Ok.ensures.too_many short in cc)
 
 pub returns-in-Ok-keep-clause-kept : goal.returns-in-Ok-keep-clause-kept
 returns-in-Ok-keep-clause-kept g c = c.fetch_into.ensures.kept
 
-pub returns-in-Ok-keep-clause-spends : goal.returns-in-Ok-keep-clause-spends
-returns-in-Ok-keep-clause-spends g c =
-    some_spent g.D.Disk c.args.disk.now c.fetch_into.new.disk _ c.fetch_into.ensures.told c.fetch_into.ensures.only.stops.later c.fetch_into.ensures.total c.fetch_into.ensures.later
-    (λ is. absurd (cc)) (λ none. c.in_default.ensures.quiet (λ same. cc))
-
-pub returns-in-Ok-keep-clause-only : goal.returns-in-Ok-keep-clause-only
-returns-in-Ok-keep-clause-only g c =
-    only_taken g.D.Disk c.args.self.now c.args.files.now c.requires.used c.begin.new.self c.fetch_into.new.files c.in-Ok.draft c.fetch_into.new.draft c.args.disk.now c.fetch_into.new.disk
-    c.in-Ok.ensures.takes c.in-Ok.ensures.used c.in-Ok.ensures.range c.fetch_into.ensures.blocks c.fetch_into.ensures.store c.fetch_into.ensures.only
-
-pub returns-in-Ok-keep-clause-used : goal.returns-in-Ok-keep-clause-used
-returns-in-Ok-keep-clause-used g c =
-    kept_used g.D.Disk c.args.self.now c.args.files.now c.requires.used c.begin.new.self c.fetch_into.new.files c.in-Ok.draft c.fetch_into.new.draft c.args.disk.now c.fetch_into.new.disk
+pub returns-in-Ok-keep-clause-works : goal.returns-in-Ok-keep-clause-works
+returns-in-Ok-keep-clause-works g c =
+    kept_works g.D.Disk c.args.self.now c.args.files.now c.requires.used c.begin.new.self c.fetch_into.new.files c.in-Ok.draft c.fetch_into.new.draft c.args.disk.now c.fetch_into.new.disk
     c.in-Ok.ensures.takes c.in-Ok.ensures.used c.in-Ok.ensures.range c.fetch_into.ensures.blocks c.fetch_into.ensures.store c.fetch_into.ensures.only
     c.keep.new.self c.keep.new.files c.in-Ok-keep.ensures.added c.in-Ok-keep.ensures.store
-
-pub returns-in-Ok-keep-clause-others : goal.returns-in-Ok-keep-clause-others
-returns-in-Ok-keep-clause-others g c =
-    kept_others g.D.Disk c.args.self.now c.args.files.now c.requires.used c.begin.new.self c.fetch_into.new.files c.in-Ok.draft c.fetch_into.new.draft c.args.disk.now c.fetch_into.new.disk
-    c.in-Ok.ensures.takes c.in-Ok.ensures.used c.in-Ok.ensures.range c.fetch_into.ensures.blocks c.fetch_into.ensures.store c.fetch_into.ensures.only
-    c.keep.new.self c.keep.new.files c.in-Ok-keep.ensures.added c.in-Ok-keep.ensures.store
-
-pub returns-in-Ok-keep-clause-range : goal.returns-in-Ok-keep-clause-range
-returns-in-Ok-keep-clause-range g c =
-    kept_range g.D.Disk c.args.self.now c.args.files.now c.requires.used c.begin.new.self c.fetch_into.new.files c.in-Ok.draft c.fetch_into.new.draft c.args.disk.now c.fetch_into.new.disk
-    c.in-Ok.ensures.takes c.in-Ok.ensures.used c.in-Ok.ensures.range c.fetch_into.ensures.blocks c.fetch_into.ensures.store c.fetch_into.ensures.only
-    c.keep.new.self c.keep.new.files c.in-Ok-keep.ensures.added c.in-Ok-keep.ensures.store
+    (c.args.size * sources_of (g.L.Links.links c.args.links.now)) _
+    (some_spent g.D.Disk (c.args.size * sources_of (g.L.Links.links c.args.links.now)) c.args.disk.now c.fetch_into.new.disk _ c.fetch_into.ensures.told c.fetch_into.ensures.only.stops.later c.fetch_into.ensures.total c.fetch_into.ensures.written c.fetch_into.ensures.later
+    (λ is. absurd (cc)) (λ none. c.in_default.ensures.quiet (λ same. cc)))
 
 pub returns-in-Err-keep-clause-none : goal.returns-in-Err-keep-clause-none
 returns-in-Err-keep-clause-none g c =
@@ -181,30 +132,23 @@ returns-in-Err-keep-clause-too_many g c = λ short. absurd (let no = c.in-Ok.ens
 pub returns-in-Err-keep-clause-kept : goal.returns-in-Err-keep-clause-kept
 returns-in-Err-keep-clause-kept g c = c.fetch_into.ensures.kept
 
-pub returns-in-Err-keep-clause-spends : goal.returns-in-Err-keep-clause-spends
-returns-in-Err-keep-clause-spends g c =
-    some_spent g.D.Disk c.args.disk.now c.fetch_into.new.disk _ c.fetch_into.ensures.told c.fetch_into.ensures.only.stops.later c.fetch_into.ensures.total c.fetch_into.ensures.later
-    (λ is. absurd (cc)) (λ none. c.in_default.ensures.quiet (λ same. cc))
-
-pub returns-in-Err-keep-clause-only : goal.returns-in-Err-keep-clause-only
-returns-in-Err-keep-clause-only g c =
-    only_taken g.D.Disk c.args.self.now c.args.files.now c.requires.used c.begin.new.self c.fetch_into.new.files c.in-Ok.draft c.fetch_into.new.draft c.args.disk.now c.fetch_into.new.disk
-    c.in-Ok.ensures.takes c.in-Ok.ensures.used c.in-Ok.ensures.range c.fetch_into.ensures.blocks c.fetch_into.ensures.store c.fetch_into.ensures.only
-
-pub returns-in-Err-keep-clause-used : goal.returns-in-Err-keep-clause-used
-returns-in-Err-keep-clause-used g c =
-    up_used g.D.Disk c.args.self.now c.args.files.now c.requires.used c.begin.new.self c.fetch_into.new.files c.in-Ok.draft c.fetch_into.new.draft c.args.disk.now c.fetch_into.new.disk
+pub returns-in-Err-keep-clause-works : goal.returns-in-Err-keep-clause-works
+returns-in-Err-keep-clause-works g c =
+    up_works g.D.Disk c.args.self.now c.args.files.now c.requires.used c.begin.new.self c.fetch_into.new.files c.in-Ok.draft c.fetch_into.new.draft c.args.disk.now c.fetch_into.new.disk
     c.in-Ok.ensures.takes c.in-Ok.ensures.used c.in-Ok.ensures.range c.fetch_into.ensures.blocks c.fetch_into.ensures.store c.fetch_into.ensures.only
     c.keep.new.self c.keep.new.files c.in-Err-keep.ensures.none c.in-Err-keep.ensures.freed c.keep.ensures.range
+    (c.args.size * sources_of (g.L.Links.links c.args.links.now)) _
+    (some_spent g.D.Disk (c.args.size * sources_of (g.L.Links.links c.args.links.now)) c.args.disk.now c.fetch_into.new.disk _ c.fetch_into.ensures.told c.fetch_into.ensures.only.stops.later c.fetch_into.ensures.total c.fetch_into.ensures.written c.fetch_into.ensures.later
+    (λ is. absurd (cc)) (λ none. c.in_default.ensures.quiet (λ same. cc)))
 
-pub returns-in-Err-keep-clause-others : goal.returns-in-Err-keep-clause-others
-returns-in-Err-keep-clause-others g c =
-    up_others g.D.Disk c.args.self.now c.args.files.now c.requires.used c.begin.new.self c.fetch_into.new.files c.in-Ok.draft c.fetch_into.new.draft c.args.disk.now c.fetch_into.new.disk
-    c.in-Ok.ensures.takes c.in-Ok.ensures.used c.in-Ok.ensures.range c.fetch_into.ensures.blocks c.fetch_into.ensures.store c.fetch_into.ensures.only
-    c.keep.new.self c.keep.new.files c.in-Err-keep.ensures.none c.in-Err-keep.ensures.freed c.keep.ensures.range
+pub returns-in-Err-clause-idle : goal.returns-in-Err-clause-idle
+returns-in-Err-clause-idle g c = λ same. refl
 
-pub returns-in-Err-keep-clause-range : goal.returns-in-Err-keep-clause-range
-returns-in-Err-keep-clause-range g c =
-    up_range g.D.Disk c.args.self.now c.args.files.now c.requires.used c.begin.new.self c.fetch_into.new.files c.in-Ok.draft c.fetch_into.new.draft c.args.disk.now c.fetch_into.new.disk
-    c.in-Ok.ensures.takes c.in-Ok.ensures.used c.in-Ok.ensures.range c.fetch_into.ensures.blocks c.fetch_into.ensures.store c.fetch_into.ensures.only
-    c.keep.new.self c.keep.new.files c.in-Err-keep.ensures.none c.in-Err-keep.ensures.freed c.keep.ensures.range
+pub returns-in-Err-fetch_into-clause-idle : goal.returns-in-Err-fetch_into-clause-idle
+returns-in-Err-fetch_into-clause-idle g c = c.fetch_into.ensures.idle
+
+pub returns-in-Ok-keep-clause-idle : goal.returns-in-Ok-keep-clause-idle
+returns-in-Ok-keep-clause-idle g c = c.fetch_into.ensures.idle
+
+pub returns-in-Err-keep-clause-idle : goal.returns-in-Err-keep-clause-idle
+returns-in-Err-keep-clause-idle g c = c.fetch_into.ensures.idle

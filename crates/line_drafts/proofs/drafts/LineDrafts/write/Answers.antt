@@ -4,7 +4,7 @@ use Rattle.file_store.specs.Stores.{filled_of, free_of, store_base}
 use Rattle.line_drafts.specs.Faults.{IsWriteFault, fault_of_files}
 use Rattle.line_drafts.specs.declared.fault.DraftFault.{DraftFault}
 use Rattle.line_drafts.specs.declared.fault.DraftFault.TheVariants.{DiskFault}
-use Rattle.line_drafts.proofs.Course.{kept_adds, kept_others, kept_range, kept_used, none_adds, none_only, none_others, none_used, only_taken, up_adds, up_others, up_range, up_used, used_here}
+use Rattle.line_drafts.proofs.Course.{kept_adds, kept_works, none_adds, none_works, up_adds, up_works, used_here}
 use Rattle.line_drafts.proofs.Ends.{begun_write, not_the_disk, nothing_spent, piece_spent, same_error, too_many_full}
 use Rattle.line_drafts.proofs.Whole.{holds_nothing}
 use Rattle.line_drafts.proofs.drafts.LineDrafts.write.Goals as goal
@@ -25,21 +25,10 @@ returns-in-Err-clause-spends g c =
     nothing_spent g.D.Disk (count_for (length c.args.bytes.now)) (length c.args.bytes.now) c.args.disk.now _
     (λ is. not_the_disk (length c.args.bytes.now) c.args.files.now c.in-Err.fault c.in-Err.ensures.full (sym c.from.ensures ∙ same_error c.from.result DiskFault is))
 
-pub returns-in-Err-clause-only : goal.returns-in-Err-clause-only
-returns-in-Err-clause-only g c =
-    none_only g.D.Disk c.args.self.now c.args.files.now c.requires c.args.disk.now c.begin.new.self c.in-Err.ensures.kept c.in-Err.ensures.range
-
-pub returns-in-Err-clause-used : goal.returns-in-Err-clause-used
-returns-in-Err-clause-used g c =
-    none_used g.D.Disk c.args.self.now c.args.files.now c.requires c.args.disk.now c.begin.new.self c.in-Err.ensures.kept c.in-Err.ensures.range
-
-pub returns-in-Err-clause-others : goal.returns-in-Err-clause-others
-returns-in-Err-clause-others g c =
-    none_others g.D.Disk c.args.self.now c.args.files.now c.requires c.args.disk.now c.begin.new.self c.in-Err.ensures.kept c.in-Err.ensures.range
-
-pub returns-in-Err-clause-range : goal.returns-in-Err-clause-range
-returns-in-Err-clause-range g c =
-    c.in-Err.ensures.range
+pub returns-in-Err-clause-works : goal.returns-in-Err-clause-works
+returns-in-Err-clause-works g c =
+    none_works g.D.Disk c.args.self.now c.args.files.now c.requires c.args.disk.now c.begin.new.self c.in-Err.ensures.kept c.in-Err.ensures.range (length c.args.bytes.now) _
+    (λ is. not_the_disk (length c.args.bytes.now) c.args.files.now c.in-Err.fault c.in-Err.ensures.full (sym c.from.ensures ∙ same_error c.from.result DiskFault is))
 
 pub store_piece-requires : goal.store_piece-requires
 store_piece-requires g c = omega (arith, c.in-Ok.ensures.empty, c.in-Ok.ensures.size)
@@ -67,28 +56,16 @@ returns-in-Err-store_piece-clause-spends g c =
     piece_spent g.D.Disk (filled_of c.in-Ok.draft) (length c.args.bytes.now) c.args.disk.now c.store_piece.new.disk _ _ c.in-Ok.ensures.empty
     (λ err. ap (λ (e : DraftFault). Err e) (c.from-in-Err-store_piece.ensures ∙ ap fault_of_files c.in-Err-store_piece.ensures.faults)) (λ is. refl) c.in-Err-store_piece.ensures.spends
 
-pub returns-in-Err-store_piece-clause-only : goal.returns-in-Err-store_piece-clause-only
-returns-in-Err-store_piece-clause-only g c =
-    only_taken g.D.Disk c.args.self.now c.args.files.now c.requires c.begin.new.self c.store_piece.new.self c.in-Ok.draft c.store_piece.new.draft c.args.disk.now c.store_piece.new.disk
-    c.in-Ok.ensures.takes c.in-Ok.ensures.used c.in-Ok.ensures.range c.store_piece.ensures.blocks c.store_piece.ensures.store c.store_piece.ensures.only
-
-pub returns-in-Err-store_piece-clause-used : goal.returns-in-Err-store_piece-clause-used
-returns-in-Err-store_piece-clause-used g c =
-    up_used g.D.Disk c.args.self.now c.args.files.now c.requires c.begin.new.self c.store_piece.new.self c.in-Ok.draft c.store_piece.new.draft c.args.disk.now c.store_piece.new.disk
+pub returns-in-Err-store_piece-clause-works : goal.returns-in-Err-store_piece-clause-works
+returns-in-Err-store_piece-clause-works g c =
+    up_works g.D.Disk c.args.self.now c.args.files.now c.requires c.begin.new.self c.store_piece.new.self c.in-Ok.draft c.store_piece.new.draft c.args.disk.now c.store_piece.new.disk
     c.in-Ok.ensures.takes c.in-Ok.ensures.used c.in-Ok.ensures.range c.store_piece.ensures.blocks c.store_piece.ensures.store c.store_piece.ensures.only
     c.args.self.now c.abandon.new.self refl c.abandon.ensures.freed c.abandon.ensures.range
-
-pub returns-in-Err-store_piece-clause-others : goal.returns-in-Err-store_piece-clause-others
-returns-in-Err-store_piece-clause-others g c =
-    up_others g.D.Disk c.args.self.now c.args.files.now c.requires c.begin.new.self c.store_piece.new.self c.in-Ok.draft c.store_piece.new.draft c.args.disk.now c.store_piece.new.disk
-    c.in-Ok.ensures.takes c.in-Ok.ensures.used c.in-Ok.ensures.range c.store_piece.ensures.blocks c.store_piece.ensures.store c.store_piece.ensures.only
-    c.args.self.now c.abandon.new.self refl c.abandon.ensures.freed c.abandon.ensures.range
-
-pub returns-in-Err-store_piece-clause-range : goal.returns-in-Err-store_piece-clause-range
-returns-in-Err-store_piece-clause-range g c =
-    up_range g.D.Disk c.args.self.now c.args.files.now c.requires c.begin.new.self c.store_piece.new.self c.in-Ok.draft c.store_piece.new.draft c.args.disk.now c.store_piece.new.disk
-    c.in-Ok.ensures.takes c.in-Ok.ensures.used c.in-Ok.ensures.range c.store_piece.ensures.blocks c.store_piece.ensures.store c.store_piece.ensures.only
-    c.args.self.now c.abandon.new.self refl c.abandon.ensures.freed c.abandon.ensures.range
+    (length c.args.bytes.now) _ (
+      count_for (length c.args.bytes.now),
+      piece_spent g.D.Disk (filled_of c.in-Ok.draft) (length c.args.bytes.now) c.args.disk.now c.store_piece.new.disk _ _ c.in-Ok.ensures.empty
+          (λ err. ap (λ (e : DraftFault). Err e) (c.from-in-Err-store_piece.ensures ∙ ap fault_of_files c.in-Err-store_piece.ensures.faults)) (λ is. refl) c.in-Err-store_piece.ensures.spends,
+    )
 
 pub keep-requires-clause-used : goal.keep-requires-clause-used
 keep-requires-clause-used g c =
@@ -117,28 +94,16 @@ returns-in-Ok-keep-clause-spends g c =
     piece_spent g.D.Disk (filled_of c.in-Ok.draft) (length c.args.bytes.now) c.args.disk.now c.store_piece.new.disk _ _ c.in-Ok.ensures.empty
     (λ err. absurd (let no = err in cc)) (λ is. absurd (cc)) c.in_default.ensures.spends
 
-pub returns-in-Ok-keep-clause-only : goal.returns-in-Ok-keep-clause-only
-returns-in-Ok-keep-clause-only g c =
-    only_taken g.D.Disk c.args.self.now c.args.files.now c.requires c.begin.new.self c.store_piece.new.self c.in-Ok.draft c.store_piece.new.draft c.args.disk.now c.store_piece.new.disk
-    c.in-Ok.ensures.takes c.in-Ok.ensures.used c.in-Ok.ensures.range c.store_piece.ensures.blocks c.store_piece.ensures.store c.store_piece.ensures.only
-
-pub returns-in-Ok-keep-clause-used : goal.returns-in-Ok-keep-clause-used
-returns-in-Ok-keep-clause-used g c =
-    kept_used g.D.Disk c.args.self.now c.args.files.now c.requires c.begin.new.self c.store_piece.new.self c.in-Ok.draft c.store_piece.new.draft c.args.disk.now c.store_piece.new.disk
+pub returns-in-Ok-keep-clause-works : goal.returns-in-Ok-keep-clause-works
+returns-in-Ok-keep-clause-works g c =
+    kept_works g.D.Disk c.args.self.now c.args.files.now c.requires c.begin.new.self c.store_piece.new.self c.in-Ok.draft c.store_piece.new.draft c.args.disk.now c.store_piece.new.disk
     c.in-Ok.ensures.takes c.in-Ok.ensures.used c.in-Ok.ensures.range c.store_piece.ensures.blocks c.store_piece.ensures.store c.store_piece.ensures.only
     c.keep.new.self c.keep.new.files c.in-Ok-keep.ensures.added c.in-Ok-keep.ensures.store
-
-pub returns-in-Ok-keep-clause-others : goal.returns-in-Ok-keep-clause-others
-returns-in-Ok-keep-clause-others g c =
-    kept_others g.D.Disk c.args.self.now c.args.files.now c.requires c.begin.new.self c.store_piece.new.self c.in-Ok.draft c.store_piece.new.draft c.args.disk.now c.store_piece.new.disk
-    c.in-Ok.ensures.takes c.in-Ok.ensures.used c.in-Ok.ensures.range c.store_piece.ensures.blocks c.store_piece.ensures.store c.store_piece.ensures.only
-    c.keep.new.self c.keep.new.files c.in-Ok-keep.ensures.added c.in-Ok-keep.ensures.store
-
-pub returns-in-Ok-keep-clause-range : goal.returns-in-Ok-keep-clause-range
-returns-in-Ok-keep-clause-range g c =
-    kept_range g.D.Disk c.args.self.now c.args.files.now c.requires c.begin.new.self c.store_piece.new.self c.in-Ok.draft c.store_piece.new.draft c.args.disk.now c.store_piece.new.disk
-    c.in-Ok.ensures.takes c.in-Ok.ensures.used c.in-Ok.ensures.range c.store_piece.ensures.blocks c.store_piece.ensures.store c.store_piece.ensures.only
-    c.keep.new.self c.keep.new.files c.in-Ok-keep.ensures.added c.in-Ok-keep.ensures.store
+    (length c.args.bytes.now) _ (
+      count_for (length c.args.bytes.now),
+      piece_spent g.D.Disk (filled_of c.in-Ok.draft) (length c.args.bytes.now) c.args.disk.now c.store_piece.new.disk _ _ c.in-Ok.ensures.empty
+          (λ err. absurd (let no = err in cc)) (λ is. absurd (cc)) c.in_default.ensures.spends,
+    )
 
 pub returns-in-Err-keep-clause-none : goal.returns-in-Err-keep-clause-none
 returns-in-Err-keep-clause-none g c =
@@ -157,25 +122,13 @@ returns-in-Err-keep-clause-spends g c =
     piece_spent g.D.Disk (filled_of c.in-Ok.draft) (length c.args.bytes.now) c.args.disk.now c.store_piece.new.disk _ _ c.in-Ok.ensures.empty
     (λ err. absurd (let no = err in cc)) (λ is. absurd (cc)) c.in_default.ensures.spends
 
-pub returns-in-Err-keep-clause-only : goal.returns-in-Err-keep-clause-only
-returns-in-Err-keep-clause-only g c =
-    only_taken g.D.Disk c.args.self.now c.args.files.now c.requires c.begin.new.self c.store_piece.new.self c.in-Ok.draft c.store_piece.new.draft c.args.disk.now c.store_piece.new.disk
-    c.in-Ok.ensures.takes c.in-Ok.ensures.used c.in-Ok.ensures.range c.store_piece.ensures.blocks c.store_piece.ensures.store c.store_piece.ensures.only
-
-pub returns-in-Err-keep-clause-used : goal.returns-in-Err-keep-clause-used
-returns-in-Err-keep-clause-used g c =
-    up_used g.D.Disk c.args.self.now c.args.files.now c.requires c.begin.new.self c.store_piece.new.self c.in-Ok.draft c.store_piece.new.draft c.args.disk.now c.store_piece.new.disk
+pub returns-in-Err-keep-clause-works : goal.returns-in-Err-keep-clause-works
+returns-in-Err-keep-clause-works g c =
+    up_works g.D.Disk c.args.self.now c.args.files.now c.requires c.begin.new.self c.store_piece.new.self c.in-Ok.draft c.store_piece.new.draft c.args.disk.now c.store_piece.new.disk
     c.in-Ok.ensures.takes c.in-Ok.ensures.used c.in-Ok.ensures.range c.store_piece.ensures.blocks c.store_piece.ensures.store c.store_piece.ensures.only
     c.keep.new.self c.keep.new.files c.in-Err-keep.ensures.none c.in-Err-keep.ensures.freed c.keep.ensures.range
-
-pub returns-in-Err-keep-clause-others : goal.returns-in-Err-keep-clause-others
-returns-in-Err-keep-clause-others g c =
-    up_others g.D.Disk c.args.self.now c.args.files.now c.requires c.begin.new.self c.store_piece.new.self c.in-Ok.draft c.store_piece.new.draft c.args.disk.now c.store_piece.new.disk
-    c.in-Ok.ensures.takes c.in-Ok.ensures.used c.in-Ok.ensures.range c.store_piece.ensures.blocks c.store_piece.ensures.store c.store_piece.ensures.only
-    c.keep.new.self c.keep.new.files c.in-Err-keep.ensures.none c.in-Err-keep.ensures.freed c.keep.ensures.range
-
-pub returns-in-Err-keep-clause-range : goal.returns-in-Err-keep-clause-range
-returns-in-Err-keep-clause-range g c =
-    up_range g.D.Disk c.args.self.now c.args.files.now c.requires c.begin.new.self c.store_piece.new.self c.in-Ok.draft c.store_piece.new.draft c.args.disk.now c.store_piece.new.disk
-    c.in-Ok.ensures.takes c.in-Ok.ensures.used c.in-Ok.ensures.range c.store_piece.ensures.blocks c.store_piece.ensures.store c.store_piece.ensures.only
-    c.keep.new.self c.keep.new.files c.in-Err-keep.ensures.none c.in-Err-keep.ensures.freed c.keep.ensures.range
+    (length c.args.bytes.now) _ (
+      count_for (length c.args.bytes.now),
+      piece_spent g.D.Disk (filled_of c.in-Ok.draft) (length c.args.bytes.now) c.args.disk.now c.store_piece.new.disk _ _ c.in-Ok.ensures.empty
+          (λ err. absurd (let no = err in cc)) (λ is. absurd (cc)) c.in_default.ensures.spends,
+    )
