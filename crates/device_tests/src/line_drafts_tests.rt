@@ -340,3 +340,154 @@ fn no_drafts_need_no_sync(rt: HostRuntime) -> Result<(), Fail> {
     assert!(rt; nothing_sealed(rt.alloc())? == (true, 0, 7));
     Ok(())
 }
+
+// Writes the content into a draft, and copies it from there into another one.
+fn write_twice(
+    alloc: Global,
+    disk: &mut MemDisk,
+    files: &mut FileStore,
+    drafts: &mut LineDrafts,
+    content: &[u8],
+) -> Result<(), DraftFault>
+    requires { AreUsed files.old (blocks_of_all drafts.old) }
+    ensures { AreUsed files.new (blocks_of_all drafts.new) }
+{
+    if let Err(fault) = drafts.write(alloc, disk, files, content) {
+        return Err(fault);
+    }
+    let Ok(blocks) = drafts.all_blocks(alloc) else {
+        return Err(DraftFault::Memory);
+    };
+    let count = blocks.as_slice().len();
+    if count != content.len().div_ceil(4096) {
+        return Ok(());
+    }
+    match drafts.copy(alloc, disk, files, &blocks, content.len() as u64) {
+        Ok(()) => Ok(()),
+        Err(fault) => Err(fault),
+    }
+}
+
+// A line that does so, and seals its drafts. It answers the blocks of each, with those of all
+// before the seal; or the fault, and how many blocks were free before it gave the drafts up.
+fn copied(
+    alloc: Global,
+    disk: &mut MemDisk,
+    files: &mut FileStore,
+    content: &[u8],
+) -> Result<(List<List<u32>>, List<u32>), (Said, u64)> {
+    let mut drafts = LineDrafts::new(alloc);
+    let made = write_twice(alloc, disk, files, &mut drafts, content);
+    let free = files.free();
+    if let Err(fault) = made {
+        drafts.abandon(files);
+        return Err((said_of(&fault), free));
+    }
+    let Ok(all) = drafts.all_blocks(alloc) else {
+        drafts.abandon(files);
+        return Err((Said::Memory, free));
+    };
+    match drafts.seal(disk, files) {
+        Ok(lists) => Ok((lists, all)),
+        Err(fault) => Err((said_of(&fault), free)),
+    }
+}
+
+// Whether the content was sealed in the blocks 0 and 2, and its copy in 3 and 4.
+fn both_copied(
+    alloc: Global,
+    files: &FileStore,
+    disk: &mut MemDisk,
+    lists: &List<List<u32>>,
+    all: &List<u32>,
+    content: &[u8],
+) -> Result<bool, FileFault> {
+    match lists.as_slice() {
+        [first, second] => {
+            let one = reads(alloc, files, disk, first, &[0, 2], content)?;
+            let other = reads(alloc, files, disk, second, &[3, 4], content)?;
+            Ok(one && other && all.as_slice() == [0, 2, 3, 4].as_slice())
+        }
+        _ => Ok(false),
+    }
+}
+
+// Such a line over a content of so many bytes and a disk whose call of that number fails.
+fn copy_with(alloc: Global, size: usize, failing: u64) -> Result<Came, FileFault> {
+    let mut files = store_of(alloc)?;
+    let mut disk = MemDisk::new(alloc, bytes(alloc, &[])?, numbers(alloc, &[failing])?);
+    let content = content_of(alloc, size)?;
+    let (said, read) = match copied(alloc, &mut disk, &mut files, &content) {
+        Ok((lists, all)) => (
+            None,
+            both_copied(alloc, &files, &mut disk, &lists, &all, &content)?,
+        ),
+        Err(said) => (Some(said), false),
+    };
+    Ok(Came {
+        said,
+        read,
+        free: files.free(),
+        calls: disk.calls(),
+        written: disk.written(),
+    })
+}
+
+// What comes of it. The content takes two writes, its copy two reads and a write. Four blocks and
+// as many again are more than seven.
+const COPIES: &[(usize, u64, Came)] = &[
+    (
+        5_000,
+        0,
+        Came {
+            said: None,
+            read: true,
+            free: 3,
+            calls: 4,
+            written: 10_000,
+        },
+    ),
+    (
+        5_000,
+        3,
+        Came {
+            said: Some((Said::Disk, 5)),
+            read: false,
+            free: 7,
+            calls: 2,
+            written: 5_000,
+        },
+    ),
+    (
+        5_000,
+        5,
+        Came {
+            said: Some((Said::Disk, 5)),
+            read: false,
+            free: 7,
+            calls: 3,
+            written: 10_000,
+        },
+    ),
+    (
+        16_000,
+        0,
+        Came {
+            said: Some((Said::Full(4, 3), 3)),
+            read: false,
+            free: 7,
+            calls: 2,
+            written: 16_000,
+        },
+    ),
+];
+
+#[test]
+fn a_content_is_copied(rt: HostRuntime) -> Result<(), Fail> {
+    let alloc = rt.alloc();
+    for (size, failing, want) in COPIES.iter() {
+        let came = copy_with(alloc, *size, *failing)?;
+        assert!(rt; came == *want, "{size} bytes, the call {failing} fails");
+    }
+    Ok(())
+}
