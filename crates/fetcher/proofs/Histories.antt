@@ -8,7 +8,7 @@ use Rattle.links.specs.declared.history.LinkCall.TheVariants.{Asked, Gave, Broke
 use Rattle.links.specs.declared.link.LinkFault.{LinkFault}
 use Rattle.links.specs.Asked.{AskedOnce, Calls, GaveSome, StopAtEnd, bytes_given, targets_in}
 use Rattle.links.specs.Link.{LinkState}
-use Rattle.fetcher.specs.Once.{HasServed, IsAsked, Took, TookAtMost, TookPiece}
+use Rattle.fetcher.specs.Once.{EndsEmpty, HasServed, IsAsked, Took, TookAtMost, TookPiece}
 
 -- ---- lists of calls
 
@@ -43,6 +43,17 @@ pub gave_next : (call : LinkCall) → GaveSome call → (calls : List LinkCall) 
     → AllGave (calls ++ call ∷ [])
 gave_next call some [] all = (some, tt)
 gave_next call some (one ∷ calls) all = (all.0, gave_next call some calls all.1)
+
+-- with one more that gave nothing they end there
+abbrev pub StopAtEmpty : List LinkCall → Type 0
+StopAtEmpty calls = StopAtEnd calls × EndsEmpty calls
+
+pub empty_next : (n : ℕ) (buf : List ℕ) → n ≡ 0 → (calls : List LinkCall) → AllGave calls
+    → StopAtEmpty (calls ++ Gave (take n buf) ∷ [])
+empty_next n buf none calls all = (
+  ends_next (Gave (take n buf)) calls all,
+  record { earlier = calls; is = ap (λ (k : ℕ). calls ++ Gave (take k buf) ∷ []) none },
+)
 
 pub gave_some : (bytes : List ℕ) → 0 < length bytes → GaveSome (Gave bytes)
 gave_some [] some = absurd (omega arith)
@@ -157,7 +168,7 @@ asked_alone Serves most target a b answer calls = record {
 }
 
 -- the pieces stand behind what it was asked
-behind_ask : (target : Target) (answer : Result ℕ LinkFault) (a b c : LinkState) (pieces : List LinkCall)
+pub behind_ask : (target : Target) (answer : Result ℕ LinkFault) (a b c : LinkState) (pieces : List LinkCall)
     → Calls a b (Asked target answer ∷ []) → targets_in pieces ≡ [] → Calls b c pieces
     → AskedOnce target a c answer pieces
 behind_ask target answer a b c pieces asks only calls = record {
@@ -194,7 +205,7 @@ served_pieces Serves n target a b c bytes asks serves took = record {
 -- ---- by what it was before and after
 
 module _ (a b c d : LinkState) (before : b.history ≡ a.history) (after : d.history ≡ c.history) where
-  once_along : (target : Target) (answer : Result ℕ LinkFault) (pieces : List LinkCall)
+  pub once_along : (target : Target) (answer : Result ℕ LinkFault) (pieces : List LinkCall)
       → AskedOnce target b c answer pieces → AskedOnce target a d answer pieces
   once_along target answer pieces once = record {
     only = once.only;

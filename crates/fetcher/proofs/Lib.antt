@@ -9,3 +9,4 @@ pub mod Moving
 pub mod Pouring
 pub mod Reasons
 pub mod Sequence
+pub mod Shown

@@ -1,17 +1,17 @@
 -- Bytes of a link that are checked and taken piece by piece.
-use Rattle.std.proofs.Common.{◌≡◌, ℕ, ◌+◌, ◌≤◌, List, [], ◌∷◌, ◌++◌, length, take, refl, sym, ap, subst, ◌∙◌, append_assoc, arith}
+use Rattle.std.proofs.Common.{◌≡◌, ℕ, ◌+◌, ◌≤◌, List, [], ◌∷◌, ◌++◌, length, take, inl, inr, refl, sym, ap, subst, ◌∙◌, append_assoc, arith}
 use Rattle.std.proofs.lemmas.List.{append-nil, length-append, length-take, take_all, take_at}
 use Rattle.digest_list.specs.declared.checker.Checker.{Checker}
 use Rattle.digest_list.specs.declared.digest.Digest.{Digest}
 use Rattle.digest_list.specs.Checker.{IsFed}
 use Rattle.links.specs.declared.history.LinkCall.{LinkCall}
 use Rattle.links.specs.declared.history.LinkCall.TheVariants.{Gave}
-use Rattle.links.specs.Asked.{Calls, StopAtEnd}
+use Rattle.links.specs.Asked.{Calls}
 use Rattle.links.specs.Link.{LinkState, KeepsSite}
 use Rattle.outside.specs.Streams.{Consumes}
 use Rattle.fetcher.specs.Once.{Took}
 use Rattle.fetcher.specs.Stopped.{Pours, PoursPiece}
-use Rattle.fetcher.proofs.Histories.{AllGave, took_all, took_gave, took_none}
+use Rattle.fetcher.proofs.Histories.{AllGave, StopAtEmpty, gave_ends, took_gave, took_none}
 
 -- so many bytes of a link were checked and taken, by calls as it says
 pub record Poured (Ends : List LinkCall → Type 0) (done : ℕ) (first now : LinkState) (old new : Checker) (tells : Type 0) (before after : List ℕ) : Type 0 where
@@ -57,12 +57,19 @@ poured_all done size first now old new tells before after so all = record {
   fed = so.fed;
   taken = so.taken;
   told = λ t. sym (ap (take size) (so.told t) ∙ take_at so.bytes now.rest size (so.counted ∙ all));
-  took = took_all first now so.bytes so.took;
+  took = record {
+    pieces = so.took.pieces;
+    only = so.took.only;
+    calls = so.took.calls;
+    ends = gave_ends so.took.pieces so.took.ends;
+    given = so.took.given;
+  };
+  all = inl (ap length so.took.given ∙ so.counted ∙ all);
 }
 
 -- all that there are
 pub poured_end : (done size : ℕ) (first now : LinkState) (old new : Checker) (tells : Type 0) (before after : List ℕ)
-    → Poured StopAtEnd done first now old new tells before after → done ≤ size → (first.tells → now.rest ≡ []) → Pours size first now old new tells before after
+    → Poured StopAtEmpty done first now old new tells before after → done ≤ size → (first.tells → now.rest ≡ []) → Pours size first now old new tells before after
 poured_end done size first now old new tells before after so within none = record {
   bytes = so.bytes;
   fed = so.fed;
@@ -70,7 +77,14 @@ poured_end done size first now old new tells before after so within none = recor
   told = λ t.
       let all : first.rest ≡ so.bytes = so.told t ∙ ap (λ (l : List ℕ). so.bytes ++ l) (none t) ∙ append-nil so.bytes in
       sym (ap (take size) all ∙ take_all size so.bytes (omega (arith, so.counted, within)));
-  took = so.took;
+  took = record {
+    pieces = so.took.pieces;
+    only = so.took.only;
+    calls = so.took.calls;
+    ends = so.took.ends.0;
+    given = so.took.given;
+  };
+  all = inr so.took.ends.1;
 }
 
 -- where no byte came, none is left

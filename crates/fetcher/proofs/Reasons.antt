@@ -91,7 +91,7 @@ long_fits limit shown (Some bytes) above is =
     λ within. omega arith
 
 -- bytes that differ do not match
-differ_no_match : (list : List Digest) (size : ℕ) (bytes : List ℕ) (d : Difference)
+pub differ_no_match : (list : List Digest) (size : ℕ) (bytes : List ℕ) (d : Difference)
     → difference_of list size bytes ≡ Some d → ¬ (Matches list size bytes)
 differ_no_match list size bytes d differ matches =
     let none : difference_of list size bytes ≡ None =

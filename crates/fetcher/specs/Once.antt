@@ -1,14 +1,22 @@
 -- What each link is asked by a fetch, over every link, also over one that tells nothing.
-use Rattle.std.specs.Prelude.{◌≡◌, ◌+◌, ◌<◌, ◌≤◌, ℕ, List, [], ◌∷◌, length, Result, Ok, IfOk, OnErr, MatchResult}
+use Rattle.std.specs.Prelude.{◌≡◌, ◌≢◌, ◌⊎◌, ◌+◌, ◌<◌, ◌≤◌, ℕ, List, [], ◌∷◌, ◌++◌, length, Some, Result, Ok, IfOk, OnErr, MatchResult}
 use Rattle.small_types.specs.declared.target.Target.{Target}
+use Rattle.digest_list.specs.declared.difference.Difference.{Difference}
+use Rattle.digest_list.specs.declared.difference.Difference.TheVariants.{Size}
 use Rattle.digest_list.specs.declared.digest.Digest.{Digest}
+use Rattle.digest_list.specs.Difference.{difference_of}
+use Rattle.digest_list.specs.Matches.{Matches}
 use Rattle.links.specs.declared.history.LinkCall.{LinkCall}
+use Rattle.links.specs.declared.history.LinkCall.TheVariants.{Gave}
 use Rattle.links.specs.declared.link.LinkFault.{LinkFault}
 use Rattle.links.specs.Asked.{AskedOnce, Calls, StopAtEnd, bytes_given, targets_in}
 use Rattle.links.specs.Link.{LinkState}
-use Rattle.links.specs.Links.{LinksState, link_at, sources_of}
+use Rattle.links.specs.Links.{IsLeft, LinksState, link_at, sources_of}
+use Rattle.causes.specs.declared.cause.Cause.{Cause}
+use Rattle.causes.specs.declared.cause.Cause.TheVariants.{TooLong, Differs}
 use Rattle.fetcher.specs.declared.fault.FetchFault.{FetchFault}
 use Rattle.fetcher.specs.declared.fault.FetchFault.TheVariants.{AllLinks, BasketFault, Memory}
+use Rattle.fetcher.specs.Causes.{AreCauses}
 use Rattle.fetcher.specs.Fetched.{IsFile, IsText, became}
 
 -- ---- one link
@@ -86,6 +94,66 @@ abbrev pub AskedForFile : List Digest → ℕ → Target → LinksState → Link
 AskedForFile list size target old new tells held result =
     MatchResult result (λ _. AskedUpToFile list size target old new tells held)
     (AskedInVain (λ n. n ≡ size) size target old new)
+
+-- ---- what a link showed of itself
+
+-- the last of the pieces gave nothing, so the body was at its end
+pub record EndsEmpty (pieces : List LinkCall) : Type 0 where
+  pub earlier : List LinkCall
+  pub is : pieces ≡ earlier ++ Gave [] ∷ []
+
+-- all was taken that was wanted: so many bytes, or as many as there were
+abbrev pub AreAll : ℕ → List LinkCall → Type 0
+AreAll size pieces = (length (bytes_given pieces) ≡ size) ⊎ EndsEmpty pieces
+
+-- It was asked for the target once, and did not fail. It answered another length than the listed
+-- one, and the difference says so, or the listed one, and then gave bytes that differ so.
+pub record ShowsOther (list : List Digest) (size : ℕ) (target : Target) (old new : LinkState)
+    (difference : Difference) : Type 0 where
+  pub answered : ℕ
+  pub pieces : List LinkCall
+  pub once : AskedOnce target old new (Ok answered) pieces
+  pub sound : new.count ≡ old.count
+  pub differs : ((answered ≢ size) × (difference ≡ Size size answered))
+      ⊎ ((answered ≡ size) × AreAll size pieces
+      × (difference_of list size (bytes_given pieces) ≡ Some difference))
+
+-- it was asked for the target once, did not fail, and answered this length, and no piece was taken
+pub record ShowsLong (target : Target) (old new : LinkState) (shown : ℕ) : Type 0 where
+  pub once : AskedOnce target old new (Ok shown) []
+  pub sound : new.count ≡ old.count
+
+-- what a cause says that names a difference, or a length; the count of the link tells the others
+abbrev pub ShowsFileCause : List Digest → ℕ → Target → LinkState → LinkState → Cause → Type 0
+ShowsFileCause list size target old new (Differs difference) =
+    ShowsOther list size target old new difference
+ShowsFileCause list size target old new _ = Unit {0}
+
+abbrev pub ShowsTextCause : Target → LinkState → LinkState → Cause → Type 0
+ShowsTextCause target old new (TooLong shown most) = ShowsLong target old new shown
+ShowsTextCause target old new _ = Unit {0}
+
+-- each cause that is told is what its link showed
+abbrev pub CausesAreShown : (LinkState → LinkState → Cause → Type 0) → LinksState → LinksState
+    → FetchFault → Type 0
+CausesAreShown Shows old new (AllLinks shown causes) = AreCauses Shows old new causes
+CausesAreShown Shows old new _ = Unit {0}
+
+-- It was asked for the target once, did not fail, and answered another length than the listed one,
+-- or gave bytes that do not match.
+pub record ShowsLie (list : List Digest) (size : ℕ) (target : Target) (old new : LinkState)
+    : Type 0 where
+  pub answered : ℕ
+  pub pieces : List LinkCall
+  pub once : AskedOnce target old new (Ok answered) pieces
+  pub sound : new.count ≡ old.count
+  pub other : (answered ≢ size)
+      ⊎ (AreAll size pieces × ¬ (Matches list size (bytes_given pieces)))
+
+-- each link that went did so
+abbrev pub OnlyShownLiarsWent : List Digest → ℕ → Target → LinksState → LinksState → Type 0
+OnlyShownLiarsWent list size target old new = (n : ℕ) → IsLeft old n → ¬ (IsLeft new n)
+    → ShowsLie list size target (old.link n) (new.link n)
 
 -- ---- pieces
 

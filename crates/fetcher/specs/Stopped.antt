@@ -21,7 +21,7 @@ use Rattle.fetcher.specs.declared.stopped.Stopped.{Stopped}
 use Rattle.fetcher.specs.declared.stopped.Stopped.TheVariants.{By, Basket, Memory}
 use Rattle.fetcher.specs.Causes.{IsTextCause, IsFileCause}
 use Rattle.fetcher.specs.Fetched.{without_liars}
-use Rattle.fetcher.specs.Once.{HasServed, Took}
+use Rattle.fetcher.specs.Once.{AreAll, HasServed, Took}
 
 -- nothing changed but the link at the place, whose site stays and whose count did not fall
 pub record Moves (place : ℕ) (old new : LinksState) : Type 0 where
@@ -83,6 +83,13 @@ IsFileStop list size target old new before after (By cause) =
 IsFileStop list size target old new before after Basket = Rose before after
 IsFileStop list size target old new before after Memory = Unit {0}
 
+-- a cause to stop is what the link showed
+abbrev pub ShowsStop : (LinkState → LinkState → Cause → Type 0) → LinkState → LinkState → Stopped
+    → Type 0
+ShowsStop Shows old new (By cause) = Shows old new cause
+ShowsStop Shows old new Basket = Unit {0}
+ShowsStop Shows old new Memory = Unit {0}
+
 -- how a fault of a link stops a fetch
 abbrev pub stop_of : LinkFault → Stopped
 stop_of IsMissing = By Missing
@@ -133,6 +140,7 @@ pub record Pours (most : ℕ) (link now : LinkState) (old new : Checker) (tells 
   pub taken : tells → after ≡ before ++ bytes
   pub told : link.tells → bytes ≡ take most link.rest
   pub took : Took StopAtEnd link now bytes
+  pub all : AreAll most took.pieces
 
 -- these bytes were checked and taken
 pub record PoursPiece (old new : Checker) (tells : Type 0) (before after bytes : List ℕ)

@@ -8,8 +8,8 @@ ghost use Rattle.outside.specs.Streams.{Consumes};
 ghost use Rattle.small_types.specs.declared.limits.TheConstants.{LINK_LIMIT};
 ghost use Rattle.fetcher.specs.Fetched.{IsFile, IsFileFault, IsThis, KeptBut};
 ghost use Rattle.links.specs.declared.history.LinkCall.TheVariants.{Gave};
-ghost use Rattle.fetcher.specs.Once.{AskedForFile, IsAsked, TookAtMost, TookPiece};
-ghost use Rattle.fetcher.specs.Stopped.{DropsLiar, DropsLiars, IsFileOf, IsFileStop, IsPourStop, KeepsBasket, Moves, Pours, PoursPiece, next_place};
+ghost use Rattle.fetcher.specs.Once.{AskedForFile, CausesAreShown, IsAsked, OnlyShownLiarsWent, ShowsFileCause, TookAtMost, TookPiece};
+ghost use Rattle.fetcher.specs.Stopped.{DropsLiar, DropsLiars, IsFileOf, IsFileStop, IsPourStop, KeepsBasket, Moves, Pours, PoursPiece, ShowsStop, next_place};
 ghost use Rattle.fetcher.specs.declared.fault.FetchFault.TheVariants.{BasketFault};
 
 use crate::FetchFault;
@@ -128,6 +128,8 @@ fn file_of<L: Links, B: Basket>(
         (B.count basket.old) (B.count basket.new)) }
     ensures once { IsAsked (λ n. n ≡ size) size target.now
         (link_at (L.links links.old) place) (link_at (L.links links.new) place) }
+    ensures shown { IfErr result (ShowsStop (ShowsFileCause list.now size target.now)
+        (link_at (L.links links.old) place) (link_at (L.links links.new) place)) }
     ensures moves { Moves place (L.links links.old) (L.links links.new) }
     ensures basket { KeepsBasket (B.count basket.old) (B.count basket.new) result }
     ensures turned { Turns B.turns_to size basket.old basket.new }
@@ -212,7 +214,11 @@ pub fn fetch_file<L: Links, B: Basket>(
         (B.count basket.old) (B.count basket.new)) }
     ensures once { AskedForFile list.now size target.now (L.links links.old) (L.links links.new)
         B.tells (B.taken basket.new) result }
+    ensures shown { IfErr result (CausesAreShown (ShowsFileCause list.now size target.now)
+        (L.links links.old) (L.links links.new)) }
     ensures kept { KeptBut (IsThis target.now list.now size)
+        (L.links links.old) (L.links links.new) }
+    ensures gone { OnlyShownLiarsWent list.now size target.now
         (L.links links.old) (L.links links.new) }
     ensures remain { IfErr result (λ _. Remain (L.links links.old) (L.links links.new)) }
     ensures later { B.count basket.old ≤ B.count basket.new }

@@ -5,8 +5,8 @@ ghost use Rattle.links.specs.Asked.{StopAtEnd};
 ghost use Rattle.links.specs.Link.{Counts};
 ghost use Rattle.links.specs.Links.{IsLast, link_at, sources_of};
 ghost use Rattle.fetcher.specs.Fetched.{IsText, IsTextFault, KeptAll};
-ghost use Rattle.fetcher.specs.Once.{AskedForText, HasServed, IsAsked, Took, TookAtMost};
-ghost use Rattle.fetcher.specs.Stopped.{IsTextOf, IsTextStop, Moves};
+ghost use Rattle.fetcher.specs.Once.{AskedForText, CausesAreShown, HasServed, IsAsked, ShowsTextCause, Took, TookAtMost};
+ghost use Rattle.fetcher.specs.Stopped.{IsTextOf, IsTextStop, Moves, ShowsStop};
 
 use crate::FetchFault;
 use crate::stopped::{PIECE, Stopped, add_cause, all_links, stopped_by};
@@ -67,6 +67,8 @@ fn text_of<L: Links>(
         (link_at (L.links links.old) place) (link_at (L.links links.new) place)) }
     ensures once { IsAsked (λ n. n ≤ limit) limit target.now
         (link_at (L.links links.old) place) (link_at (L.links links.new) place) }
+    ensures shown { IfErr result (ShowsStop (ShowsTextCause target.now)
+        (link_at (L.links links.old) place) (link_at (L.links links.new) place)) }
     ensures served { IfOk result (HasServed (λ n. n ≤ limit) target.now
         (link_at (L.links links.old) place) (link_at (L.links links.new) place)) }
     ensures moves { Moves place (L.links links.old) (L.links links.new) }
@@ -97,6 +99,8 @@ pub fn fetch_text<L: Links>(
     ensures fault { IfErr result
         (IsTextFault limit target.now (L.links links.old) (L.links links.new)) }
     ensures once { AskedForText limit target.now (L.links links.old) (L.links links.new) result }
+    ensures shown { IfErr result (CausesAreShown (ShowsTextCause target.now)
+        (L.links links.old) (L.links links.new)) }
     ensures kept { KeptAll (L.links links.old) (L.links links.new) }
 {
     links.want(alloc, target)?;

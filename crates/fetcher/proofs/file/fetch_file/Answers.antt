@@ -10,6 +10,8 @@ use Rattle.fetcher.proofs.Handing.{handed_all, handed_last, handed_next, handed_
 use Rattle.fetcher.proofs.InOrder.{Refused, all_stay, refused_none}
 use Rattle.fetcher.proofs.InTurn.{first_next, first_none, up_to, vain_all, vain_stop}
 use Rattle.fetcher.proofs.Liars.{but_all}
+use Rattle.fetcher.specs.Once.{ShowsFileCause}
+use Rattle.fetcher.proofs.Shown.{file_kind, none_shown, shown_all, shown_more, shown_stop, shown_went}
 use Rattle.fetcher.proofs.file.fetch_file.Goals as goal
 
 pub returns-in-Ok-clause-file : goal.returns-in-Ok-clause-file
@@ -55,6 +57,10 @@ loop-place-preserved g c =
           c.in-Err.ensures.moves less c.args.list.now c.args.size before after
           c.loop-place.invariant.refused c.in-Err.stop c.add_cause.new.causes.items
           c.in-Err.ensures.stop added;
+      shown = shown_more (ShowsFileCause c.args.list.now c.args.size c.args.target.now) c.args.target.now
+          (file_kind c.args.list.now c.args.size c.args.target.now) c.loop-place.place a b left c.loop-place.causes.items
+          c.loop-place.invariant.shown c.in-Err.ensures.moves less c.in-Err.stop c.add_cause.new.causes.items
+          c.in-Err.ensures.shown added;
       once = first_next (λ (n : ℕ). n ≡ c.args.size) c.args.size c.args.target.now c.loop-place.place a b left
           c.loop-place.invariant.refused.remain c.loop-place.invariant.once c.in-Err.ensures.moves less c.in-Err.ensures.once;
       basket = count_stays before after c.in-Err.stop c.file_of.result c.loop-place.causes.items
@@ -89,6 +95,10 @@ loop-place-init g c =
       refused = subst (Refused (IsFileCause c.args.list.now c.args.size c.args.target.now) c.args.target.now 0 a b)
           (sym c.new-causes.ensures.items)
           (refused_none (IsFileCause c.args.list.now c.args.size c.args.target.now) c.args.target.now a b
+          (record { asked = c.in_ok-want.ensures.ok; remain = c.in_ok-want.ensures.remain; links = c.in_ok-want.ensures.links }));
+      shown = subst (Refused (ShowsFileCause c.args.list.now c.args.size c.args.target.now) c.args.target.now 0 a b)
+          (sym c.new-causes.ensures.items)
+          (refused_none (ShowsFileCause c.args.list.now c.args.size c.args.target.now) c.args.target.now a b
           (record { asked = c.in_ok-want.ensures.ok; remain = c.in_ok-want.ensures.remain; links = c.in_ok-want.ensures.links }));
       once = first_none (λ (n : ℕ). n ≡ c.args.size) c.args.size c.args.target.now a b c.in_ok-want.ensures.links;
       basket = refl;
@@ -201,3 +211,53 @@ returns-clause-once g c =
     let all : c.loop-place.place ≡ sources_of a = omega (arith, count, c.in_ok-want.ensures.remain.sources) in
     vain_all (λ (n : ℕ). n ≡ c.args.size) c.args.size c.args.target.now a left c.loop-place.place all
     c.loop-place.invariant.once c.loop-place.causes.items c.all_links.result c.all_links.ensures
+
+pub returns-in_err-want-clause-gone : goal.returns-in_err-want-clause-gone
+returns-in_err-want-clause-gone g c =
+    none_shown c.args.list.now c.args.size c.args.target.now (g.L.Links.links c.args.links.now)
+    (g.L.Links.links c.want.new.self) c.in_err-want.ensures.remain.there
+
+pub returns-in-Ok-clause-gone : goal.returns-in-Ok-clause-gone
+returns-in-Ok-clause-gone g c =
+    let a : LinksState = g.L.Links.links c.args.links.now in
+    let b : LinksState = g.L.Links.links c.loop-place.links in
+    let left : LinksState = g.L.Links.links c.file_of.new.links in
+    let d : LinksState = g.L.Links.links c.retire_liars.new.links in
+    let count = c.sources-place-end.ensures.count in
+    let less : c.loop-place.place < sources_of a = omega (arith, count, c.in_ok-want.ensures.remain.sources) in
+    let of = c.in-Ok.ensures.file in
+    shown_went c.args.list.now c.args.size c.args.target.now c.loop-place.place a b left c.loop-place.causes.items
+    c.loop-place.invariant.shown c.in-Ok.ensures.moves less of.bytes of.told of.sound d
+    (subst (λ (cs : List Cause). DropsLiars cs left d) c.deref.ensures.value c.retire_liars.ensures)
+
+pub returns-in-Err-add_cause-clause-gone : goal.returns-in-Err-add_cause-clause-gone
+returns-in-Err-add_cause-clause-gone g c =
+    none_shown c.args.list.now c.args.size c.args.target.now (g.L.Links.links c.args.links.now)
+    (g.L.Links.links c.file_of.new.links)
+    (c.in-Err.ensures.moves.only.remain.there ∙ c.loop-place.invariant.refused.remain.there)
+
+pub returns-clause-gone : goal.returns-clause-gone
+returns-clause-gone g c =
+    none_shown c.args.list.now c.args.size c.args.target.now (g.L.Links.links c.args.links.now)
+    (g.L.Links.links c.loop-place.links) c.loop-place.invariant.refused.remain.there
+
+pub returns-in_err-want-clause-shown : goal.returns-in_err-want-clause-shown
+returns-in_err-want-clause-shown g c =
+    let p = err_from_is_err_and c.from_residual.result c.from_residual.ensures.1 in
+    rw (p.1, p.2) tt
+
+pub returns-in-Err-add_cause-clause-shown : goal.returns-in-Err-add_cause-clause-shown
+returns-in-Err-add_cause-clause-shown g c =
+    shown_stop (ShowsFileCause c.args.list.now c.args.size c.args.target.now) c.args.target.now
+    (file_kind c.args.list.now c.args.size c.args.target.now) (g.L.Links.links c.args.links.now)
+    (g.L.Links.links c.file_of.new.links) c.in-Err.stop c.in-Err-add_cause.fault c.in-Err-add_cause.ensures.ends
+
+pub returns-clause-shown : goal.returns-clause-shown
+returns-clause-shown g c =
+    let a : LinksState = g.L.Links.links c.args.links.now in
+    let left : LinksState = g.L.Links.links c.loop-place.links in
+    let count = c.sources-place-end.ensures.count in
+    let all : c.loop-place.place ≡ sources_of a = omega (arith, count, c.in_ok-want.ensures.remain.sources) in
+    shown_all (ShowsFileCause c.args.list.now c.args.size c.args.target.now) c.args.target.now
+    (file_kind c.args.list.now c.args.size c.args.target.now) c.loop-place.place a left c.loop-place.causes.items all
+    c.loop-place.invariant.shown c.all_links.result c.all_links.ensures

@@ -4,6 +4,7 @@ use Rattle.links.specs.Links.{link_at}
 use Rattle.fetcher.proofs.Checked.{file_given, other_given, size_differs}
 use Rattle.fetcher.proofs.Handing.{handed_behind, handed_none}
 use Rattle.fetcher.proofs.Histories.{asked_alone, asked_pieces}
+use Rattle.fetcher.proofs.Shown.{file_fault, shown_bytes, shown_pour, shown_size}
 use Rattle.fetcher.proofs.file.file_of.Goals as goal
 
 pub returns-then-length-size-clause-stop : goal.returns-then-length-size-clause-stop
@@ -92,3 +93,33 @@ returns-in-Some-clause-once g c =
     asked_pieces (λ (k : ℕ). k ≡ c.args.size) c.args.size c.in-Ok.length c.args.target.now
     (link_at (g.L.Links.links c.args.links.now) c.args.place) (link_at (g.L.Links.links c.ask.new.self) c.args.place)
     (link_at (g.L.Links.links c.pour.new.links) c.args.place) c.in-Ok.ensures.noted (omega arith) c.in_default.ensures.took
+
+pub returns-in-Err-clause-shown : goal.returns-in-Err-clause-shown
+returns-in-Err-clause-shown g c =
+    file_fault c.args.list.now c.args.size c.args.target.now
+    (link_at (g.L.Links.links c.args.links.now) c.args.place) (link_at (g.L.Links.links c.ask.new.self) c.args.place)
+    c.in-Err.fault c.stopped_by.result c.stopped_by.ensures
+
+pub returns-then-length-size-clause-shown : goal.returns-then-length-size-clause-shown
+returns-then-length-size-clause-shown g c =
+    shown_size c.args.list.now c.args.size c.in-Ok.length c.args.target.now
+    (link_at (g.L.Links.links c.args.links.now) c.args.place) (link_at (g.L.Links.links c.ask.new.self) c.args.place)
+    c.in-Ok.ensures.noted c.if-length-size.true c.in-Ok.ensures.asks.counts.quiet
+
+pub returns-in-Err-pour-clause-shown : goal.returns-in-Err-pour-clause-shown
+returns-in-Err-pour-clause-shown g c =
+    shown_pour c.args.list.now c.args.size _ _ c.args.target.now
+    (link_at (g.L.Links.links c.args.links.now) c.args.place) (link_at (g.L.Links.links c.ask.new.self) c.args.place)
+    (link_at (g.L.Links.links c.pour.new.links) c.args.place) c.in-Err-pour.stop c.in-Err-pour.ensures.stop
+
+pub returns-in-Some-clause-shown : goal.returns-in-Some-clause-shown
+returns-in-Some-clause-shown g c =
+    let first : LinkState = link_at (g.L.Links.links c.args.links.now) c.args.place in
+    let asked : LinkState = link_at (g.L.Links.links c.ask.new.self) c.args.place in
+    let left : LinkState = link_at (g.L.Links.links c.pour.new.links) c.args.place in
+    let same : c.in-Ok.length ≡ c.args.size = omega arith in
+    shown_bytes c.args.list.now c.args.size c.in-Ok.length c.args.target.now first asked left c.in-Ok-new.checker c.pour.new.checker
+    g.B.Basket.tells (g.B.Basket.taken c.restart.new.self) (g.B.Basket.taken c.pour.new.basket) c.in-Some.difference
+    c.in-Ok.ensures.noted same c.in_default.ensures.poured c.in-Ok-new.ensures.fresh
+    (λ bytes fed. c.in-Some.ensures.exact c.args.list.now c.args.size bytes fed)
+    (c.in_default.ensures.quiet ∙ c.in-Ok.ensures.asks.counts.quiet)

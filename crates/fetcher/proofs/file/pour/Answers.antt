@@ -6,7 +6,7 @@ use Rattle.links.specs.Asked.{StopAtEnd}
 use Rattle.links.specs.Link.{LinkState}
 use Rattle.links.specs.Links.{link_at}
 use Rattle.fetcher.proofs.Handing.{handed_rest, handed_then}
-use Rattle.fetcher.proofs.Histories.{AllGave, ends_next, gave_next, gave_some, most_next, most_took, took_all, took_gave}
+use Rattle.fetcher.proofs.Histories.{AllGave, StopAtEmpty, empty_next, ends_next, gave_next, gave_some, most_next, most_took, took_all, took_gave}
 use Rattle.fetcher.proofs.Moving.{moves_then}
 use Rattle.fetcher.proofs.Pouring.{nothing_left, poured_all, poured_end, poured_more}
 use Rattle.fetcher.proofs.file.pour.Goals as goal
@@ -19,9 +19,9 @@ returns-then-n-eq0-clause-poured g c =
     let next : LinkState = link_at (g.L.Links.links c.pour_piece.new.links) c.args.place in
     let T = g.B.Basket.taken in
     let fits : c.in-Ok.n ≤ length c.pour_piece.new.buf = omega (arith, c.if-n-eq0.true) in
-    let more = poured_more StopAtEnd c.loop-done.done c.in-Ok.n first now next c.args.checker.now c.loop-done.checker c.pour_piece.new.checker
+    let more = poured_more StopAtEmpty c.loop-done.done c.in-Ok.n first now next c.args.checker.now c.loop-done.checker c.pour_piece.new.checker
     g.B.Basket.tells (T c.args.basket.now) (T c.loop-done.basket) (T c.pour_piece.new.basket) c.pour_piece.new.buf
-    so.poured c.in-Ok.ensures.poured fits so.moves.site c.in-Ok.ensures.told c.in-Ok.ensures.noted (ends_next (Gave (take c.in-Ok.n c.pour_piece.new.buf))) in
+    so.poured c.in-Ok.ensures.poured fits so.moves.site c.in-Ok.ensures.told c.in-Ok.ensures.noted (empty_next c.in-Ok.n c.pour_piece.new.buf c.if-n-eq0.true) in
     poured_end (c.loop-done.done + c.in-Ok.n) c.args.size first next c.args.checker.now c.pour_piece.new.checker
     g.B.Basket.tells (T c.args.basket.now) (T c.pour_piece.new.basket) more (omega (arith, c.if-n-eq0.true, so.within))
     (λ t. nothing_left c.in-Ok.n now.rest next.rest c.pour_piece.new.buf c.if-n-eq0.true (c.in-Ok.ensures.told (so.moves.site.tells.0 t)))

@@ -6,6 +6,8 @@ use Rattle.fetcher.proofs.Ending.{text_more, text_once, text_refused, text_serve
 use Rattle.fetcher.proofs.InOrder.{Refused, refused_none}
 use Rattle.fetcher.proofs.InTurn.{first_next, first_none, up_to, vain_all, vain_stop}
 use Rattle.fetcher.proofs.Moving.{stays_same}
+use Rattle.fetcher.specs.Once.{ShowsTextCause}
+use Rattle.fetcher.proofs.Shown.{shown_all, shown_more, shown_stop, text_kind}
 use Rattle.fetcher.proofs.text.fetch_text.Goals as goal
 
 pub returns-in-Ok-clause-text : goal.returns-in-Ok-clause-text
@@ -30,6 +32,9 @@ loop-place-preserved g c =
       refused = text_more c.loop-place.place a b left c.loop-place.causes.items c.args.target.now
           c.in-Err.ensures.moves less c.args.limit c.loop-place.invariant.refused c.in-Err.stop
           c.add_cause.new.causes.items c.in-Err.ensures.stop c.in_default.ensures.added;
+      shown = shown_more (ShowsTextCause c.args.target.now) c.args.target.now (text_kind c.args.target.now)
+          c.loop-place.place a b left c.loop-place.causes.items c.loop-place.invariant.shown c.in-Err.ensures.moves less
+          c.in-Err.stop c.add_cause.new.causes.items c.in-Err.ensures.shown c.in_default.ensures.added;
       once = first_next (λ (n : ℕ). n ≤ c.args.limit) c.args.limit c.args.target.now c.loop-place.place a b left
           c.loop-place.invariant.refused.remain c.loop-place.invariant.once c.in-Err.ensures.moves less c.in-Err.ensures.once;
     }
@@ -51,6 +56,10 @@ loop-place-init g c =
       refused = subst (Refused (IsTextCause c.args.limit c.args.target.now) c.args.target.now 0 a b)
           (sym c.new-causes.ensures.items)
           (refused_none (IsTextCause c.args.limit c.args.target.now) c.args.target.now a b
+          (record { asked = c.in_ok-want.ensures.ok; remain = c.in_ok-want.ensures.remain; links = c.in_ok-want.ensures.links }));
+      shown = subst (Refused (ShowsTextCause c.args.target.now) c.args.target.now 0 a b)
+          (sym c.new-causes.ensures.items)
+          (refused_none (ShowsTextCause c.args.target.now) c.args.target.now a b
           (record { asked = c.in_ok-want.ensures.ok; remain = c.in_ok-want.ensures.remain; links = c.in_ok-want.ensures.links }));
       once = first_none (λ (n : ℕ). n ≤ c.args.limit) c.args.limit c.args.target.now a b c.in_ok-want.ensures.links;
     }
@@ -97,3 +106,23 @@ returns-clause-once g c =
     let all : c.loop-place.place ≡ sources_of a = omega (arith, count, c.in_ok-want.ensures.remain.sources) in
     vain_all (λ (n : ℕ). n ≤ c.args.limit) c.args.limit c.args.target.now a left c.loop-place.place all
     c.loop-place.invariant.once c.loop-place.causes.items c.all_links.result c.all_links.ensures
+
+pub returns-in_err-want-clause-shown : goal.returns-in_err-want-clause-shown
+returns-in_err-want-clause-shown g c =
+    let p = err_from_is_err_and c.from_residual.result c.from_residual.ensures.1 in
+    rw (p.1, p.2) tt
+
+pub returns-in-Err-add_cause-clause-shown : goal.returns-in-Err-add_cause-clause-shown
+returns-in-Err-add_cause-clause-shown g c =
+    shown_stop (ShowsTextCause c.args.target.now) c.args.target.now (text_kind c.args.target.now)
+    (g.L.Links.links c.args.links.now) (g.L.Links.links c.text_of.new.links) c.in-Err.stop c.in-Err-add_cause.fault
+    c.in-Err-add_cause.ensures.ends
+
+pub returns-clause-shown : goal.returns-clause-shown
+returns-clause-shown g c =
+    let a : LinksState = g.L.Links.links c.args.links.now in
+    let left : LinksState = g.L.Links.links c.loop-place.links in
+    let count = c.sources-place-end.ensures.count in
+    let all : c.loop-place.place ≡ sources_of a = omega (arith, count, c.in_ok-want.ensures.remain.sources) in
+    shown_all (ShowsTextCause c.args.target.now) c.args.target.now (text_kind c.args.target.now) c.loop-place.place a left
+    c.loop-place.causes.items all c.loop-place.invariant.shown c.all_links.result c.all_links.ensures
