@@ -11,7 +11,7 @@ and one line on the standard error says which device and why, or none where the 
 that of the lines that were answered, or of one more. So it is with `format`, `inspect` and `publish`, of which a failing folder
 leaves the deployment manifest as it was; and with `clickhost`, which serves the next connection.
 """
-import errno, os, re, shutil, socket, subprocess, sys, time
+import errno, os, re, shutil, signal, socket, subprocess, sys, time
 
 from programs import (CLIENT, HOST, KEY, SESSION, chance, command, empty, finish, holds, run, serve, session, stop, work)
 
@@ -89,8 +89,14 @@ def traced(words, given=b""):
 
 def refusing(call):
     """The words before those of a run in which the call is refused."""
-    return ["strace", "-f", "-qq", "-o", "/dev/null", "-e", f"trace={call.name}", "-e",
+    return ["strace", "-f", "-qq", "-o", f"{work}/refused", "-e", f"trace={call.name}", "-e",
             f"inject={call.name}:error={call.error}:when={call.number}"]
+
+
+def was_refused():
+    """Whether the last run came to the call that it was to be refused."""
+    with open(f"{work}/refused", errors="replace") as lines:
+        return any("(INJECTED)" in line for line in lines)
 
 
 def one_line(device, call):
@@ -164,10 +170,10 @@ def new_store(store):
 
 
 class Course:
-    """What the lines answer where nothing fails, and what is seen of the store behind each of them."""
+    """What the lines answer where nothing fails, over FOLDER, and what the looks then say of the store, behind each of them."""
 
-    def __init__(self, lines):
-        self.lines = lines
+    def __init__(self, lines, folder=AT_HAND, looks=LOOKS):
+        self.lines, self.folder, self.looks = lines, folder, looks
         seen = [self.run(lines[:count]) for count in range(len(lines) + 1)]
         self.answers, self.stood = seen[-1][0], [stood for _, stood in seen]
         self.others = {}
@@ -177,8 +183,8 @@ class Course:
         """What the lines answer in a new store, and what is seen of it then."""
         store = f"{work}/course/store"
         new_store(store)
-        answers = command(store, SESSION, given(lines), folder=AT_HAND).splitlines()
-        return answers, session(store, LOOKS)
+        answers = command(store, SESSION, given(lines), folder=self.folder).splitlines()
+        return answers, session(store, self.looks)
 
     def without(self, place):
         """The same where one line is not run."""
@@ -195,7 +201,7 @@ def is_of_prefix(call, course, said):
         holds(f"{call}: a part of an answer: {part}", course.answers[len(whole)].startswith(part))
     count = len(whole)
     holds(f"{call}: what was answered: {whole}", whole == course.answers[:count])
-    found = session(STORE, LOOKS)
+    found = session(STORE, course.looks)
     holds(f"{call}: after {count} answers: {found}", found in course.stood[count:count + 2])
 
 
@@ -225,8 +231,16 @@ def sessions(course):
         if device is None:
             continue
         count[device] = count.get(device, 0) + 1
-        new_store(STORE)
-        got, said, told = ran(refusing(call) + words, lines)
+        # What a host sends comes in more pieces or fewer, and each piece of a file is written by itself, so a run may end before.
+        for _ in range(20):
+            new_store(STORE)
+            got, said, told = ran(refusing(call) + words, lines)
+            if was_refused():
+                break
+        else:
+            holds(f"{call}, to which no run comes: {got}, {told!r}", (got, said, told) == whole)
+            count["missed"] = count.get("missed", 0) + 1
+            continue
         holds(f"{call}: status {got}, {told!r}", (got, told) == (status, why))
         if status:
             is_of_prefix(call, course, said)
@@ -358,6 +372,33 @@ def publishes():
         again = ran(words)
         holds(f"publish, {call}: the next one: {again}", again == whole and files_below(f"{site}/out") == new)
     print(f"publish: {count}", flush=True)
+    killed_publishes(words, base, site, calls, old, new)
+
+
+def killed_publishes(words, base, site, calls, old, new):
+    """A publish that is killed where it begins a call leaves the same, or all of it, and maybe a file that it had not finished."""
+    count = {False: 0, True: 0}
+    for call in calls:
+        if not call.is_below(site):
+            continue
+        placed(base, site)
+        got = ran(["strace", "-f", "-qq", "-o", "/dev/null", "-e", f"trace={call.name}", "-e",
+                   f"inject={call.name}:signal=KILL:when={call.number}"] + words)
+        holds(f"publish, killed at {call}: {got}", got[0] == -signal.SIGKILL and got[2] == "")
+        found = files_below(f"{site}/out")
+        is_done = found["demo.application"] == new["demo.application"]
+        count[is_done] += 1
+        other = [name for name, text in found.items() if text not in (old.get(name), new.get(name)) and not name.endswith(":unfinished")]
+        holds(f"publish, killed at {call}: other files: {other}", not other)
+        holds(f"publish, killed at {call}: the deployment manifest", is_done or found["demo.application"] == old["demo.application"])
+        if is_done:
+            holds(f"publish, killed at {call}: all of it where it is done", not set(new) - set(found))
+            continue
+        shutil.rmtree(f"{site}/out/Application Files/demo_2_0_0_0", ignore_errors=True)
+        again = ran(words)
+        whole = {name: text for name, text in files_below(f"{site}/out").items() if not name.endswith(":unfinished")}
+        holds(f"publish, killed at {call}: the next one: {again}", again[0] == 0 and whole == new)
+    print(f"publish: killed before its end {count[False]} times, and behind it {count[True]} times", flush=True)
 
 
 # ---- a host

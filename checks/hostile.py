@@ -5,7 +5,8 @@ usage: checks/hostile [COUNT]     so many of each, or 10,000
 Each is made of a right one by random changes, cut off, sent in pieces, or random altogether. A program may refuse what it gets, and
 may not crash, hang, take more memory than its right work takes, or hand out what is wrong: the host answers in the words of
 `docs/http.md` and gives no other file, the client installs no file that its manifest does not list, and each of them goes on with
-the next one. The number of a failure and SEED of the environment make the same bytes again.
+the next one. The number of a failure and SEED of the environment make the same bytes again. Beside them, clients of a host that send or
+take nothing, or little, hold the next one up no longer than `docs/http.md` says.
 """
 import base64, hashlib, os, random, re, shutil, signal, socket, struct, subprocess, sys, threading, time
 
@@ -145,6 +146,83 @@ def requests(_release):
     holds(f"the host took {more} kB more", more < ROOM)
     stop(host)
     print(f"{COUNT} requests, answered by {dict(sorted(count.items()))}; {more} kB more memory", flush=True)
+
+
+# ---- slow clients of a host
+
+# Seconds that a machine that has much to do may add to a wait.
+SLACK = 5
+LARGE_FILE = 64 << 20
+# What a client sends, and how many bytes of its answer it takes each second.
+SLOW = {"sends nothing": (b"", 0), "sends a part of its request": (b"GET /large HTTP/1.1\r\n", 0),
+        "takes nothing": (b"GET /large HTTP/1.1\r\nHost: x\r\n\r\n", 0),
+        "takes a little each second": (b"GET /large HTTP/1.1\r\nHost: x\r\n\r\n", 2000)}
+
+
+class Slow(threading.Thread):
+    """A client that holds a host up, and how long the next one then waits for a small file."""
+
+    def __init__(self, name, port):
+        super().__init__(daemon=True)
+        self.what, (self.text, self.takes), self.port = name, SLOW[name], port
+        self.taken, self.held, self.answer = 0, None, b""
+
+    def take(self, one, most):
+        try:
+            piece = one.recv(most)
+        except OSError:
+            return b""
+        self.taken += len(piece)
+        return piece
+
+    def run(self):
+        with socket.socket() as one, socket.socket() as following:
+            one.setsockopt(socket.SOL_SOCKET, socket.SO_RCVBUF, 16384)
+            one.connect(("127.0.0.1", self.port))
+            one.sendall(self.text)
+            began = time.monotonic()
+            following.connect(("127.0.0.1", self.port))
+            following.sendall(b"GET /small HTTP/1.1\r\nHost: x\r\n\r\n")
+            following.settimeout(1)
+            while time.monotonic() < began + 20 * LONGEST:
+                try:
+                    piece = following.recv(65536)
+                    if not piece:
+                        break
+                    self.answer += piece
+                except TimeoutError:
+                    if self.takes:
+                        self.take(one, self.takes)
+            self.held = time.monotonic() - began
+            one.settimeout(LONGEST)
+            while self.take(one, 65536):
+                pass
+
+    def limit(self):
+        """The seconds that it may hold the next one up: by `docs/http.md`, 10 without a whole request, and else 20 and one more for each
+        65,536 bytes that the system has taken for it, which it has received in the end."""
+        return 20 + self.taken / 65536 if self.text.endswith(b"\r\n\r\n") else 10
+
+
+def slow_clients():
+    folder = f"{work}/slow"
+    wrote(f"{folder}/large", bytes(LARGE_FILE))
+    wrote(f"{folder}/small", b"small")
+    clients = [Slow(name, int(serve("clickhost", folder)[0].rpartition(":")[2])) for name in SLOW]
+    for client in clients:
+        client.start()
+    return clients
+
+
+def slow_end(clients):
+    for client in clients:
+        client.join()
+        holds(f"the next one behind a client that {client.what} is served: {client.answer[-100:]}",
+              client.answer == head_of("small", b"small") + b"small")
+        holds(f"a client that {client.what} held the next one up for {client.held:.1f} seconds, and {client.taken} bytes were sent to it",
+              client.held < client.limit() + SLACK and client.taken < LARGE_FILE)
+        print(f"a client that {client.what} held the next one up for {client.held:.0f} seconds; {client.taken} bytes were sent to it",
+              flush=True)
 
 
 # ---- a client
@@ -428,11 +506,13 @@ def main():
     if not TIME:
         print("skipped: there is no time(1) here, so memory is not measured but of the host")
     release = Release()
+    slow = slow_clients()
     for part in (requests, answers, manifests):
         began = time.monotonic()
         part(release)
         holds(f"the end of {part.__name__}", True)
         print(f"{part.__name__} took {time.monotonic() - began:.0f} seconds", flush=True)
+    slow_end(slow)
     return finish()
 
 

@@ -3,14 +3,16 @@
 usage: checks/life
 
 Three releases are published with options in any order, served, installed and launched; the application goes back to
-the version before, views that are not in use are cleaned away, and every answer is compared. The program is killed in
+the version before, views that are not in use are cleaned away, and every answer is compared. The stores have the least
+half, and one of them is filled up before each session, so that its halves turn over. The program is killed in
 the middle of a clean and of a rollback, and files fill up. Then come long lines, a large input, and generated runs,
 which are compared with what their definition says.
 """
-import hashlib, os, resource, select, shutil, signal, subprocess, sys, time
+import hashlib, os, select, shutil, subprocess, sys, time
 
 from programs import (CLIENT, ENTRY, KEY, SESSION, chance, check, command, copied, empty, escaped, finish, holds,
                       read_into, reading, run, same_bytes, serve, session, stop, wanted, work)
+from stops import Halves, Talk, can_trace, end_of_entries, killed_at_call, limited, turn, without_filler
 
 # What a number in a word has to be, and what is said where there is no such command.
 NUMBER = "1 to 19 digits, at most 4611686018427387904"
@@ -116,20 +118,29 @@ def releases(url):
 
 # ---- the life of an application
 
-def life(server):
-    site, store = f"{work}/site.{server}", f"{work}/store.{server}"
+def life(server, is_turning=False):
+    """The same story, in stores of a least half. Where it is turning, that is filled before each session, so that a checkpoint comes
+    with its first change."""
+    site, store = f"{work}/site.{server}{is_turning}", f"{work}/store.{server}{is_turning}"
     os.makedirs(site)
     at, running = serve(server, site)
     url = f"{at}/one/demo.application"
     first, second, third = releases(url)
+    turned = []
 
     def says(name, lines, answers):
-        check(f"{server}: {name}", store, lines, answers)
+        if not is_turning:
+            check(f"{server}: {name}", store, lines, answers)
+            return
+        begin = turn(store)
+        got = without_filler(session(store, lines))
+        holds(f"{server}, turning: {name}: {got}", got == answers)
+        turned.append(Halves(store).begin != begin)
 
     def shows(name, row):
         says(f"{name}: what is shown", [f"show {KEY}"], [f"ok show {KEY} {row}"])
 
-    command(store, ["format", "--blocks", "65536"])
+    command(store, ["format", "--blocks", "65536", "--half", "1048576"])
     says("nothing is known", ["list", f"show {KEY}", f"rollback {KEY}", "clean"],
          ["ok list 0", "no not-installed", "no not-installed", "ok cleaned 0"])
     says("a minimum alone", [f"require {KEY} 0.9.0.0", "list", f"rollback {KEY}", "clean"],
@@ -220,6 +231,8 @@ def life(server):
          ["ok current 1.1.0.0", "ok cleaned 0", "ok finished 6", "ok cleaned 1", "ok list 2", f"{other} 3.0.0.0",
           f"{KEY} 1.1.0.0", f"no links {url} missing,down"])
     compare_leased("no server", (3, 5))
+    # In the sessions that change something.
+    holds(f"{server}: the halves turned over: {turned}", not is_turning or sum(turned) >= 14)
 
 
 # ---- what is killed
@@ -228,7 +241,7 @@ def many_versions(count):
     """A store with so many versions, and the two of them that are leased: the first and the middle one."""
     site, store = f"{work}/many", f"{work}/many.store"
     os.makedirs(site)
-    command(store, ["format", "--blocks", "65536"])
+    command(store, ["format", "--blocks", "65536", "--half", "1048576"])
     shared = {f"lib/{number}.dll": chance.randbytes(chance.randrange(9000)) for number in range(12)}
     leased = []
     for number in range(count):
@@ -242,39 +255,6 @@ def many_versions(count):
         got = run(store, SESSION, lines, folder=site)
         holds(f"version {number} of many: {got}", got == (0, answers, ""))
     return store, leased
-
-
-class Talk:
-    """A session that is given one line after another."""
-
-    def __init__(self, store):
-        self.run = subprocess.Popen([CLIENT, store, empty] + SESSION, stdin=subprocess.PIPE, stdout=subprocess.PIPE,
-                                    stderr=subprocess.DEVNULL, bufsize=0)
-
-    def give(self, line):
-        self.run.stdin.write(f"{line}\n".encode())
-
-    def answer(self):
-        """The next line that it writes."""
-        said = b""
-        while not said.endswith(b"\n"):
-            byte = self.run.stdout.read(1)
-            if not byte:
-                break
-            said += byte
-        return said.decode()
-
-    def kill(self):
-        """Kills it, and answers what it wrote that was not read."""
-        self.run.send_signal(signal.SIGKILL)
-        return self.end()
-
-    def end(self):
-        self.run.stdin.close()
-        said = self.run.stdout.read().decode()
-        self.run.stdout.close()
-        self.run.wait()
-        return said
 
 
 def looking(leased):
@@ -332,24 +312,6 @@ def killed(kind, store, leased, line, answer, again, moments):
     print(f"{kind}: killed before {count[False]} times and after {count[True]} times", flush=True)
 
 
-def can_trace():
-    """Whether there is a strace that runs here."""
-    if not shutil.which("strace"):
-        return False
-    words = ["strace", "-qq", "-o", "/dev/null", "true"]
-    return subprocess.run(words, stderr=subprocess.DEVNULL).returncode == 0
-
-
-def killed_at_call(store, line, kind, number):
-    """Kills a session of the line where it begins its call of that kind and number, and answers whether it came to that
-    call, and what it wrote."""
-    words = ["strace", "-f", "-qq", "-o", "/dev/null", "-e", f"trace={kind}", "-e",
-             f"inject={kind}:signal=KILL:when={number}", CLIENT, store, empty]
-    ended = subprocess.run(words + SESSION, input=f"{line}\n".encode(), stdout=subprocess.PIPE,
-                           stderr=subprocess.DEVNULL)
-    return ended.returncode != 0, ended.stdout.decode()
-
-
 def killed_calls(kind, store, leased, line, answer, again):
     """The same, killed at each write and each sync of the file that the session makes, one after another."""
     if not can_trace():
@@ -386,32 +348,6 @@ def kills():
 
 
 # ---- what is full
-
-def limited(store, words, lines, size):
-    """Runs the client where no file may have more than so many bytes."""
-    def limit():
-        signal.signal(signal.SIGXFSZ, signal.SIG_IGN)
-        resource.setrlimit(resource.RLIMIT_FSIZE, (size, size))
-    done = subprocess.run([CLIENT, store, empty] + words, input=lines.encode(), stdout=subprocess.PIPE,
-                          stderr=subprocess.PIPE, preexec_fn=limit)
-    return done.returncode, done.stdout.decode(), done.stderr.decode()
-
-
-def end_of_entries(store):
-    """Returns the place in the store's file behind the closed gate that ends the entries of the current half."""
-    with open(store, "rb") as it:
-        held = it.read()
-    length = int.from_bytes(held[16:24], "big")
-    found = {}
-    for at in (4096, 4096 + length):
-        if at < len(held) and held[at] == 1:
-            place = at + 10 + int.from_bytes(held[at + 2:at + 10], "big")
-            while held[place] == 1:
-                place += 5 + int.from_bytes(held[place + 1:place + 5], "big")
-            found[held[at + 1]] = place + 1
-    later = [it for it in found if (it - 1) % 3 in found]
-    return found[later[0] if later else min(found)]
-
 
 def filled(kind, store, leased, line, answer, again):
     """Nothing may be written behind the entries of the store, or some bytes only: the line is answered, or the disk
@@ -665,6 +601,7 @@ def demo(seed):
 
 def main():
     life("clickhost")
+    life("clickhost", is_turning=True)
     if shutil.which("nginx"):
         life("nginx")
     else:

@@ -3,8 +3,12 @@
 Want of memory is a variant `Memory` or `OutOfMemory`, `AllocError`, or a type of the repository that has nothing else. It passes
 where it stands
   - in an `impl From<E>` for an E that is nothing but want of memory, or
-  - behind a pattern of which each alternative names want of memory: in the arm of a `match`, or in the block of an `if let`.
+  - behind a pattern of which each alternative names want of memory: in the arm of a `match`, in the block of an `if let`, or in
+    that of an `if` which asks a function that does nothing but match such a pattern.
 Each other place is printed with its line. Patterns, types, clauses and tests make none.
+
+One answer of a library counts as want of memory though it is none: `ParseError::Overflow` of `url`, for a URL that came to 4 GB. The
+contract of `url` says neither of it nor of `OutOfMemory` when it comes, so no other answer to it could be proved.
 """
 import os, re, sys
 
@@ -13,6 +17,8 @@ PROGRAMS = ["clickstore", "clickhost"]
 VARIANTS = {"Memory", "OutOfMemory"}
 # What std answers for want of memory alone.
 REFUSED = {"AllocError", "AllocFailed"}
+# What a library may answer at any input, as it may answer that it found no memory: a type, and its variant.
+AS_REFUSED = {("ParseError", "Overflow")}
 OPEN, CLOSE = {"(": ")", "[": "]", "{": "}"}, {")", "]", "}"}
 TOKEN = re.compile(
     r"//[^\n]*|/\*.*?\*/"
@@ -110,7 +116,14 @@ def names_memory(source, begin, end):
             parts.append([])
         else:
             parts[-1].append(word)
-    return all(set(part) & (VARIANTS | REFUSED) for part in parts if part)
+    return all(names_want(part) for part in parts if part)
+
+
+def names_want(pattern):
+    """Whether a pattern without alternatives names want of memory."""
+    if set(pattern) & (VARIANTS | REFUSED):
+        return True
+    return any(tuple(pattern[place:place + 3:2]) in AS_REFUSED for place in range(len(pattern) - 2))
 
 
 def cover(source, begin, end, is_handed):
@@ -135,12 +148,34 @@ def read_arms(source, begin, end):
         place = close + 1 if source.at(close) == "," else close
 
 
+def wants(source):
+    """The functions that do nothing but match a value with a pattern of want of memory."""
+    found = set()
+    for place, word in enumerate(source.words):
+        if word != "fn":
+            continue
+        body = source.find(place, "{", ";")
+        while source.at(body) == "{" and source.silent[body]:
+            body = source.find(source.after(body), "{", ";")
+        if source.words[body + 1:body + 4] != ["matches", "!", "("] or source.after(body + 3) != source.after(body) - 1:
+            continue
+        comma = source.find(body + 4, ",")
+        if names_memory(source, comma + 1, source.ends[body + 3]):
+            found.add(source.at(place + 1))
+    return found
+
+
 def read_patterns(source):
     """Patterns from the outside in, so that the innermost says of a place what is handed on there."""
+    told = wants(source)
     for place, word in enumerate(source.words):
         if source.silent[place]:
             continue
-        if word == "match":
+        if word == "if" and source.at(place + 1) in told and source.at(place + 2) == "(":
+            block = source.after(place + 2)
+            if source.at(block) == "{":
+                cover(source, block, source.after(block), True)
+        elif word == "match":
             block = source.find(place + 1, "{")
             read_arms(source, block + 1, source.ends[block])
         elif word == "let":

@@ -11,6 +11,7 @@ _clickstore() {
     if [ "$COMP_CWORD" -gt 3 ]; then
         case ${COMP_WORDS[3]}:$COMP_CWORD in
             format:4) words='--blocks' ;;
+            format:6) words='--half' ;;
             session:4) words='--boot' ;;
             session:6) words='--now' ;;
             inspect:4) words='deployment application' ;;

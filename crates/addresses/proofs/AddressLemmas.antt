@@ -20,7 +20,7 @@ use Rattle.url.proofs.ValidLemmas.{hierarchical, special_has_authority, base_fro
 use Rattle.url.proofs.PathLemmas.{rooted}
 use Rattle.small_types.specs.declared.limits.TheConstants.{URL_LIMIT}
 use Rattle.small_types.specs.declared.target.Target.{Target}
-use Rattle.small_types.specs.Reading.{◌>>=◌}
+use Rattle.small_types.specs.Outcome.{◌>>=◌}
 use Rattle.addresses.specs.declared.fault.UrlFault.{UrlFault}
 use Rattle.addresses.specs.declared.fault.UrlFault.TheVariants.{BadUrl}
 use Rattle.addresses.specs.Address.{http, host_of, query_text, address, is_too_long, is_refused, target_of_url, url_of, target_of_text, IsAddress, Gives}

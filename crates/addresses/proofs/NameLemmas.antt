@@ -7,7 +7,7 @@ use Rattle.std.proofs.lemmas.Bool.{cond-true, cond-false, cond_both, cases_Bool,
 use Rattle.small_types.specs.declared.limits.TheConstants.{NAME_LIMIT, URL_LIMIT}
 use Rattle.small_types.specs.declared.target.Target.{Target}
 use Rattle.small_types.specs.Name.{name_parts, is_name_byte, is_name_part, is_name, IsName}
-use Rattle.small_types.specs.Reading.{◌>>=◌, FailsBut}
+use Rattle.small_types.specs.Outcome.{◌>>=◌, FailsBut}
 use Rattle.url.specs.Parts.{Parts, HasSameHost, serialize}
 use Rattle.url.specs.Parser.{Parsed, parse_url}
 use Rattle.addresses.specs.declared.fault.UrlFault.{UrlFault}

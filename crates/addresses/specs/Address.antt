@@ -6,7 +6,7 @@ use Rattle.url.specs.Parts.{Parts, has_credentials, nonempty_host, serialize}
 use Rattle.url.specs.Parser.{Parsed, parse_url}
 use Rattle.small_types.specs.declared.limits.TheConstants.{URL_LIMIT}
 use Rattle.small_types.specs.declared.target.Target.{Target}
-use Rattle.small_types.specs.Reading.{◌>>=◌, GivesBut}
+use Rattle.small_types.specs.Outcome.{◌>>=◌, GivesBut}
 use Rattle.addresses.specs.declared.address.TheConstants.{HTTP_PORT}
 use Rattle.addresses.specs.declared.fault.UrlFault.{UrlFault}
 use Rattle.addresses.specs.declared.fault.UrlFault.TheVariants.{BadUrl, NotHttp, Memory}

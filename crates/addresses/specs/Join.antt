@@ -6,7 +6,7 @@ use Rattle.small_types.specs.declared.limits.TheConstants.{URL_LIMIT}
 use Rattle.small_types.specs.declared.target.Target.{Target}
 use Rattle.small_types.specs.Name.{IsName}
 use Rattle.identity.specs.Key.{word_text}
-use Rattle.small_types.specs.Reading.{◌>>=◌}
+use Rattle.small_types.specs.Outcome.{◌>>=◌}
 use Rattle.addresses.specs.declared.fault.UrlFault.{UrlFault}
 use Rattle.addresses.specs.declared.fault.UrlFault.TheVariants.{BadUrl}
 use Rattle.addresses.specs.Address.{address, http, is_too_long, target_of_url, url_of}

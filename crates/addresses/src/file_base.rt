@@ -4,7 +4,7 @@ ghost use Rattle.addresses.specs.declared.fault.UrlFault.TheVariants.{NotHttp};
 ghost use Rattle.addresses.specs.Address.{Gives, IsAddress, is_memory};
 ghost use Rattle.addresses.specs.Join.{base_of, file_target_beside};
 ghost use Rattle.small_types.specs.declared.target.Target.{Target};
-ghost use Rattle.small_types.specs.Reading.{GivesBut};
+ghost use Rattle.small_types.specs.Outcome.{GivesBut};
 
 use crate::UrlFault;
 use crate::join::{base_url, file_beside};

@@ -3,7 +3,7 @@ use Rattle.std.proofs.Common.{◌≡◌, ℕ, List, [], length, ap, subst, arith
 use Rattle.std.proofs.lemmas.List.{nil_from_length}
 use Rattle.small_types.specs.Blocks.{IsContent, bytes_in}
 use Rattle.small_types.proofs.BlockContents.{bytes_in-le}
-use Rattle.small_types.proofs.BlockStaying.{bytes_content}
+use Rattle.small_types.proofs.KeptBlocks.{bytes_content}
 use Rattle.file_store.specs.Stores.{DraftHolds, draft_blocks, filled_of}
 use Rattle.file_store.specs.declared.draft.Draft.{Draft}
 

@@ -5,12 +5,12 @@ use Rattle.disks.specs.Spends.{Spends}
 use Rattle.disks.specs.declared.disk.Disk.{Ghosts}
 use Rattle.disks.proofs.Books.{spends_none, spends_then, spends_within}
 use Rattle.small_types.specs.Blocks.{IsContent, ShareNone, count_for}
-use Rattle.small_types.proofs.BlockStaying.{content_stays}
+use Rattle.small_types.proofs.KeptBlocks.{content_stays}
 use Rattle.file_store.specs.Stores.{DraftHolds, draft_blocks, draft_size, filled_of}
 use Rattle.file_store.specs.Writes.{WritesOnly, touched}
 use Rattle.file_store.specs.declared.draft.Draft.{Draft}
-use Rattle.file_store.proofs.Staying.{writes_then}
-use Rattle.file_store.proofs.Writing.{only_start}
+use Rattle.file_store.proofs.KeptContents.{writes_then}
+use Rattle.file_store.proofs.BlockWrites.{only_start}
 use Rattle.block_files.proofs.Begun.{holds_none}
 
 module _ {D : Type 0} (on : Ghosts D) (base : ℕ) (blocks own : List ℕ) (size : ℕ) (first : D) where

@@ -5,13 +5,13 @@ use Rattle.disks.specs.declared.disk.Disk.{Ghosts}
 use Rattle.disks.specs.Moments.{Each, LeavesOnly, Untouched}
 use Rattle.disks.proofs.MomentLemmas.{reads_on, weaker}
 use Rattle.small_types.specs.Blocks.{IsContent, KeepsOutside, ShareNone}
-use Rattle.small_types.proofs.BlockStaying.{content_stays}
+use Rattle.small_types.proofs.KeptBlocks.{content_stays}
 use Rattle.file_store.specs.Stores.{AreUsed, free_of}
 use Rattle.file_store.specs.Writes.{IsOldOutsideBlocks, WritesOnly}
 use Rattle.file_store.specs.declared.store.FileStore.{FileStore}
 use Rattle.file_store.proofs.Apart.{apart_other}
-use Rattle.file_store.proofs.Staying.{content_kept, writes_then}
-use Rattle.file_store.proofs.Writing.{only_start}
+use Rattle.file_store.proofs.KeptContents.{content_kept, writes_then}
+use Rattle.file_store.proofs.BlockWrites.{only_start}
 
 -- each of the blocks is among the others
 abbrev pub AreAmong : List ℕ → List ℕ → Type 0

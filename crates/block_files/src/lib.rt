@@ -2,17 +2,17 @@
 //! compared with bytes, copied into a draft, or written from bytes.
 #![tactic(auto)]
 
-mod copying;
+mod copy;
 mod fault;
 mod laws;
 mod part;
 mod run;
 mod sameness;
-mod writing;
+mod write;
 
-pub use copying::copy_content;
+pub use copy::copy_content;
 pub use fault::PartFault;
 pub use laws::used_contents_stay;
 pub use part::read_part;
 pub use sameness::has_bytes;
-pub use writing::write_content;
+pub use write::write_content;

@@ -11,7 +11,7 @@ use Rattle.std.proofs.lemmas.Cmp.{nat_cmp_total}
 use Rattle.std.proofs.lemmas.List.{get_or_default}
 use Rattle.std.proofs.lemmas.List.Sorted.{searchable_from_sorted}
 use Rattle.machine.proofs.Members.{contains_in, in_contains}
-use Rattle.machine.proofs.Needing.{in_passes, passes_in}
+use Rattle.machine.proofs.OwnContents.{in_passes, passes_in}
 
 -- numbers that compare as equal are one
 one_number : (m n : ℕ) → nat_cmp m n ≡ Equal → m ≡ n

@@ -5,7 +5,7 @@ mod help;
 mod other_words;
 
 use crate::help::{HELP, VERSION, asks_for_help};
-use crate::other_words::{Asked, Misread, read_words, what_is_wrong};
+use crate::other_words::{HostRun, Misread, read_words, what_is_wrong};
 use host_cli::{host_run, read_port};
 use outside::{Failed, Sink, write_all};
 use outside_real::{Failure, RealFolder, Reason, StdSink, TcpDoor};
@@ -19,7 +19,7 @@ use std::{env, fs};
 const NO_MEMORY: &str = "no memory";
 
 // How the command line is read.
-enum Start {
+enum CommandLine {
     // The folder's path, and the words behind it.
     Run { folder: String, words: Vec<Word> },
     // A text to print.
@@ -28,19 +28,19 @@ enum Start {
     Words(Misread<'static>),
 }
 
-fn read_args(rt: &HostRuntime) -> Result<Start, AllocError> {
+fn read_args(rt: &HostRuntime) -> Result<CommandLine, AllocError> {
     let args = match env::args(rt) {
         Ok(args) => args,
         Err(error) => {
             return match error.kind() {
                 ErrorKind::OutOfMemory => Err(AllocError),
-                _ => Ok(Start::Words(Misread::NoText)),
+                _ => Ok(CommandLine::Words(Misread::NoText)),
             };
         }
     };
     let mut args = args.skip(1);
     let Some(folder) = args.next() else {
-        return Ok(Start::Words(Misread::Missing("FOLDER")));
+        return Ok(CommandLine::Words(Misread::Missing("FOLDER")));
     };
     let mut words = Vec::new(rt.alloc());
     for arg in args {
@@ -48,13 +48,13 @@ fn read_args(rt: &HostRuntime) -> Result<Start, AllocError> {
     }
     if words.is_empty() {
         if asks_for_help(folder.as_str()) {
-            return Ok(Start::Print(HELP));
+            return Ok(CommandLine::Print(HELP));
         }
         if folder.as_str() == "--version" {
-            return Ok(Start::Print(VERSION));
+            return Ok(CommandLine::Print(VERSION));
         }
     }
-    Ok(Start::Run { folder, words })
+    Ok(CommandLine::Run { folder, words })
 }
 
 // The port of the first word, or 0 where it gives none.
@@ -103,8 +103,8 @@ fn is_absence(kind: ErrorKind) -> bool {
 }
 
 // Says what is served where, and where the folder is not there.
-fn announce(rt: &HostRuntime, folder: &str, asked: Asked) {
-    let Asked { port, count } = asked;
+fn announce(rt: &HostRuntime, folder: &str, asked: HostRun) {
+    let HostRun { port, count } = asked;
     let path = folder.escape_debug();
     say(
         rt,
@@ -139,12 +139,12 @@ fn run_words(rt: &HostRuntime, folder: String, words: &[Word]) -> Result<u8, All
 
 fn run_args(rt: &HostRuntime) -> Result<u8, AllocError> {
     match read_args(rt)? {
-        Start::Words(why) => {
+        CommandLine::Words(why) => {
             say(rt, why);
             Ok(1)
         }
-        Start::Print(text) => print(rt, text),
-        Start::Run { folder, words } => run_words(rt, folder, &words),
+        CommandLine::Print(text) => print(rt, text),
+        CommandLine::Run { folder, words } => run_words(rt, folder, &words),
     }
 }
 

@@ -22,7 +22,7 @@ pub(crate) enum Misread<'a> {
 
 // Where a run listens, and for how many connections.
 #[derive(Clone, Copy)]
-pub(crate) struct Asked {
+pub(crate) struct HostRun {
     pub(crate) port: u16,
     pub(crate) count: u64,
 }
@@ -51,7 +51,7 @@ fn count_of(word: &Word) -> Result<u64, Misread<'_>> {
 }
 
 // What the words behind the folder ask for, or the first of them that is not taken.
-pub(crate) fn read_words(words: &[Word]) -> Result<Asked, Misread<'_>> {
+pub(crate) fn read_words(words: &[Word]) -> Result<HostRun, Misread<'_>> {
     let Some(port) = words.first() else {
         return Err(Misread::Missing("PORT"));
     };
@@ -62,7 +62,7 @@ pub(crate) fn read_words(words: &[Word]) -> Result<Asked, Misread<'_>> {
     let count = count_of(count)?;
     match words.get(2) {
         Some(word) => Err(Misread::TooMany(text_of(word)?)),
-        None => Ok(Asked { port, count }),
+        None => Ok(HostRun { port, count }),
     }
 }
 

@@ -1,7 +1,9 @@
 // The forms of the words of the command line.
 use identity::Version;
 use manifests::{AGE_DIGIT_LIMIT, UrlFault, target_of};
-use small_types::limits::{BLOCK_LIMIT, NAME_LIMIT, NUMBER_LIMIT};
+use small_types::limits::{
+    BLOCK_LIMIT, HALF_LEAST, HALF_LIMIT, HALF_STEP, NAME_LIMIT, NUMBER_LIMIT,
+};
 use small_types::{is_name, read_decimal};
 use std::alloc::Global;
 
@@ -12,6 +14,7 @@ const FILE: &str =
 #[derive(Clone, Copy)]
 pub(crate) enum Form {
     Blocks,
+    Half,
     Number,
     Kind,
     Product,
@@ -27,6 +30,14 @@ pub(crate) enum Form {
 fn is_number(word: &str, least: u64, most: u64) -> bool {
     match read_decimal(word.as_bytes()) {
         Some(number) => least <= number && number <= most,
+        None => false,
+    }
+}
+
+// Whether it is a length that a half of a journal may have.
+fn is_half(word: &str) -> bool {
+    match read_decimal(word.as_bytes()) {
+        Some(half) => HALF_LEAST <= half && half <= HALF_LIMIT && half % HALF_STEP == 0,
         None => false,
     }
 }
@@ -83,6 +94,7 @@ impl Form {
     pub(crate) fn is_missed(self, alloc: Global, word: &str) -> bool {
         match self {
             Form::Blocks => !is_number(word, 1, BLOCK_LIMIT),
+            Form::Half => !is_half(word),
             Form::Number => !is_number(word, 0, NUMBER_LIMIT),
             Form::Kind => word != "deployment" && word != "application",
             Form::Product | Form::Publisher => !is_short(word),
@@ -99,6 +111,7 @@ impl Form {
     pub(crate) fn noun(self) -> &'static str {
         match self {
             Form::Blocks => "number of blocks",
+            Form::Half => "length of a half",
             Form::Number => "number",
             Form::Kind => "kind of manifest",
             Form::Product => "name",
@@ -115,7 +128,8 @@ impl Form {
     // What it has to be.
     pub(crate) fn wanted(self) -> &'static str {
         match self {
-            Form::Blocks => "1 to 65536",
+            Form::Blocks => "1 to 1048576",
+            Form::Half => "1048576 to 67108864 in steps of 4096",
             Form::Number => "1 to 19 digits, at most 4611686018427387904",
             Form::Kind => "deployment or application",
             Form::Product => "1 to 100 letters, digits, '.', '_', '-' and spaces",

@@ -29,7 +29,10 @@ Commands:
 
 const FORMAT: &[u8] =
     b"  format --blocks N            makes STORE an empty store of N blocks of 4096
-                               bytes, 1 to 65536; what the file held is lost
+                               bytes, 1 to 1048576; what the file held is lost
+  format --blocks N --half H   the same; each half of its journal has H bytes,
+                               1048576 to 67108864 in steps of 4096, in place
+                               of 16777216
 ";
 
 const SESSION: &[u8] = b"  session --boot N --now N     answers the lines of the standard input

@@ -40,7 +40,7 @@ const NO_MEMORY: &str = "no memory";
 const FIRST_FORM: [u8; 8] = *b"CLKSTOR0";
 
 // How the command line is read.
-enum Asked {
+enum CommandLine {
     // The paths of the store and the folder, and the words behind them.
     Run {
         store: String,
@@ -65,40 +65,40 @@ fn read_words(rt: &HostRuntime) -> io::Result<Vec<String>> {
 }
 
 // Words that ask for no page.
-fn read_run(rt: &HostRuntime, words: Vec<String>) -> Result<Asked, AllocError> {
+fn read_run(rt: &HostRuntime, words: Vec<String>) -> Result<CommandLine, AllocError> {
     let mut words = words.into_iter();
     let Some(store) = words.next() else {
-        return Ok(Asked::Words(Misread::no_command()));
+        return Ok(CommandLine::Words(Misread::no_command()));
     };
     let Some(folder) = words.next() else {
-        return Ok(Asked::Words(Misread::no_command()));
+        return Ok(CommandLine::Words(Misread::no_command()));
     };
     let mut behind = Vec::new(rt.alloc());
     for word in words {
         behind.push(Word::from_vec(word.into_bytes()))?;
     }
     if behind.is_empty() && begins_help(store.as_str()) {
-        return Ok(Asked::NoPage(folder));
+        return Ok(CommandLine::NoPage(folder));
     }
-    Ok(Asked::Run {
+    Ok(CommandLine::Run {
         store,
         folder,
         words: behind,
     })
 }
 
-fn read_args(rt: &HostRuntime) -> Result<Asked, AllocError> {
+fn read_args(rt: &HostRuntime) -> Result<CommandLine, AllocError> {
     let words = match read_words(rt) {
         Ok(words) => words,
         Err(error) => {
             return match error.kind() {
                 ErrorKind::OutOfMemory => Err(AllocError),
-                _ => Ok(Asked::Words(Misread::no_text())),
+                _ => Ok(CommandLine::Words(Misread::no_text())),
             };
         }
     };
     match page_of(words.as_slice()) {
-        Some(page) => Ok(Asked::Print(page)),
+        Some(page) => Ok(CommandLine::Print(page)),
         None => read_run(rt, words),
     }
 }
@@ -246,16 +246,16 @@ fn run_words(
 
 fn run_args(rt: &HostRuntime) -> Result<u8, AllocError> {
     match read_args(rt)? {
-        Asked::Words(why) => {
+        CommandLine::Words(why) => {
             say(rt, why);
             Ok(1)
         }
-        Asked::NoPage(name) => {
+        CommandLine::NoPage(name) => {
             say(rt, Misread::no_such_command(name.as_str()));
             Ok(1)
         }
-        Asked::Print(page) => print(rt, page),
-        Asked::Run {
+        CommandLine::Print(page) => print(rt, page),
+        CommandLine::Run {
             store,
             folder,
             words,

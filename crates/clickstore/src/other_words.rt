@@ -69,7 +69,12 @@ impl<'a> Rest<'a> {
     // The words of the command, in their order.
     fn all(&mut self) -> Result<(), Misread<'a>> {
         match self.command {
-            Command::Format => self.option("--blocks", Form::Blocks)?,
+            Command::Format => {
+                self.option("--blocks", Form::Blocks)?;
+                if !self.words.is_empty() {
+                    self.option("--half", Form::Half)?;
+                }
+            }
             Command::Session => {
                 self.option("--boot", Form::Number)?;
                 self.option("--now", Form::Number)?;

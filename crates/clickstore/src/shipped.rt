@@ -1,5 +1,6 @@
 // The top call over the devices of the program.
 ghost use Rattle.std.specs.Prelude.{◌≡◌, ℕ, Some};
+ghost use Rattle.small_types.specs.declared.room.Room.{Room};
 ghost use Rattle.updater_cli.specs.declared.words.Request.TheVariants as asked;
 ghost use Rattle.updater_cli.specs.Devices.{devices_of};
 ghost use Rattle.updater_cli.specs.Format.{MakesStore};
@@ -60,8 +61,8 @@ pub(crate) fn run_over_file<S: Start, L: Links>(
         report.new }
 
     // A new store stands, and a stop while it is made leaves what is said of it.
-    ensures format { (blocks : ℕ) → request_of words.now ≡ Some (asked.Format blocks)
-        → MakesStore ⟦<FileDisk<HostRuntime, S> as Disk>⟧ blocks result disk.old disk.new }
+    ensures format { (room : Room) → request_of words.now ≡ Some (asked.Format room)
+        → MakesStore ⟦<FileDisk<HostRuntime, S> as Disk>⟧ room result disk.old disk.new }
 {
     run(
         alloc, words, source, sink, disk, folder, links, report, note,

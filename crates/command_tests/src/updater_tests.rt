@@ -273,12 +273,12 @@ fn run_and_see(alloc: Global, bytes: &[u8], failing: u64) -> Result<(bool, Seen)
 fn a_call_that_fails_leaves_the_store_before_or_after(rt: HostRuntime) -> Result<(), Fail> {
     let bytes = opened(rt.alloc())?;
     // A sync, reads of the head, of the first half's gate, of the second one's, of the end behind it
-    // and of the first half, and four calls each of the boot number and of the minimum. With 0 none
-    // fails.
-    for failing in 0..15u64 {
+    // and of the first half, the length, and four calls each of the boot number and of the minimum.
+    // With 0 none fails.
+    for failing in 0..16u64 {
         // A change is there once its gate is written, also where the last sync failed.
-        let has_boot = failing == 0 || failing >= 10;
-        let has_minimum = failing == 0 || failing >= 14;
+        let has_boot = failing == 0 || failing >= 11;
+        let has_minimum = failing == 0 || failing >= 15;
         let want = Seen {
             other: !has_boot,
             boot: 2,

@@ -6,7 +6,7 @@ use Rattle.small_types.specs.declared.limits.TheConstants.{NAME_LIMIT}
 use Rattle.small_types.specs.declared.name.NameFault.{NameFault}
 use Rattle.small_types.specs.declared.name.NameFault.TheVariants.{Bad}
 use Rattle.small_types.specs.Name.{is_name, name_of, name_text}
-use Rattle.small_types.proofs.Spelling.{no_long_name}
+use Rattle.small_types.proofs.Spelled.{no_long_name}
 use Rattle.command_text.specs.Lines.{file_of}
 
 -- its bytes are those of a name

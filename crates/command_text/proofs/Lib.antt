@@ -1,12 +1,12 @@
-pub mod Asking
 mod FileWords
+pub mod GoesOn
 mod GroupWords
 mod HexWords
 pub mod InputLemmas
-pub mod Joining
+pub mod JoinedTexts
 pub mod LongLines
-pub mod ReadingOn
-mod Showing
+pub mod Outcomes
+mod ShowParts
 mod UrlWords
 mod WordLemmas
-pub mod Writing
+pub mod Wrote

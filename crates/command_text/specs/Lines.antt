@@ -35,7 +35,7 @@ use Rattle.small_types.specs.declared.limits.TheConstants.{LEASE_LIMIT, LINE_LIM
 use Rattle.small_types.specs.declared.name.NameFault.{NameFault}
 use Rattle.small_types.specs.declared.target.Target.{Target}
 use Rattle.small_types.specs.Name as names
-use Rattle.small_types.specs.Reading.{◌>>=◌}
+use Rattle.small_types.specs.Outcome.{◌>>=◌}
 use Rattle.command_text.specs.declared.file_lines.Span.{Span}
 use Rattle.command_text.specs.Applications.{list_text, optional_text, show_text}
 use Rattle.command_text.specs.Numbers.{count_of, number_of}

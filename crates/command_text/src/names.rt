@@ -43,7 +43,7 @@ pub(crate) fn read_name(alloc: Global, word: &[u8]) -> Result<Name, NameFault>
 }
 
 // Whether the bytes are UTF-8.
-#[tactic(auto, using(small_types::proofs::Spelling::spelled, small_types::proofs::Spelling::unspelled))]
+#[tactic(auto, using(small_types::proofs::Spelled::spelled, small_types::proofs::Spelled::unspelled))]
 fn is_text(bytes: &[u8]) -> bool
     ensures { result ≡ is_utf8 bytes.now }
 {

@@ -21,9 +21,9 @@ use Rattle.identity.specs.Printed.{text_cmp}
 use Rattle.manifests.specs.declared.facts.FileEntry.{FileEntry}
 use Rattle.manifests.specs.Applications.{is_below_pre}
 use Rattle.machine.specs.Migrated.{aside, is_fresh, stays}
-use Rattle.machine.proofs.Entering.{order}
+use Rattle.machine.proofs.EntryOrder.{order}
 use Rattle.machine.proofs.Keys.{equal_texts}
-use Rattle.machine.proofs.Mapping.{flat_map_in, pairs_unmap}
+use Rattle.machine.proofs.ChangedLists.{flat_map_in, pairs_unmap}
 use Rattle.machine.proofs.Members.{In, all_in, contains_in, in_all, in_map, pairs_head, pairs_map, pairs_tail}
 use Rattle.machine.proofs.Names.{aside_below, outside_test}
 use Rattle.store_state.specs.declared.view.LocalFile.{LocalFile}
@@ -31,7 +31,7 @@ use Rattle.data_migration.specs.declared.plan.LocalPlan.{LocalPlan}
 use Rattle.data_migration.specs.declared.plan.LocalPlan.TheVariants.{Copy, Fresh}
 use Rattle.data_migration.specs.Migration.{AreApart, deployed_files}
 use Rattle.data_migration.specs.Plans.{carried, carried_to, local_names, plan_name, planned}
-use Rattle.data_migration.proofs.Planning.{IsNew, IsOld, carried_in, comes, fresh_plans, new_plan, news, old_plan, olds, stay}
+use Rattle.data_migration.proofs.PlanNames.{IsNew, IsOld, carried_in, comes, fresh_plans, new_plan, news, old_plan, olds, stay}
 
 -- ---- pairs
 

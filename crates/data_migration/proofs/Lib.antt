@@ -1,7 +1,7 @@
 pub mod Apart
-pub mod Joining
-pub mod Making
-pub mod Planning
-pub mod Reading
-pub mod Stepping
-pub mod Tabling
+pub mod AsideNames
+pub mod GrownTables
+pub mod ListLoops
+pub mod MadeFiles
+pub mod PlanNames
+pub mod TablePlans

@@ -1,13 +1,11 @@
 -- Which data files plans make, and when they are those of a new version.
 use Rattle.std.specs.Prelude.{◌≡◌, ◌≢◌, ◌≤◌, ◌⊎◌, ℕ, List, [], All, AllPairs, Contains, bytes_eq, filter, find, length, map, Option, Some, None}
 use Rattle.small_types.specs.declared.limits.TheConstants.{LOCAL_NAME_LIMIT}
-use Rattle.small_types.specs.declared.room.Room.{Room}
 use Rattle.small_types.specs.Name.{IsBelowPre}
 use Rattle.manifests.specs.declared.facts.FileEntry.{FileEntry}
 use Rattle.machine.specs.Migrated.{Migrated, aside}
 use Rattle.machine.specs.Views.{DataFile, ListedFile}
 use Rattle.store_state.specs.declared.view.LocalFile.{LocalFile}
-use Rattle.store_state.specs.Shows.{shown_data}
 use Rattle.data_migration.specs.declared.plan.LocalPlan.{LocalPlan}
 use Rattle.data_migration.specs.declared.plan.LocalPlan.TheVariants.{Copy, Fresh}
 use Rattle.data_migration.specs.Plans.{local_names}
@@ -64,12 +62,11 @@ made old originals (Fresh name) = record { name = name; bytes = listed_bytes ori
 abbrev pub applied : List DataFile → List ListedFile → List LocalPlan → List DataFile
 applied old originals plans = map (made old originals) plans
 
--- On each disk, and whatever bytes the new release deploys, the plans make the data files of the new
--- version.
+-- Whatever bytes the old data files have, and the ones that the new release deploys, the plans make the
+-- data files of the new version.
 abbrev pub IsMigration :
     List LocalFile → List FileEntry → List FileEntry → List LocalPlan → Type 0
-IsMigration old old_files new_files plans = (room : Room) (image : List ℕ)
-    (originals : List ListedFile) → AreApart old new_files
+IsMigration old old_files new_files plans = (files : List DataFile) (originals : List ListedFile)
+    → map (λ file. file.name) files ≡ local_names old → AreApart old new_files
     → map (λ file. file.entry) originals ≡ deployed_files new_files
-    → Migrated (map (shown_data room image) old) old_files new_files originals
-    (applied (map (shown_data room image) old) originals plans)
+    → Migrated files old_files new_files originals (applied files originals plans)

@@ -184,6 +184,8 @@ pub fn migrate(
     ensures once { IfOk result (λ plans. AreApart old.now new_files.now
         → AllPairs (λ p q. text_cmp (plan_name p) (plan_name q) ≡ Less) plans) }
     ensures sources { IfOk result (All (HasSource old.now new_files.now)) }
+    ensures planned { IfOk result
+        (IsPermutation (planned old.now old_files.now new_files.now)) }
 {
     let mut plans = plans_of(
         alloc,

@@ -1,8 +1,9 @@
-pub mod Answering
-pub mod Composing
 pub mod Keys
+pub mod Looks
+pub mod NewStore
 pub mod Pairs
+pub mod RunLine
+pub mod RunParts
 pub mod ShownViews
-pub mod Starting
-pub mod Touching
+pub mod Touches
 pub mod Urls

@@ -1,5 +1,5 @@
 -- The files of the views, as tables have them and as the store that they show has them.
-use Rattle.std.proofs.Common.{◌≡◌, ◌+◌, ◌<◌, ◌++◌, ◌∙◌, ℕ, Bool, false, List, [], ◌∷◌, length, take, get_or, map, Some, None, Result, Ok, Err, IfOk, IsTrue, refl, sym, ap, subst}
+use Rattle.std.proofs.Common.{◌≡◌, ◌+◌, ◌<◌, ◌++◌, ◌∙◌, ℕ, false, List, [], ◌∷◌, length, take, get_or, map, Some, None, refl, sym, ap, subst}
 use Rattle.std.proofs.lemmas.List.{map-append, take_more}
 use Rattle.std.proofs.lemmas.List.Elements.{All-map, filter-append}
 use Rattle.std.proofs.lemmas.Simd.{map-map}
@@ -12,29 +12,24 @@ use Rattle.machine.specs.Views.{View as KeptView}
 use Rattle.store_state.specs.declared.view.Content.{Content}
 use Rattle.store_state.specs.declared.view.View.{View}
 use Rattle.store_state.specs.Contents.{content_of}
+use Rattle.store_state.specs.Stored.{content_bytes}
 use Rattle.store_state.specs.Shows.{Shows, bytes_in, shown_file, shown_view}
 use Rattle.store_state.specs.Tables.{Tables}
 use Rattle.generated_release.specs.Files.{file_below, file_bytes, file_name, files_to, generated_files}
-use Rattle.generated_release.proofs.Growing.{files_more}
-use Rattle.demo.specs.Kept.{IsGenerated, KeepsGenerated, TablesKeep, held_in, held_of, standing_of}
+use Rattle.generated_release.proofs.Repeats.{files_more}
+use Rattle.demo.specs.Kept.{IsGenerated, IsProgramFile, KeepsGenerated, TablesKeep, held_in, held_of, standing_of}
 
 -- ---- one file
 
--- what an answer says has a consequence
-pub where_so : {E P Q : Type 0} (result : Result Bool E) → (P → Q)
-    → IfOk result (λ same. IsTrue same → P) → IfOk result (λ same. IsTrue same → Q)
-where_so (Ok same) then so = λ yes. then (so yes)
-where_so (Err e) then so = tt
-
 pub generated : (room : Room) (image : List ℕ) (contents : List Content) (seed version file : ℕ)
-    (entry : FileEntry) (content : Content) → entry.local ≡ false → entry.group ≡ None
-    → entry.name ≡ file_name file
-    → Some content ≡ content_of contents entry → content.held ≡ file_bytes seed version file
+    (entry : FileEntry) (content : Content) → IsProgramFile file entry
+    → Some content ≡ content_of contents entry
+    → content_bytes room image content ≡ file_bytes seed version file
     → IsGenerated (held_in room image contents) seed version file entry
-generated room image contents seed version file entry content program alone named found bytes =
+generated room image contents seed version file entry content named found bytes =
     record {
-      program = program;
-      alone = alone;
+      program = named.program;
+      alone = named.alone;
       is =
           let there : bytes_in room image (content_of contents entry) ≡ file_bytes seed version file =
           ap (bytes_in room image) (sym found) ∙ bytes in
@@ -45,7 +40,7 @@ generated room image contents seed version file entry content program alone name
             bytes = bytes_in room image
                 (content_of contents entry);
           })
-          named in
+          named.named in
           let second : record {
             name = file_name file;
             bytes = bytes_in room image

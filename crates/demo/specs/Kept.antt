@@ -10,7 +10,7 @@ use Rattle.store_state.specs.declared.view.View.{View}
 use Rattle.store_state.specs.Contents.{content_of}
 use Rattle.store_state.specs.Shows.{bytes_in}
 use Rattle.store_state.specs.Tables.{Tables}
-use Rattle.generated_release.specs.Files.{file_below, generated_files}
+use Rattle.generated_release.specs.Files.{file_below, file_name, generated_files}
 
 -- ---- in a store
 
@@ -35,6 +35,12 @@ standing_of groups files =
 abbrev pub held_in : Room → List ℕ → List Content → FileEntry → Held
 held_in room image contents entry =
     record { name = entry.name; bytes = bytes_in room image (content_of contents entry) }
+
+-- a program file in no group that has the name of the generated one
+pub record IsProgramFile (file : ℕ) (entry : FileEntry) : Type 0 where
+  pub program : entry.local ≡ false
+  pub alone : entry.group ≡ None
+  pub named : entry.name ≡ file_name file
 
 -- the file stands whatever groups do, and is the generated one
 pub record IsGenerated (held : FileEntry → Held) (seed version file : ℕ) (entry : FileEntry)

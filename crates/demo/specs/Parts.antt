@@ -1,7 +1,9 @@
 -- What the parts of a generated run do.
-use Rattle.std.specs.Prelude.{◌≡◌, ◌≢◌, ◌≤◌, ℕ, [], ◌∷◌, None, Result, Err, IfOk}
+use Rattle.std.specs.Prelude.{◌≡◌, ◌≢◌, ◌≤◌, ℕ, Bool, List, [], ◌∷◌, None, Result, Err, IfOk, IsTrue}
+use Rattle.small_types.specs.declared.room.Room.{Room}
 use Rattle.outside.specs.Streams.{Rose}
 use Rattle.disks.specs.declared.disk.Disk.{Ghosts}
+use Rattle.disks.specs.Moments.{Untouched}
 use Rattle.links.specs.declared.links.Links.{Ghosts as LinksGhosts}
 use Rattle.machine.specs.declared.command.Command.{Command}
 use Rattle.machine.specs.declared.event.Heard.{Heard}
@@ -58,6 +60,15 @@ pub record Goes {D T : Type 0} (on : Ghosts D) (P : T → Session → Session �
     (disk_new : D) : Type 0 where
   pub leads : on.tells disk_new → (old : Session) → Holds on updater_old disk_old old
       → Sound old.store → IfOk result (λ x. ReachesHeld on (P x old) updater_new disk_new)
+  pub touches : Touches on disk_old result disk_new
+
+-- A look at kept files. The disk is only read. Where it tells, and the answer is true, P holds of the
+-- room of each session that is held and of the bytes that reads give.
+pub record Looks {D : Type 0} (on : Ghosts D) (P : Room → List ℕ → Type 0) (updater : Updater)
+    (disk_old : D) (result : Result Bool DemoFault) (disk_new : D) : Type 0 where
+  pub same : on.tells disk_new → (session : Session) → Holds on updater disk_old session
+      → IfOk result (λ same. IsTrue same → P session.store.room (on.seen disk_old))
+  pub still : Untouched on disk_old disk_new
   pub touches : Touches on disk_old result disk_new
 
 -- a new store was made and opened

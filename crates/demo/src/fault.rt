@@ -10,7 +10,7 @@ use std::fmt;
 
 /// What a line of the run asks for.
 #[derive(Clone, Copy, Debug, PartialEq, Eq)]
-pub enum Asked {
+pub enum DemoLine {
     /// The install of the release.
     Install { release: GeneratedRelease },
     /// The launch of the application.
@@ -21,13 +21,13 @@ pub enum Asked {
     Finish,
 }
 
-impl fmt::Display for Asked {
+impl fmt::Display for DemoLine {
     fn fmt<W: fmt::Write>(&self, f: &mut fmt::Formatter<W>) -> fmt::Result {
         match self {
-            Asked::Install { release } => write!(f, "install {}", release.number()),
-            Asked::Launch => write!(f, "launch"),
-            Asked::Clean => write!(f, "clean"),
-            Asked::Finish => write!(f, "finish"),
+            DemoLine::Install { release } => write!(f, "install {}", release.number()),
+            DemoLine::Launch => write!(f, "launch"),
+            DemoLine::Clean => write!(f, "clean"),
+            DemoLine::Finish => write!(f, "finish"),
         }
     }
 }
@@ -44,7 +44,7 @@ pub enum DemoFault {
     /// The publisher refuses the generated files of the release.
     NotPublished { release: GeneratedRelease },
     /// A line was answered otherwise than it must be. These are the first words of its answer.
-    Answered { asked: Asked, came: &'static str },
+    Answered { asked: DemoLine, came: &'static str },
     /// The install of the release heard other texts than were published.
     OtherTexts { release: GeneratedRelease },
     /// A file that is kept is not the generated one.

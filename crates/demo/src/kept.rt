@@ -1,18 +1,24 @@
 // Whether the kept views have the generated files.
-ghost use Rattle.std.specs.Prelude.{◌≡◌, ◌<◌, ℕ, List, All, map, IfOk, IsTrue};
+ghost use Rattle.std.specs.Prelude.{◌≡◌, ◌<◌, ℕ, List, All, Contains, map, IsTrue};
 ghost use Rattle.std.specs.Option.{option_copied};
-ghost use Rattle.small_types.specs.declared.room.Room.{Room};
 ghost use Rattle.machine.specs.Views.{same_digest};
 ghost use Rattle.store_state.specs.Contents as spec;
+ghost use Rattle.store_state.specs.Stored.{content_bytes};
+ghost use Rattle.updater.specs.Updater.{tables_of};
+ghost use Rattle.demo.specs.Parts.{Looks};
 ghost use Rattle.generated_release.specs.Files.{file_bytes as file_text, generated_files};
-ghost use Rattle.demo.specs.Kept.{HasGenerated, IsGenerated, TablesKeep, held_in, standing_of};
+ghost use Rattle.demo.specs.Kept.{HasGenerated, IsGenerated, IsProgramFile, TablesKeep, held_in, standing_of};
 ghost use lib.Pointwise.{pointwise};
 
+use crate::DemoFault;
 use digest_list::Digest;
+use disks::Disk;
 use generated_release::{FILE_COUNT, file_bytes, file_name};
 use manifests::FileEntry;
+use outside::Failed;
 use std::alloc::{AllocError, Global};
-use store_state::{Content, StoreState, View};
+use store_state::{Content, View};
+use updater::Updater;
 
 // Whether the digests are equal.
 fn is_same_digest(a: &Digest, b: &Digest) -> bool
@@ -52,126 +58,143 @@ fn find_content<'a>(contents: &'a [Content], entry: &FileEntry) -> Option<&'a Co
         .find(|content| is_content_of(entry, content))
 }
 
-// Whether the bytes are those of the generated file.
-fn are_bytes_of(
+// Whether the content has the bytes of the generated file.
+fn has_bytes_of<D: Disk>(
     alloc: Global,
+    updater: &Updater,
+    disk: &mut D,
     seed: u64,
     version: u16,
     file: u64,
-    bytes: &[u8],
-) -> Result<bool, AllocError>
-    ensures { IfOk result (λ same. IsTrue same → bytes.now ≡ file_text seed version file) }
+    content: &Content,
+) -> Result<bool, DemoFault>
+    requires { Contains (tables_of updater.now).contents content.now }
+    ensures { Looks D.Disk (λ room image. content_bytes room image content.now
+        ≡ file_text seed version file) updater.now disk.old result disk.new }
 {
-    let made = file_bytes(alloc, seed, version, file)?;
-    Ok(bytes == made.as_slice())
+    let made = match file_bytes(alloc, seed, version, file) {
+        Ok(made) => made,
+        Err(AllocError) => return Err(DemoFault::Memory),
+    };
+    match updater.has_content(disk, content, made.as_slice()) {
+        Ok(same) => Ok(same),
+        Err(Failed) => Err(DemoFault::DiskFault),
+    }
+}
+
+// Whether the file is a program file in no group that has the name of the generated one.
+fn is_named(file: u64, entry: &FileEntry) -> bool
+    requires { file < 1000 }
+    ensures { IsTrue result → IsProgramFile file entry.now }
+{
+    if entry.local {
+        return false;
+    }
+    if entry.group.is_some() {
+        return false;
+    }
+    entry.name.as_bytes() == file_name(file).as_slice()
 }
 
 // Whether the file is a program file in no group that has the name and the bytes of the generated
 // one.
-fn is_generated(
+fn is_generated<D: Disk>(
     alloc: Global,
+    updater: &Updater,
+    disk: &mut D,
     seed: u64,
     version: u16,
-    contents: &[Content],
     file: u64,
     entry: &FileEntry,
-) -> Result<bool, AllocError>
+) -> Result<bool, DemoFault>
     requires { file < 1000 }
-    ensures { (room : Room) (image : List ℕ) → IfOk result (λ same. IsTrue same
-        → IsGenerated (held_in room image contents.now) seed version file entry.now) }
+    ensures { Looks D.Disk (λ room image. IsGenerated (held_in room image
+        (tables_of updater.now).contents) seed version file entry.now) updater.now disk.old result
+        disk.new }
 {
-    if entry.local {
+    if !is_named(file, entry) {
         return Ok(false);
     }
-    if entry.group.is_some() {
-        return Ok(false);
-    }
-    if entry.name.as_bytes() != file_name(file).as_slice() {
-        return Ok(false);
-    }
-    match find_content(contents, entry) {
-        Some(content) => are_bytes_of(alloc, seed, version, file, content.held.as_slice()),
+    match find_content(updater.state().contents.as_slice(), entry) {
+        Some(content) => has_bytes_of(alloc, updater, disk, seed, version, file, content),
         None => Ok(false),
     }
 }
 
 // Whether the files are the generated ones of the version, in order.
-fn are_generated(
+fn are_generated<D: Disk>(
     alloc: Global,
+    updater: &Updater,
+    disk: &mut D,
     seed: u64,
     version: u16,
-    contents: &[Content],
     files: &[FileEntry],
-) -> Result<bool, AllocError>
-    ensures { (room : Room) (image : List ℕ) → IfOk result (λ same. IsTrue same
-        → (groups : List (List ℕ))
-        → map (held_in room image contents.now) (standing_of groups files.now)
-        ≡ generated_files seed version) }
+) -> Result<bool, DemoFault>
+    ensures { Looks D.Disk (λ room image. (groups : List (List ℕ))
+        → map (held_in room image (tables_of updater.now).contents) (standing_of groups files.now)
+        ≡ generated_files seed version) updater.now disk.old result disk.new }
 {
     if files.len() != FILE_COUNT as usize {
         return Ok(false);
     }
     for file in 0..FILE_COUNT {
         let entry = &files[file as usize];
-        if !is_generated(alloc, seed, version, contents, file, entry)? {
-            return Ok(false);
+        match is_generated(alloc, updater, disk, seed, version, file, entry) {
+            Ok(true) => {}
+            Ok(false) => return Ok(false),
+            Err(fault) => return Err(fault),
         }
     }
     Ok(true)
 }
 
 // Whether the files of the view are the generated ones of its version.
-fn has_generated(
+fn has_generated<D: Disk>(
     alloc: Global,
+    updater: &Updater,
+    disk: &mut D,
     seed: u64,
-    contents: &[Content],
     view: &View,
-) -> Result<bool, AllocError>
-    ensures { (room : Room) (image : List ℕ) → IfOk result (λ same. IsTrue same
-        → HasGenerated room image seed contents.now view.now) }
+) -> Result<bool, DemoFault>
+    ensures { Looks D.Disk (λ room image. HasGenerated room image seed
+        (tables_of updater.now).contents view.now) updater.now disk.old result disk.new }
 {
     let version = view.deployment.identity.version.a;
-    are_generated(
-        alloc,
-        seed,
-        version,
-        contents,
-        view.application.files.as_slice(),
-    )
+    let files = view.application.files.as_slice();
+    are_generated(alloc, updater, disk, seed, version, files)
 }
 
 // Whether those of each view are.
-fn each_has_generated(
+fn each_has_generated<D: Disk>(
     alloc: Global,
+    updater: &Updater,
+    disk: &mut D,
     seed: u64,
-    contents: &[Content],
     views: &[View],
-) -> Result<bool, AllocError>
-    ensures { (room : Room) (image : List ℕ) → IfOk result (λ same. IsTrue same
-        → All (HasGenerated room image seed contents.now) views.now) }
+) -> Result<bool, DemoFault>
+    ensures { Looks D.Disk (λ room image. All (HasGenerated room image seed
+        (tables_of updater.now).contents) views.now) updater.now disk.old result disk.new }
 {
     for view in views {
-        if !has_generated(alloc, seed, contents, view)? {
-            return Ok(false);
+        match has_generated(alloc, updater, disk, seed, view) {
+            Ok(true) => {}
+            Ok(false) => return Ok(false),
+            Err(fault) => return Err(fault),
         }
     }
     Ok(true)
 }
 
-/// Whether the files of each view are the generated ones of its version. It fails only for want of
-/// memory.
-pub(crate) fn keeps_generated(
+/// Whether the files of each view are the generated ones of its version. `DiskFault`: the disk failed.
+/// `Memory`: there was none.
+pub(crate) fn keeps_generated<D: Disk>(
     alloc: Global,
     seed: u64,
-    state: &StoreState,
-) -> Result<bool, AllocError>
-    ensures { (room : Room) (image : List ℕ) → IfOk result (λ same. IsTrue same
-        → TablesKeep room image seed state.now) }
+    updater: &Updater,
+    disk: &mut D,
+) -> Result<bool, DemoFault>
+    ensures { Looks D.Disk (λ room image. TablesKeep room image seed (tables_of updater.now))
+        updater.now disk.old result disk.new }
 {
-    each_has_generated(
-        alloc,
-        seed,
-        state.contents.as_slice(),
-        state.views.as_slice(),
-    )
+    each_has_generated(alloc, updater, disk, seed, updater.state().views.as_slice())
 }

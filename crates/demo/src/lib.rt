@@ -10,6 +10,6 @@ mod site;
 mod summary;
 mod words;
 
-pub use fault::{Asked, DemoFault};
-pub use run::{STORE_BLOCKS, demo};
+pub use fault::{DemoFault, DemoLine};
+pub use run::{STORE_BLOCKS, demo, store_blocks_are};
 pub use summary::{Installed, Summary};

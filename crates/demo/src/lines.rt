@@ -11,7 +11,7 @@ ghost use Rattle.demo.specs.Steps.{Cleans, Finishes, Installs, IsSite, Launches}
 
 use crate::site::Site;
 use crate::words::words_of;
-use crate::{Asked, DemoFault, Installed};
+use crate::{DemoFault, DemoLine, Installed};
 use disks::Disk;
 use fetcher::FolderLink;
 use folders::MemFolder;
@@ -64,11 +64,13 @@ fn answer_once<D: Disk, L: Links>(
     ensures { CommandReplies D.Disk L.Links command updater.old disk.old links.old result
         updater.new disk.new links.new }
 {
-    answer(alloc, disk, links, updater, &command)
+    let said = answer(alloc, disk, links, updater, &command);
+    drop(command);
+    said
 }
 
 // The fault of a line that is answered so, and not as it must be.
-fn other_answer(asked: Asked, reply: &Reply) -> DemoFault
+fn other_answer(asked: DemoLine, reply: &Reply) -> DemoFault
     ensures { IsNeitherFault result }
 {
     let came = words_of(reply);
@@ -122,7 +124,7 @@ fn ask_install<D: Disk, L: Links>(
         links.old result updater.new disk.new links.new }
 {
     match Bytes::from_slice(alloc, release.url()) {
-        Ok(url) => answer(alloc, disk, links, updater, &Command::Install { url }),
+        Ok(url) => answer_once(alloc, Command::Install { url }, disk, links, updater),
         Err(AllocError) => Err(DemoFault::Memory),
     }
 }
@@ -137,7 +139,7 @@ fn judge_install(
     ensures fault { IfErr result IsNeitherFault }
 {
     if !is_installed(&said.1, &site.key, release) {
-        return Err(other_answer(Asked::Install { release }, &said.1));
+        return Err(other_answer(DemoLine::Install { release }, &said.1));
     }
     if !are_texts(said.0.texts.as_slice(), &site.deployment, &site.application) {
         return Err(DemoFault::OtherTexts { release });
@@ -154,7 +156,9 @@ fn as_published(
     ensures published { OnOk result (IsAsPublished said release site.now) }
     ensures fault { IfErr result IsNeitherFault }
 {
-    judge_install(&said, release, site)
+    let judged = judge_install(&said, release, site);
+    drop(said);
+    judged
 }
 
 /// Installs the release from its site. It has the next number, and hears what was published.
@@ -201,7 +205,7 @@ fn judge_launch(reply: &Reply) -> Result<(), DemoFault>
     ensures fault { IfErr result IsNeitherFault }
 {
     if !is_leased(reply) {
-        return Err(other_answer(Asked::Launch, reply));
+        return Err(other_answer(DemoLine::Launch, reply));
     }
     Ok(())
 }
@@ -211,7 +215,9 @@ fn leased(said: (Heard, Reply)) -> Result<(), DemoFault>
     ensures leased { OnOk result (said.1 ≡ says.Lease 1 (version_of releases.One) false) }
     ensures fault { IfErr result IsNeitherFault }
 {
-    judge_launch(&said.1)
+    let judged = judge_launch(&said.1);
+    drop(said);
+    judged
 }
 
 // Asks for the launch of the application.
@@ -265,7 +271,7 @@ fn judge_clean(reply: &Reply, count: u64) -> Result<(), DemoFault>
     ensures fault { IfErr result IsNeitherFault }
 {
     if !is_cleaned(reply, count) {
-        return Err(other_answer(Asked::Clean, reply));
+        return Err(other_answer(DemoLine::Clean, reply));
     }
     Ok(())
 }
@@ -275,7 +281,9 @@ fn cleaned(said: (Heard, Reply), count: u64) -> Result<(), DemoFault>
     ensures cleaned { OnOk result (said.1 ≡ says.Cleaned count) }
     ensures fault { IfErr result IsNeitherFault }
 {
-    judge_clean(&said.1, count)
+    let judged = judge_clean(&said.1, count);
+    drop(said);
+    judged
 }
 
 /// Takes away the views that are not in use, which are so many.
@@ -311,7 +319,7 @@ fn judge_finish(reply: &Reply) -> Result<(), DemoFault>
     ensures fault { IfErr result IsNeitherFault }
 {
     if !is_finished(reply) {
-        return Err(other_answer(Asked::Finish, reply));
+        return Err(other_answer(DemoLine::Finish, reply));
     }
     Ok(())
 }
@@ -321,7 +329,9 @@ fn finished(said: (Heard, Reply)) -> Result<(), DemoFault>
     ensures finished { OnOk result (said.1 ≡ says.Finished 1) }
     ensures fault { IfErr result IsNeitherFault }
 {
-    judge_finish(&said.1)
+    let judged = judge_finish(&said.1);
+    drop(said);
+    judged
 }
 
 /// Ends lease 1.

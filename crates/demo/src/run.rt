@@ -19,11 +19,16 @@ use disks::Disk;
 use generated_release::GeneratedRelease;
 use journal::LogFault;
 use small_types::new_room;
-use std::alloc::{AllocError, Global};
+use std::alloc::Global;
 use updater::{RecoverFault, Updater};
 
 /// How many blocks the store has.
 pub const STORE_BLOCKS: u64 = 65_536;
+
+/// The number of blocks.
+pub fn store_blocks_are()
+    ensures { STORE_BLOCKS ≡ 65_536 }
+{}
 
 // The number of the boot with which the store is opened.
 const BOOT: u64 = 1;
@@ -190,10 +195,10 @@ fn live<D: Disk>(
         Ok(installed) => installed,
         Err(fault) => return Err(fault),
     };
-    match keeps_generated(alloc, seed, updater.state()) {
+    match keeps_generated(alloc, seed, updater, disk) {
         Ok(true) => {}
         Ok(false) => return Err(DemoFault::OtherFiles),
-        Err(AllocError) => return Err(DemoFault::Memory),
+        Err(fault) => return Err(fault),
     }
     Ok(Summary {
         seed,

@@ -5,7 +5,7 @@ use Rattle.std.proofs.lemmas.List.Elements.{All-cons, All-nil}
 use Rattle.file_store.specs.Stores.{AreUsed, SameRange, draft_blocks, blocks_of_all, filled_of, free_of, draft_size}
 use Rattle.file_store.specs.declared.draft.Draft.{Draft}
 use Rattle.file_store.specs.declared.store.FileStore.{FileStore}
-use Rattle.file_store.proofs.Using.{used_more}
+use Rattle.file_store.proofs.UsedBlocks.{used_more}
 
 pub both_whole : (drafts : List Draft) (first second : Draft) → drafts ≡ first ∷ second ∷ [] → filled_of first ≡ draft_size first → filled_of second ≡ draft_size second → All (λ draft. filled_of draft ≡ draft_size draft) drafts
 both_whole drafts first second is one two =

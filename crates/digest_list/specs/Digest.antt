@@ -3,7 +3,7 @@ use Rattle.std.specs.Prelude.{◌≡◌, ℕ, Bool, true, false, List, length, f
 use Rattle.base64.specs.declared.decode.DecodeError.{DecodeError}
 use Rattle.base64.specs.Engines.{standard}
 use Rattle.base64.specs.GeneralPurpose.{decode_of}
-use Rattle.small_types.specs.Reading.{GivesBut}
+use Rattle.small_types.specs.Outcome.{GivesBut}
 use Rattle.digest_list.specs.declared.algorithm.Algorithm.{Algorithm}
 use Rattle.digest_list.specs.declared.digest.Digest.{Digest}
 use Rattle.digest_list.specs.declared.digest.DigestFault.{DigestFault}

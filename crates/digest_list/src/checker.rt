@@ -5,9 +5,9 @@ ghost use Rattle.digest_list.specs.Difference.{AreDistinct, difference_of};
 ghost use Rattle.digest_list.specs.Hashers.{sum_of};
 ghost use Rattle.digest_list.specs.Matches.{Matches};
 
+use crate::comparison::first_wrong;
+use crate::digest_room::DigestRoom;
 use crate::hashers::{Hashers, Sums};
-use crate::matching::first_wrong;
-use crate::room::Room;
 use crate::{Difference, Digest, DigestList};
 use small_types::{CopyFault, Duplicate};
 use std::alloc::Global;
@@ -22,11 +22,11 @@ pub struct Checker {
     count: u64,
     hashers: Hashers,
     // For the digest that a difference shows, so that `finish` takes no memory.
-    room: Room,
+    room: DigestRoom,
 }
 
 // The digest at that place beside the one that was made.
-fn difference_at(listed: DigestList, place: usize, sums: &Sums, room: Room) -> Difference
+fn difference_at(listed: DigestList, place: usize, sums: &Sums, room: DigestRoom) -> Difference
     requires { place < length listed }
     ensures { (d : Digest) → slice_get listed place ≡ Some d
         → result ≡ Difference.Digest d.algorithm d.value (sum_of sums.now d.algorithm) }
@@ -47,7 +47,7 @@ impl Checker {
         ensures count { IfOk result (λ c. count_of c ≡ 0) }
     {
         let listed = list.copy(alloc)?;
-        let room = Room::new(alloc)?;
+        let room = DigestRoom::new(alloc)?;
         let hashers = Hashers::new(list.as_slice());
         Ok(Checker {
             listed,

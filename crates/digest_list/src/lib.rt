@@ -3,16 +3,16 @@
 
 mod algorithm;
 mod checker;
+mod comparison;
 mod difference;
 mod digest;
+mod digest_room;
 mod hashers;
 mod list;
-mod matching;
-mod room;
 
 pub use algorithm::Algorithm;
 pub use checker::Checker;
+pub use comparison::{difference_of, matches};
 pub use difference::Difference;
 pub use digest::{Digest, DigestFault};
 pub use list::DigestList;
-pub use matching::{difference_of, matches};

@@ -1,6 +1,6 @@
 pub mod Books
 pub mod MomentLemmas
+pub mod NextAnswer
+pub mod NextCall
 pub mod OutsideLemmas
 pub mod PieceLemmas
-pub mod Recording
-pub mod Replaying

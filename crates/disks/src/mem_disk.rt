@@ -111,8 +111,8 @@ impl Disk for MemDisk {
 
     ghost moment = { λ m. m.calls };
 
-    ghost left_at = { λ m t c. IsImage (first_of m.history) (first_of m.history) (until t m.history.moves.items)
-        c };
+    ghost left_at = { λ m t c. IsImage (first_of m.history) (first_of m.history)
+        (until t m.history.moves.items) c };
 
     ghost total = { λ m. m.written };
 

@@ -9,7 +9,7 @@ ghost use Rattle.outside.specs.Streams.{Appends};
 ghost use Rattle.links.specs.Basket.{BasketCounts};
 ghost use Rattle.links.specs.declared.basket.BasketFault.TheVariants.{Failed};
 ghost use Rattle.draft_basket.specs.Basket.{ArePast, ReadsWhole, Turned, held_bytes};
-ghost use Rattle.draft_basket.specs.Turning.{turned_on, turned_same};
+ghost use Rattle.draft_basket.specs.Turned.{turned_on, turned_same};
 
 use call_record::Record;
 use disks::Disk;

@@ -2,7 +2,7 @@
 use crate::made::{bytes, failing, same};
 use connections::{Door, MemDoor};
 use folders::{Folder, Held, MemFolder, are_distinct};
-use plain_host::{Room, ServeFault, Served, serve_connection, serve_in_room};
+use plain_host::{HostRoom, ServeFault, Served, serve_connection, serve_in_room};
 use small_types::{Bytes, List, Name};
 use std::alloc::{AllocError, Global};
 use std::test::Fail;
@@ -48,7 +48,7 @@ fn serve_next_in_room<G: Door, F: Folder>(
     alloc: Global,
     door: &mut G,
     folder: &mut F,
-    room: &mut Room,
+    room: &mut HostRoom,
 ) -> Result<Served, ServeFault> {
     let Ok(()) = door.accept() else {
         return Err(ServeFault::ReadFault);
@@ -321,7 +321,7 @@ fn next_length(
     alloc: Global,
     door: &mut MemDoor,
     folder: &mut MemFolder,
-    room: &mut Room,
+    room: &mut HostRoom,
 ) -> usize {
     let _ = serve_next_in_room(alloc, door, folder, room);
     sent_length(door)
@@ -329,7 +329,7 @@ fn next_length(
 
 // How much of the answers to three requests is sent, where one call of the door fails.
 fn sent_lengths(alloc: Global, failing: u64) -> Result<[usize; 3], AllocError> {
-    let mut room = Room::new(alloc);
+    let mut room = HostRoom::new(alloc);
     let mut folder = two_files(alloc)?;
     let mut door = door_of_three(alloc, failing)?;
     let mut lengths = [0; 3];

@@ -11,10 +11,10 @@ use Rattle.links.specs.Links.{LinksState, Remain, count_there, is_there, link_at
 use Rattle.links.proofs.Numbers.{known_at, numbers_apart, there_at}
 use Rattle.causes.specs.declared.cause.Cause.{Cause}
 use Rattle.fetcher.specs.Causes.{AreCauses}
-use Rattle.fetcher.specs.Fetched.{AllTell, AreGiven, AreQuiet, Asked, IsOfLink, Kept, KeptAll, NoneGave, became}
+use Rattle.fetcher.specs.Fetched.{AllTell, AreGiven, AreQuiet, WasAsked, IsOfLink, Kept, KeptAll, NoneGave, became}
 use Rattle.fetcher.specs.Given.{Given, IsOfSite}
 use Rattle.fetcher.specs.Stopped.{Moves}
-use Rattle.fetcher.proofs.Moving.{Wanted, remain_then, stays_same, stays_then}
+use Rattle.fetcher.proofs.KeptLinks.{Wanted, remain_then, stays_same, stays_then}
 use Rattle.fetcher.proofs.Reasons.{CauseOf, IsKind}
 use Rattle.fetcher.proofs.Sequence.{kept_then}
 
@@ -99,7 +99,7 @@ all_stay a b same remain links = record {
 -- each of them has its cause, and those from the place on are as they were
 pub record Refused (IsCause : CauseOf) (target : Target) (place : ℕ) (old now : LinksState)
     (causes : List Cause) : Type 0 where
-  pub asked : Asked target old now
+  pub asked : WasAsked target old now
   pub remain : Remain old now
   pub kept : Kept old now
   pub count : length causes ≡ place
@@ -148,7 +148,7 @@ module _ (IsCause : CauseOf) (Fits : List ℕ → Type 0) (target : Target)
         stays_then (link_at a k) (became a b k) (became a c k) (so.left k (omega arith) below)
         (others_stay k below (λ e. omega arith))
 
-    pub asked_on : Asked target a c
+    pub asked_on : WasAsked target a c
     asked_on = moves.only.asked ∙ so.asked
 
     pub remain_on : Remain a c

@@ -15,9 +15,9 @@ use Rattle.links.proofs.Numbers.{known_there, one_fewer}
 use Rattle.causes.specs.declared.cause.Cause.{Cause}
 use Rattle.causes.specs.declared.cause.Cause.TheVariants.{Down, Missing, TooLong, Differs}
 use Rattle.fetcher.specs.Causes.{IsFileCause}
-use Rattle.fetcher.specs.Fetched.{Asked, HasLied, IsAskedSince, IsOfLink, IsThis, Kept, KeptAll, KeptBut, OnlyLiarsWent, became, stays_for, without_liars}
+use Rattle.fetcher.specs.Fetched.{WasAsked, HasLied, IsAskedSince, IsOfLink, IsThis, Kept, KeptAll, KeptBut, OnlyLiarsWent, became, stays_for, without_liars}
 use Rattle.fetcher.specs.Stopped.{DropsLiar, DropsLiars, StaysAll, next_place}
-use Rattle.fetcher.proofs.Moving.{stays_same, stays_then}
+use Rattle.fetcher.proofs.KeptLinks.{stays_same, stays_then}
 use Rattle.fetcher.proofs.Reasons.{other_fits}
 use Rattle.fetcher.proofs.Sequence.{kept_then}
 
@@ -290,7 +290,7 @@ lied_by list size target a c (Differs d) lied is tells = site_bytes list size (a
 -- so only those went of the links that tell
 pub only_liars : (list : List Digest) (size : ℕ) (target : Target) (a d : LinksState)
     (bytes : List ℕ) (served : IsOfLink (IsFileCause list size target) target a d bytes)
-    → d.there ≡ without_liars served.causes a.there → Asked target a d
+    → d.there ≡ without_liars served.causes a.there → WasAsked target a d
     → OnlyLiarsWent (IsThis target list size) a d
 only_liars list size target a d bytes served left asked = λ n is gone tells.
     let went = went_by served.causes a.there n is

@@ -1,12 +1,12 @@
 pub mod Checked
-pub mod Ending
-pub mod Handing
+pub mod FetchEnds
+pub mod HandedBytes
 pub mod Histories
 pub mod InOrder
 pub mod InTurn
+pub mod KeptLinks
 pub mod Liars
-pub mod Moving
-pub mod Pouring
+pub mod Poured
 pub mod Reasons
 pub mod Sequence
 pub mod Shown

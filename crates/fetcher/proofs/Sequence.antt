@@ -10,7 +10,7 @@ use Rattle.links.proofs.Counted.{counted_later, counted_rose}
 use Rattle.links.proofs.Numbers.{known_there, there_at}
 use Rattle.fetcher.specs.Fetched.{AllTell, AreQuiet, Kept, KeptAll}
 use Rattle.fetcher.specs.Given.{Given, IsOfSite}
-use Rattle.fetcher.proofs.Moving.{keeps_same, keeps_then}
+use Rattle.fetcher.proofs.KeptLinks.{keeps_same, keeps_then}
 
 pub kept_same : (a : LinksState) → Kept a a
 kept_same a = record {

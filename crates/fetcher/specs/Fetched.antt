@@ -42,12 +42,12 @@ pub record AreQuietTo (place : ℕ) (old new : LinksState) : Type 0 where
   pub quiet : (k : ℕ) → k ≤ place → ¬ (Rose (link_at old k).count (became old new k).count)
 
 -- the target was asked for once
-abbrev pub Asked : Target → LinksState → LinksState → Type 0
-Asked target old new = new.asked ≡ old.asked ++ target ∷ []
+abbrev pub WasAsked : Target → LinksState → LinksState → Type 0
+WasAsked target old new = new.asked ≡ old.asked ++ target ∷ []
 
 -- or, for want of memory, not at all
 abbrev pub MayAsk : Target → LinksState → LinksState → Type 0
-MayAsk target old new = (new.asked ≡ old.asked) ⊎ Asked target old new
+MayAsk target old new = (new.asked ≡ old.asked) ⊎ WasAsked target old new
 
 -- the target was asked for since
 pub record IsAskedSince (target : Target) (old new : LinksState) : Type 0 where
@@ -128,7 +128,7 @@ AreGiven Fits target old new bytes =
 -- a text that was fetched; no link goes for it
 pub record IsText (limit : ℕ) (target : Target) (old new : LinksState) (bytes : List ℕ)
     : Type 0 where
-  pub asked : Asked target old new
+  pub asked : WasAsked target old new
   pub within : length bytes ≤ limit
   pub served : IsOfLink (IsTextCause limit target) target old new bytes
   pub enough : AreGiven (FitsText limit) target old new bytes
@@ -139,7 +139,7 @@ pub record IsText (limit : ℕ) (target : Target) (old new : LinksState) (bytes 
 -- before and gave other bytes are gone, and no other is.
 pub record IsFile (list : List Digest) (size : ℕ) (target : Target) (old new : LinksState)
     (tells : Type 0) (held : List ℕ) : Type 0 where
-  pub asked : Asked target old new
+  pub asked : WasAsked target old new
   pub bytes : List ℕ
   pub taken : tells → held ≡ bytes
   pub matches : Matches list size bytes
@@ -153,7 +153,7 @@ pub record IsFile (list : List Digest) (size : ℕ) (target : Target) (old new :
 -- link that has it is not quiet or is behind one that is not.
 pub record NoneGave (IsCause : LinkState → LinkState → Cause → Type 0) (Fits : List ℕ → Type 0)
     (target : Target) (old new : LinksState) (named : Target) (reasons : List Cause) : Type 0 where
-  pub asked : Asked target old new
+  pub asked : WasAsked target old new
   pub shown : named ≡ target
   pub remain : Remain old new
   pub causes : AreCauses IsCause old new reasons
@@ -170,7 +170,7 @@ IsTextFault limit target old new Memory = MayAsk target old new
 
 -- the count of the basket rose
 pub record BasketFailed (target : Target) (old new : LinksState) (before after : ℕ) : Type 0 where
-  pub asked : Asked target old new
+  pub asked : WasAsked target old new
   pub rose : Rose before after
 
 -- why no file was fetched, by the counts of the basket before and after

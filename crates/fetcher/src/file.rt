@@ -223,7 +223,8 @@ pub fn fetch_file<L: Links, B: Basket>(
     ensures remain { IfErr result (λ _. Remain (L.links links.old) (L.links links.new)) }
     ensures later { B.count basket.old ≤ B.count basket.new }
     ensures quiet { result ≢ Err BasketFault → B.count basket.new ≡ B.count basket.old }
-    ensures turned { Turns B.turns_to (size * sources_of (L.links links.old)) basket.old basket.new }
+    ensures turned { Turns B.turns_to (size * sources_of (L.links links.old))
+        basket.old basket.new }
     ensures idle { (L.links links.new).asked ≡ (L.links links.old).asked
         → Turns B.turns_to 0 basket.old basket.new }
 {

@@ -1,7 +1,7 @@
 // A content that is being written.
 ghost use Rattle.std.specs.Prelude.{◌≡◌, ◌≤◌, length};
 ghost use Rattle.small_types.specs.Blocks.{AreApart, count_for};
-ghost use Rattle.small_types.specs.declared.limits.TheConstants.{STORED_BLOCK_LIMIT};
+ghost use Rattle.small_types.specs.declared.limits.TheConstants.{BLOCK_LIMIT};
 
 use small_types::List;
 
@@ -14,7 +14,7 @@ pub struct Draft {
     pub(crate) filled: u64,
     ghost counted: { length blocks ≡ count_for size },
     ghost within: { filled ≤ size },
-    ghost few: { length blocks ≤ STORED_BLOCK_LIMIT },
+    ghost few: { length blocks ≤ BLOCK_LIMIT },
     ghost apart: { AreApart blocks },
 }
 

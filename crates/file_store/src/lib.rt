@@ -6,7 +6,7 @@ mod fault;
 mod laws;
 mod marks;
 mod piece;
-mod reading;
+mod read;
 mod store;
 
 pub use draft::Draft;

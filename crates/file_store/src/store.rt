@@ -4,19 +4,19 @@ ghost use Rattle.disks.specs.Disk.{Gives, Only};
 ghost use Rattle.disks.specs.Moments.{Each, LeavesOnly, Untouched};
 ghost use Rattle.disks.specs.Spends.{HasNoNumber, Spends};
 ghost use Rattle.small_types.specs.Blocks.{AreApart, IsContent, count_for};
-ghost use Rattle.small_types.specs.declared.limits.TheConstants.{STORED_BLOCK_LIMIT};
+ghost use Rattle.small_types.specs.declared.limits.TheConstants.{BLOCK_LIMIT};
 ghost use Rattle.file_store.specs.declared.fault.FileFault.TheVariants.{DiskFault, Full, Memory};
 ghost use Rattle.file_store.specs.Stretches.{AreNeighbours};
 ghost use Rattle.file_store.specs.Writes.{WritesOnly, touched};
 
 use crate::marks::{mark, unmarked};
 use crate::piece::write_bytes;
-use crate::reading::read_bytes;
+use crate::read::read_bytes;
 use crate::{Draft, FileFault};
 use disks::Disk;
 use outside::Failed;
 use small_types::List;
-use small_types::limits::{BLOCK_SIZE, STORED_BLOCK_LIMIT};
+use small_types::limits::{BLOCK_LIMIT, BLOCK_SIZE};
 use std::alloc::{AllocError, Global};
 
 /// Which blocks of a disk are free. The block with the number n is the 4,096 bytes from
@@ -27,7 +27,7 @@ pub struct FileStore {
     base: u64,
     // The last of them is handed out first.
     free: Vec<u32>,
-    ghost limit: { blocks ≤ STORED_BLOCK_LIMIT },
+    ghost limit: { blocks ≤ BLOCK_LIMIT },
     ghost base_limit: { base ≤ 2 ^ 62 },
     ghost room: { blocks ≤ vec_capacity free },
     ghost below: { All (λ block. block < blocks) free.items },
@@ -57,7 +57,7 @@ fn give_back(free: &mut Vec<u32>, blocks: &[u32])
 impl FileStore {
     ghost use Rattle.file_store.specs.Stores.{AreUsed, DraftHolds, SameRange, block_count, blocks_of_all, draft_blocks, draft_size, filled_of, free_of, store_base};
 
-    /// A store of this many blocks, 1 to `STORED_BLOCK_LIMIT`, from `base` on, of which these are
+    /// A store of this many blocks, 1 to `BLOCK_LIMIT`, from `base` on, of which these are
     /// in use. It makes the room for the numbers of all blocks, so no later call needs memory to
     /// give blocks back. `Memory`: there was none.
     pub fn new(
@@ -67,7 +67,7 @@ impl FileStore {
         taken: &List<u32>,
     ) -> Result<FileStore, FileFault>
         requires some { 1 ≤ blocks }
-        requires limit { blocks ≤ STORED_BLOCK_LIMIT }
+        requires limit { blocks ≤ BLOCK_LIMIT }
         requires base { base ≤ 2 ^ 62 }
         requires within { All (λ block. block < blocks) taken.now }
         requires apart { AreApart taken.now }

@@ -1,5 +1,5 @@
-pub mod Answering
-pub mod Filing
+pub mod HonestAnswers
 pub mod NameLists
 pub mod NameOrder
-pub mod Sorting
+pub mod PutFiles
+pub mod SortedNames

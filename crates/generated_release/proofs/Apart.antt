@@ -10,7 +10,7 @@ use Rattle.std.proofs.lemmas.List.Folds.{list_any-append}
 use Rattle.std.proofs.lemmas.Slice.Eq.{bytes_eq-Decides}
 use Rattle.folders.specs.declared.folder.Held.{Held}
 use Rattle.folders.specs.Files.{distinct, file_in, is_named}
-use Rattle.folders.proofs.Filing.{distinct_first, distinct_rest}
+use Rattle.folders.proofs.PutFiles.{distinct_first, distinct_rest}
 use Rattle.generated_release.specs.declared.release.GeneratedRelease.{GeneratedRelease}
 use Rattle.generated_release.specs.declared.release.GeneratedRelease.TheVariants.{One, Two, Three}
 use Rattle.generated_release.specs.Files.{file_below, file_name, files_to}

@@ -1,8 +1,8 @@
 pub mod Apart
-pub mod Growing
 pub mod Manifests
 pub mod Named
 pub mod Publishable
 pub mod Refusals
+pub mod Repeats
 pub mod Spelled
 pub mod Written

@@ -2,13 +2,13 @@
 use Rattle.std.proofs.Common.{◌≡◌, ◌∙◌, ◌++◌, ℕ, Bool, true, false, cond, List, [], ◌∷◌, map, Option, Some, None, Result, Ok, Err, refl, ap, subst}
 use Rattle.std.specs.Prelude.{find, is_some, option_map}
 use Rattle.std.proofs.lemmas.Slice.Eq.{bytes_eq-Decides}
-use Rattle.small_types.specs.Reading.{◌>>=◌}
+use Rattle.small_types.specs.Outcome.{◌>>=◌}
 use Rattle.folders.specs.declared.folder.Held.{Held}
 use Rattle.folders.specs.Files.{file_in, is_named}
 use Rattle.manifests.specs.declared.facts.FileEntry.{FileEntry}
 use Rattle.publish_plan.specs.declared.fault.PlanFault.{PlanFault}
 use Rattle.publish_plan.specs.declared.options.Options.{Options}
-use Rattle.publish_plan.specs.declared.options.Plan.{Plan}
+use Rattle.publish_plan.specs.declared.options.PublishPlan.{PublishPlan}
 use Rattle.publish_plan.specs.Early.{early_of}
 use Rattle.publish_plan.specs.Outcome.{unless}
 use Rattle.publish_plan.specs.Places.{deployment_name, manifest_name}
@@ -56,11 +56,11 @@ not_early : (early : Option PlanFault) (x : Unit {0}) → judged (unless early) 
 not_early None x is = refl
 not_early (Some fault) x is = absurd cc
 
-the_plan : (r : Result Plan PlanFault) (plan : Plan) → judged r ≡ Ok plan → r ≡ Ok plan
+the_plan : (r : Result PublishPlan PlanFault) (plan : PublishPlan) → judged r ≡ Ok plan → r ≡ Ok plan
 the_plan (Ok p) plan is = ap Ok (the_ok p plan is)
 the_plan (Err fault) plan is = absurd cc
 
-abbrev entered : Options → List Held → Plan → List FileEntry → Outcome (List Held)
+abbrev entered : Options → List Held → PublishPlan → List FileEntry → Outcome (List Held)
 entered o held plan entries = manifests_of o entries >>= λ release. Ok (published_files held plan release)
 
 abbrev planned_of : Options → List (List ℕ) → List Held → Unit {0} → Outcome (List Held)
@@ -70,7 +70,7 @@ pub record HasManifests (o : Options) (files : List Held) : Type 0 where
   pub deployment : has (deployment_name o) files ≡ true
   pub application : has (manifest_name o) files ≡ true
 
-in_files : (o : Options) (copies : List Held) (plan : Plan) (application deployment : List ℕ) → plan.manifest ≡ manifest_name o → plan.deployment ≡ deployment_name o
+in_files : (o : Options) (copies : List Held) (plan : PublishPlan) (application deployment : List ℕ) → plan.manifest ≡ manifest_name o → plan.deployment ≡ deployment_name o
     → HasManifests o (copies ++ record { name = plan.manifest; bytes = application } ∷ record { name = plan.deployment; bytes = deployment } ∷ [])
 in_files o copies plan application deployment manifest last =
     let first : Held = record { name = plan.manifest; bytes = application } in

@@ -56,7 +56,7 @@ fn line_of(alloc: Global, seed: u64, file: u64, change: u64) -> Result<String, A
 }
 
 // The bytes so many times, one after another.
-#[tactic(auto, using(crate::proofs::Growing::times_none, crate::proofs::Growing::times_more))]
+#[tactic(auto, using(crate::proofs::Repeats::times_none, crate::proofs::Repeats::times_more))]
 fn repeated(alloc: Global, count: u64, bytes: &[u8]) -> Result<Vec<u8>, AllocError>
     ensures { IfOk result (λ made. made.items ≡ spec.times count bytes.now) }
 {
@@ -108,7 +108,7 @@ fn input_file(alloc: Global, seed: u64, version: u16, file: u64) -> Result<Held,
 }
 
 /// The files of the version, below the folder `in`.
-#[tactic(auto, using(crate::proofs::Growing::files_none, crate::proofs::Growing::files_more))]
+#[tactic(auto, using(crate::proofs::Repeats::files_none, crate::proofs::Repeats::files_more))]
 pub(crate) fn input_files(alloc: Global, seed: u64, version: u16) -> Result<List<Held>, AllocError>
     ensures { IfOk result (λ files. files ≡ spec.input_files seed version) }
 {

@@ -5,7 +5,7 @@ ghost use Rattle.host_cli.specs.Run.{AcceptsOne, AcceptsAsking, CountsRun, Hosts
 
 use connections::Door;
 use folders::Folder;
-use plain_host::{Room, ServeFault, serve_in_room};
+use plain_host::{HostRoom, ServeFault, serve_in_room};
 use std::alloc::Global;
 
 /// Why a run ended early.
@@ -22,7 +22,7 @@ fn host_one<F: Folder, G: Door>(
     alloc: Global,
     folder: &mut F,
     door: &mut G,
-    room: &mut Room,
+    room: &mut HostRoom,
 ) -> Result<(), RunFault>
     ensures one { G.tells → OnOk result (AcceptsOne (G.accepted door.old) (G.accepted door.new)) }
     ensures fate { G.tells → F.tells → OnOk result (HostsOne (F.held folder.old)
@@ -76,7 +76,7 @@ pub(crate) fn host_many<F: Folder, G: Door>(
         (G.count door.old) (G.count door.new) (F.count folder.old) (F.count folder.new) }
     ensures held { F.tells → F.held folder.new ≡ F.held folder.old }
 {
-    let mut room = Room::new(alloc);
+    let mut room = HostRoom::new(alloc);
     for _made in 0..count {
         if let Err(fault) = host_one(alloc, folder, door, &mut room) {
             return Err(fault);

@@ -14,7 +14,7 @@ use Rattle.http_plain.specs.Sites.{file_named}
 use Rattle.http_plain.proofs.Determined.{one_outcome}
 use Rattle.http_plain.proofs.Requested.{fetches}
 use Rattle.links.specs.declared.link.LinkFault.{LinkFault}
-use Rattle.http_link.specs.Hearing.{IsHeard, heard}
+use Rattle.http_link.specs.WireAsks.{IsHeard, heard}
 use Rattle.http_link.specs.Laws.{GivesBytes, GivesFile}
 
 -- what the answer gives is what the link answers

@@ -9,7 +9,7 @@ use Rattle.http_plain.specs.HostsAreFolders.{IsPlain}
 use Rattle.http_plain.specs.Served.{Serves}
 use Rattle.http_plain.specs.Sites.{served}
 use Rattle.links.specs.declared.link.LinkFault.{LinkFault}
-use Rattle.http_link.specs.Hearing.{IsHeard, heard}
+use Rattle.http_link.specs.WireAsks.{IsHeard, heard}
 
 -- what the answer gives is what the link answers
 abbrev pub AnswersAreHeard : Type 0

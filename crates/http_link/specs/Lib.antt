@@ -1,5 +1,5 @@
 pub mod Counts
-pub mod Hearing
 pub mod Laws
 pub mod Pieces
 pub mod States
+pub mod WireAsks

@@ -4,7 +4,7 @@ ghost use Rattle.connections.specs.Wire.{Made, all_sent};
 ghost use Rattle.links.specs.declared.history.LinkCall.TheVariants.{Asked};
 ghost use Rattle.links.specs.declared.link.LinkFault.TheVariants.{Memory as no_memory};
 ghost use Rattle.outside.specs.Streams.{Consumes, total};
-ghost use Rattle.http_link.specs.Hearing.{fault_of, is_memory as lacks_memory, is_refusal as refuses};
+ghost use Rattle.http_link.specs.WireAsks.{fault_of, is_memory as lacks_memory, is_refusal as refuses};
 
 use crate::reasons::{is_memory, is_refusal, link_fault};
 use crate::stream::receive_most;
@@ -121,7 +121,7 @@ impl<W: Wire + Drop> Link for HttpLink<W> {
     ghost use Rattle.links.specs.History.{calls_of};
     ghost use Rattle.links.specs.Link.{LinkState, Asks, Takes};
     ghost use Rattle.http_link.specs.Counts.{CountsAsk, Unraised};
-    ghost use Rattle.http_link.specs.Hearing.{AsksOverWire, Owes};
+    ghost use Rattle.http_link.specs.WireAsks.{AsksOverWire, Owes};
     ghost use Rattle.http_link.specs.Pieces.{GivesPiece, ReceivesAtMost, Stops};
     ghost use Rattle.http_link.specs.States.{OnlyNotes, body_left, coming, http_state, left_on, owed, tally};
 

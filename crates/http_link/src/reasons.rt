@@ -1,6 +1,6 @@
 // What a fault of an exchange is to a link.
 ghost use Rattle.std.specs.Prelude.{◌≡◌};
-ghost use Rattle.http_link.specs.Hearing.{fault_of, is_memory as lacks_memory, is_refusal as refuses};
+ghost use Rattle.http_link.specs.WireAsks.{fault_of, is_memory as lacks_memory, is_refusal as refuses};
 
 use http_plain::ExchangeFault;
 use links::LinkFault;

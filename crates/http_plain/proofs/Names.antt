@@ -6,7 +6,7 @@ use Rattle.std.proofs.lemmas.Bool.{cond-true, cond-false}
 use Rattle.small_types.specs.declared.limits.TheConstants.{NAME_LIMIT}
 use Rattle.small_types.specs.declared.name.NameFault.{NameFault}
 use Rattle.small_types.specs.Name.{name_text, is_name, name_of}
-use Rattle.small_types.proofs.Spelling.{no_long_name}
+use Rattle.small_types.proofs.Spelled.{no_long_name}
 
 -- bytes that spell a name give it
 pub name_known : (bytes : List ℕ) → IsTrue (is_name (name_text bytes)) → IsSome (result_ok (name_of bytes))

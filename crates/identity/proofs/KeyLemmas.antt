@@ -16,7 +16,7 @@ use Rattle.identity.specs.declared.key.KeyFault.{KeyFault}
 use Rattle.identity.specs.declared.key.KeyFault.TheVariants.{PartCount, BadPart}
 use Rattle.identity.specs.declared.escapes.TheConstants.{PART_ESCAPES, WORD_ESCAPES}
 use Rattle.small_types.specs.Cuts.{parts_between}
-use Rattle.small_types.specs.Reading.{◌>>=◌}
+use Rattle.small_types.specs.Outcome.{◌>>=◌}
 use Rattle.identity.specs.Key.{comma, is_unreserved, escaped, word_text, part_text, key_text, IsPart, IsKey, is_part, part_of, key_of_parts, key_of, Gives}
 use Rattle.identity.proofs.PartsLemmas.{HasNo, four_joined}
 

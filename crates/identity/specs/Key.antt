@@ -10,7 +10,7 @@ use Rattle.identity.specs.declared.key.Key.{Key}
 use Rattle.identity.specs.declared.key.KeyFault.{KeyFault}
 use Rattle.identity.specs.declared.key.KeyFault.TheVariants.{PartCount, BadPart, Memory}
 use Rattle.small_types.specs.Cuts.{parts_between}
-use Rattle.small_types.specs.Reading.{◌>>=◌, FailsBut, GivesBut}
+use Rattle.small_types.specs.Outcome.{◌>>=◌, FailsBut, GivesBut}
 
 -- `,`
 abbrev pub comma : ℕ

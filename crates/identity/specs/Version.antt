@@ -10,7 +10,7 @@ use Rattle.identity.specs.declared.version.Version.{Version}
 use Rattle.identity.specs.declared.version.VersionFault.{VersionFault}
 use Rattle.identity.specs.declared.version.VersionFault.TheVariants.{PartCount, NotDigits, TooLarge}
 use Rattle.small_types.specs.Cuts.{parts_between}
-use Rattle.small_types.specs.Reading.{◌>>=◌}
+use Rattle.small_types.specs.Outcome.{◌>>=◌}
 
 -- `.`
 abbrev pub dot : ℕ

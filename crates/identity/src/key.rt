@@ -92,7 +92,7 @@ fn decode_here(bytes: &[u8]) -> Option<ArrayVec<u8, NAME_LIMIT>>
 }
 
 // Whether the bytes are UTF-8.
-#[tactic(auto, using(small_types::proofs::Spelling::spelled, small_types::proofs::Spelling::unspelled))]
+#[tactic(auto, using(small_types::proofs::Spelled::spelled, small_types::proofs::Spelled::unspelled))]
 fn is_text(bytes: &[u8]) -> bool
     ensures { result ≡ is_utf8 bytes.now }
 {

@@ -4,4 +4,4 @@
 mod lines;
 mod manifest;
 
-pub use manifest::{End, INSPECTED_LIMIT, Kind, inspect, numbers_are};
+pub use manifest::{INSPECTED_LIMIT, InspectionEnd, Kind, inspect, numbers_are};

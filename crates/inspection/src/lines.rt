@@ -3,10 +3,10 @@ ghost use Rattle.std.specs.Prelude.{◌≡◌, ◌≢◌, ◌↔◌, Err, IfOk, 
 ghost use Rattle.manifests.specs.Deployments.{deployment_of};
 ghost use Rattle.manifests.specs.Applications.{application_of};
 ghost use Rattle.manifest_text.specs.Lines.{deployment_text, application_text, refusal_text};
-ghost use Rattle.inspection.specs.declared.manifest.End.TheVariants as ends;
+ghost use Rattle.inspection.specs.declared.manifest.InspectionEnd.TheVariants as ends;
 ghost use Rattle.inspection.specs.Inspection.{SaysFor, Says};
 
-use crate::manifest::{End, Kind};
+use crate::manifest::{InspectionEnd, Kind};
 use manifest_text::{write_application, write_deployment, write_refusal};
 use manifests::{ManifestFault, read_application, read_deployment};
 use small_types::{Bytes, PrintFault};
@@ -20,7 +20,7 @@ fn is_want(fault: &ManifestFault) -> bool
 }
 
 // The line of a refusal. Want of memory is none.
-fn refused(alloc: Global, fault: &ManifestFault) -> Result<(Bytes, End), PrintFault>
+fn refused(alloc: Global, fault: &ManifestFault) -> Result<(Bytes, InspectionEnd), PrintFault>
     ensures refusal { IfOk result (λ x. (fault.now ≢ ManifestFault.Memory)
         × (x.0 ≡ refusal_text fault.now) × (x.1 ≡ ends.Refused)) }
     ensures want { fault.now ≡ ManifestFault.Memory → result ≡ Err PrintFault.Memory }
@@ -30,10 +30,10 @@ fn refused(alloc: Global, fault: &ManifestFault) -> Result<(Bytes, End), PrintFa
     }
     let mut out = Bytes::from_vec(Vec::new(alloc));
     write_refusal(alloc, &mut out, fault)?;
-    Ok((out, End::Refused))
+    Ok((out, InspectionEnd::Refused))
 }
 
-fn deployment_lines(alloc: Global, bytes: &[u8]) -> Result<(Bytes, End), PrintFault>
+fn deployment_lines(alloc: Global, bytes: &[u8]) -> Result<(Bytes, InspectionEnd), PrintFault>
     ensures { IfOk result (λ x. SaysFor deployment_of deployment_text bytes.now x.0 x.1) }
 {
     match read_deployment(alloc, bytes) {
@@ -43,12 +43,12 @@ fn deployment_lines(alloc: Global, bytes: &[u8]) -> Result<(Bytes, End), PrintFa
             let written = write_deployment(alloc, &mut out, &deployment);
             drop(deployment);
             written?;
-            Ok((out, End::Done))
+            Ok((out, InspectionEnd::Done))
         }
     }
 }
 
-fn application_lines(alloc: Global, bytes: &[u8]) -> Result<(Bytes, End), PrintFault>
+fn application_lines(alloc: Global, bytes: &[u8]) -> Result<(Bytes, InspectionEnd), PrintFault>
     ensures { IfOk result (λ x. SaysFor application_of application_text bytes.now x.0 x.1) }
 {
     match read_application(alloc, bytes) {
@@ -58,13 +58,17 @@ fn application_lines(alloc: Global, bytes: &[u8]) -> Result<(Bytes, End), PrintF
             let written = write_application(alloc, &mut out, &application);
             drop(application);
             written?;
-            Ok((out, End::Done))
+            Ok((out, InspectionEnd::Done))
         }
     }
 }
 
 // What is said of the bytes, and how that ends.
-pub(crate) fn lines_of(alloc: Global, kind: Kind, bytes: &[u8]) -> Result<(Bytes, End), PrintFault>
+pub(crate) fn lines_of(
+    alloc: Global,
+    kind: Kind,
+    bytes: &[u8],
+) -> Result<(Bytes, InspectionEnd), PrintFault>
     ensures { IfOk result (λ x. Says kind bytes.now x.0 x.1) }
 {
     match kind {

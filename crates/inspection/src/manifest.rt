@@ -1,7 +1,7 @@
 // Inspecting a manifest.
 ghost use Rattle.std.specs.Prelude.{◌≡◌, ◌≢◌, ◌⊎◌, ◌≤◌, drop};
 ghost use Rattle.outside.specs.Streams.{Rose, TakesAtMost};
-ghost use Rattle.inspection.specs.declared.manifest.End.TheVariants as ends;
+ghost use Rattle.inspection.specs.declared.manifest.InspectionEnd.TheVariants as ends;
 ghost use Rattle.inspection.specs.Inspection.{exit_status, Inspects};
 
 use crate::lines::lines_of;
@@ -19,7 +19,7 @@ pub enum Kind {
 
 /// How inspecting ends.
 #[derive(Clone, Copy, Debug, PartialEq, Eq)]
-pub enum End {
+pub enum InspectionEnd {
     /// The facts were written.
     Done,
     /// The manifest is refused, and the refusal was written.
@@ -32,17 +32,17 @@ pub enum End {
     Memory,
 }
 
-impl End {
+impl InspectionEnd {
     /// The exit status: 0 done, 7 refused, 2 the source failed, 3 the sink, 6 no memory.
     pub fn code(self) -> u8
         ensures { result ≡ exit_status self }
     {
         match self {
-            End::Done => 0,
-            End::Refused => 7,
-            End::SourceFault => 2,
-            End::SinkFault => 3,
-            End::Memory => 6,
+            InspectionEnd::Done => 0,
+            InspectionEnd::Refused => 7,
+            InspectionEnd::SourceFault => 2,
+            InspectionEnd::SinkFault => 3,
+            InspectionEnd::Memory => 6,
         }
     }
 }
@@ -58,7 +58,12 @@ pub fn numbers_are()
 /// Reads a manifest of the kind from the source, at most 4,194,305 bytes however it ends, and writes what it says to
 /// the sink, or why it is refused. Where the source fails, or memory runs out, nothing is written. A fault of the
 /// source or of the sink is told as such: any other answer leaves its count of faults.
-pub fn inspect<S: Source, K: Sink>(alloc: Global, kind: Kind, source: &mut S, sink: &mut K) -> End
+pub fn inspect<S: Source, K: Sink>(
+    alloc: Global,
+    kind: Kind,
+    source: &mut S,
+    sink: &mut K,
+) -> InspectionEnd
     ensures says { Inspects kind S.tells K.tells (S.left source.old) (K.taken sink.old)
         (K.taken sink.new) result }
     ensures left { S.tells
@@ -77,15 +82,15 @@ pub fn inspect<S: Source, K: Sink>(alloc: Global, kind: Kind, source: &mut S, si
 {
     let bytes = match read_all(alloc, source, INSPECTED_LIMIT) {
         Ok(bytes) => bytes,
-        Err(ReadFault::Failed) => return End::SourceFault,
-        Err(ReadFault::Memory) => return End::Memory,
+        Err(ReadFault::Failed) => return InspectionEnd::SourceFault,
+        Err(ReadFault::Memory) => return InspectionEnd::Memory,
     };
     let (lines, how) = match lines_of(alloc, kind, bytes.as_slice()) {
         Ok(said) => said,
-        Err(PrintFault::Memory) => return End::Memory,
+        Err(PrintFault::Memory) => return InspectionEnd::Memory,
     };
     let Ok(()) = write_all(sink, lines.as_slice()) else {
-        return End::SinkFault;
+        return InspectionEnd::SinkFault;
     };
     how
 }

@@ -27,62 +27,18 @@ use Rattle.store_state.specs.declared.view.LocalFile.{LocalFile}
 use Rattle.store_state.specs.declared.view.View.{View}
 use Rattle.store_state.specs.Change.{IsLocal}
 use Rattle.store_state.specs.Locals.{outside_locals}
-use Rattle.store_state.specs.Rows.{current_row}
+use Rattle.store_state.specs.Rows.{current_row, row_files, row_locals}
 use Rattle.store_state.specs.Shows.{Shows, shown_data, shown_view}
 use Rattle.store_state.specs.Tables.{Tables}
 use Rattle.data_migration.specs.declared.plan.LocalPlan.{LocalPlan}
 use Rattle.data_migration.specs.declared.plan.LocalPlan.TheVariants.{Copy, Fresh}
-use Rattle.data_migration.specs.Migration.{AreApart, applied, deployed_files, made}
+use Rattle.data_migration.specs.Migration.{AreApart, deployed_files}
 use Rattle.data_migration.specs.Plans.{local_names, plan_name}
-use Rattle.install_plan.specs.Carried.{ArePlans, Rise, row_files, row_locals}
-use Rattle.install_plan.specs.Changes.{local_of, made_locals}
-use Rattle.install_plan.specs.Held.{given_data}
+use Rattle.install_plan.specs.Carried.{ArePlans, Rise}
+use Rattle.install_plan.specs.Changes.{HaveMade}
 use Rattle.install_plan.proofs.Currents.{current_shown}
 use Rattle.install_plan.proofs.Keyed.{flat_map_in, pairs_before}
 use Rattle.install_plan.proofs.Planned.{current_in, one_outside}
-
--- ---- the files that plans make
-
-module _ (old : List LocalFile) (originals : List ListedFile) where
-  abbrev make : LocalPlan → LocalFile
-  make plan = local_of (made (map given_data old) originals plan)
-
-  made_name : (plan : LocalPlan) → (make plan).name ≡ plan_name plan
-  made_name (Copy from to) = refl
-  made_name (Fresh name) = refl
-
-  made_back : (plan : LocalPlan) → made (map given_data old) originals plan ≡ given_data (make plan)
-  made_back (Copy from to) = refl
-  made_back (Fresh name) = refl
-
-  pub made_shown : (plans : List LocalPlan) → applied (map given_data old) originals plans ≡ map given_data (made_locals old originals plans)
-  made_shown [] = refl
-  made_shown (plan ∷ plans) =
-      ap (λ (file : DataFile). file ∷ applied (map given_data old) originals plans) (made_back plan)
-      ∙ ap (λ (files : List DataFile). given_data (make plan) ∷ files) (made_shown plans)
-
-  -- they stand in order
-  pub made_order : (plans : List LocalPlan) → Rise plans → AllPairs (λ (f g : LocalFile). text_cmp f.name g.name ≡ Less) (made_locals old originals plans)
-  made_order plans rise = pairs_map make (λ (p q : LocalPlan). text_cmp (plan_name p) (plan_name q) ≡ Less) (λ (f g : LocalFile). text_cmp f.name g.name ≡ Less) plans
-      (λ p q less. subst (λ (n : List ℕ). text_cmp n (make q).name ≡ Less) (sym (made_name p)) (subst (λ (n : List ℕ). text_cmp (plan_name p) n ≡ Less) (sym (made_name q)) less)) rise
-
-  -- as many are outside `.pre` as the plans say
-  pub made_outside : (plans : List LocalPlan) → outside_locals (made_locals old originals plans) ≡ count_by (λ (p : LocalPlan). not (is_below_pre (plan_name p))) plans
-  made_outside plans =
-      sum_map make (λ (file : LocalFile). one_outside file.name) plans
-      ∙ sum_agree (λ (p : LocalPlan). one_outside (make p).name) (λ (p : LocalPlan). one_outside (plan_name p)) plans
-      (in_all (λ (p : LocalPlan). one_outside (make p).name ≡ one_outside (plan_name p)) plans (λ p there. ap one_outside (made_name p)))
-
-  -- each has a name within its limit, where the plans have
-  pub made_are : (plans : List LocalPlan) → ((p : LocalPlan) → In p plans → IsName (plan_name p) × (¬ IsBelowPre (plan_name p) → length (plan_name p) ≤ LOCAL_NAME_LIMIT)) → All IsLocal (made_locals old originals plans)
-  made_are plans each = in_all IsLocal (made_locals old originals plans) (λ file there.
-      let of = map_in make plans file there in
-      let is = each of.0 of.1 in
-      subst IsLocal of.2 (record {
-        name = subst IsName (sym (made_name of.0)) is.0;
-        short = subst (λ (n : List ℕ). ¬ IsBelowPre n → length n ≤ LOCAL_NAME_LIMIT) (sym (made_name of.0)) is.1;
-        measured = refl;
-      }))
 
 -- ---- their names
 
@@ -121,6 +77,10 @@ module _ (old : List LocalFile) (old_files : List FileEntry) (a : Application) (
 
 -- ---- the view that was current, in the store that is shown
 
+shown_names : (room : Room) (image : List ℕ) (files : List LocalFile) → map (λ (file : DataFile). file.name) (map (shown_data room image) files) ≡ local_names files
+shown_names room image [] = refl
+shown_names room image (file ∷ files) = ap (λ (ns : List (List ℕ)). file.name ∷ ns) (shown_names room image files)
+
 pub data_shown : (room : Room) (image : List ℕ) (contents : List Content) (row : Option View) → data_of (option_map (shown_view room image contents) row) ≡ map (shown_data room image) (row_locals row)
 data_shown room image contents None = refl
 data_shown room image contents (Some view) = refl
@@ -155,10 +115,12 @@ module _ (room : Room) (tables : Tables) (image : List ℕ) (store : Store) (sho
     }
 
     -- the data files that the plans make are those of the new version
-    pub migrated : (plans : List LocalPlan) → ArePlans row a.files plans → (originals : List ListedFile) → map (λ (file : ListedFile). file.entry) originals ≡ deployed_files a.files
-        → Migrated (data_of (current_view key store)) (listed_by (current_view key store)) a.files originals (map (shown_data room image) (made_locals (row_locals row) originals plans))
-    migrated plans are originals deployed =
-        subst (λ (old : List DataFile). Migrated old (listed_by (current_view key store)) a.files originals (map (shown_data room image) (made_locals (row_locals row) originals plans))) (sym data_are)
-        (subst (λ (files : List FileEntry). Migrated (map (shown_data room image) (row_locals row)) files a.files originals (map (shown_data room image) (made_locals (row_locals row) originals plans))) (sym files_are)
-        (subst (λ (new : List DataFile). Migrated (map (shown_data room image) (row_locals row)) (row_files row) a.files originals new) (made_shown (row_locals row) originals plans)
-        (are.migrated room image originals apart deployed)))
+    pub migrated : (plans : List LocalPlan) → ArePlans row a.files plans → (originals : List ListedFile) → map (λ (file : ListedFile). file.entry) originals ≡ deployed_files a.files → (locals : List LocalFile)
+        → HaveMade room image (row_locals row) originals plans locals
+        → Migrated (data_of (current_view key store)) (listed_by (current_view key store)) a.files originals (map (shown_data room image) locals)
+    migrated plans are originals deployed locals have =
+        let shown = map (shown_data room image) (row_locals row) in
+        subst (λ (old : List DataFile). Migrated old (listed_by (current_view key store)) a.files originals (map (shown_data room image) locals)) (sym data_are)
+        (subst (λ (files : List FileEntry). Migrated shown files a.files originals (map (shown_data room image) locals)) (sym files_are)
+        (subst (λ (new : List DataFile). Migrated shown (row_files row) a.files originals new) (sym have)
+        (are.migrated shown originals (shown_names room image (row_locals row)) apart deployed)))

@@ -31,8 +31,8 @@ use Rattle.machine.specs.Rows.{PassesAll, Refuses}
 use Rattle.machine.specs.Shape.{Shape, shape_of}
 use Rattle.machine.specs.Store.{Session, Store}
 use Rattle.machine.proofs.CheckFacts.{unheard_keys}
-use Rattle.machine.proofs.Finding.{some_there, then_value}
-use Rattle.machine.proofs.Raising.{minimum_raised}
+use Rattle.machine.proofs.FirstFound.{some_there, then_value}
+use Rattle.machine.proofs.RaisedMinimums.{minimum_raised}
 use Rattle.machine.proofs.ReadDeployments.{deployment_read}
 use Rattle.store_state.specs.declared.change.Change.{Change}
 use Rattle.store_state.specs.declared.change.Change.TheVariants as change
@@ -40,8 +40,8 @@ use Rattle.store_state.specs.declared.view.View.{View}
 use Rattle.store_state.specs.Rows.{current_row, row_at}
 use Rattle.store_state.specs.Shows.{Shows}
 use Rattle.store_state.specs.Tables.{Tables, table_shape}
-use Rattle.store_state.proofs.Checking.{shows_heard, shows_unheard, version_shown}
-use Rattle.store_state.proofs.Showing.{shape_shown}
+use Rattle.store_state.proofs.CheckedApps.{shows_heard, shows_unheard, version_shown}
+use Rattle.store_state.proofs.ShownTables.{shape_shown}
 use Rattle.links.specs.Links.{LinksState}
 use Rattle.fetcher.specs.Causes.{IsTextCause}
 use Rattle.fetcher.specs.Fetched.{KeptAll, MayAsk, NoneGave}
@@ -50,7 +50,7 @@ use Rattle.install_plan.specs.declared.check.Offered.{Offered}
 use Rattle.install_plan.specs.declared.prepared.Prepared.{Prepared}
 use Rattle.install_plan.specs.declared.prepared.Prepared.TheVariants as to
 use Rattle.install_plan.specs.Checks.{IsCheckOver, IsCheckReady, IsMissed, IsNoted, IsUnmissed, IsUnnoted, MissesTo, NotesTo, checked_of, heard_of, is_missing}
-use Rattle.install_plan.specs.Hearing.{IsFront}
+use Rattle.install_plan.specs.InstallHeard.{IsFront}
 use Rattle.install_plan.specs.Offers.{IsNoOffer, IsOfOther, IsOffer, OfferHearing, OfferServed}
 use Rattle.install_plan.specs.Prepared.{IsCheckPrepared}
 use Rattle.install_plan.specs.Stages.{IsGot, IsNotRead, StopsOne}
@@ -226,8 +226,8 @@ module _ (room : Room) (tables : Tables) (key : Key) (now : ℕ)
             (unheard_refuses old);
         served = served_by old image idle shows [] missing unserved;
         leaves = record {
-          leads = leads_over image (λ first later had same there.
-              shows_unheard room tables key first later old.store had same);
+          leads = leads_over (λ later same there.
+              shows_unheard room tables key image later old.store shows same);
           other = differs old image idle shows [] unheard_app unheard_keys other;
         };
       };
@@ -386,8 +386,8 @@ module _ (room : Room) (tables : Tables) (key : Key) (now : ℕ)
                   (done old image idle shows);
               served = served_by old image idle shows (text ∷ []) (checked_of offered app) served;
               leaves = record {
-                leads = leads_over image (λ first later had same there. shows_heard room tables key have
-                    d.identity.version d.minimum now first later old.store had same version_is);
+                leads = leads_over (λ later same there. shows_heard room tables key have
+                    d.identity.version d.minimum now image later old.store shows same version_is);
                 other = differs old image idle shows (text ∷ []) (heard_of offered) keeps other;
               };
             };
@@ -478,7 +478,6 @@ module _ (room : Room) (tables : Tables) (key : Key) (now : ℕ)
           → IsCheckPrepared room tables key texts a b now result
       heard_to (to.Change made due) noted = ready_heard made due noted
       heard_to (to.Reply reply) unnoted = over_heard reply unnoted
-      heard_to to.DiskFault none = absurd none
 
     -- ---- none was heard
 
@@ -589,4 +588,3 @@ module _ (room : Room) (tables : Tables) (key : Key) (now : ℕ)
           → IsCheckPrepared room tables key texts a b now result
       missed_to (to.Change made due) missed = ready_by made due missed no.why
       missed_to (to.Reply other) unmissed = over_by other unmissed no.why
-      missed_to to.DiskFault none = absurd none

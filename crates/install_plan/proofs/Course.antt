@@ -24,7 +24,7 @@ use Rattle.links.specs.Links.{LinksState}
 use Rattle.fetcher.specs.Causes.{IsFileCause, IsTextCause}
 use Rattle.fetcher.specs.Fetched.{IsThis, KeptAll, KeptBut}
 use Rattle.fetcher.specs.Given.{FitsText}
-use Rattle.install_plan.specs.declared.plan.Plan.{Plan}
+use Rattle.install_plan.specs.declared.plan.InstallPlan.{InstallPlan}
 use Rattle.install_plan.specs.declared.plan.WantedFile.{WantedFile}
 use Rattle.install_plan.specs.Judges.{Refused, address_checks, deployment_checks, release_checks}
 use Rattle.install_plan.specs.Plans.{IsPlanned, IsRefused}
@@ -77,6 +77,6 @@ module _ {shape : Shape} {url : List ℕ} {a : LinksState} {none : List (List �
               → map (λ entry. file_target_of base d.mapped entry.name) (wanted shape.views app) ≡ map (λ file. Ok file.target) files
               → (target_of_text url ≡ Ok target → app_target_of target d.codebase ≡ Ok base → IsApplication app → PassesAll (release_checks url shape d app)) → IsPlanned shape url both a c (record { deployment = d; application = app; url = target; base = base; provider = provider; wanted = files })
           at_plan {provider = provider} {files = files} provided places targets last =
-              let plan : Plan = record { deployment = d; application = app; url = target; base = base; provider = provider; wanted = files } in
+              let plan : InstallPlan = record { deployment = d; application = app; url = target; base = base; provider = provider; wanted = files } in
               subst (λ (ts : List (List ℕ)). IsPlanned shape url ts a c plan) (sym (grown second.text second.noted (grown hears.text hears.noted empty)))
               (plan_end shape url target read a b one hears.text d hears.got hears.tells base joined passed c two second.text second.got app second.tells plan refl refl refl refl provided places (targets ∙ sym (oks files)) (last read joined (application_read second.text app second.tells)))

@@ -10,7 +10,7 @@ use Rattle.machine.specs.Entries.{entry_of}
 use Rattle.machine.specs.Store.{Store}
 use Rattle.machine.specs.Valid.{IsApp, Ordered}
 use Rattle.machine.specs.Views.{View as KeptView}
-use Rattle.machine.proofs.Finding.{find-map, value_of}
+use Rattle.machine.proofs.FirstFound.{find-map, value_of}
 use Rattle.machine.proofs.Leased.{current_kept, entry_in}
 use Rattle.machine.proofs.Members.{all_in}
 use Rattle.store_state.specs.declared.view.Content.{Content}

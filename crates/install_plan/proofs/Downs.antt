@@ -22,7 +22,7 @@ use Rattle.fetcher.proofs.Sequence.{failures_rose}
 use Rattle.install_plan.specs.Checks.{is_missing}
 use Rattle.install_plan.specs.Downs.{CountsDowns, SaysDown}
 use Rattle.install_plan.specs.GroupAsked.{LacksOfGroup}
-use Rattle.install_plan.specs.Hearing.{Accounts, LacksFile, LacksTarget, Served}
+use Rattle.install_plan.specs.InstallHeard.{Accounts, LacksFile, LacksTarget, InstallServed}
 use Rattle.install_plan.specs.Offers.{AccountsOffer, OfferServed}
 
 -- ---- a reply that names no target
@@ -109,7 +109,7 @@ module _ (before after : LinksState) (kept : Kept before after) where
 
 -- an install
 pub install_counts : (shape : Shape) (url : List ℕ) (texts : List (List ℕ))
-    (before after : LinksState) (reply : Reply) → Served shape url texts before after reply
+    (before after : LinksState) (reply : Reply) → InstallServed shape url texts before after reply
     → CountsDowns before after reply
 install_counts shape url texts before after reply served = record {
   rose = install_down before after served.hearing.kept.kept shape url texts served.hearing.asked reply

@@ -22,18 +22,18 @@ use Rattle.machine.specs.Rows.{AreExact, PassesAll, Refusal}
 use Rattle.machine.specs.Shape.{Shape}
 use Rattle.machine.specs.Store.{Session}
 use Rattle.machine.specs.Wanted.{wanted}
-use Rattle.machine.proofs.Choosing.{none_refuses}
+use Rattle.machine.proofs.FirstRefusal.{none_refuses}
 use Rattle.machine.proofs.InstallExact.{address_exact, deployment_exact, release_exact}
 use Rattle.machine.proofs.Moments.{refusal_moment}
 use Rattle.links.specs.Links.{LinksState}
 use Rattle.fetcher.specs.Causes.{IsFileCause, IsTextCause}
-use Rattle.fetcher.specs.Fetched.{Asked, IsThis, Kept, KeptAll, KeptBut, MayAsk}
+use Rattle.fetcher.specs.Fetched.{WasAsked, IsThis, Kept, KeptAll, KeptBut, MayAsk}
 use Rattle.fetcher.specs.Given.{FitsText}
 use Rattle.fetcher.proofs.Liars.{but_all, but_then, but_weaker}
 use Rattle.fetcher.proofs.Sequence.{all_same, kept_then}
-use Rattle.install_plan.specs.declared.plan.Plan.{Plan}
+use Rattle.install_plan.specs.declared.plan.InstallPlan.{InstallPlan}
 use Rattle.install_plan.specs.Given.{IsFrom, IsUngiven}
-use Rattle.install_plan.specs.Hearing.{Accounts, IsApplicationText, IsDeploymentText, IsFront, IsListedBy, Served}
+use Rattle.install_plan.specs.InstallHeard.{Accounts, IsApplicationText, IsDeploymentText, IsFront, IsListedBy, InstallServed}
 use Rattle.install_plan.specs.Judges.{Refused, address_checks, deployment_checks, release_checks}
 use Rattle.install_plan.specs.Plans.{IsPlanned, IsRefused, targets_of}
 use Rattle.install_plan.specs.Stages.{IsGot, IsNotGiven, IsNotRead, StopsOne}
@@ -50,7 +50,7 @@ module _ (shape : Shape) (url : List ℕ) (a : LinksState) where
   pub served_by : (texts : List (List ℕ)) (c : LinksState) (asked : List Target) (reply : Reply) → KeptBut (IsListedBy shape url texts) a c
       → IfSome (slice_get texts 0) (IsDeploymentText url a c) → IfSome (slice_get texts 1) (IsApplicationText url texts a c)
       → c.asked ≡ a.asked ++ asked → ((targets : List Target) → AsksInstall url texts shape targets → IsFront asked targets)
-      → Accounts shape url texts a c asked reply → Served shape url texts a c reply
+      → Accounts shape url texts a c asked reply → InstallServed shape url texts a c reply
   served_by texts c asked reply kept deployment application grown front accounts = record {
     hearing = record { kept = kept; deployment = deployment; application = application; asked = asked; grown = grown; front = front };
     accounts = accounts;
@@ -70,7 +70,7 @@ module _ (shape : Shape) (url : List ℕ) (a : LinksState) where
 pub record Ended (shape : Shape) (url : List ℕ) (texts : List (List ℕ)) (before after : LinksState) (reply : Reply) : Type 0 where
   pub hears : HearsRelease url shape texts
   pub refused : Refused (install_refusals url texts shape) reply
-  pub served : Served shape url texts before after reply
+  pub served : InstallServed shape url texts before after reply
 
 -- no refusal sets the moment
 still_of : (shape : Shape) (url : List ℕ) (texts : List (List ℕ)) (reply : Reply) → Refused (install_refusals url texts shape) reply → (now : ℕ) → moment_after now (Some reply) ≡ now
@@ -131,7 +131,7 @@ module _ (shape : Shape) (url : List ℕ) (target : Target) (read : target_of_te
   unheard : (reply : Reply) → MayAsk target a b → reply ≡ says.Memory → Ended shape url [] a b reply
   unheard reply may memory = record { hears = tt; refused = inl memory; served = at may }
     where
-      at : MayAsk target a b → Served shape url [] a b reply
+      at : MayAsk target a b → InstallServed shape url [] a b reply
       at (inl same) = served_by shape url a [] b [] reply (but_text []) tt tt (same ∙ none_more a.asked) (λ targets asks. (targets, refl)) (memory_accounts shape url [] a b [] reply memory)
       at (inr asked) = served_by shape url a [] b (target ∷ []) reply (but_text []) tt tt asked (front_one []) (memory_accounts shape url [] a b (target ∷ []) reply memory)
 
@@ -147,7 +147,7 @@ module _ (shape : Shape) (url : List ℕ) (target : Target) (read : target_of_te
       }
 
   module _ (text : List ℕ) (got : IsGot (FitsText MANIFEST_LIMIT) target a b text) where
-    noted : (reply : Reply) → Accounts shape url (text ∷ []) a b (target ∷ []) reply → Served shape url (text ∷ []) a b reply
+    noted : (reply : Reply) → Accounts shape url (text ∷ []) a b (target ∷ []) reply → InstallServed shape url (text ∷ []) a b reply
     noted reply accounts = served_by shape url a (text ∷ []) b (target ∷ []) reply (but_text (text ∷ [])) (target, read, got.from) tt got.asked (front_one (text ∷ [])) accounts
 
     no_room : (reply : Reply) → reply ≡ says.Memory → Ended shape url (text ∷ []) a b reply
@@ -252,16 +252,16 @@ module _ (shape : Shape) (url : List ℕ) (target : Target) (read : target_of_te
 
       -- only the deployment manifest is noted
       alone : (asked : List Target) (reply : Reply) → c.asked ≡ a.asked ++ asked → ((targets : List Target) → AsksInstall url (text ∷ []) shape targets → IsFront asked targets)
-          → Accounts shape url (text ∷ []) a c asked reply → Served shape url (text ∷ []) a c reply
+          → Accounts shape url (text ∷ []) a c asked reply → InstallServed shape url (text ∷ []) a c reply
       alone asked reply grown front accounts = served_by shape url a (text ∷ []) c asked reply (but_both []) deployment_text tt grown front accounts
 
-      asked_two : Asked base b c → c.asked ≡ a.asked ++ target ∷ base ∷ []
+      asked_two : WasAsked base b c → c.asked ≡ a.asked ++ target ∷ base ∷ []
       asked_two second = two_more a.asked b.asked c.asked target base got.asked second
 
       base_unheard : (reply : Reply) → MayAsk base b c → reply ≡ says.Memory → Ended shape url (text ∷ []) a c reply
       base_unheard reply may memory = record { hears = passes; refused = inl memory; served = at may }
         where
-          at : MayAsk base b c → Served shape url (text ∷ []) a c reply
+          at : MayAsk base b c → InstallServed shape url (text ∷ []) a c reply
           at (inl same) = alone (target ∷ []) reply (same ∙ got.asked) (front_one (text ∷ [])) (memory_accounts shape url (text ∷ []) a c (target ∷ []) reply memory)
           at (inr second) = alone (target ∷ base ∷ []) reply (asked_two second) (front_two []) (memory_accounts shape url (text ∷ []) a c (target ∷ base ∷ []) reply memory)
 
@@ -287,7 +287,7 @@ module _ (shape : Shape) (url : List ℕ) (target : Target) (read : target_of_te
         application_text = of_d (other ∷ []) (λ x. (t : Target) × (base_of url x ≡ Ok t) × IsFrom (Matches x.app_list x.app_size) t a c other)
             (base, base_is url d target (Ok base) read joined, got_from a b c one.kept two.kept one.remain (Matches d.app_list d.app_size) base other second.from)
 
-        noted_both : (reply : Reply) → Accounts shape url (text ∷ other ∷ []) a c (target ∷ base ∷ []) reply → Served shape url (text ∷ other ∷ []) a c reply
+        noted_both : (reply : Reply) → Accounts shape url (text ∷ other ∷ []) a c (target ∷ base ∷ []) reply → InstallServed shape url (text ∷ other ∷ []) a c reply
         noted_both reply accounts = served_by shape url a (text ∷ other ∷ []) c (target ∷ base ∷ []) reply (but_both (other ∷ [])) deployment_text application_text (asked_two second.asked) (front_two (other ∷ [])) accounts
 
         -- there was no memory behind them
@@ -343,7 +343,7 @@ module _ (shape : Shape) (url : List ℕ) (target : Target) (read : target_of_te
 
         -- ---- there is a plan
 
-        pub plan_end : (plan : Plan) → plan.deployment ≡ d → plan.application ≡ app → plan.url ≡ target → plan.base ≡ base
+        pub plan_end : (plan : InstallPlan) → plan.deployment ≡ d → plan.application ≡ app → plan.url ≡ target → plan.base ≡ base
             → IsProvidedBy target d.provider plan.provider → map (λ file. slice_get app.files file.place) plan.wanted ≡ map Some (wanted shape.views app)
             → map (λ entry. file_target_of base d.mapped entry.name) (wanted shape.views app) ≡ map Ok (targets_of plan)
             → PassesAll (release_checks url shape d app) → IsPlanned shape url (text ∷ other ∷ []) a c plan

@@ -7,7 +7,7 @@ use Rattle.std.proofs.lemmas.Option.{none-some, same_Some}
 use Rattle.identity.specs.declared.key.Key.{Key}
 use Rattle.machine.specs.declared.app.AppState.{AppState}
 use Rattle.machine.specs.Entries.{KeepsKeys, entry_at, entry_of, fresh, key_cmp, with_entry, with_entry_at}
-use Rattle.machine.proofs.Entering.{entry_of-with_entry}
+use Rattle.machine.proofs.EntryOrder.{entry_of-with_entry}
 
 module _ (key : Key) (f : AppState → AppState) (app : AppState) where
   stays_at : (o : Ordering) (first : AppState) (apps : List AppState)

@@ -12,7 +12,7 @@ use Rattle.machine.specs.Rows.{PassesAll, Refusal, Refuses}
 use Rattle.machine.specs.Shape.{Shape}
 use Rattle.machine.specs.Store.{Session, empty, plain_room, session_over}
 use Rattle.links.specs.Links.{LinksState}
-use Rattle.install_plan.specs.Hearing.{Accounts}
+use Rattle.install_plan.specs.InstallHeard.{Accounts}
 use Rattle.install_plan.specs.Judges.{Refused, address_checks}
 use Rattle.install_plan.proofs.Listed.{refused_left, refused_right}
 

@@ -11,7 +11,7 @@ use Rattle.links.specs.Links.{LinksState, Remain, is_there, link_at, number_at, 
 use Rattle.links.proofs.Numbers.{known_at}
 use Rattle.fetcher.specs.Fetched.{AreQuietTo, Kept, NoneGave, became}
 use Rattle.fetcher.specs.Given.{IsFirst}
-use Rattle.fetcher.proofs.Moving.{keeps_same}
+use Rattle.fetcher.proofs.KeptLinks.{keeps_same}
 use Rattle.fetcher.proofs.Sequence.{given_before, kept_then, quiet_first, quiet_second, site_before, tell_after}
 use Rattle.install_plan.specs.Given.{IsFrom, IsFromLeft, IsUngiven, narrowed}
 use Rattle.install_plan.proofs.Causes.{Follows, causes_from}

@@ -1,6 +1,7 @@
 -- What was fetched of the wanted files: the contents of program files, and the data files.
 use Rattle.std.proofs.Common.{◌≡◌, ◌∙◌, ◌&&◌, ◌++◌, ◌≤◌, inl, inr, refl, sym, ap, subst, ℕ, Bool, true, false, cond, not, List, [], ◌∷◌, length, map, All, Option, Result, Ok, arith}
 use Rattle.std.specs.Prelude.{filter, is_none}
+use Rattle.small_types.specs.declared.room.Room.{Room}
 use Rattle.small_types.specs.declared.target.Target.{Target}
 use Rattle.addresses.specs.declared.fault.UrlFault.{UrlFault}
 use Rattle.digest_list.specs.declared.digest.Digest.{Digest}
@@ -15,13 +16,13 @@ use Rattle.machine.specs.Wanted.{is_held, wanted, wanted_beside}
 use Rattle.machine.proofs.Members.{In, all_in, in_all}
 use Rattle.store_state.specs.declared.view.Content.{Content}
 use Rattle.store_state.specs.Contents.{held_key}
+use Rattle.store_state.specs.Stored.{content_bytes}
 use Rattle.links.specs.Links.{LinksState}
 use Rattle.install_plan.specs.Brought.{AreContentsFor, IsContentFor}
 use Rattle.install_plan.specs.Changes.{data_part, is_data, program_part}
 use Rattle.install_plan.specs.Given.{IsFromLeft}
-use Rattle.install_plan.specs.Held.{given_bytes}
-use Rattle.install_plan.proofs.Aligning.{count_for, oks, rest_is, somes, whole_for}
-use Rattle.install_plan.proofs.Sufficing.{IsWholeContent, wanted_required}
+use Rattle.install_plan.proofs.WantedPlaces.{count_for, oks, rest_is, somes, whole_for}
+use Rattle.install_plan.proofs.InstallContents.{IsWholeContent, wanted_required}
 
 -- ---- program files
 
@@ -71,15 +72,15 @@ each_either es held e there = by e.local refl
 
 -- ---- the parts
 
-abbrev one_of : FileEntry → Content → ListedFile
-one_of entry content = record { entry = entry; bytes = given_bytes content.held }
+abbrev one_of : Room → List ℕ → FileEntry → Content → ListedFile
+one_of room image entry content = record { entry = entry; bytes = content_bytes room image content }
 
 abbrev entries_of : List ListedFile → List FileEntry
 entries_of files = map (λ (file : ListedFile). file.entry) files
 
-data_step : (b : Bool) (entry : FileEntry) (content : Content) (rest : List ListedFile) (es : List FileEntry) → entries_of rest ≡ es → entries_of (cond b (one_of entry content ∷ []) [] ++ rest) ≡ cond b (entry ∷ es) es
-data_step true entry content rest es more = ap (λ (xs : List FileEntry). entry ∷ xs) more
-data_step false entry content rest es more = more
+data_step : (room : Room) (image : List ℕ) (b : Bool) (entry : FileEntry) (content : Content) (rest : List ListedFile) (es : List FileEntry) → entries_of rest ≡ es → entries_of (cond b (one_of room image entry content ∷ []) [] ++ rest) ≡ cond b (entry ∷ es) es
+data_step room image true entry content rest es more = ap (λ (xs : List FileEntry). entry ∷ xs) more
+data_step room image false entry content rest es more = more
 
 keys_step : (b : Bool) (entry : FileEntry) (content : Content) (rest : List Content) (es : List FileEntry) → held_key content ≡ content_key entry → map held_key rest ≡ map content_key es
     → map held_key (cond b rest (content ∷ rest)) ≡ map content_key (cond (not b) (entry ∷ es) es)
@@ -90,15 +91,15 @@ head_of : {X : Type 0} (x y : X) (xs ys : List X) → x ∷ xs ≡ y ∷ ys → 
 head_of x y xs ys e = cc
 
 -- the data files among as many contents as entries
-pub data_listed : (entries : List FileEntry) (contents : List Content) → length contents ≡ length entries
-    → map (λ (file : ListedFile). file.entry) (data_part (somes entries) contents) ≡ filter (λ (e : FileEntry). e.local) entries
-data_listed [] contents same = refl
-data_listed (entry ∷ entries) [] same = absurd (omega (arith, same))
-data_listed (entry ∷ entries) (content ∷ contents) same =
-    data_step entry.local entry content (data_part (somes entries) contents) (filter (λ (e : FileEntry). e.local) entries) (data_listed entries contents (omega (arith, same)))
+pub data_listed : (room : Room) (image : List ℕ) (entries : List FileEntry) (contents : List Content) → length contents ≡ length entries
+    → map (λ (file : ListedFile). file.entry) (data_part room image (somes entries) contents) ≡ filter (λ (e : FileEntry). e.local) entries
+data_listed room image [] contents same = refl
+data_listed room image (entry ∷ entries) [] same = absurd (omega (arith, same))
+data_listed room image (entry ∷ entries) (content ∷ contents) same =
+    data_step room image entry.local entry content (data_part room image (somes entries) contents) (filter (λ (e : FileEntry). e.local) entries) (data_listed room image entries contents (omega (arith, same)))
 
-module _ (a c : LinksState) where
-  pub program_keys : (entries : List FileEntry) (targets : List Target) (contents : List Content) → AreContentsFor a c entries targets contents → ((e : FileEntry) → In e entries → IsEither e)
+module _ (room : Room) (image : List ℕ) (a c : LinksState) where
+  pub program_keys : (entries : List FileEntry) (targets : List Target) (contents : List Content) → AreContentsFor room image a c entries targets contents → ((e : FileEntry) → In e entries → IsEither e)
       → map held_key (program_part (somes entries) contents) ≡ map content_key (filter is_required entries)
   program_keys [] [] [] are each = refl
   program_keys [] [] (content ∷ contents) are each = absurd are
@@ -129,7 +130,7 @@ module _ (a c : LinksState) where
   }
 
   original_step : (b : Bool) (at : FileEntry → Result Target UrlFault) (entry : FileEntry) (entries : List FileEntry) (target : Target) (content : Content) (rest : List ListedFile) (file : ListedFile)
-      → entry.local ≡ b → at entry ≡ Ok target → IsContentFor a c entry target content → In file (cond b (one_of entry content ∷ []) [] ++ rest) → (In file rest → IsOriginal at entries file) → IsOriginal at (entry ∷ entries) file
+      → entry.local ≡ b → at entry ≡ Ok target → IsContentFor room image a c entry target content → In file (cond b (one_of room image entry content ∷ []) [] ++ rest) → (In file rest → IsOriginal at entries file) → IsOriginal at (entry ∷ entries) file
   original_step true at entry entries target content rest file is named got (inl same) more = subst (IsOriginal at (entry ∷ entries)) same (record {
     there = inl refl;
     local = is;
@@ -140,41 +141,41 @@ module _ (a c : LinksState) where
   original_step true at entry entries target content rest file is named got (inr behind) more = original_later at entry entries file (more behind)
   original_step false at entry entries target content rest file is named got behind more = original_later at entry entries file (more behind)
 
-  pub original_for : (at : FileEntry → Result Target UrlFault) (entries : List FileEntry) (targets : List Target) (contents : List Content) → AreContentsFor a c entries targets contents → map at entries ≡ oks targets
-      → (file : ListedFile) → In file (data_part (somes entries) contents) → IsOriginal at entries file
+  pub original_for : (at : FileEntry → Result Target UrlFault) (entries : List FileEntry) (targets : List Target) (contents : List Content) → AreContentsFor room image a c entries targets contents → map at entries ≡ oks targets
+      → (file : ListedFile) → In file (data_part room image (somes entries) contents) → IsOriginal at entries file
   original_for at [] [] [] are named file there = absurd there
   original_for at [] [] (content ∷ contents) are named file there = absurd are
   original_for at [] (target ∷ targets) contents are named file there = absurd are
   original_for at (entry ∷ entries) [] contents are named file there = absurd are
   original_for at (entry ∷ entries) (target ∷ targets) [] are named file there = absurd are
   original_for at (entry ∷ entries) (target ∷ targets) (content ∷ contents) are named file there =
-      original_step entry.local at entry entries target content (data_part (somes entries) contents) file refl (head_of (at entry) (Ok target) (map at entries) (oks targets) named) are.0 there
+      original_step entry.local at entry entries target content (data_part room image (somes entries) contents) file refl (head_of (at entry) (Ok target) (map at entries) (oks targets) named) are.0 there
       (original_for at entries targets contents are.1 (rest_is (at entry) (Ok target) (map at entries) (oks targets) named) file)
 
   -- ---- all that is known of them
 
   pub record ArePartsOf (at : FileEntry → Result Target UrlFault) (views : List BareView) (app : Application) (contents : List Content) (places : List (Option FileEntry)) : Type 0 where
     pub keys : map held_key (program_part places contents) ≡ map content_key (filter is_required (wanted views app))
-    pub whole : All IsWholeContent (program_part places contents)
+    pub whole : All (IsWholeContent room image) (program_part places contents)
     pub few : length (program_part places contents) ≤ length contents
     pub within : (content : Content) → In content (program_part places contents) → In content contents
-    pub deployed : map (λ (file : ListedFile). file.entry) (data_part places contents) ≡ filter (λ (e : FileEntry). e.local) app.files
-    pub originals : (file : ListedFile) → In file (data_part places contents) → IsOriginal at (wanted views app) file
+    pub deployed : map (λ (file : ListedFile). file.entry) (data_part room image places contents) ≡ filter (λ (e : FileEntry). e.local) app.files
+    pub originals : (file : ListedFile) → In file (data_part room image places contents) → IsOriginal at (wanted views app) file
 
   pub parts_are : (at : FileEntry → Result Target UrlFault) (views : List BareView) (app : Application) (contents : List Content) (places : List (Option FileEntry)) (targets : List Target)
-      → places ≡ somes (wanted views app) → AreContentsFor a c (wanted views app) targets contents → map at (wanted views app) ≡ oks targets → ArePartsOf at views app contents places
+      → places ≡ somes (wanted views app) → AreContentsFor room image a c (wanted views app) targets contents → map at (wanted views app) ≡ oks targets → ArePartsOf at views app contents places
   parts_are at views app contents places targets same are named =
       let entries = wanted views app in
-      let whole = whole_for a c entries targets contents are in
+      let whole = whole_for room image a c entries targets contents are in
       subst (ArePartsOf at views app contents) (sym same) (record {
         keys = program_keys entries targets contents are (each_either app.files (standing_files views));
-        whole = in_all IsWholeContent (program_part (somes entries) contents) (λ content there. all_in IsWholeContent contents content whole (program_in (somes entries) contents content there));
+        whole = in_all (IsWholeContent room image) (program_part (somes entries) contents) (λ content there. all_in (IsWholeContent room image) contents content whole (program_in (somes entries) contents content there));
         few = program_few (somes entries) contents;
         within = program_in (somes entries) contents;
-        deployed = data_listed entries contents (count_for a c entries targets contents are) ∙ local_wanted app.files (standing_files views);
+        deployed = data_listed room image entries contents (count_for room image a c entries targets contents are) ∙ local_wanted app.files (standing_files views);
         originals = original_for at entries targets contents are named;
       })
 
 -- the data files are whole
-pub whole_originals : (a c : LinksState) (at : FileEntry → Result Target UrlFault) (entries : List FileEntry) (files : List ListedFile) → ((file : ListedFile) → In file files → IsOriginal a c at entries file) → All IsWhole files
-whole_originals a c at entries files each = in_all IsWhole files (λ file there. (each file there).from.from.fits)
+pub whole_originals : (room : Room) (image : List ℕ) (a c : LinksState) (at : FileEntry → Result Target UrlFault) (entries : List FileEntry) (files : List ListedFile) → ((file : ListedFile) → In file files → IsOriginal room image a c at entries file) → All IsWhole files
+whole_originals room image a c at entries files each = in_all IsWhole files (λ file there. (each file there).from.from.fits)

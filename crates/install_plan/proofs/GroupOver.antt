@@ -23,13 +23,13 @@ use Rattle.machine.specs.Sound.{Sound}
 use Rattle.machine.specs.Store.{Session}
 use Rattle.machine.specs.Weight.{IsTooHeavy, table_room, told_weight}
 use Rattle.machine.proofs.Members.{all_in, filter_in}
-use Rattle.machine.proofs.Missing.{are_missing, missing_in}
+use Rattle.machine.proofs.MissingFiles.{are_missing, missing_in}
 use Rattle.machine.proofs.Ungrouped.{need_ungrouped}
 use Rattle.store_state.specs.declared.view.View.{View}
 use Rattle.store_state.specs.Rows.{leased_row}
 use Rattle.store_state.specs.Shows.{Shows, shown_view}
 use Rattle.store_state.specs.Tables.{Tables, bare_row, table_shape}
-use Rattle.store_state.proofs.Showing.{shape_shown}
+use Rattle.store_state.proofs.ShownTables.{shape_shown}
 use Rattle.links.specs.Links.{LinksState}
 use Rattle.fetcher.specs.Fetched.{KeptBut}
 use Rattle.fetcher.proofs.Liars.{but_all}
@@ -39,9 +39,9 @@ use Rattle.install_plan.specs.GroupReady.{AreUnasked, IsGroupOver, IsNoFiles, ad
 use Rattle.install_plan.specs.Judges.{Refused, room_checks}
 use Rattle.install_plan.proofs.Downs.{counts_none}
 use Rattle.install_plan.proofs.Exits.{some_session}
-use Rattle.install_plan.proofs.Fitting.{few_blocks}
+use Rattle.install_plan.proofs.NeededBlocks.{few_blocks}
 use Rattle.install_plan.proofs.LeasedRows.{IsLeased, lease_lives, no_lease, still_brought, view_shown, view_valid}
-use Rattle.install_plan.proofs.Ungrouping.{bad_wanted, few_of_group}
+use Rattle.install_plan.proofs.UngroupedFiles.{bad_wanted, few_of_group}
 use Rattle.install_plan.proofs.Wants.{sum_most}
 
 -- ---- answers
@@ -94,7 +94,7 @@ module _ (room : Room) (tables : Tables) (lease : ℕ) (group : List ℕ) where
     kept = kept;
     still = still;
     downs = downs;
-    step = λ now image old idle shows sound. (
+    step = λ image now old idle shows sound. (
         let is = due now image old idle shows sound in
         record {
           new = old;
@@ -261,7 +261,7 @@ module _ (room : Room) (tables : Tables) (lease : ℕ) (group : List ℕ) where
         within : IsApplication view.application
             → sum_by (λ (entry : FileEntry). blocks_of entry.size) wanted ≤ 2 ^ 64 - 1
         within is =
-            let most = sum_most (λ (entry : FileEntry). blocks_of entry.size) wanted 16384
+            let most = sum_most (λ (entry : FileEntry). blocks_of entry.size) wanted 65536
             (λ entry there. (
             let of = filter_in (is_in group) view.application.files entry
             (missing_in (group_files group view.application) (standing_files views) entry there) in
@@ -270,6 +270,16 @@ module _ (room : Room) (tables : Tables) (lease : ℕ) (group : List ℕ) where
             )) in
             let few = few_of_group group view.application (standing_files views) is in
             omega (arith, most, few)
+
+        -- the sum of their blocks is a number
+        pub few_needed : IsApplication view.application
+            → sum_by (λ (entry : FileEntry). blocks_of entry.size) (lacking tables files)
+            ≤ 2 ^ 64 - 1
+        few_needed is =
+            let all = need_ungrouped views group view.application in
+            let own = (are_missing views group view.application).blocks in
+            let bound = within is in
+            omega (arith, all, own, bound)
 
         pub need_is : (need : ℕ) → IsApplication view.application
             → need

@@ -56,6 +56,6 @@ module _ (room : Room) (tables : Tables) (view : View) (group : List ℕ) (files
           tt,
         )
 
-    -- so there is without halves
+    -- so there is where the half is 0
     pub has_any : room.half ≡ 0 → PassesAll (space_checks room tables view group files)
     has_any none = has_space (no_halves room (weight_in room tables view group) none)

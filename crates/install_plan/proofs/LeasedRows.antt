@@ -16,10 +16,10 @@ use Rattle.machine.specs.Store.{Session, Store}
 use Rattle.machine.specs.Valid.{IsView, Ordered}
 use Rattle.machine.specs.Views.{ListedFile, same_content, standing_entries}
 use Rattle.machine.specs.Views.{View as KeptView}
-use Rattle.machine.proofs.Finding.{find-map, find_in, then_value}
+use Rattle.machine.proofs.FirstFound.{find-map, find_in, then_value}
 use Rattle.machine.proofs.Leased.{leased_in, leased_kept, leased_valid}
 use Rattle.machine.proofs.Members.{In, all_in, in_all, in_flat_map, in_map}
-use Rattle.machine.proofs.Needing.{in_passes, is_same}
+use Rattle.machine.proofs.OwnContents.{in_passes, is_same}
 use Rattle.store_state.specs.declared.view.Content.{Content}
 use Rattle.store_state.specs.declared.view.View.{View}
 use Rattle.store_state.specs.Rows.{leased_row, row_at}

@@ -1,40 +1,36 @@
 -- The tables have room once the change of a plan is made.
-use Rattle.std.proofs.Common.{◌≡◌, sym, subst, ℕ, List, [], map, All, Option}
-use Rattle.std.specs.Prelude.{filter}
+use Rattle.std.proofs.Common.{◌∙◌, sym, subst, ℕ, List}
 use Rattle.small_types.specs.declared.room.Room.{Room}
 use Rattle.manifests.specs.declared.facts.Application.{Application}
 use Rattle.manifests.specs.declared.facts.Deployment.{Deployment}
-use Rattle.manifests.specs.declared.facts.FileEntry.{FileEntry}
-use Rattle.machine.specs.Current.{data_of, listed_by}
 use Rattle.machine.specs.InstallRow.{IsWeightOf, OfRelease, weight_installed}
 use Rattle.machine.specs.Migrated.{Migrated}
 use Rattle.machine.specs.Shape.{Shape}
-use Rattle.machine.specs.Sound.{IsWhole}
 use Rattle.machine.specs.Views.{DataFile, ListedFile}
-use Rattle.machine.specs.Views.{View as KeptView}
 use Rattle.machine.specs.Weight.{IsLight, IsTooHeavy}
 use Rattle.machine.proofs.Lightness.{is_light}
 use Rattle.store_state.specs.declared.view.Content.{Content}
+use Rattle.store_state.specs.declared.view.LocalFile.{LocalFile}
 use Rattle.store_state.specs.declared.view.View.{View}
 use Rattle.store_state.specs.Change.{Fits, effect}
 use Rattle.store_state.specs.Kept.{AreTables}
-use Rattle.store_state.specs.Rows.{current_row}
-use Rattle.store_state.specs.Shows.{shown_data}
+use Rattle.store_state.specs.Rows.{current_row, row_files}
 use Rattle.store_state.specs.Tables.{Tables, table_shape}
 use Rattle.data_migration.specs.declared.plan.LocalPlan.{LocalPlan}
-use Rattle.table_weight.specs.Laws.{MigratedDataWeigh, WeighAsInstalled, current_shown}
+use Rattle.data_migration.specs.Migration.{applied, deployed_files}
+use Rattle.table_weight.specs.Laws.{MigratedDataWeigh, WeighAsInstalled}
 use Rattle.table_weight.specs.Weight.{tables_weight}
-use Rattle.install_plan.specs.declared.plan.Plan.{Plan}
-use Rattle.install_plan.specs.Carried.{ArePlansFor, row_files, row_locals}
-use Rattle.install_plan.specs.Changes.{change_of_plan, plan_contents, plan_locals, plan_originals, view_of}
+use Rattle.install_plan.specs.declared.plan.InstallPlan.{InstallPlan}
+use Rattle.install_plan.specs.Carried.{ArePlansFor}
+use Rattle.install_plan.specs.Changes.{AreMade, change_of_plan, old_locals, plan_contents, view_of}
 use Rattle.install_plan.specs.Plans.{IsPlan}
-use Rattle.install_plan.proofs.Carried.{data_shown, files_shown, made_shown}
+use Rattle.install_plan.proofs.MadeData.{zero_bare, zero_data, zero_entries, zero_files, zero_made, zero_names, zero_sized}
 use Rattle.install_plan.proofs.Outcome.{held_application}
 use Rattle.install_plan.proofs.Planned.{apart}
 use Rattle.install_plan.proofs.TableRoom.{own_weight}
 use Rattle.install_plan.proofs.Told.{release_map}
 
-module _ (room : Room) (tables : Tables) (url : List ℕ) (texts : List (List ℕ)) (plan : Plan)
+module _ (room : Room) (tables : Tables) (url : List ℕ) (texts : List (List ℕ)) (plan : InstallPlan)
     (is : IsPlan (table_shape room tables) url texts plan) where
   abbrev shape : Shape
   shape = table_shape room tables
@@ -61,48 +57,37 @@ module _ (room : Room) (tables : Tables) (url : List ℕ) (texts : List (List �
       is_light room installed (λ heavy.
       is.release.1.1.1.1.1.1.1.0 installed (heavy_release heavy))
 
-  module _ (plans : List LocalPlan) (contents : List Content) (now : ℕ) (are : AreTables tables)
-      (known : ArePlansFor tables plan plans)
-      (fits : Fits tables (change_of_plan tables plan plans contents now))
-      (deployed : map (λ (file : ListedFile). file.entry) (plan_originals plan contents)
-      ≡ filter (λ (entry : FileEntry). entry.local) plan.application.files)
-      (whole : All IsWhole (plan_originals plan contents)) where
+  module _ (plans : List LocalPlan) (locals : List LocalFile) (contents : List Content) (now : ℕ)
+      (are : AreTables tables) (known : ArePlansFor tables plan plans)
+      (made : AreMade (old_locals tables plan) plan.application.files plans locals)
+      (fits : Fits tables (change_of_plan tables plan locals contents now)) where
     abbrev view : View
-    view = view_of tables plan (plan_locals tables plan plans contents)
+    view = view_of tables plan locals
 
-    abbrev row : Option View
-    row = current_row plan.deployment.identity.key tables
+    abbrev old : List DataFile
+    old = zero_data (old_locals tables plan)
 
-    abbrev old : Option KeptView
-    old = current_shown room [] tables plan.deployment.identity.key
+    abbrev originals : List ListedFile
+    originals = zero_files (deployed_files plan.application.files)
 
-    -- in each image its data files are those of the new version
-    migrated : Migrated (data_of old) (listed_by old) plan.application.files
-        (plan_originals plan contents) (map (shown_data room []) view.locals)
+    -- whatever bytes they have, its data files are those of the new version
+    migrated : Migrated old (row_files (current_row plan.deployment.identity.key tables))
+        plan.application.files originals (applied old originals plans)
     migrated =
-        let files = plan.application.files in
-        let originals = plan_originals plan contents in
-        subst (λ (ds : List DataFile).
-        Migrated ds (listed_by old) files originals (map (shown_data room []) view.locals))
-        (sym (data_shown room [] tables.contents row))
-        (subst (λ (es : List FileEntry).
-        Migrated (map (shown_data room []) (row_locals row)) es files originals
-        (map (shown_data room []) view.locals))
-        (sym (files_shown room [] tables.contents row))
-        (subst (Migrated (map (shown_data room []) (row_locals row)) (row_files row) files
-        originals)
-        (made_shown (row_locals row) originals plans)
-        (known.migrated room [] originals
+        known.migrated old originals (zero_names (old_locals tables plan))
         (apart plan.deployment.identity.key tables are plan.application
         (held_application room tables url texts plan is))
-        deployed)))
+        (zero_entries (deployed_files plan.application.files))
 
     pub changed_light : WeighAsInstalled → MigratedDataWeigh
-        → IsLight room (tables_weight (effect (change_of_plan tables plan plans contents now) tables))
+        → IsLight room (tables_weight (effect (change_of_plan tables plan locals contents now) tables))
     changed_light weigh_as_installed data_weigh =
         subst (IsLight room)
         (sym (weigh_as_installed room tables view (plan_contents plan contents) plan.provider now
         are fits
-        (data_weigh room tables view [] (plan_originals plan contents) are fits.row deployed whole
-        migrated)))
+        (data_weigh room tables view old (applied old originals plans) originals are fits.row
+        (zero_bare (old_locals tables plan))
+        (zero_made (old_locals tables plan) plan.application.files plans ∙ sym made)
+        (zero_entries (deployed_files plan.application.files))
+        (zero_sized (deployed_files plan.application.files)) migrated)))
         installed_light

@@ -12,7 +12,7 @@ use Rattle.std.proofs.lemmas.Slice.Eq.{bytes_eq-Decides}
 use Rattle.manifests.specs.declared.facts.FileEntry.{FileEntry}
 use Rattle.machine.specs.Views.{ContentKey, is_required, same_content}
 use Rattle.machine.specs.Wanted.{is_held, wanted_beside}
-use Rattle.machine.proofs.Needing.{same_is}
+use Rattle.machine.proofs.OwnContents.{same_is}
 use Rattle.install_plan.specs.WantedFiles.{Knows, Takes, content_text, has_content, is_among, places_in, row}
 
 -- what stands at a place

@@ -22,25 +22,22 @@ use Rattle.machine.specs.Current.{bare_data_of, bare_listed_by, current_bare, cu
 use Rattle.machine.specs.Fields.{IsApplication}
 use Rattle.machine.specs.Migrated.{aside, is_fresh, migrated_names, moved, stays}
 use Rattle.machine.specs.Shape.{BareData, BareView}
-use Rattle.machine.specs.Views.{DataFile}
 use Rattle.machine.specs.Wanted.{copied_need}
-use Rattle.machine.proofs.Mapping.{pairs_unmap}
-use Rattle.machine.proofs.Members.{In, all_in, filter_in, in_all, pairs_map, sum_map}
-use Rattle.machine.proofs.Moving.{names_differ}
+use Rattle.machine.proofs.Members.{In, all_in, filter_in, in_all, pairs_weaker, sum_map}
+use Rattle.machine.proofs.NamedItems.{not_equal}
 use Rattle.store_state.specs.declared.view.LocalFile.{LocalFile}
 use Rattle.store_state.specs.declared.view.View.{View}
 use Rattle.store_state.specs.Change.{IsLocal, IsRow}
 use Rattle.store_state.specs.Kept.{AreTables}
 use Rattle.store_state.specs.Locals.{outside_locals}
-use Rattle.store_state.specs.Rows.{current_row, row_at}
+use Rattle.store_state.specs.Rows.{current_row, row_at, row_files, row_locals}
 use Rattle.store_state.specs.Tables.{Tables, bare_local, bare_row, table_shape}
 use Rattle.store_state.proofs.Current.{bare_current}
 use Rattle.data_migration.specs.declared.plan.LocalPlan.{LocalPlan}
 use Rattle.data_migration.specs.Migration.{AreApart, HasSource, IsMigration, IsMovable, deployed_files}
-use Rattle.data_migration.specs.Plans.{local_names, plan_name}
-use Rattle.install_plan.specs.declared.plan.Plan.{Plan}
-use Rattle.install_plan.specs.Held.{given_data}
-use Rattle.install_plan.specs.Carried.{ArePlans, Rise, copied_blocks_of, copied_in, row_files, row_locals}
+use Rattle.data_migration.specs.Plans.{local_names, plan_name, planned}
+use Rattle.install_plan.specs.declared.plan.InstallPlan.{InstallPlan}
+use Rattle.install_plan.specs.Carried.{ArePlans, Rise, copied_blocks_of, copied_in}
 use Rattle.install_plan.proofs.Keyed.{found}
 
 -- ---- the view that is current
@@ -64,12 +61,12 @@ movable key tables row view is some are = in_all IsMovable view.locals (λ file 
 
 -- plans beside it
 pub plans_at : (key : Key) (tables : Tables) (files : List FileEntry) (view : View) → Some view ≡ current_row key tables → (plans : List LocalPlan) → IsMigration view.locals view.application.files files plans
-    → IsPermutation (migrated_names (local_names view.locals) view.application.files files) (map plan_name plans) → (AreApart view.locals files → Rise plans) → All (HasSource view.locals files) plans → ArePlans (current_row key tables) files plans
-plans_at key tables files view is plans migrated names once sources = subst (λ (row : Option View). ArePlans row files plans) is (record { migrated = migrated; names = names; once = once; sources = sources })
+    → IsPermutation (migrated_names (local_names view.locals) view.application.files files) (map plan_name plans) → (AreApart view.locals files → Rise plans) → All (HasSource view.locals files) plans → IsPermutation (planned view.locals view.application.files files) plans → ArePlans (current_row key tables) files plans
+plans_at key tables files view is plans migrated names once sources plan = subst (λ (row : Option View). ArePlans row files plans) is (record { migrated = migrated; names = names; once = once; sources = sources; planned = plan })
 
 -- ---- counts
 
-names_of : (files : List LocalFile) → map (λ (file : BareData). file.name) (map bare_local files) ≡ local_names files
+pub names_of : (files : List LocalFile) → map (λ (file : BareData). file.name) (map bare_local files) ≡ local_names files
 names_of [] = refl
 names_of (file ∷ files) = ap (λ (ns : List (List ℕ)). file.name ∷ ns) (names_of files)
 
@@ -102,14 +99,13 @@ pub record AreLocals (row : Option View) (files : List FileEntry) (plans : List 
   pub order : Rise plans
   pub few : length plans ≤ FILE_COUNT_LIMIT
 
-abbrev pub IsInOrder : Tables → Plan → List LocalPlan → Type 0
+abbrev pub IsInOrder : Tables → InstallPlan → List LocalPlan → Type 0
 IsInOrder tables plan plans = AreLocals (current_row plan.deployment.identity.key tables) plan.application.files plans
 
 -- names in order differ
 old_apart : (files : List LocalFile) → AllPairs (λ (f g : LocalFile). text_cmp f.name g.name ≡ Less) files → AllPairs (λ (f g : LocalFile). ◌≢◌ {A = List ℕ} f.name g.name) files
 old_apart files ordered =
-    pairs_unmap given_data (λ (f g : DataFile). ◌≢◌ {A = List ℕ} f.name g.name) files
-    (names_differ (map given_data files) (pairs_map given_data (λ (f g : LocalFile). text_cmp f.name g.name ≡ Less) (λ (f g : DataFile). text_cmp f.name g.name ≡ Less) files (λ f g less. less) ordered))
+    pairs_weaker (λ (f g : LocalFile). text_cmp f.name g.name ≡ Less) (λ (f g : LocalFile). ◌≢◌ {A = List ℕ} f.name g.name) files (λ f g less. not_equal f.name g.name less) ordered
 
 -- each old data file comes to one new one at most
 one_few : (old_files new_files : List FileEntry) (name : List ℕ) → length (moved old_files new_files name) ≤ one_outside name

@@ -5,7 +5,7 @@ use Rattle.small_types.specs.declared.target.Target.{Target}
 use Rattle.addresses.specs.Address.{target_of_text}
 use Rattle.addresses.specs.Join.{app_target_of}
 use Rattle.addresses.specs.declared.fault.UrlFault.{UrlFault}
-use Rattle.small_types.specs.Reading.{◌>>=◌}
+use Rattle.small_types.specs.Outcome.{◌>>=◌}
 use Rattle.manifest_tree.specs.Tree.{Tree}
 use Rattle.manifest_parts.specs.Elements.{Read}
 use Rattle.manifest_parts.specs.Parts.{Tells}

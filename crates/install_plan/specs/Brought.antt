@@ -1,5 +1,6 @@
 -- The files that an install fetched.
 use Rattle.std.specs.Prelude.{◌≡◌, ◌⊎◌, ℕ, List, [], ◌∷◌, true, All, Any, Ok}
+use Rattle.small_types.specs.declared.room.Room.{Room}
 use Rattle.small_types.specs.declared.target.Target.{Target}
 use Rattle.addresses.specs.Join.{file_target_of}
 use Rattle.digest_list.specs.Matches.{Matches}
@@ -12,28 +13,29 @@ use Rattle.machine.specs.Store.{Session, Store}
 use Rattle.machine.specs.Views.{DataFile, ListedFile, View, key_of, same_content}
 use Rattle.machine.specs.Wanted.{is_held, wanted}
 use Rattle.store_state.specs.declared.view.Content.{Content}
+use Rattle.store_state.specs.Stored.{content_bytes}
 use Rattle.links.specs.Links.{LinksState}
 use Rattle.install_plan.specs.Given.{IsFromLeft}
-use Rattle.install_plan.specs.Held.{given_bytes}
 
 -- ---- contents
 
--- the content of a file, which was got at the target and matches
-pub record IsContentFor (before after : LinksState) (entry : FileEntry) (target : Target)
-    (content : Content) : Type 0 where
+-- the content of a file, whose bytes in the image were got at the target and match
+pub record IsContentFor (room : Room) (image : List ℕ) (before after : LinksState)
+    (entry : FileEntry) (target : Target) (content : Content) : Type 0 where
   pub size : content.size ≡ entry.size
   pub list : content.list ≡ entry.list
   pub from : IsFromLeft (Matches entry.list entry.size) target before after
-      (given_bytes content.held)
+      (content_bytes room image content)
 
 -- one for each file, in order
-abbrev pub AreContentsFor :
-    LinksState → LinksState → List FileEntry → List Target → List Content → Type 0
-AreContentsFor before after [] [] [] = Unit {0}
-AreContentsFor before after (entry ∷ entries) (target ∷ targets) (content ∷ contents) =
-    IsContentFor before after entry target content
-    × AreContentsFor before after entries targets contents
-AreContentsFor before after entries targets contents = ⊥
+abbrev pub AreContentsFor : Room → List ℕ → LinksState → LinksState → List FileEntry
+    → List Target → List Content → Type 0
+AreContentsFor room image before after [] [] [] = Unit {0}
+AreContentsFor room image before after (entry ∷ entries) (target ∷ targets)
+    (content ∷ contents) =
+    IsContentFor room image before after entry target content
+    × AreContentsFor room image before after entries targets contents
+AreContentsFor room image before after entries targets contents = ⊥
 
 -- ---- the files of the view
 

@@ -1,5 +1,5 @@
 -- Which data files a new view has, and where they come from.
-use Rattle.std.specs.Prelude.{◌≡◌, ℕ, List, [], All, AllPairs, map, not, Option, Some, None, if◌then◌else◌, sum_by}
+use Rattle.std.specs.Prelude.{◌≡◌, ℕ, List, All, AllPairs, map, not, Option, if◌then◌else◌, sum_by}
 use Rattle.std.specs.List.Sorted.{IsPermutation}
 use Rattle.std.specs.declared.cmp.Ordering.TheVariants.{Less}
 use Rattle.identity.specs.Printed.{text_cmp}
@@ -10,22 +10,12 @@ use Rattle.machine.specs.Migrated.{migrated_names}
 use Rattle.store_state.specs.declared.view.LocalFile.{LocalFile}
 use Rattle.store_state.specs.declared.view.View.{View}
 use Rattle.store_state.specs.Rows.{current_row}
+pub use Rattle.store_state.specs.Rows.{row_files, row_locals}
 use Rattle.store_state.specs.Tables.{Tables}
 use Rattle.data_migration.specs.declared.plan.LocalPlan.{LocalPlan}
 use Rattle.data_migration.specs.Migration.{AreApart, HasSource, IsMigration}
-use Rattle.data_migration.specs.Plans.{local_names, plan_name}
-use Rattle.install_plan.specs.declared.plan.Plan.{Plan}
-
--- ---- the view that was current
-
--- its data files, and the files that its application lists; of no view there are none
-abbrev pub row_locals : Option View → List LocalFile
-row_locals None = []
-row_locals (Some view) = view.locals
-
-abbrev pub row_files : Option View → List FileEntry
-row_files None = []
-row_files (Some view) = view.application.files
+use Rattle.data_migration.specs.Plans.{local_names, plan_name, planned}
+use Rattle.install_plan.specs.declared.plan.InstallPlan.{InstallPlan}
 
 -- ---- plans
 
@@ -41,9 +31,10 @@ pub record ArePlans (row : Option View) (files : List FileEntry) (plans : List L
       (map plan_name plans)
   pub once : AreApart (row_locals row) files → Rise plans
   pub sources : All (HasSource (row_locals row) files) plans
+  pub planned : IsPermutation (planned (row_locals row) (row_files row) files) plans
 
 -- so are they for a plan, beside the view that was current in the tables
-abbrev pub ArePlansFor : Tables → Plan → List LocalPlan → Type 0
+abbrev pub ArePlansFor : Tables → InstallPlan → List LocalPlan → Type 0
 ArePlansFor tables plan plans =
     ArePlans (current_row plan.deployment.identity.key tables) plan.application.files plans
 
@@ -55,3 +46,10 @@ copied_blocks_of file = if not (is_below_pre file.name) then blocks_of file.leng
 
 abbrev pub copied_in : List LocalFile → ℕ
 copied_in files = sum_by copied_blocks_of files
+
+-- its bytes
+abbrev pub carried_bytes_of : LocalFile → ℕ
+carried_bytes_of file = if not (is_below_pre file.name) then file.length else 0
+
+abbrev pub carried_in : List LocalFile → ℕ
+carried_in files = sum_by carried_bytes_of files

@@ -23,7 +23,7 @@ use Rattle.install_plan.specs.declared.check.Offered.{Offered}
 use Rattle.install_plan.specs.declared.prepared.Prepared.{Prepared}
 use Rattle.install_plan.specs.declared.prepared.Prepared.TheVariants as to
 use Rattle.install_plan.specs.Downs.{CountsDowns}
-use Rattle.install_plan.specs.LeadsIn.{LeadsIn}
+use Rattle.install_plan.specs.LeadsIn.{LeadsIn, NewBytes, no_bytes}
 use Rattle.install_plan.specs.Offers.{OfferServed}
 
 -- ---- what is noted of an application
@@ -51,7 +51,6 @@ IsUnnoted f app reply result = (result ≡ says.Memory) ⊎ ((result ≡ reply) 
 abbrev pub NotesTo : (AppState → AppState) → AppState → Change → Reply → Prepared → Type 0
 NotesTo f app change reply (to.Change made due) = IsNoted f app change reply made due
 NotesTo f app change reply (to.Reply result) = IsUnnoted f app reply result
-NotesTo f app change reply to.DiskFault = ⊥
 
 -- the reply names a target that no link gave
 abbrev pub is_missing : Reply → Bool
@@ -72,7 +71,6 @@ IsUnmissed app reply result =
 abbrev pub MissesTo : Key → AppState → Reply → Prepared → Type 0
 MissesTo key app reply (to.Change made due) = IsMissed key app reply made due
 MissesTo key app reply (to.Reply result) = IsUnmissed app reply result
-MissesTo key app reply to.DiskFault = ⊥
 
 -- ---- steps
 
@@ -86,14 +84,15 @@ pub record CheckStep (key : Key) (texts : List (List ℕ)) (before after : Links
 
 -- for each session without jobs over a valid store that the tables show there is one
 abbrev pub ChecksTo : Room → Tables → Key → List (List ℕ) → LinksState → LinksState → ℕ → Reply
-    → (Store → Store → Type 0) → Type 0
+    → (List ℕ → Store → Store → Type 0) → Type 0
 ChecksTo room tables key texts before after now reply Leaves =
     (image : List ℕ) (old : Session) → old.jobs ≡ [] → Shows room tables image old.store
-    → Valid old.store → CheckStep key texts before after now reply old (Leaves old.store)
+    → Valid old.store → CheckStep key texts before after now reply old (Leaves image old.store)
 
--- another store, to which the change leads
-pub record LedBy (room : Room) (tables : Tables) (change : Change) (old new : Store) : Type 0 where
-  pub leads : LeadsIn room change tables old new
+-- another store, to which the change leads from an image; it brings these bytes
+pub record LedBy (room : Room) (tables : Tables) (change : Change) (there : List ℕ)
+    (bytes : NewBytes) (old new : Store) : Type 0 where
+  pub leads : LeadsIn room change tables there bytes new
   pub other : new ≢ old
 
 -- what is heard or not of that application
@@ -111,7 +110,8 @@ pub record IsCheckReady (room : Room) (tables : Tables) (key : Key) (texts : Lis
   pub downs : CountsDowns before after reply
   pub of : IsOfCheck key change
   pub fits : Fits tables change
-  pub step : ChecksTo room tables key texts before after now reply (LedBy room tables change)
+  pub step : ChecksTo room tables key texts before after now reply
+      (λ image. LedBy room tables change image no_bytes)
 
 -- Nothing is to be changed.
 pub record IsCheckOver (room : Room) (tables : Tables) (key : Key) (texts : List (List ℕ))
@@ -120,4 +120,4 @@ pub record IsCheckOver (room : Room) (tables : Tables) (key : Key) (texts : List
   pub kept : KeptAll before after
   pub still : moment_after now (Some reply) ≡ now
   pub downs : CountsDowns before after reply
-  pub step : ChecksTo room tables key texts before after now reply (λ old new. new ≡ old)
+  pub step : ChecksTo room tables key texts before after now reply (λ image old new. new ≡ old)

@@ -1,19 +1,19 @@
 -- What is fetched of the files that a plan wants.
-use Rattle.std.specs.Prelude.{◌≡◌, ◌⊎◌, ◌<◌, ◌^◌, ℕ, List, [], ◌∷◌, ◌++◌, All, IfSome, IsSomeAnd, length, map, slice_get}
+use Rattle.std.specs.Prelude.{◌≡◌, ◌⊎◌, ◌*◌, ◌<◌, ◌≤◌, ◌^◌, ℕ, List, [], ◌∷◌, ◌++◌, All, IfSome, IsSomeAnd, length, map, slice_get, sum_by, Option, Some, None}
 use Rattle.std.specs.List.{AllZip}
 use Rattle.small_types.specs.declared.target.Target.{Target}
+use Rattle.small_types.specs.Blocks.{count_for}
 use Rattle.causes.specs.declared.cause.Cause.{Cause}
 use Rattle.digest_list.specs.declared.digest.Digest.{Digest}
 use Rattle.digest_list.specs.Matches.{Matches}
 use Rattle.manifests.specs.declared.facts.FileEntry.{FileEntry}
 use Rattle.machine.specs.declared.reply.Reply.{Reply}
 use Rattle.machine.specs.declared.reply.Reply.TheVariants.{AllLinks, Memory}
-use Rattle.store_state.specs.declared.view.Content.{Content}
-use Rattle.links.specs.Links.{LinksState}
+use Rattle.links.specs.Links.{LinksState, sources_of}
 use Rattle.fetcher.specs.Causes.{IsFileCause}
-use Rattle.fetcher.specs.Fetched.{Asked, IsThis, Kept, KeptBut, MayAsk}
+use Rattle.fetcher.specs.Fetched.{WasAsked, IsThis, Kept, KeptBut, MayAsk}
 use Rattle.install_plan.specs.declared.plan.WantedFile.{WantedFile}
-use Rattle.install_plan.specs.Brought.{IsContentFor}
+use Rattle.install_plan.specs.Brought.{IsFileFrom}
 use Rattle.install_plan.specs.Given.{IsUngiven}
 
 -- ---- one file
@@ -28,17 +28,18 @@ IsFileUngiven entry target before after reasons =
 abbrev pub IsEntryAt : FileEntry → Target → Target → List Digest → ℕ → Type 0
 IsEntryAt entry target = IsThis target entry.list entry.size
 
--- its content was fetched
+-- these bytes were fetched for it
 pub record IsFetched (entry : FileEntry) (target : Target) (before after : LinksState)
-    (content : Content) : Type 0 where
+    (bytes : List ℕ) : Type 0 where
   pub kept : Kept before after
-  pub asked : Asked target before after
-  pub is : IsContentFor before after entry target content
+  pub asked : WasAsked target before after
+  pub is : IsFileFrom before after entry target bytes
 
--- why it was not fetched
+-- Why it was not fetched. Of the links a failing disk is as want of memory.
 abbrev pub IsLack : FileEntry → Target → LinksState → LinksState → Reply → Type 0
 IsLack entry target before after (AllLinks named reasons) =
-    (named ≡ target) × Asked target before after × IsFileUngiven entry target before after reasons
+    (named ≡ target) × WasAsked target before after
+    × IsFileUngiven entry target before after reasons
 IsLack entry target before after Memory = MayAsk target before after
 IsLack entry target before after _ = ⊥
 
@@ -60,19 +61,19 @@ IsListedIn files (file ∷ wanted) target list size =
     IsSomeAnd (slice_get files file.place) (λ entry. IsEntryAt entry file.target target list size)
     ⊎ IsListedIn files wanted target list size
 
--- the content of the file at the place
-abbrev pub IsContentAt :
-    LinksState → LinksState → List FileEntry → WantedFile → Content → Type 0
-IsContentAt before after files file content =
+-- the bytes were got for the file at the place
+abbrev pub IsFileAt :
+    LinksState → LinksState → List FileEntry → WantedFile → List ℕ → Type 0
+IsFileAt before after files file bytes =
     IfSome (slice_get files file.place)
-    (λ entry. IsContentFor before after entry file.target content)
+    (λ entry. IsFileFrom before after entry file.target bytes)
 
--- the contents of these files were fetched, in order
+-- these bytes were fetched for the files, in order
 pub record HasFetched (files : List FileEntry) (wanted : List WantedFile)
-    (before after : LinksState) (contents : List Content) : Type 0 where
+    (before after : LinksState) (gave : List (List ℕ)) : Type 0 where
   pub kept : KeptBut (IsListedIn files wanted) before after
   pub grown : after.asked ≡ before.asked ++ addresses wanted
-  pub each : AllZip (IsContentAt before after files) wanted contents
+  pub each : AllZip (IsFileAt before after files) wanted gave
 
 -- All files before one were fetched, no link gave that one, and nothing behind it was asked for.
 pub record StopsAt (files : List FileEntry) (wanted : List WantedFile) (before after : LinksState)
@@ -83,10 +84,20 @@ pub record StopsAt (files : List FileEntry) (wanted : List WantedFile) (before a
   pub wants : wanted ≡ earlier ++ file ∷ later
   pub shown : named ≡ file.target
   pub grown : after.asked ≡ before.asked ++ (addresses earlier ++ named ∷ [])
-  pub contents : List Content
-  pub gave : AllZip (IsContentAt before after files) earlier contents
+  pub bytes : List (List ℕ)
+  pub gave : AllZip (IsFileAt before after files) earlier bytes
   pub ungiven : IfSome (slice_get files file.place)
       (λ entry. IsFileUngiven entry named before after reasons)
+
+-- the size of a file, where there is one
+abbrev pub size_in : Option FileEntry → ℕ
+size_in None = 0
+size_in (Some entry) = entry.size
+
+-- the blocks that these files need
+abbrev pub blocks_needed : List FileEntry → List WantedFile → ℕ
+blocks_needed files wanted =
+    sum_by (λ file. count_for (size_in (slice_get files file.place))) wanted
 
 -- the first of these files were asked for
 pub record AsksFirst (wanted : List WantedFile) (before after : LinksState) : Type 0 where
@@ -106,3 +117,19 @@ pub record IsStopped (files : List FileEntry) (wanted : List WantedFile)
     (before after : LinksState) (reply : Reply) : Type 0 where
   pub kept : KeptBut (IsListedIn files wanted) before after
   pub stops : Stops files wanted before after reply
+
+-- ---- what it costs
+
+-- No more bytes were written than each link may have given for the file, and none where it was not
+-- asked for.
+pub record WritesOne (entry : FileEntry) (before after : LinksState) (most : ℕ) : Type 0 where
+  pub within : most ≤ entry.size * sources_of before
+  pub none : after.asked ≡ before.asked → most ≡ 0
+
+-- The first of these files were asked for, and no more bytes were written than each link may have
+-- given for each of them.
+pub record WritesAsked (files : List FileEntry) (wanted : List WantedFile)
+    (before after : LinksState) (most : ℕ) : Type 0 where
+  pub first : AsksFirst wanted before after
+  pub within : most ≤ sources_of before
+      * sum_by (λ file. size_in (slice_get files file.place)) first.asked

@@ -20,7 +20,7 @@ use Rattle.fetcher.specs.Causes.{IsFileCause}
 use Rattle.fetcher.specs.Fetched.{KeptBut}
 use Rattle.install_plan.specs.Brought.{IsFileFrom, IsHeldOrCame}
 use Rattle.install_plan.specs.Given.{IsUngiven}
-use Rattle.install_plan.specs.Hearing.{IsFront, IsListedFor, WereGiven}
+use Rattle.install_plan.specs.InstallHeard.{IsFront, IsListedFor, WereGiven}
 
 -- ---- what was asked
 

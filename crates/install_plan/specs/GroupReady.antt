@@ -23,9 +23,9 @@ use Rattle.machine.specs.Wanted.{wanted_beside}
 use Rattle.machine.specs.Weight.{IsLight}
 use Rattle.store_state.specs.declared.change.Change.{Change}
 use Rattle.store_state.specs.declared.change.Change.TheVariants as change
-use Rattle.store_state.specs.declared.view.Content.{Content}
 use Rattle.store_state.specs.declared.view.View.{View}
 use Rattle.store_state.specs.Change.{Fits, effect}
+use Rattle.store_state.specs.Measured.{BringsMeasured}
 use Rattle.store_state.specs.Shows.{Shows}
 use Rattle.store_state.specs.Tables.{Tables, bare_row, table_shape}
 use Rattle.table_weight.specs.Weight.{tables_weight}
@@ -39,6 +39,7 @@ use Rattle.install_plan.specs.Downs.{CountsDowns}
 use Rattle.install_plan.specs.FetchedFiles.{HasFetched, IsStopped}
 use Rattle.install_plan.specs.GroupAsked.{AreBrought, GroupServed, IsListedOfGroup}
 use Rattle.install_plan.specs.Judges.{Refused, room_checks, weight_checks}
+use Rattle.install_plan.specs.LeadsIn.{NewBytes}
 
 -- ---- files without their group, which are wanted as required ones are
 
@@ -88,12 +89,12 @@ pub record AreLacking (room : Room) (tables : Tables) (view : View) (group : Lis
   pub targets : map (address_in view) (lacking tables files) ≡ map (λ file. Ok file.target) wanted
   pub enough : PassesAll (space_checks room tables view group files)
 
--- their contents were fetched
+-- these bytes were fetched for them
 pub record HasBrought (room : Room) (tables : Tables) (view : View) (group : List ℕ)
-    (files : List FileEntry) (before after : LinksState) (contents : List Content) : Type 0 where
-  pub wanted : List WantedFile
+    (files : List FileEntry) (before after : LinksState) (wanted : List WantedFile)
+    (gave : List (List ℕ)) : Type 0 where
   pub are : AreLacking room tables view group files wanted
-  pub fetched : HasFetched files wanted before after contents
+  pub fetched : HasFetched files wanted before after gave
 
 -- nothing was asked: there was no memory, one has no address, or there is no room
 abbrev pub IsUnasked : Room → Tables → View → List ℕ → List FileEntry → Reply → Type 0
@@ -129,11 +130,11 @@ pub record GroupStep (lease : ℕ) (group : List ℕ) (before after : LinksState
   pub brought : AreBrought lease group (shape_of old) before after new.store
   pub leaves : Leaves new.store
 
--- for each session without jobs over a sound store that the tables show there is one
-abbrev pub GroupsTo : Room → Tables → ℕ → List ℕ → LinksState → LinksState → Reply
+-- for each session without jobs over a sound store that the tables show with the image there is one
+abbrev pub GroupsTo : Room → Tables → List ℕ → ℕ → List ℕ → LinksState → LinksState → Reply
     → (Store → Store → Type 0) → Type 0
-GroupsTo room tables lease group before after reply Leaves =
-    (now : ℕ) (image : List ℕ) (old : Session) → old.jobs ≡ []
+GroupsTo room tables image lease group before after reply Leaves =
+    (now : ℕ) (old : Session) → old.jobs ≡ []
     → Shows room tables image old.store → Sound old.store
     → GroupStep lease group before after now reply old (Leaves old.store)
 
@@ -143,16 +144,21 @@ IsOfGroup group (change.Group view other contents) =
     (other ≡ group) × (length contents ≤ FILE_COUNT_LIMIT)
 IsOfGroup group _ = ⊥
 
--- A change is to be made, which fits. The changed tables have room in a half of the journal.
-pub record IsGroupReady (room : Room) (tables : Tables) (lease : ℕ) (group : List ℕ)
-    (before after : LinksState) (change : Change) (reply : Reply) : Type 0 where
+-- A change is to be made, which fits. The changed tables have room in a half of the journal. Each
+-- content that comes has as many blocks as its size needs. The image is the one that has them.
+pub record IsGroupReady (there : List ℕ) (room : Room) (tables : Tables) (lease : ℕ)
+    (group : List ℕ) (before after : LinksState) (change : Change) (reply : Reply)
+    : Type 0 where
   pub kept : KeptBut (IsListedOfGroup lease group (table_shape room tables)) before after
   pub still : (now : ℕ) → moment_after now (Some reply) ≡ now
   pub downs : CountsDowns before after reply
   pub of : IsOfGroup group change
   pub fits : Fits tables change
   pub light : IsLight room (tables_weight (effect change tables))
-  pub step : GroupsTo room tables lease group before after reply (LedBy room tables change)
+  pub measured : BringsMeasured change
+  pub bytes : NewBytes
+  pub step : GroupsTo room tables there lease group before after reply
+      (LedBy room tables change there bytes)
 
 -- Nothing is to be changed.
 pub record IsGroupOver (room : Room) (tables : Tables) (lease : ℕ) (group : List ℕ)
@@ -160,4 +166,5 @@ pub record IsGroupOver (room : Room) (tables : Tables) (lease : ℕ) (group : Li
   pub kept : KeptBut (IsListedOfGroup lease group (table_shape room tables)) before after
   pub still : (now : ℕ) → moment_after now (Some reply) ≡ now
   pub downs : CountsDowns before after reply
-  pub step : GroupsTo room tables lease group before after reply (λ old new. new ≡ old)
+  pub step : (image : List ℕ)
+      → GroupsTo room tables image lease group before after reply (λ old new. new ≡ old)

@@ -16,6 +16,10 @@ pub record NewBytes : Type 0 where
   pub contents : List (List ℕ)
   pub locals : List (List ℕ)
 
+-- none
+abbrev pub no_bytes : NewBytes
+no_bytes = record { contents = []; locals = [] }
+
 -- those that an image has for them
 abbrev pub new_bytes : Room → Change → List ℕ → NewBytes
 new_bytes room (Install view contents provider now) image = record {
@@ -26,7 +30,7 @@ new_bytes room (Group number group contents) image =
     record { contents = map (content_bytes room image) contents; locals = [] }
 new_bytes room (Put number file) image =
     record { contents = []; locals = data_bytes room image file ∷ [] }
-new_bytes room _ image = record { contents = []; locals = [] }
+new_bytes room _ image = no_bytes
 
 -- The image has these bytes for them, of the lengths that the change says.
 pub record HasNew (room : Room) (change : Change) (bytes : NewBytes) (image : List ℕ)
@@ -36,13 +40,9 @@ pub record HasNew (room : Room) (change : Change) (bytes : NewBytes) (image : Li
 
 -- ---- the change
 
--- The new files have bytes, which an image has. Where the tables show the old store with an image,
--- the changed tables show the new one with each later image that has the same bytes for the files
--- that the tables name, and those bytes for the new ones.
-pub record LeadsIn (room : Room) (change : Change) (tables : Tables) (old new : Store)
-    : Type 0 where
-  pub bytes : NewBytes
-  pub there : (image : List ℕ) × (new_bytes room change image ≡ bytes)
-  pub shows : (image later : List ℕ) → Shows room tables image old
-      → SameFiles room tables image later → HasNew room change bytes later
-      → Shows room (effect change tables) later new
+-- The tables show the old store with an image. The changed tables show the new one with each image
+-- that has the same bytes for the files that the tables name, and these bytes for the new ones.
+pub record LeadsIn (room : Room) (change : Change) (tables : Tables) (there : List ℕ)
+    (bytes : NewBytes) (new : Store) : Type 0 where
+  pub shows : (later : List ℕ) → SameFiles room tables there later
+      → HasNew room change bytes later → Shows room (effect change tables) later new

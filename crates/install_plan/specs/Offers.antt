@@ -15,7 +15,7 @@ use Rattle.fetcher.specs.Causes.{IsTextCause}
 use Rattle.fetcher.specs.Fetched.{KeptAll}
 use Rattle.fetcher.specs.Given.{FitsText}
 use Rattle.install_plan.specs.Given.{IsFrom, IsUngiven}
-use Rattle.install_plan.specs.Hearing.{IsFront}
+use Rattle.install_plan.specs.InstallHeard.{IsFront}
 use Rattle.install_plan.specs.Stages.{HearsOne, StopsOne}
 
 -- ---- the whole line

@@ -14,17 +14,17 @@ use Rattle.machine.specs.Store.{Session}
 use Rattle.machine.specs.Wanted.{wanted}
 use Rattle.links.specs.Links.{LinksState}
 use Rattle.fetcher.specs.Fetched.{Kept}
-use Rattle.install_plan.specs.declared.plan.Plan.{Plan}
+use Rattle.install_plan.specs.declared.plan.InstallPlan.{InstallPlan}
 use Rattle.install_plan.specs.Downs.{CountsDowns}
-use Rattle.install_plan.specs.Hearing.{Hearing, Served}
+use Rattle.install_plan.specs.InstallHeard.{InstallHeard, InstallServed}
 
 -- the addresses of the files that it fetches
-abbrev pub targets_of : Plan → List Target
+abbrev pub targets_of : InstallPlan → List Target
 targets_of plan = map (λ file. file.target) plan.wanted
 
 -- The texts tell the release, whose addresses these are, and no refusal holds but one at a file. The
 -- wanted files are those at the places, each with its address.
-pub record IsPlan (shape : Shape) (url : List ℕ) (texts : List (List ℕ)) (plan : Plan)
+pub record IsPlan (shape : Shape) (url : List ℕ) (texts : List (List ℕ)) (plan : InstallPlan)
     : Type 0 where
   pub told : OfRelease texts (λ d a. (d ≡ plan.deployment) × (a ≡ plan.application))
   pub read : target_of_text url ≡ Ok plan.url
@@ -42,10 +42,10 @@ pub record IsPlan (shape : Shape) (url : List ℕ) (texts : List (List ℕ)) (pl
 
 -- both manifests were heard, and there is a plan; nothing else was asked for
 pub record IsPlanned (shape : Shape) (url : List ℕ) (texts : List (List ℕ))
-    (before after : LinksState) (plan : Plan) : Type 0 where
+    (before after : LinksState) (plan : InstallPlan) : Type 0 where
   pub hears : HearsRelease url shape texts
   pub is : IsPlan shape url texts plan
-  pub hearing : Hearing shape url texts before after
+  pub hearing : InstallHeard shape url texts before after
   pub asked : hearing.asked ≡ plan.url ∷ plan.base ∷ []
 
 -- It found no memory, or the reply is its first refusal.
@@ -56,5 +56,5 @@ pub record IsRefused (shape : Shape) (url : List ℕ) (texts : List (List ℕ))
   pub still : (now : ℕ) → moment_after now (Some reply) ≡ now
   pub refused : (reply ≡ Memory) ⊎ ((old : Session)
       → Refuses (install_refusals url texts shape) old reply old)
-  pub served : Served shape url texts before after reply
+  pub served : InstallServed shape url texts before after reply
   pub downs : CountsDowns before after reply

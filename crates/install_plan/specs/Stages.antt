@@ -11,13 +11,13 @@ use Rattle.machine.specs.declared.reply.Reply.{Reply}
 use Rattle.machine.specs.declared.reply.Reply.TheVariants.{AllLinks, Manifest, Memory}
 use Rattle.links.specs.Link.{LinkState}
 use Rattle.links.specs.Links.{LinksState}
-use Rattle.fetcher.specs.Fetched.{Asked, MayAsk, NoneGave}
+use Rattle.fetcher.specs.Fetched.{WasAsked, MayAsk, NoneGave}
 use Rattle.install_plan.specs.Given.{IsFrom}
 
 -- a text was asked for at the target, and got
 pub record IsGot (Fits : List ℕ → Type 0) (target : Target) (before after : LinksState)
     (text : List ℕ) : Type 0 where
-  pub asked : Asked target before after
+  pub asked : WasAsked target before after
   pub from : IsFrom Fits target before after text
 
 -- the manifest's text was got and noted, and tells this

@@ -1,4 +1,4 @@
-// Where a fetched file goes.
+// Where a fetched manifest goes.
 ghost use Rattle.std.specs.Prelude.{◌≡◌, []};
 
 use links::{Basket, BasketFault};

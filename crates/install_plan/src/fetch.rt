@@ -1,103 +1,96 @@
-// The files that an install or a group fetches.
-ghost use Rattle.std.specs.Prelude.{◌≡◌, ◌≢◌, ◌≤◌, ◌<◌, ◌*◌, ◌^◌, IfOk, IfErr, OnOk, Err};
-ghost use Rattle.fetcher.specs.declared.fault.FetchFault.TheVariants as fetch;
-ghost use Rattle.fetcher.specs.Fetched.{IsFile, IsFileFault, IsThis, KeptBut};
-ghost use Rattle.links.specs.Basket.{Turns};
-ghost use Rattle.links.specs.Links.{Remain, sources_of};
-ghost use Rattle.install_plan.specs.FetchedFiles.{ArePlaces, HasFetched, IsFetched, IsLack, IsStopped};
+// The files that an install or a group fetches, into drafts.
+ghost use Rattle.std.specs.Prelude.{◌≡◌, ◌≤◌, ◌<◌, ◌^◌, ◌+◌, ◌++◌, ℕ, List, length, IfErr, OnErr, OnOk, Err};
+ghost use Rattle.small_types.specs.Blocks.{count_for};
+ghost use Rattle.file_store.specs.Stores.{AreUsed, blocks_of_all, free_of, store_base};
+ghost use Rattle.fetcher.specs.Fetched.{IsThis, KeptBut};
+ghost use Rattle.line_drafts.specs.Added.{AddsDraft};
+ghost use Rattle.line_drafts.specs.Held.{AreHeld};
+ghost use Rattle.line_drafts.specs.Works.{Works};
+ghost use Rattle.install_plan.specs.declared.lack.Lack.TheVariants as by;
+ghost use Rattle.install_plan.specs.Drafted.{AreSized};
+ghost use Rattle.install_plan.specs.FetchedFiles.{ArePlaces, HasFetched, IsFetched, IsLack, IsStopped, WritesAsked, WritesOne, blocks_needed};
+ghost use Rattle.install_plan.specs.Lacks.{lack_reply};
 
 use crate::WantedFile;
-use crate::basket::ByteBasket;
-use crate::replies::fetch_reply;
-use fetcher::{FetchFault, fetch_file};
-use links::{Basket, Links};
-use machine::Reply;
+use crate::lack::{Lack, lack_of};
+use disks::Disk;
+use file_store::FileStore;
+use line_drafts::LineDrafts;
+use links::Links;
 use manifests::FileEntry;
-use small_types::{Bytes, CopyFault, Duplicate, List, Target};
-use std::alloc::{AllocFailed, Global};
-use store_state::Content;
+use small_types::Target;
+use std::alloc::Global;
 
-/// Fetches a wanted file into the basket: the bytes at the target that match what is listed. They
-/// are hashed once, and go to the basket piece by piece. An `Err` says that no link gave them, that
-/// the basket failed, or that there was no memory.
-pub fn fetch_file_into<L: Links, B: Basket>(
+// Fetches a wanted file into a draft: the bytes at the target that match what is listed. They are
+// hashed once, and go to the disk piece by piece. There are blocks for it.
+fn fetch_one<D: Disk, L: Links>(
     alloc: Global,
+    disk: &mut D,
+    files: &mut FileStore,
     links: &mut L,
+    drafts: &mut LineDrafts,
     target: &Target,
     entry: &FileEntry,
-    basket: &mut B,
-) -> Result<(), FetchFault>
+) -> Result<(), Lack>
     requires below { entry.now.size < 2 ^ 61 }
-    ensures file { OnOk result (IsFile entry.now.list entry.now.size target.now
-        (L.links links.old) (L.links links.new) B.tells (B.taken basket.new)) }
-    ensures fault { IfErr result (IsFileFault entry.now.list entry.now.size target.now
-        (L.links links.old) (L.links links.new) (B.count basket.old) (B.count basket.new)) }
+    requires used { AreUsed files.old (blocks_of_all drafts.old) }
+    requires room { count_for entry.now.size ≤ length (free_of files.old) }
+    ensures fetched { OnOk result ((bytes : List ℕ)
+        × IsFetched entry.now target.now (L.links links.old) (L.links links.new) bytes
+        × AddsDraft D.Disk drafts.old drafts.new files.old files.new disk.old disk.new bytes) }
+    ensures lack { IfErr result (λ lack. IsLack entry.now target.now
+        (L.links links.old) (L.links links.new) (lack_reply lack)) }
+    ensures none { OnErr result (drafts.new ≡ drafts.old) }
     ensures kept { KeptBut (IsThis target.now entry.now.list entry.now.size)
         (L.links links.old) (L.links links.new) }
-    ensures remain { IfErr result (λ _. Remain (L.links links.old) (L.links links.new)) }
-    ensures later { B.count basket.old ≤ B.count basket.new }
-    ensures quiet { result ≢ Err fetch.BasketFault → B.count basket.new ≡ B.count basket.old }
-    ensures turned { Turns B.turns_to (entry.now.size * sources_of (L.links links.old))
-        basket.old basket.new }
+    ensures works { (most : ℕ)
+        × WritesOne entry.now (L.links links.old) (L.links links.new) most
+        × Works D.Disk drafts.old drafts.new files.old files.new disk.old disk.new most
+        (result ≡ Err by.DiskFault) }
 {
-    fetch_file(alloc, links, target, entry.size, &entry.list, basket)
-}
-
-// The content of a file: the bytes at the target that match what is listed. It is hashed once, and
-// no piece is copied but into the content.
-fn fetch_content<L: Links>(
-    alloc: Global,
-    links: &mut L,
-    target: &Target,
-    entry: &FileEntry,
-) -> Result<Content, Reply>
-    requires below { entry.now.size < 2 ^ 61 }
-    ensures fetched { IfOk result (IsFetched entry.now target.now
-        (L.links links.old) (L.links links.new)) }
-    ensures lack { IfErr result (IsLack entry.now target.now
-        (L.links links.old) (L.links links.new)) }
-    ensures kept { KeptBut (IsThis target.now entry.now.list entry.now.size)
-        (L.links links.old) (L.links links.new) }
-{
-    let list = match entry.list.copy(alloc) {
-        Ok(list) => list,
-        Err(CopyFault::Memory) => return Err(Reply::Memory),
-    };
-    let mut basket = ByteBasket::new(alloc, entry.size);
-    match fetch_file_into(alloc, links, target, entry, &mut basket) {
-        Ok(()) => Ok(Content {
-            size: entry.size,
-            list,
-            held: Bytes::from_vec(basket.bytes),
-        }),
-        Err(fault) => Err(fetch_reply(fault)),
+    match drafts.fetch(alloc, disk, files, links, target, entry.size, &entry.list) {
+        Ok(()) => Ok(()),
+        Err(fault) => Err(lack_of(fault)),
     }
 }
 
-// Fetches the wanted ones of these files, in their order. The first that no link gives is the
-// reply; each file before it was fetched, and nothing behind it is asked for.
-pub(crate) fn fetch_wanted<L: Links>(
+// Fetches the wanted ones of these files, in their order, each into a draft of its own. The first
+// that no link gives is the reply; each file before it was fetched, and nothing behind it is asked
+// for. There are blocks for all of them.
+pub(crate) fn fetch_wanted<D: Disk, L: Links>(
     alloc: Global,
+    disk: &mut D,
+    files: &mut FileStore,
     links: &mut L,
-    files: &[FileEntry],
+    drafts: &mut LineDrafts,
+    listed: &[FileEntry],
     wanted: &[WantedFile],
-) -> Result<List<Content>, Reply>
-    requires places { ArePlaces files.now wanted.now }
-    ensures fetched { IfOk result (HasFetched files.now wanted.now
-        (L.links links.old) (L.links links.new)) }
-    ensures stopped { IfErr result (IsStopped files.now wanted.now
-        (L.links links.old) (L.links links.new)) }
+) -> Result<(), Lack>
+    requires places { ArePlaces listed.now wanted.now }
+    requires used { AreUsed files.old (blocks_of_all drafts.old) }
+    requires room { blocks_needed listed.now wanted.now ≤ length (free_of files.old) }
+    ensures fetched { OnOk result ((gave : List (List ℕ))
+        × HasFetched listed.now wanted.now (L.links links.old) (L.links links.new) gave
+        × ((contents : List (List ℕ)) → AreSized drafts.old contents
+        → AreSized drafts.new (contents ++ gave))
+        × ((contents : List (List ℕ))
+        → AreHeld (store_base files.old) drafts.old contents (D.seen disk.old)
+        → AreHeld (store_base files.old) drafts.new (contents ++ gave) (D.seen disk.new))) }
+    ensures stopped { IfErr result (λ lack. IsStopped listed.now wanted.now
+        (L.links links.old) (L.links links.new) (lack_reply lack)) }
+    ensures left { OnOk result (length (free_of files.old)
+        ≡ blocks_needed listed.now wanted.now + length (free_of files.new)) }
+    ensures works { (most : ℕ)
+        × WritesAsked listed.now wanted.now (L.links links.old) (L.links links.new) most
+        × Works D.Disk drafts.old drafts.new files.old files.new disk.old disk.new most
+        (result ≡ Err by.DiskFault) }
 {
-    let mut contents = Vec::new(alloc);
     for file in wanted {
         let place = file.place;
-        let content = match fetch_content(alloc, links, &file.target, &files[place]) {
-            Ok(content) => content,
-            Err(reply) => return Err(reply),
-        };
-        if let Err(AllocFailed { .. }) = contents.push(content) {
-            return Err(Reply::Memory);
+        let entry = &listed[place];
+        if let Err(lack) = fetch_one(alloc, disk, files, links, drafts, &file.target, entry) {
+            return Err(lack);
         }
     }
-    Ok(List::from_vec(contents))
+    Ok(())
 }

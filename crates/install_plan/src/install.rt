@@ -1,26 +1,50 @@
 // The change that an install makes.
-ghost use Rattle.std.specs.Prelude.{◌≡◌, ◌≤◌, ℕ, [], IfOk, IfErr};
+ghost use Rattle.std.specs.Prelude.{◌≡◌, ◌≤◌, ◌+◌, ℕ, List, [], ◌++◌, true, All, IfOk, IfErr, IsOk, OnOk, Err, Some, count_by, drop, length, map, sum_by};
+ghost use Rattle.std.specs.List.Sorted.{IsPermutation};
+ghost use Rattle.small_types.specs.Blocks.{count_for};
 ghost use Rattle.small_types.specs.declared.limits.TheConstants.{NUMBER_LIMIT};
+ghost use Rattle.file_store.specs.Stores.{AreUsed, blocks_of_all, free_of};
+ghost use Rattle.line_drafts.specs.Works.{Works};
 ghost use Rattle.machine.specs.declared.reply.Reply.TheVariants.{Memory};
+ghost use Rattle.machine.specs.Wanted.{wanted};
 ghost use Rattle.store_state.specs.declared.change.Change.TheVariants as change;
-ghost use Rattle.store_state.specs.Rows.{current_row};
-ghost use Rattle.install_plan.specs.Carried.{row_locals};
-ghost use Rattle.install_plan.specs.Changes.{HasContents, IsChangeOf, installed_of, view_of};
-ghost use Rattle.install_plan.specs.FetchedFiles.{ArePlaces, HasFetched, IsStopped};
-ghost use Rattle.install_plan.specs.Prepared.{IsPrepared};
+ghost use Rattle.store_state.specs.Measured.{AreMeasured, IsMeasuredLocal};
+ghost use Rattle.store_state.specs.Rows.{current_row, row_locals};
+ghost use Rattle.store_state.specs.Tables.{bare_row, table_shape};
+ghost use Rattle.data_migration.specs.Migration.{AreApart};
+ghost use Rattle.table_files.specs.Held.{held_by, held_for_contents, held_for_locals};
+ghost use Rattle.install_plan.specs.declared.lack.Lack.TheVariants as by;
+ghost use Rattle.install_plan.specs.declared.prepared.PreparedFiles.TheVariants as to;
+ghost use Rattle.install_plan.specs.Blocks.{UsesBlocks};
+ghost use Rattle.install_plan.specs.Carried.{Rise, carried_in, copied_in};
+ghost use Rattle.install_plan.specs.Changes.{HasContents, installed_of, listed_at, old_locals, plan_contents, view_of};
+ghost use Rattle.install_plan.specs.FetchedFiles.{ArePlaces, IsStopped, WritesAsked, blocks_needed};
+ghost use Rattle.install_plan.specs.FileCosts.{IsInstallCost};
+ghost use Rattle.install_plan.specs.InstallDrafts.{HasDrafted, HasFiles, drafted_contents, drafted_locals};
+ghost use Rattle.install_plan.specs.Lacks.{lack_reply};
+ghost use Rattle.install_plan.specs.Parts.{IsThere, copied_locals, is_copy, made_locals};
+ghost use Rattle.install_plan.specs.Prepared.{IsPrepared, LeavesDisk, WritesFree};
 
+use crate::drafted::{Drafted, finish};
 use crate::fetch::fetch_wanted;
+use crate::fetched_parts::{blocks_of, contents_of, parts_of};
+use crate::lack::Lack;
 use crate::local_plans::plans_of;
-use crate::new_locals::{moved_locals, parts_of};
-use crate::{Plan, Prepared, hear};
+use crate::new_locals::{copy_locals, new_locals};
+use crate::{InstallPlan, PreparedFiles, hear};
+use data_migration::LocalPlan;
+use disks::Disk;
+use file_store::{Draft, FileStore};
 use identity::Key;
+use line_drafts::LineDrafts;
 use links::Links;
 use machine::{Heard, Reply};
 use small_types::{Bytes, CopyFault, Duplicate, List, Room};
-use std::alloc::Global;
+use std::alloc::{AllocError, Global};
 use store_state::{
     Change, Content, LocalFile, StoreState, View, installs_show_the_view, shapes_are_shown,
 };
+use table_files::held_are_used;
 use table_weight::{changed_tables_weigh, migrated_data_weigh};
 
 // The data files of the view that is current for the key.
@@ -38,7 +62,7 @@ fn old_locals<'a>(state: &'a StoreState, key: &Key) -> &'a [LocalFile]
 fn change_with(
     alloc: Global,
     state: &StoreState,
-    plan: Plan,
+    plan: InstallPlan,
     locals: List<LocalFile>,
     contents: List<Content>,
     now: u64,
@@ -60,50 +84,8 @@ fn change_with(
     }
 }
 
-// The files of the new view that come with an install: contents of program files, and data files.
-#[derive(Drop)]
-struct NewFiles {
-    contents: List<Content>,
-    locals: List<LocalFile>,
-}
-
-// What the contents of the plan's wanted files come to: those of data files become data files.
-// Where the others come from is planned here.
-fn new_files(
-    alloc: Global,
-    state: &StoreState,
-    plan: &Plan,
-    contents: List<Content>,
-) -> Result<NewFiles, Reply>
-    requires contents { HasContents state.now plan.now contents }
-    ensures made { (now : ℕ) → IfOk result (λ files. IsChangeOf state.now plan.now contents now
-        (change.Install (view_of state.now plan.now files.locals) files.contents
-        plan.now.provider now)) }
-    ensures memory { IfErr result (λ reply. reply ≡ Memory) }
-{
-    let files = plan.application.files.as_slice();
-    let parts = match parts_of(alloc, files, plan.wanted.as_slice(), contents) {
-        Ok(parts) => parts,
-        Err(reply) => return Err(reply),
-    };
-    let listed = &plan.application.files;
-    let plans = match plans_of(alloc, state, &plan.deployment.identity.key, listed) {
-        Ok(plans) => plans,
-        Err(reply) => return Err(reply),
-    };
-    let old = old_locals(state, &plan.deployment.identity.key);
-    let fetched = parts.locals.as_slice();
-    match moved_locals(alloc, old, fetched, plans.as_slice()) {
-        Ok(locals) => Ok(NewFiles {
-            contents: List::from_vec(parts.programs),
-            locals,
-        }),
-        Err(reply) => Err(reply),
-    }
-}
-
 // The reply once that change is made, or want of memory.
-fn installed_reply(alloc: Global, state: &StoreState, plan: &Plan) -> Result<Reply, Reply>
+fn installed_reply(alloc: Global, state: &StoreState, plan: &InstallPlan) -> Result<Reply, Reply>
     ensures made { IfOk result (λ reply. reply ≡ installed_of state.now plan.now) }
     ensures memory { IfErr result (λ reply. reply ≡ Memory) }
 {
@@ -117,20 +99,148 @@ fn installed_reply(alloc: Global, state: &StoreState, plan: &Plan) -> Result<Rep
     }
 }
 
-// Fetches the files that the plan wants, in their order.
-fn fetch_planned<L: Links>(
+// Brings the files of a plan into drafts: first those that it wants are fetched, in their order, and
+// then the data files are copied that its plans carry over. There are blocks for all of them.
+fn draft_files<D: Disk, L: Links>(
     alloc: Global,
+    disk: &mut D,
+    files: &mut FileStore,
     links: &mut L,
-    plan: &Plan,
-) -> Result<List<Content>, Reply>
+    drafts: &mut LineDrafts,
+    plan: &InstallPlan,
+    old: &[LocalFile],
+    plans: &[LocalPlan],
+) -> Result<(), Lack>
     requires places { ArePlaces plan.now.application.files plan.now.wanted }
-    ensures fetched { IfOk result (HasFetched plan.now.application.files plan.now.wanted
-        (L.links links.old) (L.links links.new)) }
-    ensures stopped { IfErr result (IsStopped plan.now.application.files plan.now.wanted
-        (L.links links.old) (L.links links.new)) }
+    requires there { All (λ plan. is_copy plan ≡ true → IsThere old.now [] plan) plans.now }
+    requires measured { All IsMeasuredLocal old.now }
+    requires empty { drafts.old ≡ [] }
+    requires used { AreUsed files.old (blocks_of_all drafts.old) }
+    requires room { blocks_needed plan.now.application.files plan.now.wanted
+        + sum_by (λ file. count_for file.length) (copied_locals old.now plans.now)
+        ≤ length (free_of files.old) }
+    ensures drafted { OnOk result (HasDrafted D.Disk plan.now.application.files plan.now.wanted
+        old.now plans.now (L.links links.old) (L.links links.new) files.old drafts.new disk.old
+        disk.new) }
+    ensures stopped { IfErr result (λ lack. IsStopped plan.now.application.files plan.now.wanted
+        (L.links links.old) (L.links links.new) (lack_reply lack)) }
+    ensures works { (fetched most : ℕ)
+        × WritesAsked plan.now.application.files plan.now.wanted (L.links links.old)
+        (L.links links.new) fetched
+        × (most ≤ fetched + sum_by (λ file. file.length) (copied_locals old.now plans.now))
+        × Works D.Disk drafts.old drafts.new files.old files.new disk.old disk.new most
+        (result ≡ Err by.DiskFault) }
 {
-    let files = plan.application.files.as_slice();
-    fetch_wanted(alloc, links, files, plan.wanted.as_slice())
+    let listed = plan.application.files.as_slice();
+    let wanted = plan.wanted.as_slice();
+    if let Err(lack) = fetch_wanted(alloc, disk, files, links, drafts, listed, wanted) {
+        return Err(lack);
+    }
+    match copy_locals(alloc, disk, files, drafts, old, plans) {
+        Ok(()) => Ok(()),
+        Err(lack) => Err(lack),
+    }
+}
+
+// The files of the new view that come with an install: contents of program files, and data files; with
+// the blocks of all drafts, and those of them that neither has.
+#[derive(Drop)]
+struct NewFiles {
+    programs: List<Content>,
+    placed: Placed,
+}
+
+#[derive(Drop)]
+struct Placed {
+    locals: List<LocalFile>,
+    taken: List<u32>,
+    unused: List<u32>,
+}
+
+// The data files that plans make of those that were fetched and of these copies, and the blocks.
+fn place_data(
+    alloc: Global,
+    old: &[LocalFile],
+    fetched: Vec<LocalFile>,
+    copies: &[Draft],
+    plans: &[LocalPlan],
+    drafts: &LineDrafts,
+) -> Result<Placed, Reply>
+    requires there { All (IsThere old.now fetched.items) plans.now }
+    requires rise { Rise plans.now }
+    requires copies { length copies.now ≡ count_by is_copy plans.now }
+    ensures made { IfOk result (λ placed. placed.locals
+        ≡ made_locals old.now fetched.items copies.now plans.now) }
+    ensures blocks { IfOk result (λ placed.
+        IsPermutation (held_for_locals fetched.items ++ blocks_of_all copies.now)
+        (held_for_locals placed.locals ++ placed.unused)) }
+    ensures taken { IfOk result (λ placed. placed.taken ≡ blocks_of_all drafts.now) }
+    ensures memory { IfErr result (λ reply. reply ≡ Memory) }
+{
+    let taken = match drafts.all_blocks(alloc) {
+        Ok(taken) => taken,
+        Err(AllocError) => return Err(Reply::Memory),
+    };
+    let made = match new_locals(alloc, old, fetched, copies, plans) {
+        Ok(made) => made,
+        Err(reply) => return Err(reply),
+    };
+    match blocks_of(alloc, made.left.as_slice()) {
+        Ok(unused) => Ok(Placed {
+            locals: made.locals,
+            taken,
+            unused,
+        }),
+        Err(reply) => Err(reply),
+    }
+}
+
+// The files of a plan that came into these drafts: those that it wants, and then the copies.
+fn new_files(
+    alloc: Global,
+    state: &StoreState,
+    plan: &InstallPlan,
+    plans: &[LocalPlan],
+    drafts: &LineDrafts,
+) -> Result<NewFiles, Reply>
+    requires rise { Rise plans.now }
+    requires places { ArePlaces plan.now.application.files plan.now.wanted }
+    requires contents { HasContents state.now plan.now (drafted_contents plan.now drafts.now) }
+    requires there { All (IsThere (old_locals state.now plan.now)
+        (drafted_locals plan.now drafts.now)) plans.now }
+    requires each { length drafts.now
+        ≡ length plan.now.wanted + count_by is_copy plans.now }
+    ensures contents { IfOk result (λ files. files.programs
+        ≡ plan_contents plan.now (drafted_contents plan.now drafts.now)) }
+    ensures made { IfOk result (λ files. files.placed.locals
+        ≡ made_locals (old_locals state.now plan.now) (drafted_locals plan.now drafts.now)
+        (drop (length plan.now.wanted) drafts.now) plans.now) }
+    ensures taken { IfOk result (λ files. files.placed.taken ≡ blocks_of_all drafts.now) }
+    ensures blocks { IfOk result (λ files. IsPermutation files.placed.taken
+        ((held_for_contents files.programs ++ held_for_locals files.placed.locals)
+        ++ files.placed.unused)) }
+    ensures memory { IfErr result (λ reply. reply ≡ Memory) }
+{
+    let listed = plan.application.files.as_slice();
+    let wanted = plan.wanted.as_slice();
+    let all = drafts.as_slice();
+    let contents = match contents_of(alloc, listed, wanted, all) {
+        Ok(contents) => contents,
+        Err(reply) => return Err(reply),
+    };
+    let parts = match parts_of(alloc, listed, wanted, contents) {
+        Ok(parts) => parts,
+        Err(reply) => return Err(reply),
+    };
+    let copies = &all[wanted.len()..];
+    let old = old_locals(state, &plan.deployment.identity.key);
+    match place_data(alloc, old, parts.locals, copies, plans, drafts) {
+        Ok(placed) => Ok(NewFiles {
+            programs: List::from_vec(parts.programs),
+            placed,
+        }),
+        Err(reply) => Err(reply),
+    }
 }
 
 // What an install takes from its plan by reference: the new files, and the reply that is then due.
@@ -140,21 +250,34 @@ struct Made {
     reply: Reply,
 }
 
-// What the plan comes to with these contents.
+// What a plan comes to whose files came into these drafts.
 fn made_of(
     alloc: Global,
     state: &StoreState,
-    plan: &Plan,
-    contents: List<Content>,
+    plan: &InstallPlan,
+    plans: &[LocalPlan],
+    drafts: &LineDrafts,
 ) -> Result<Made, Reply>
-    requires contents { HasContents state.now plan.now contents }
-    ensures made { (now : ℕ) → IfOk result (λ made. IsChangeOf state.now plan.now contents now
-        (change.Install (view_of state.now plan.now made.files.locals) made.files.contents
-        plan.now.provider now)) }
+    requires rise { Rise plans.now }
+    requires places { ArePlaces plan.now.application.files plan.now.wanted }
+    requires contents { HasContents state.now plan.now (drafted_contents plan.now drafts.now) }
+    requires there { All (IsThere (old_locals state.now plan.now)
+        (drafted_locals plan.now drafts.now)) plans.now }
+    requires each { length drafts.now
+        ≡ length plan.now.wanted + count_by is_copy plans.now }
+    ensures contents { IfOk result (λ made. made.files.programs
+        ≡ plan_contents plan.now (drafted_contents plan.now drafts.now)) }
+    ensures made { IfOk result (λ made. made.files.placed.locals
+        ≡ made_locals (old_locals state.now plan.now) (drafted_locals plan.now drafts.now)
+        (drop (length plan.now.wanted) drafts.now) plans.now) }
+    ensures taken { IfOk result (λ made. made.files.placed.taken ≡ blocks_of_all drafts.now) }
+    ensures blocks { IfOk result (λ made. IsPermutation made.files.placed.taken
+        ((held_for_contents made.files.programs ++ held_for_locals made.files.placed.locals)
+        ++ made.files.placed.unused)) }
     ensures replied { IfOk result (λ made. made.reply ≡ installed_of state.now plan.now) }
     ensures memory { IfErr result (λ reply. reply ≡ Memory) }
 {
-    let files = match new_files(alloc, state, plan, contents) {
+    let files = match new_files(alloc, state, plan, plans, drafts) {
         Ok(files) => files,
         Err(reply) => return Err(reply),
     };
@@ -164,63 +287,128 @@ fn made_of(
     }
 }
 
-/// The change that the plan comes to with the contents of its wanted files, in their order, and the
-/// reply that is due once it is made. Data files come to the new view as the migration says. An
-/// `Err` is the reply: there was no memory.
-pub fn install_change(
+// Brings the files of a plan into drafts.
+fn draft_install<D: Disk, L: Links>(
     alloc: Global,
     state: &StoreState,
-    plan: Plan,
-    contents: List<Content>,
-    now: u64,
-) -> Result<(Change, Reply), Reply>
-    requires contents { HasContents state.now plan contents }
-    ensures made { IfOk result (λ made. IsChangeOf state.now plan contents now made.0) }
-    ensures replied { IfOk result (λ made. made.1 ≡ installed_of state.now plan) }
-    ensures memory { IfErr result (λ reply. reply ≡ Memory) }
+    disk: &mut D,
+    files: &mut FileStore,
+    links: &mut L,
+    plan: &InstallPlan,
+    drafts: &mut LineDrafts,
+) -> Result<Made, Lack>
+    requires places { ArePlaces plan.now.application.files plan.now.wanted }
+    requires wanted { listed_at plan.now.application.files plan.now.wanted
+        ≡ map Some (wanted (map bare_row state.now.views) plan.now.application) }
+    requires apart { AreApart (old_locals state.now plan.now) plan.now.application.files }
+    requires measured { All IsMeasuredLocal (old_locals state.now plan.now) }
+    requires empty { drafts.old ≡ [] }
+    requires used { AreUsed files.old (blocks_of_all drafts.old) }
+    requires room { blocks_needed plan.now.application.files plan.now.wanted
+        + copied_in (old_locals state.now plan.now) ≤ length (free_of files.old) }
+    ensures drafted { IfOk result (λ made. HasFiles D.Disk state.now plan.now (L.links links.old)
+        (L.links links.new) files.old drafts.new disk.old disk.new made.files.placed.locals
+        made.files.programs made.files.placed.taken made.files.placed.unused made.reply) }
+    ensures stopped { IfErr result (λ lack. IsStopped plan.now.application.files plan.now.wanted
+        (L.links links.old) (L.links links.new) (lack_reply lack)) }
+    ensures works { (fetched most : ℕ)
+        × WritesAsked plan.now.application.files plan.now.wanted (L.links links.old)
+        (L.links links.new) fetched
+        × (most ≤ fetched + carried_in (old_locals state.now plan.now))
+        × Works D.Disk drafts.old drafts.new files.old files.new disk.old disk.new most
+        (result ≡ Err by.DiskFault) }
 {
-    let made = match made_of(alloc, state, &plan, contents) {
-        Ok(made) => made,
-        Err(reply) => return Err(reply),
+    let key = &plan.deployment.identity.key;
+    let plans = match plans_of(alloc, state, key, &plan.application.files) {
+        Ok(plans) => plans,
+        Err(reply) => return Err(Lack::Reply { reply }),
     };
-    let files = made.files;
-    let change = change_with(alloc, state, plan, files.locals, files.contents, now);
-    Ok((change, made.reply))
+    let old = old_locals(state, key);
+    let plans = plans.as_slice();
+    if let Err(lack) = draft_files(alloc, disk, files, links, drafts, plan, old, plans) {
+        return Err(lack);
+    }
+    match made_of(alloc, state, plan, plans, drafts) {
+        Ok(made) => Ok(made),
+        Err(reply) => Err(Lack::Reply { reply }),
+    }
 }
 
-/// Hears the manifests of the release at the address, judges them, and fetches the files that no
-/// kept view has. Data files come to the new view as the migration says. Where nothing refuses it,
-/// that is the change of the tables, which fits them, and the reply that is then due.
-pub fn prepare<L: Links>(
+// The change of a plan whose files came into drafts. It takes no memory.
+fn drafted_of(
+    alloc: Global,
+    state: &StoreState,
+    plan: InstallPlan,
+    made: Result<Made, Lack>,
+    now: u64,
+) -> Result<Drafted, Lack>
+    ensures change { IfOk made (λ m. IfOk result (λ drafted. drafted ≡ record {
+      change = change.Install (view_of state.now plan m.files.placed.locals) m.files.programs
+          plan.provider now;
+      reply = m.reply;
+      taken = m.files.placed.taken;
+      unused = m.files.placed.unused;
+    })) }
+    ensures well { OnOk made (IsOk result) }
+    ensures lacks { IfErr made (λ lack. result ≡ Err lack) }
+{
+    match made {
+        Ok(made) => {
+            let files = made.files;
+            let placed = files.placed;
+            Ok(Drafted {
+                change: change_with(alloc, state, plan, placed.locals, files.programs, now),
+                reply: made.reply,
+                taken: placed.taken,
+                unused: placed.unused,
+            })
+        }
+        Err(lack) => {
+            drop(plan);
+            Err(lack)
+        }
+    }
+}
+
+/// Hears the manifests of the release at the address, judges them, and brings the files that no
+/// kept view has into blocks that are free: it fetches them, and copies the data files that the
+/// migration carries over. Where nothing refuses it, that is the change of the tables, which fits
+/// them, and the reply that is then due. No more than a piece of a file is in memory.
+pub fn prepare<D: Disk, L: Links>(
     alloc: Global,
     state: &StoreState,
     room: Room,
+    files: &mut FileStore,
+    disk: &mut D,
     links: &mut L,
     now: u64,
     url: &Bytes,
     heard: &mut Heard,
-) -> Prepared
+) -> PreparedFiles
     requires empty { heard.old.texts ≡ [] }
     requires moment { now ≤ NUMBER_LIMIT }
-    ensures { IsPrepared room state.now url.now heard.new.texts
-        (L.links links.old) (L.links links.new) now result }
+    requires blocks { UsesBlocks files.old room (held_by state.now) }
+    requires measured { AreMeasured state.now }
+    ensures prepared { IsPrepared D.Disk room state.now url.now heard.new.texts
+        (L.links links.old) (L.links links.new) now files.old files.new disk.old disk.new result }
+    ensures writes { (most : ℕ)
+        × IsInstallCost (table_shape room state.now) heard.new.texts
+        (L.links links.old) (L.links links.new) most
+        × WritesFree D.Disk files.old files.new disk.old disk.new most (result ≡ to.DiskFault) }
+    ensures leaves { LeavesDisk D.Disk disk.old disk.new result }
 {
     let plan = match hear(alloc, state, room, links, url, heard) {
         Ok(plan) => plan,
-        Err(reply) => return Prepared::Reply { reply },
-    };
-    let contents = match fetch_planned(alloc, links, &plan) {
-        Ok(contents) => contents,
-        Err(reply) => return Prepared::Reply { reply },
-    };
-    let (change, reply) = match install_change(alloc, state, plan, contents, now) {
-        Ok(made) => made,
-        Err(reply) => return Prepared::Reply { reply },
+        Err(reply) => return PreparedFiles::Reply { reply },
     };
     state.are_tables();
+    held_are_used();
     shapes_are_shown();
     installs_show_the_view();
     changed_tables_weigh();
     migrated_data_weigh();
-    Prepared::Change { change, reply }
+    let mut drafts = LineDrafts::new(alloc);
+    let made = draft_install(alloc, state, disk, files, links, &plan, &mut drafts);
+    let drafted = drafted_of(alloc, state, plan, made, now);
+    finish(files, disk, drafts, drafted)
 }

@@ -12,7 +12,7 @@ pub struct WantedFile {
 
 /// What an install comes to once its manifests are heard.
 #[derive(Drop, Debug, PartialEq, Eq)]
-pub struct Plan {
+pub struct InstallPlan {
     pub deployment: Deployment,
     pub application: Application,
     /// The address that was given.

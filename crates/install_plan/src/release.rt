@@ -184,7 +184,7 @@ pub(crate) fn judge_places(
 }
 
 // Whether the tables have room once the release is installed, where these are the places of its
-// files that are wanted. A journal without halves has room for any.
+// files that are wanted. A half of 0, which no journal has, has room for any.
 pub(crate) fn judge_tables(
     alloc: Global,
     state: &StoreState,

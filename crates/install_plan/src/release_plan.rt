@@ -14,7 +14,7 @@ ghost use Rattle.install_plan.specs.Judges.{Judges, release_checks};
 use crate::deployment::{given_address, judge_deployment};
 use crate::release::{judge_places, judge_tables};
 use crate::texts::{hear_application, hear_deployment};
-use crate::{Plan, WantedFile};
+use crate::{InstallPlan, WantedFile};
 use addresses::{UrlFault, target_of};
 use links::Links;
 use machine::{Heard, Reply};
@@ -147,11 +147,18 @@ fn hear_at<L: Links>(
     };
     let base = match judge_deployment(alloc, state, target, &deployment) {
         Ok(base) => base,
-        Err(reply) => return Err(reply),
+        Err(reply) => {
+            drop(deployment);
+            return Err(reply);
+        }
     };
     let application = match hear_application(alloc, links, &base, &deployment, heard) {
         Ok(application) => application,
-        Err(reply) => return Err(reply),
+        Err(reply) => {
+            drop(base);
+            drop(deployment);
+            return Err(reply);
+        }
     };
     match judge_heard(alloc, state, room, target, &base, &deployment, &application) {
         Ok(judged) => Ok(Told {
@@ -160,7 +167,12 @@ fn hear_at<L: Links>(
             base,
             judged,
         }),
-        Err(reply) => Err(reply),
+        Err(reply) => {
+            drop(application);
+            drop(base);
+            drop(deployment);
+            Err(reply)
+        }
     }
 }
 
@@ -174,7 +186,7 @@ pub fn hear<L: Links>(
     links: &mut L,
     url: &Bytes,
     heard: &mut Heard,
-) -> Result<Plan, Reply>
+) -> Result<InstallPlan, Reply>
     requires empty { heard.old.texts ≡ [] }
     ensures plan { IfOk result (IsPlanned (table_shape room state.now) url.now heard.new.texts
         (L.links links.old) (L.links links.new)) }
@@ -186,7 +198,7 @@ pub fn hear<L: Links>(
         Err(reply) => return Err(reply),
     };
     match hear_at(alloc, state, room, links, &target, heard) {
-        Ok(told) => Ok(Plan {
+        Ok(told) => Ok(InstallPlan {
             deployment: told.deployment,
             application: told.application,
             url: target,

@@ -43,6 +43,7 @@ pub(crate) fn hear_deployment<L: Links>(
     };
     let read = read_deployment(alloc, text.as_slice());
     if let Err(AllocFailed { .. }) = heard.texts.push(text) {
+        drop(read);
         return Err(Reply::Memory);
     }
     match read {
@@ -100,6 +101,7 @@ pub(crate) fn hear_application<L: Links>(
     };
     let read = read_application(alloc, text.as_slice());
     if let Err(AllocFailed { .. }) = heard.texts.push(text) {
+        drop(read);
         return Err(Reply::Memory);
     }
     match read {

@@ -8,7 +8,7 @@ use Rattle.machine.specs.GroupRow.{Comes}
 use Rattle.machine.specs.Machine.{effect}
 use Rattle.machine.specs.Store.{Job, Session, Store, session_over}
 use Rattle.machine.specs.Views.{View}
-use Rattle.job_machine.specs.Folding.{is_ok}
+use Rattle.job_machine.specs.PlainRuns.{is_ok}
 use Rattle.job_machine.specs.GroupBeside.{ComesBeside}
 use Rattle.job_machine.specs.Sessions.{effect_beside}
 

@@ -26,15 +26,15 @@ use Rattle.machine.specs.Valid.{AreNumbers}
 use Rattle.machine.specs.Views.{ContentKey, ListedFile, View, content_key, is_required, same_content}
 use Rattle.machine.specs.Wanted.{is_held, wanted}
 use Rattle.machine.proofs.Addresses.{codebase_is_held, text_is_held}
-use Rattle.machine.proofs.Mapping.{flat_map_in}
+use Rattle.machine.proofs.ChangedLists.{flat_map_in}
 use Rattle.machine.proofs.Members.{In, all_in, contains_in, filter_in, in_all, in_either, in_filter, in_flat_map, in_left, in_map, in_right}
-use Rattle.machine.proofs.Needing.{in_passes, is_same, passes_in, same_is}
+use Rattle.machine.proofs.OwnContents.{in_passes, is_same, passes_in, same_is}
 use Rattle.machine.proofs.ReadApplications.{application_read}
 use Rattle.machine.proofs.ReadDeployments.{deployment_read}
-use Rattle.machine.proofs.RisingNumbers.{push_numbers}
+use Rattle.machine.proofs.NumberLists.{push_numbers}
 use Rattle.machine.proofs.Shared.{AreAlike, alike_each, each_alike}
-use Rattle.machine.proofs.Using.{any_in, in_any}
-use Rattle.machine.proofs.Wanting.{are_wanted}
+use Rattle.machine.proofs.ViewUse.{any_in, in_any}
+use Rattle.machine.proofs.WantedFiles.{are_wanted}
 use Rattle.job_machine.specs.BeginRow.{AreHeld, BeginEffect, begin_refusals, new_job, with_new_job}
 use Rattle.job_machine.specs.FreeBytes.{program_files_held}
 use Rattle.job_machine.specs.Jobs.{bare_job, job_shape_of}

@@ -24,11 +24,11 @@ use Rattle.machine.specs.Views.{ListedFile, View, content_key, is_required, stan
 use Rattle.machine.specs.Words.{IsCommand}
 use Rattle.machine.proofs.EachRow.{facts}
 use Rattle.machine.proofs.GroupStands.{leased_number}
-use Rattle.machine.proofs.Grouping.{blocks_among, standing_more}
+use Rattle.machine.proofs.GrownViews.{blocks_among, standing_more}
 use Rattle.machine.proofs.Leased.{leased_shape, view_in}
-use Rattle.machine.proofs.Mapping.{flat_map_in}
+use Rattle.machine.proofs.ChangedLists.{flat_map_in}
 use Rattle.machine.proofs.Members.{In, all_in, in_either, in_filter, in_flat_map, in_left, in_map, in_right, map_in}
-use Rattle.machine.proofs.Needing.{blocks_within}
+use Rattle.machine.proofs.OwnContents.{blocks_within}
 use Rattle.machine.proofs.OneView.{only_one, same_bare_lists}
 use Rattle.machine.proofs.Shared.{AreAlike, alike_each, each_alike}
 use Rattle.job_machine.specs.FreeBytes.{Agree, program_files_held}

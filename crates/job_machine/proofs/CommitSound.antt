@@ -25,22 +25,22 @@ use Rattle.machine.specs.Valid.{IsDataFile, IsView, Ordered, Valid}
 use Rattle.machine.specs.Views.{DataFile, ListedFile, View, is_required}
 use Rattle.machine.specs.Weight.{IsLight, IsTooHeavy, weight_of}
 use Rattle.machine.proofs.Addresses.{text_is_held}
-use Rattle.machine.proofs.Bringing.{bare_data_current, bare_listed_current, installed_sound}
+use Rattle.machine.proofs.BroughtFiles.{bare_data_current, bare_listed_current, installed_sound}
 use Rattle.machine.proofs.CountedBlocks.{counted_more}
-use Rattle.machine.proofs.Grouping.{blocks_among}
+use Rattle.machine.proofs.GrownViews.{blocks_among}
 use Rattle.machine.proofs.InstallWeights.{installed_weight}
-use Rattle.machine.proofs.Installing.{Fitting, installed_ordered}
+use Rattle.machine.proofs.NewView.{Fitting, installed_ordered}
 use Rattle.machine.proofs.Leased.{view_in}
 use Rattle.machine.proofs.Lightness.{is_light}
 use Rattle.machine.proofs.Members.{In, all_in, in_either, in_flat_map, in_left, in_map, in_right, sum_map}
-use Rattle.machine.proofs.Moving.{are_data, few_named}
+use Rattle.machine.proofs.MovedFiles.{are_data, few_named}
 use Rattle.job_machine.specs.CommitRow.{CommitEffect, IsWeightOf, commit_refusals}
 use Rattle.job_machine.specs.Jobs.{job_shape_of, without_job}
 use Rattle.job_machine.specs.Needs.{commit_need}
 use Rattle.job_machine.specs.Replies.{SessionReply}
 use Rattle.job_machine.specs.Settled.{SoundSessionWithJobs}
 use Rattle.job_machine.specs.FreeBytes.{program_files_held}
-use Rattle.job_machine.proofs.Committing.{file_of_jobs, open_of, whole_files}
+use Rattle.job_machine.proofs.CommitInstalls.{file_of_jobs, open_of, whole_files}
 use Rattle.job_machine.proofs.NewViews.{data_room, files_after as program_files_after, standing_after}
 use Rattle.job_machine.proofs.OneKey.{less_than, not_less}
 use Rattle.job_machine.proofs.OpenJobs.{job_in}

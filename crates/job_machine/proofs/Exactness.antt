@@ -16,7 +16,7 @@ use Rattle.machine.specs.InstallRow.{OfRelease, address_refusals, deployment_ref
 use Rattle.machine.specs.Rows.{AreExact, IsExact, Refusal}
 use Rattle.machine.specs.Shape.{BareView, Shape}
 use Rattle.machine.specs.Weight.{table_room, told_weight}
-use Rattle.machine.proofs.Choosing.{exactly-exact, exactly_with-exact}
+use Rattle.machine.proofs.FirstRefusal.{exactly-exact, exactly_with-exact}
 use Rattle.machine.proofs.GroupFacts.{room_exact}
 use Rattle.machine.proofs.InstallExact.{address_exact, deployment_exact, release_exact, text_one}
 use Rattle.job_machine.specs.declared.reply.JobReply.TheVariants as tells

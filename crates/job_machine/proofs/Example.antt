@@ -36,14 +36,14 @@ use Rattle.machine.specs.Store.{Job, Session, Store, session_over}
 use Rattle.machine.specs.Views.{ContentKey, DataFile, ListedFile, View, content_key, is_required, same_content}
 use Rattle.machine.specs.Wanted.{copied_need, wanted, wanted_beside}
 use Rattle.machine.specs.Weight.{IsTooHeavy}
-use Rattle.machine.proofs.Bringing.{bare_data_current}
+use Rattle.machine.proofs.BroughtFiles.{bare_data_current}
 use Rattle.machine.proofs.Contents.{content_decides}
-use Rattle.machine.proofs.Entering.{order}
+use Rattle.machine.proofs.EntryOrder.{order}
 use Rattle.machine.proofs.Example as old
 use Rattle.machine.proofs.FoundTexts.{ascii_text}
-use Rattle.machine.proofs.Mapping.{flat_map_in}
+use Rattle.machine.proofs.ChangedLists.{flat_map_in}
 use Rattle.machine.proofs.Members.{In, all_in, filter_in, in_all, in_either}
-use Rattle.machine.proofs.Migrating.{migration}
+use Rattle.machine.proofs.OneMigration.{migration}
 use Rattle.machine.proofs.Sessions.{begins_sound}
 use Rattle.machine.proofs.Update.{made, updated_store}
 use Rattle.job_machine.specs.declared.command.JobCommand.TheVariants as calls
@@ -51,7 +51,7 @@ use Rattle.job_machine.specs.declared.reply.JobReply.TheVariants as tells
 use Rattle.job_machine.specs.BeginRow.{AreHeld, new_job, with_new_job}
 use Rattle.job_machine.specs.CommitRow.{CommitEffect, IsWeightOf, commit_refusals}
 use Rattle.job_machine.specs.FreeBytes.{Agree, IsFetched, program_files_held}
-use Rattle.job_machine.specs.Interleaving.{JobsMayBeInterleaved}
+use Rattle.job_machine.specs.Interleaved.{JobsMayBeInterleaved}
 use Rattle.job_machine.specs.Jobs.{BareJob, OfOpen, bare_job, bare_job_at, job_at, job_shape_of, with_job_at, without_job}
 use Rattle.job_machine.specs.Needs.{begin_need, commit_need, install_need, uncounted_need}
 use Rattle.job_machine.specs.Replies.{OfJob, OfMachine}

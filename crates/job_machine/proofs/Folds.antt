@@ -16,11 +16,11 @@ use Rattle.machine.specs.Machine.{Hears, moment_after, refusals}
 use Rattle.machine.specs.Rows.{PassesAll, Refuses}
 use Rattle.machine.specs.Shape.{shape_of}
 use Rattle.machine.specs.Store.{Session, Store, booted}
-use Rattle.machine.proofs.Choosing.{given_reply}
+use Rattle.machine.proofs.FirstRefusal.{given_reply}
 use Rattle.job_machine.specs.declared.command.JobCommand.{JobCommand}
 use Rattle.job_machine.specs.declared.command.JobCommand.TheVariants as calls
 use Rattle.job_machine.specs.CommitRow.{CommitEffect}
-use Rattle.job_machine.specs.Folding.{Becomes, CountsCheck, Happens, Installs, Leaves, LeavesOfCommit, Plain, PlainRun, Release, RunLeaves, StepsAlone, counts_check, is_ok, plain_event}
+use Rattle.job_machine.specs.PlainRuns.{Becomes, CountsCheck, Happens, Installs, Leaves, LeavesOfCommit, Plain, PlainRun, BroughtRelease, RunLeaves, StepsAlone, counts_check, is_ok, plain_event}
 use Rattle.job_machine.specs.JobWords.{IsSessionEvent}
 use Rattle.job_machine.specs.Jobs.{job_shape_of}
 use Rattle.job_machine.specs.Replies.{OfJob, OfMachine, SessionReply}
@@ -73,7 +73,7 @@ memory_uncounted _ = refl
 
 -- what a commit installs
 abbrev release_of : {number now : ℕ} {old : Session} {reply : SessionReply} {new : Session}
-    → CommitEffect number now old reply new → Release
+    → CommitEffect number now old reply new → BroughtRelease
 release_of done = record {
   url = done.job.url;
   base = done.job.base;

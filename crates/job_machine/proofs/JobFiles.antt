@@ -7,9 +7,9 @@ use Rattle.machine.specs.Fields.{IsApplication}
 use Rattle.machine.specs.SoundSession.{IsSoundJob, entries_of, wanted_entries}
 use Rattle.machine.specs.Store.{Job}
 use Rattle.machine.specs.Views.{is_required}
-use Rattle.machine.proofs.Mapping.{one_of}
+use Rattle.machine.proofs.ChangedLists.{one_of}
 use Rattle.machine.proofs.Members.{In, all_in, filter_in, in_contains, in_filter}
-use Rattle.machine.proofs.Wanting.{or_one, was_false}
+use Rattle.machine.proofs.WantedFiles.{or_one, was_false}
 
 -- ---- kinds of files
 

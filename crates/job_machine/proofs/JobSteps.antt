@@ -7,7 +7,7 @@ use Rattle.addresses.specs.declared.fault.UrlFault.{UrlFault}
 use Rattle.addresses.specs.declared.fault.UrlFault.TheVariants.{BadUrl}
 use Rattle.addresses.specs.Address.{target_of_text}
 use Rattle.addresses.specs.Join.{app_target_of, file_target_of}
-use Rattle.small_types.specs.Reading.{◌>>=◌}
+use Rattle.small_types.specs.Outcome.{◌>>=◌}
 use Rattle.manifests.specs.declared.facts.Application.{Application}
 use Rattle.manifests.specs.declared.facts.Deployment.{Deployment}
 use Rattle.manifests.specs.declared.facts.FileEntry.{FileEntry}
@@ -21,11 +21,11 @@ use Rattle.machine.specs.Rows.{PassesAll}
 use Rattle.machine.specs.Shape.{shape_of}
 use Rattle.machine.specs.Store.{Job, Session}
 use Rattle.machine.specs.Wanted.{wanted}
-use Rattle.machine.proofs.Choosing.{unchanged}
+use Rattle.machine.proofs.FirstRefusal.{unchanged}
 use Rattle.machine.proofs.FileAddresses.{IsReached, file_reached}
 use Rattle.machine.proofs.Members.{In, filter_in, in_all, in_contains, in_either, map_in}
 use Rattle.machine.proofs.Sessions.{step_jobs}
-use Rattle.machine.proofs.Using.{any_in}
+use Rattle.machine.proofs.ViewUse.{any_in}
 use Rattle.job_machine.specs.declared.command.JobCommand.{JobCommand}
 use Rattle.job_machine.specs.declared.command.JobCommand.TheVariants as calls
 use Rattle.job_machine.specs.BeginRow.{BeginEffect, begin_refusals, new_job}

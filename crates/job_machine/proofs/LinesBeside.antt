@@ -13,8 +13,8 @@ use Rattle.machine.specs.Store.{Session}
 use Rattle.machine.proofs.EachRow.{facts}
 use Rattle.machine.proofs.OtherReplies.{all_links_is_other, bad_url_is_other}
 use Rattle.job_machine.specs.JobLaws.{IsAnsweredBeside}
-use Rattle.job_machine.proofs.GroupAnswering.{group_answered}
-use Rattle.job_machine.proofs.JobAnswering.{IsRead, address_read}
+use Rattle.job_machine.proofs.GroupAnswers.{group_answered}
+use Rattle.job_machine.proofs.JobAnswers.{IsRead, address_read}
 
 not_http_is_other : says.NotHttp ≢ says.Memory
 not_http_is_other e = cc

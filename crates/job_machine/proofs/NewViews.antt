@@ -19,10 +19,10 @@ use Rattle.machine.specs.Sound.{IsWhole, program_files_of}
 use Rattle.machine.specs.Store.{Store, session_over}
 use Rattle.machine.specs.Views.{DataFile, ListedFile, View, is_required, standing_entries}
 use Rattle.machine.specs.Wanted.{copied_need, deployed_need}
-use Rattle.machine.proofs.Bringing.{bare_data_current}
-use Rattle.machine.proofs.Installing.{standing_required}
+use Rattle.machine.proofs.BroughtFiles.{bare_data_current}
+use Rattle.machine.proofs.NewView.{standing_required}
 use Rattle.machine.proofs.Members.{filter_map_is, sum_agree, sum_map}
-use Rattle.machine.proofs.Moving.{data_weight}
+use Rattle.machine.proofs.MovedFiles.{data_weight}
 use Rattle.job_machine.proofs.Rooms.{data_blocks, data_of_views}
 
 -- ---- what data files take

@@ -2,7 +2,7 @@
 use Rattle.std.proofs.Common.{◌≡◌, ◌∙◌, ap, eqb, eqb-true, ℕ, List, map, Option, Some}
 use Rattle.std.specs.Prelude.{option_map}
 use Rattle.machine.specs.Store.{Job}
-use Rattle.machine.proofs.Finding.{find-map, find_in}
+use Rattle.machine.proofs.FirstFound.{find-map, find_in}
 use Rattle.machine.proofs.Members.{In}
 use Rattle.job_machine.specs.Jobs.{BareJob, bare_job, bare_job_at, job_at}
 

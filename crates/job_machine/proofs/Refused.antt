@@ -10,12 +10,12 @@ use Rattle.machine.specs.Store.{Session}
 use Rattle.job_machine.specs.declared.command.JobCommand.{JobCommand}
 use Rattle.job_machine.specs.declared.command.JobCommand.TheVariants as calls
 use Rattle.job_machine.specs.BeginRow.{heard_refusals, number_refusals, room_refusals}
-use Rattle.job_machine.specs.Folding.{is_ok}
+use Rattle.job_machine.specs.PlainRuns.{is_ok}
 use Rattle.job_machine.specs.InstallBeside.{install_refusals_beside}
 use Rattle.job_machine.specs.Jobs.{JobShape}
 use Rattle.job_machine.specs.Replies.{OfJob, OfMachine, SessionReply, as_answer, as_answers}
 use Rattle.job_machine.specs.Sessions.{job_refusals, refusals_beside}
-use Rattle.machine.proofs.Choosing.{AllGive, give_both}
+use Rattle.machine.proofs.FirstRefusal.{AllGive, give_both}
 
 -- ---- replies
 

@@ -13,8 +13,8 @@ use Rattle.machine.specs.Rows.{ChangeNothing, PassesAll, Refuses}
 use Rattle.machine.specs.Shape.{Shape, shape_of}
 use Rattle.machine.specs.Store.{Session}
 use Rattle.machine.proofs.CheckFacts.{check_refused}
-use Rattle.machine.proofs.Choosing.{given_reply, unchanged}
-use Rattle.job_machine.specs.Folding.{CountsCheck, counts_check, is_ok}
+use Rattle.machine.proofs.FirstRefusal.{given_reply, unchanged}
+use Rattle.job_machine.specs.PlainRuns.{CountsCheck, counts_check, is_ok}
 use Rattle.job_machine.specs.Sessions.{AnswersBeside, effect_beside, refusals_beside}
 use Rattle.job_machine.proofs.Refused.{IsRefusal, refused_beside}
 

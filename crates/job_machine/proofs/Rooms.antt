@@ -14,10 +14,10 @@ use Rattle.machine.specs.Shape.{BareData, BareView, Shape}
 use Rattle.machine.specs.Store.{Job}
 use Rattle.machine.specs.Views.{ContentKey, content_key, is_required, same_content}
 use Rattle.machine.specs.Wanted.{deployed_need, is_held, new_contents}
-use Rattle.machine.proofs.Grouping.{blocks_among}
-use Rattle.machine.proofs.Mapping.{flat_map_in}
+use Rattle.machine.proofs.GrownViews.{blocks_among}
+use Rattle.machine.proofs.ChangedLists.{flat_map_in}
 use Rattle.machine.proofs.Members.{In, filter_in, in_either, in_flat_map, in_left, in_map, in_right, map_in, pairs_map, sum_map, sum_within}
-use Rattle.machine.proofs.Needing.{Apart, blocks_within, distinct_apart, distinct_in, each_stands, in_passes, is_same}
+use Rattle.machine.proofs.OwnContents.{Apart, blocks_within, distinct_apart, distinct_in, each_stands, in_passes, is_same}
 use Rattle.job_machine.specs.Needs.{begin_need, counted_files}
 use Rattle.job_machine.proofs.Pairs.{pairs_joined}
 

@@ -9,9 +9,9 @@ use Rattle.machine.specs.SoundSession.{IsSoundJob, SoundSession, program_files_i
 use Rattle.machine.specs.Store.{Job, Session, Store}
 use Rattle.machine.specs.Valid.{AreNumbers}
 use Rattle.machine.specs.Views.{ListedFile, is_required}
-use Rattle.machine.proofs.Mapping.{flat_map_in}
+use Rattle.machine.proofs.ChangedLists.{flat_map_in}
 use Rattle.machine.proofs.Members.{In, filter_in, filter_map_is, in_flat_map, in_left, in_right, in_either}
-use Rattle.machine.proofs.RisingNumbers.{numbers_among}
+use Rattle.machine.proofs.NumberLists.{numbers_among}
 use Rattle.machine.proofs.Shared.{alike_each, each_alike}
 use Rattle.job_machine.specs.FreeBytes.{program_files_held}
 use Rattle.job_machine.specs.Jobs.{without_job}

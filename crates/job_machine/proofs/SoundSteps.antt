@@ -12,7 +12,7 @@ use Rattle.machine.specs.Shape.{shape_of}
 use Rattle.machine.specs.SoundSession.{SoundSession}
 use Rattle.machine.specs.Store.{Session}
 use Rattle.machine.specs.Words.{IsCommand, IsEvent}
-use Rattle.machine.proofs.Choosing.{unchanged}
+use Rattle.machine.proofs.FirstRefusal.{unchanged}
 use Rattle.machine.proofs.Sessions.{step_jobs, step_session}
 use Rattle.job_machine.specs.declared.command.JobCommand.{JobCommand}
 use Rattle.job_machine.specs.declared.command.JobCommand.TheVariants as calls

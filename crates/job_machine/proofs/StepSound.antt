@@ -16,11 +16,11 @@ use Rattle.machine.specs.SoundSession.{IsComing, IsSoundJob, entries_of, program
 use Rattle.machine.specs.Store.{Job, Session}
 use Rattle.machine.specs.Valid.{AreNumbers}
 use Rattle.machine.specs.Views.{ContentKey, ListedFile, content_key, is_required, same_content}
-use Rattle.machine.proofs.Mapping.{all_mapped, flat_map_in, one_of, pairs_unmap, same_parts}
+use Rattle.machine.proofs.ChangedLists.{all_mapped, flat_map_in, one_of, pairs_unmap, same_parts}
 use Rattle.machine.proofs.Members.{In, all_in, contains_in, filter_in, in_all, in_contains, in_either, in_filter, in_flat_map, in_left, in_right, map_in, pairs_head, pairs_tail, pairs_weaker}
-use Rattle.machine.proofs.Needing.{is_same, same_is}
+use Rattle.machine.proofs.OwnContents.{is_same, same_is}
 use Rattle.machine.proofs.Shared.{AreAlike, alike_each, each_alike}
-use Rattle.machine.proofs.Using.{any_in, in_any}
+use Rattle.machine.proofs.ViewUse.{any_in, in_any}
 use Rattle.job_machine.specs.FreeBytes.{IsFetched, program_files_held}
 use Rattle.job_machine.specs.Jobs.{with_job_at}
 use Rattle.job_machine.specs.Settled.{HaveOtherContents, IsSettled, SoundSessionWithJobs}

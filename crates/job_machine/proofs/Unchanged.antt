@@ -4,7 +4,7 @@ use Rattle.machine.specs.declared.reply.Reply.{Reply}
 use Rattle.machine.specs.declared.reply.Reply.TheVariants as says
 use Rattle.machine.specs.Rows.{ChangeNothing, PassesAll, Refusal, Refuses}
 use Rattle.machine.specs.Store.{Session}
-use Rattle.machine.proofs.Choosing.{unchanged}
+use Rattle.machine.proofs.FirstRefusal.{unchanged}
 use Rattle.machine.proofs.InstallFacts.{unchanged_both}
 use Rattle.job_machine.specs.declared.command.JobCommand.{JobCommand}
 use Rattle.job_machine.specs.declared.command.JobCommand.TheVariants as calls

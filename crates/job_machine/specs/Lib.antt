@@ -1,15 +1,15 @@
 pub mod AbandonRow
 pub mod BeginRow
 pub mod CommitRow
-pub mod Folding
 pub mod FreeBytes
 pub mod GroupBeside
 pub mod InstallBeside
-pub mod Interleaving
+pub mod Interleaved
 pub mod JobLaws
 pub mod JobWords
 pub mod Jobs
 pub mod Needs
+pub mod PlainRuns
 pub mod Replies
 pub mod Sessions
 pub mod Settled

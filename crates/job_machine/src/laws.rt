@@ -1,6 +1,6 @@
 // What is true of lines of jobs, with no code.
-ghost use Rattle.job_machine.specs.Folding.{RunsAreOfTheMachine, RunsFold};
-ghost use Rattle.job_machine.specs.Interleaving.{JobsMayBeInterleaved};
+ghost use Rattle.job_machine.specs.PlainRuns.{RunsAreOfTheMachine, RunsFold};
+ghost use Rattle.job_machine.specs.Interleaved.{JobsMayBeInterleaved};
 ghost use Rattle.job_machine.specs.JobLaws.{BegunJobsTakeTheirNeed, CommitsBringWholeFiles, CommitsInstall, JobLinesAreAnswered, JobMemoryChangesNothing, JobRefusalsChangeNothing, JobRowsAreExact, JobsKeepTheirRelease, JobsLeaveTheStore, LinesBesideAreAnswered, LinesWithoutJobsAreAsEver, OneJobRefusalIsGiven, SessionRunsKeepSound, SessionStepsKeepAddresses, SessionStepsKeepSound, SessionsBeginSoundWithJobs};
 
 /// At most one refusal of a line of jobs is given, where none of its refusals is a free choice.

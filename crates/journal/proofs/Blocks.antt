@@ -11,9 +11,10 @@ use Rattle.disks.specs.declared.disk.Disk.{Ghosts}
 use Rattle.journal.specs.declared.log.Log.{Log}
 use Rattle.journal.specs.declared.side.Side.{Side}
 use Rattle.journal.specs.declared.side.Side.TheVariants.{First, Second}
-use Rattle.journal.specs.Layout.{size_bytes, long_bytes, entry_of, log_of, half_head, IsLog, IsOtherHalf, part_at, start_of, other_side, blocks_start, HalvesStand, IsHalvedJournal}
+use Rattle.journal.specs.Layout.{size_bytes, long_bytes, entry_of, log_of, half_head, IsLog, IsOtherHalf, part_at, start_of, other_side, HalvesStand, IsHalvedJournal}
+use Rattle.small_types.specs.Blocks.{blocks_start}
 use Rattle.disks.specs.Outside.{AgreesOutside, IsOldOutside}
-use Rattle.journal.specs.Laws.{used_by}
+use Rattle.journal.specs.Laws.{IsOldBefore, StaysOpen, used_by}
 use Rattle.journal.specs.Log.{IsOpen, half_of, used_of, end_of, other_half_start, need_of, room_left}
 use Rattle.journal.proofs.Parts.{length-part_at, part_before, part_behind}
 use Rattle.journal.proofs.Entries.{length-size_bytes}
@@ -98,19 +99,23 @@ module _ (side : Side) (serial : ℕ) (both : Bool) (blocks half : ℕ) (tables 
         other = subst (λ (l : List ℕ). IsOtherHalf both serial l) (sym parts_b) stands.other;
       }
 
-  outside_by : (place n : ℕ) (d c : List ℕ) → blocks_start half ≤ place → AgreesOutside place n d c → HalvesStand side serial both blocks half tables changes d → (t : Bool) → nat_le place (length d) ≡ t → HalvesStand side serial both blocks half tables changes c
-  outside_by place n d c late agrees stands true is =
+  before_by : (place : ℕ) (d c : List ℕ) → blocks_start half ≤ place → take (min place (length d)) c ≡ take place d → HalvesStand side serial both blocks half tables changes d → (t : Bool) → nat_le place (length d) ≡ t → HalvesStand side serial both blocks half tables changes c
+  before_by place d c late same stands true is =
       let few : min place (length d) ≡ place = grind (arith, nat_tests, is) in
-      stands_front place d c late (ap (λ (k : ℕ). take k c) (sym few) ∙ agrees.before) stands
-  outside_by place n d c late agrees stands false is =
+      stands_front place d c late (ap (λ (k : ℕ). take k c) (sym few) ∙ same) stands
+  before_by place d c late same stands false is =
       let few : min place (length d) ≡ length d = grind (arith, nat_tests, is) in
       let short : length d ≤ place = grind (arith, nat_tests, is) in
-      let front : take (length d) c ≡ d = ap (λ (k : ℕ). take k c) (sym few) ∙ agrees.before ∙ take_all place d short in
+      let front : take (length d) c ≡ d = ap (λ (k : ℕ). take k c) (sym few) ∙ same ∙ take_all place d short in
       subst (λ (l : List ℕ). HalvesStand side serial both blocks half tables changes l) (ap (λ (l : List ℕ). l ++ drop (length d) c) (sym front) ∙ take-append-drop (length d) c) (stands_longer d (drop (length d) c) stands)
+
+  -- an image that begins with what stood before a place behind the halves
+  pub stands_before : (place : ℕ) (d c : List ℕ) → blocks_start half ≤ place → take (min place (length d)) c ≡ take place d → HalvesStand side serial both blocks half tables changes d → HalvesStand side serial both blocks half tables changes c
+  stands_before place d c late same stands = before_by place d c late same stands (nat_le place (length d)) refl
 
   -- an image that agrees outside a range behind the halves, as after the write of a block
   pub stands_outside : (place n : ℕ) (d c : List ℕ) → blocks_start half ≤ place → AgreesOutside place n d c → HalvesStand side serial both blocks half tables changes d → HalvesStand side serial both blocks half tables changes c
-  stands_outside place n d c late agrees stands = outside_by place n d c late agrees stands (nat_le place (length d)) refl
+  stands_outside place n d c late agrees stands = stands_before place d c late agrees.before stands
 
 pub journal_outside : (place n blocks half : ℕ) (tables : List ℕ) (changes : List (List ℕ)) (d c : List ℕ) → blocks_start half ≤ place → AgreesOutside place n d c → IsHalvedJournal blocks half tables changes d → IsHalvedJournal blocks half tables changes c
 journal_outside place n blocks half tables changes d c late agrees made =
@@ -158,6 +163,18 @@ module _ {D : Type 0} (on : Ghosts D) (log : Log) (blocks : ℕ) (tables : List 
       → LeavesOnly on old new (IsHalvedJournal blocks (half_of log) tables changes)
   journal_stays old new place n late run is_open = weaker on old new _ _
       (λ c from. journal_outside place n blocks (half_of log) tables changes from.0 c late from.2 (each_journal old is_open from.0 from.1)) run
+
+  -- and while anything may be written behind a place that is not within the halves
+  pub open_before : (old new : D) (place : ℕ) → blocks_start (half_of log) ≤ place → LeavesOnly on old new (IsOldBefore place (on.left_at old (on.moment old))) → IsOpen on log blocks tables changes old
+      → StaysOpen on log blocks tables changes old new
+  open_before old new place late run is_open =
+      let stands = weaker on old new (IsOldBefore place (on.left_at old (on.moment old))) (HalvesStand log.side log.serial log.both blocks log.half tables changes)
+      (λ c from. stands_before log.side log.serial log.both blocks log.half tables changes place from.0 c late from.2 (is_open.each from.0 from.1)) run in
+      record {
+        opened = record { at = is_open.at; each = λ c left. stands.each (on.moment new) c run.later (omega arith) left };
+        each = weaker on old new (HalvesStand log.side log.serial log.both blocks log.half tables changes) (IsHalvedJournal blocks (half_of log) tables changes)
+            (λ c made. journal log.side log.serial log.both blocks log.half tables changes c made) stands;
+      }
 
 -- what stands behind the halves is as it was, where only a range before it was written
 pub behind_same : (place n half q k : ℕ) (d c : List ℕ) → place + n ≤ blocks_start half → blocks_start half ≤ q → AgreesOutside place n d c → part_at q k c ≡ part_at q k d

@@ -5,8 +5,8 @@ use Rattle.std.specs.List.{flat_map}
 use Rattle.std.specs.Option.{IfNone}
 use Rattle.std.specs.Int.{from_be_bytes, w64}
 use Rattle.std.proofs.lemmas.Nat.{be_bytes_8, from_be_bytes-to_be_bytes_8}
-use Rattle.journal.specs.declared.read.Start.{Start}
-use Rattle.journal.specs.declared.read.Start.TheVariants.{Closed, Opened}
+use Rattle.journal.specs.declared.read.HalfStart.{HalfStart}
+use Rattle.journal.specs.declared.read.HalfStart.TheVariants.{Closed, Opened}
 use Rattle.journal.specs.declared.side.Side.{Side}
 use Rattle.journal.specs.declared.side.Side.TheVariants.{First, Second}
 use Rattle.journal.specs.Layout.{long_bytes, entry_of, log_of, half_head, ClosedAfter, IsHalf, OpensWith, IsOtherHalf, part_at}
@@ -69,14 +69,14 @@ opened_two serial q k image two opens = open_shorter serial k (drop q image) two
 
 module _ (half : ℕ) (image : List ℕ) (two : 2 ≤ half) where
   -- the start of the half at a place, as two bytes have it
-  is_opened : (q serial : ℕ) (start : Start) → StartsSo start (part_at q 2 image) → start ≡ Opened serial → OpensWith serial (part_at q half image)
-  is_opened q serial start starts is = opened_part serial q half image two (subst (λ (s : Start). StartsSo s (part_at q 2 image)) is starts)
+  is_opened : (q serial : ℕ) (start : HalfStart) → StartsSo start (part_at q 2 image) → start ≡ Opened serial → OpensWith serial (part_at q half image)
+  is_opened q serial start starts is = opened_part serial q half image two (subst (λ (s : HalfStart). StartsSo s (part_at q 2 image)) is starts)
 
-  is_other : (both : Bool) (q serial : ℕ) (start : Start) → StartsSo start (part_at q 2 image) → IsOtherStart both serial start → IsOtherHalf both serial (part_at q half image)
+  is_other : (both : Bool) (q serial : ℕ) (start : HalfStart) → StartsSo start (part_at q 2 image) → IsOtherStart both serial start → IsOtherHalf both serial (part_at q half image)
   is_other true q serial start starts other = (other.0, is_opened q other.0 start starts other.1, other.2)
-  is_other false q serial start starts other = closed_part q half image two (subst (λ (s : Start). StartsSo s (part_at q 2 image)) other starts)
+  is_other false q serial start starts other = closed_part q half image two (subst (λ (s : HalfStart). StartsSo s (part_at q 2 image)) other starts)
 
-  pub begins : (side : Side) (serial : ℕ) (both : Bool) (first second : Start) → StartsSo first (part_at 4096 2 image) → StartsSo second (part_at (4096 + half) 2 image) → IsChosen side serial both first second
+  pub begins : (side : Side) (serial : ℕ) (both : Bool) (first second : HalfStart) → StartsSo first (part_at 4096 2 image) → StartsSo second (part_at (4096 + half) 2 image) → IsChosen side serial both first second
       → HalvesBegin side serial both half image
   begins First serial both first second is_first is_second chosen = record {
     opens = is_opened 4096 serial first is_first chosen.0;
@@ -90,7 +90,7 @@ module _ (half : ℕ) (image : List ℕ) (two : 2 ≤ half) where
   }
 
   -- two bytes begin in one way
-  starts_open : (start : Start) (serial : ℕ) (bytes : List ℕ) → StartsSo start bytes → OpensWith serial bytes → start ≡ Opened serial
+  starts_open : (start : HalfStart) (serial : ℕ) (bytes : List ℕ) → StartsSo start bytes → OpensWith serial bytes → start ≡ Opened serial
   starts_open Closed serial bytes starts opens =
       let same : starts.gate ∷ starts.rest ≡ 1 ∷ serial ∷ opens.rest = sym starts.split ∙ opens.split in
       let gate : starts.gate ≡ 1 = cc in
@@ -100,18 +100,18 @@ module _ (half : ℕ) (image : List ℕ) (two : 2 ≤ half) where
       let both : other ≡ serial = cc in
       ap Opened both
 
-  starts_shut : (start : Start) (bytes : List ℕ) → StartsSo start bytes → ClosedAfter [] bytes → start ≡ Closed
+  starts_shut : (start : HalfStart) (bytes : List ℕ) → StartsSo start bytes → ClosedAfter [] bytes → start ≡ Closed
   starts_shut Closed bytes starts closed = refl
   starts_shut (Opened other) bytes starts closed =
       let same : 1 ∷ other ∷ starts.rest ≡ closed.gate ∷ closed.rest = sym starts.split ∙ closed.split in
       let gate : closed.gate ≡ 1 = cc in
       absurd (closed.shut gate)
 
-  other_start : (both : Bool) (q serial : ℕ) (start : Start) → StartsSo start (part_at q 2 image) → IsOtherHalf both serial (part_at q half image) → IsOtherStart both serial start
+  other_start : (both : Bool) (q serial : ℕ) (start : HalfStart) → StartsSo start (part_at q 2 image) → IsOtherHalf both serial (part_at q half image) → IsOtherStart both serial start
   other_start true q serial start starts other = (other.0, starts_open start other.0 (part_at q 2 image) starts (opened_two other.0 q half image two other.1), other.2)
   other_start false q serial start starts other = starts_shut start (part_at q 2 image) starts (closed_two q half image two other)
 
-  pub chosen : (side : Side) (serial : ℕ) (both : Bool) (first second : Start) → StartsSo first (part_at 4096 2 image) → StartsSo second (part_at (4096 + half) 2 image) → HalvesBegin side serial both half image
+  pub chosen : (side : Side) (serial : ℕ) (both : Bool) (first second : HalfStart) → StartsSo first (part_at 4096 2 image) → StartsSo second (part_at (4096 + half) 2 image) → HalvesBegin side serial both half image
       → IsChosen side serial both first second
   chosen First serial both first second is_first is_second b =
       (starts_open first serial (part_at 4096 2 image) is_first (opened_two serial 4096 half image two b.opens), b.is_serial, other_start both (4096 + half) serial second is_second b.other)
@@ -119,15 +119,15 @@ module _ (half : ℕ) (image : List ℕ) (two : 2 ≤ half) where
       (starts_open second serial (part_at (4096 + half) 2 image) is_second (opened_two serial (4096 + half) half image two b.opens), b.is_serial, other_start both 4096 serial first is_first b.other)
 
   -- a half that begins in no way is none of a journal
-  other_starts : (both : Bool) (q serial : ℕ) → IsOtherHalf both serial (part_at q half image) → (start : Start) × StartsSo start (part_at q 2 image)
+  other_starts : (both : Bool) (q serial : ℕ) → IsOtherHalf both serial (part_at q half image) → (start : HalfStart) × StartsSo start (part_at q 2 image)
   other_starts true q serial other = (Opened other.0, opened_two other.0 q half image two other.1)
   other_starts false q serial other = (Closed, closed_two q half image two other)
 
-  pub first_starts : (side : Side) (serial : ℕ) (both : Bool) → HalvesBegin side serial both half image → (start : Start) × StartsSo start (part_at 4096 2 image)
+  pub first_starts : (side : Side) (serial : ℕ) (both : Bool) → HalvesBegin side serial both half image → (start : HalfStart) × StartsSo start (part_at 4096 2 image)
   first_starts First serial both b = (Opened serial, opened_two serial 4096 half image two b.opens)
   first_starts Second serial both b = other_starts both 4096 serial b.other
 
-  pub second_starts : (side : Side) (serial : ℕ) (both : Bool) → HalvesBegin side serial both half image → (start : Start) × StartsSo start (part_at (4096 + half) 2 image)
+  pub second_starts : (side : Side) (serial : ℕ) (both : Bool) → HalvesBegin side serial both half image → (start : HalfStart) × StartsSo start (part_at (4096 + half) 2 image)
   second_starts First serial both b = other_starts both (4096 + half) serial b.other
   second_starts Second serial both b = (Opened serial, opened_two serial (4096 + half) half image two b.opens)
 

@@ -1,11 +1,12 @@
 -- What holds of journals, as the layers above use it.
-use Rattle.std.specs.Prelude.{◌≡◌, ℕ, ◌+◌, ◌≤◌, List, length, sum_by}
+use Rattle.std.specs.Prelude.{◌≡◌, ℕ, ◌+◌, ◌≤◌, min, List, length, sum_by, take}
 use Rattle.disks.specs.declared.disk.Disk.{Ghosts}
 use Rattle.disks.specs.Moments.{LeavesOnly, Each, Untouched}
 use Rattle.disks.specs.Outside.{AgreesOutside, IsOldOutside}
 use Rattle.journal.specs.declared.log.Log.{Log}
 use Rattle.journal.specs.declared.piece.TheConstants.{BEFORE, AROUND_TABLES}
-use Rattle.journal.specs.Layout.{part_at, blocks_start, IsHalvedJournal}
+use Rattle.journal.specs.Layout.{part_at, IsHalvedJournal}
+use Rattle.small_types.specs.Blocks.{blocks_start}
 use Rattle.journal.specs.Log.{IsOpen, half_of, used_of, end_of, other_half_start, need_of, room_left}
 
 -- an image is one journal at most
@@ -73,4 +74,16 @@ abbrev pub StaysOpenBehind : {D : Type 0} → Ghosts D → Type 0
 StaysOpenBehind {D} on = (log : Log) (blocks : ℕ) (tables : List ℕ) (changes : List (List ℕ))
     (old new : D) (place n : ℕ) → blocks_start (half_of log) ≤ place
     → LeavesOnly on old new (IsOldOutside place n (on.left_at old (on.moment old)))
+    → IsOpen on log blocks tables changes old → StaysOpen on log blocks tables changes old new
+
+-- the image begins with what stood before this place in some old image
+abbrev pub IsOldBefore : ℕ → (List ℕ → Type 0) → List ℕ → Type 0
+IsOldBefore place old image = (before : List ℕ) × old before
+    × (take (min place (length before)) image ≡ take place before)
+
+-- and while anything may be written behind a place that is not within the halves
+abbrev pub StaysOpenFront : {D : Type 0} → Ghosts D → Type 0
+StaysOpenFront {D} on = (log : Log) (blocks : ℕ) (tables : List ℕ) (changes : List (List ℕ))
+    (old new : D) (place : ℕ) → blocks_start (half_of log) ≤ place
+    → LeavesOnly on old new (IsOldBefore place (on.left_at old (on.moment old)))
     → IsOpen on log blocks tables changes old → StaysOpen on log blocks tables changes old new

@@ -1,8 +1,8 @@
 -- The bytes of a journal: a head block, two halves, and anything behind them.
-use Rattle.std.specs.Prelude.{◌≡◌, ◌≢◌, ℕ, ◌+◌, ◌*◌, ◌%◌, ◌<◌, ◌≤◌, ◌^◌, ◌-◌, Bool, true, false, replicate, List, [], ◌∷◌, ◌++◌, length, take, drop}
+use Rattle.std.specs.Prelude.{◌≡◌, ◌≢◌, ℕ, ◌+◌, ◌%◌, ◌<◌, ◌≤◌, ◌^◌, ◌-◌, Bool, true, false, replicate, List, [], ◌∷◌, ◌++◌, length, take, drop}
 use Rattle.std.specs.List.{flat_map}
 use Rattle.std.specs.Int.{to_be_bytes, w32, w64}
-use Rattle.small_types.specs.declared.limits.TheConstants.{HEAD_BLOCK_SIZE, STORED_BLOCK_LIMIT, HALF_LEAST, HALF_LIMIT, HALF_STEP}
+use Rattle.small_types.specs.declared.limits.TheConstants.{HEAD_BLOCK_SIZE, BLOCK_LIMIT, HALF_LEAST, HALF_LIMIT, HALF_STEP}
 use Rattle.journal.specs.declared.form.TheConstants.{SIGN, HEAD_GATE, SERIAL_COUNT}
 use Rattle.journal.specs.declared.side.Side.{Side}
 use Rattle.journal.specs.declared.side.Side.TheVariants.{First, Second}
@@ -88,7 +88,7 @@ head_of blocks half = head_with blocks half 1
 -- what a journal's number of blocks and half length may be
 pub record AreLimits (blocks half : ℕ) : Type 0 where
   pub some : 1 ≤ blocks
-  pub most : blocks ≤ STORED_BLOCK_LIMIT
+  pub most : blocks ≤ BLOCK_LIMIT
   pub least : HALF_LEAST ≤ half
   pub greatest : half ≤ HALF_LIMIT
   pub steps : half % HALF_STEP ≡ 0
@@ -105,10 +105,6 @@ start_of Second half = HEAD_BLOCK_SIZE + half
 abbrev pub other_side : Side → Side
 other_side First = Second
 other_side Second = First
-
--- where the blocks begin, behind both halves
-abbrev pub blocks_start : ℕ → ℕ
-blocks_start half = HEAD_BLOCK_SIZE + 2 * half
 
 -- The image is a journal whose current half is this one and has this serial; `both` says whether
 -- the other half is open too. What stands behind the halves is not looked at.

@@ -4,8 +4,8 @@ use Rattle.std.specs.List.{flat_map}
 use Rattle.std.specs.Int.{from_be_bytes, w32}
 use Rattle.journal.specs.declared.form.TheConstants.{SERIAL_COUNT}
 use Rattle.journal.specs.declared.piece.TheConstants.{BEFORE}
-use Rattle.journal.specs.declared.read.Start.{Start}
-use Rattle.journal.specs.declared.read.Start.TheVariants.{Closed, Opened}
+use Rattle.journal.specs.declared.read.HalfStart.{HalfStart}
+use Rattle.journal.specs.declared.read.HalfStart.TheVariants.{Closed, Opened}
 use Rattle.journal.specs.declared.read.Step.{Step}
 use Rattle.journal.specs.declared.read.Step.TheVariants.{Change, End, Broken}
 use Rattle.journal.specs.declared.side.Side.{Side}
@@ -75,17 +75,17 @@ pub record AreFirstOf (bytes whole : List ℕ) : Type 0 where
   pub split : whole ≡ bytes ++ rest
 
 -- how a half begins
-abbrev pub StartsSo : Start → List ℕ → Type 0
+abbrev pub StartsSo : HalfStart → List ℕ → Type 0
 StartsSo Closed bytes = ClosedAfter [] bytes
 StartsSo (Opened serial) bytes = OpensWith serial bytes
 
 -- the start of the other half of one with this serial
-abbrev pub IsOtherStart : Bool → ℕ → Start → Type 0
+abbrev pub IsOtherStart : Bool → ℕ → HalfStart → Type 0
 IsOtherStart true serial start = (before : ℕ) × (start ≡ Opened before) × IsNextSerial before serial
 IsOtherStart false serial start = start ≡ Closed
 
 -- of halves that begin so, this one is current and has this serial
-abbrev pub IsChosen : Side → ℕ → Bool → Start → Start → Type 0
+abbrev pub IsChosen : Side → ℕ → Bool → HalfStart → HalfStart → Type 0
 IsChosen First serial both first second = (first ≡ Opened serial) × (serial < SERIAL_COUNT)
     × IsOtherStart both serial second
 IsChosen Second serial both first second = (second ≡ Opened serial) × (serial < SERIAL_COUNT)

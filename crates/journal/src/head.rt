@@ -3,7 +3,7 @@ ghost use Rattle.std.specs.Prelude.{◌≡◌, ◌↔◌, IsTrue, ◌<◌, ◌�
 ghost use Rattle.journal.specs.Layout.{head_of, head_with, zeros, AreLimits};
 
 use crate::form::{HEAD_GATE, SIGN};
-use small_types::limits::{HALF_LEAST, HALF_LIMIT, HALF_STEP, HEAD_BLOCK_SIZE, STORED_BLOCK_LIMIT};
+use small_types::limits::{BLOCK_LIMIT, HALF_LEAST, HALF_LIMIT, HALF_STEP, HEAD_BLOCK_SIZE};
 use std::alloc::{AllocError, Global};
 
 fn push_zeros(bytes: &mut Vec<u8>, count: usize) -> Result<(), AllocError>
@@ -44,7 +44,7 @@ pub fn are_limits(blocks: u64, half: u64) -> bool
     ensures { IsTrue result ↔ AreLimits blocks half }
 {
     1 <= blocks
-        && blocks <= STORED_BLOCK_LIMIT
+        && blocks <= BLOCK_LIMIT
         && HALF_LEAST <= half
         && half <= HALF_LIMIT
         && half % HALF_STEP == 0

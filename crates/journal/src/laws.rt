@@ -1,5 +1,5 @@
 // What holds of journals, of an open log, and of what is written behind the halves.
-ghost use Rattle.journal.specs.Laws.{IsOne, StaysOutside, StaysBehind, AppendsBefore, TurnsBefore, UsesBytes, IsEachJournal, StaysOpenRead, StaysOpenBehind};
+ghost use Rattle.journal.specs.Laws.{IsOne, StaysOutside, StaysBehind, AppendsBefore, TurnsBefore, UsesBytes, IsEachJournal, StaysOpenRead, StaysOpenBehind, StaysOpenFront};
 
 use disks::Disk;
 
@@ -23,4 +23,5 @@ pub fn an_open_log_stays_open<D: Disk>()
     ensures each { IsEachJournal D.Disk }
     ensures read { StaysOpenRead D.Disk }
     ensures behind { StaysOpenBehind D.Disk }
+    ensures front { StaysOpenFront D.Disk }
 {}

@@ -77,7 +77,7 @@ fn is_open(gate: u8) -> bool
 
 // How a half begins.
 #[derive(Clone, Copy, Debug, PartialEq, Eq)]
-pub(crate) enum Start {
+pub(crate) enum HalfStart {
     // Its gate is closed.
     Closed,
     // Its gate is open, and this is its serial.
@@ -85,20 +85,20 @@ pub(crate) enum Start {
 }
 
 // How the half begins that begins with these bytes.
-fn read_start(bytes: &[u8]) -> Option<Start>
+fn read_start(bytes: &[u8]) -> Option<HalfStart>
     ensures some { IfSome result (λ s. StartsSo s bytes.now) }
-    ensures none { IfNone result ((s : Start) → StartsSo s bytes.now → ⊥) }
+    ensures none { IfNone result ((s : HalfStart) → StartsSo s bytes.now → ⊥) }
 {
     if bytes.is_empty() {
         return None;
     }
     if !is_open(bytes[0]) {
-        return Some(Start::Closed);
+        return Some(HalfStart::Closed);
     }
     if bytes.len() < 2 {
         return None;
     }
-    Some(Start::Opened(bytes[1]))
+    Some(HalfStart::Opened(bytes[1]))
 }
 
 // Whether the second serial is the one after the first.
@@ -109,28 +109,28 @@ fn is_next(before: u8, serial: u8) -> bool
 }
 
 // Which half is current, its serial, and whether the other one is open too.
-fn choose(first: Start, second: Start) -> Option<(Side, u8, bool)>
+fn choose(first: HalfStart, second: HalfStart) -> Option<(Side, u8, bool)>
     ensures some { IfSome result (λ c. IsChosen c.0 c.1 c.2 first second) }
     ensures none { IfNone result ((side : Side) (serial : ℕ) (both : Bool)
         → IsChosen side serial both first second → ⊥) }
 {
     match (first, second) {
-        (Start::Closed, Start::Closed) => None,
-        (Start::Opened(serial), Start::Closed) => {
+        (HalfStart::Closed, HalfStart::Closed) => None,
+        (HalfStart::Opened(serial), HalfStart::Closed) => {
             if serial < SERIAL_COUNT {
                 Some((Side::First, serial, false))
             } else {
                 None
             }
         }
-        (Start::Closed, Start::Opened(serial)) => {
+        (HalfStart::Closed, HalfStart::Opened(serial)) => {
             if serial < SERIAL_COUNT {
                 Some((Side::Second, serial, false))
             } else {
                 None
             }
         }
-        (Start::Opened(a), Start::Opened(b)) => {
+        (HalfStart::Opened(a), HalfStart::Opened(b)) => {
             if is_next(a, b) {
                 Some((Side::Second, b, true))
             } else if is_next(b, a) {

@@ -6,12 +6,12 @@ use Rattle.file_store.specs.Stores.{AreUsed, DraftHolds, SameRange, blocks_of_al
 use Rattle.file_store.specs.Writes.{WritesOnly}
 use Rattle.file_store.specs.declared.draft.Draft.{Draft}
 use Rattle.file_store.specs.declared.store.FileStore.{FileStore}
-use Rattle.file_store.proofs.Giving.{range_then}
-use Rattle.file_store.proofs.Writing.{only_start}
+use Rattle.file_store.proofs.GivenUp.{range_then}
+use Rattle.file_store.proofs.BlockWrites.{only_start}
 use Rattle.line_drafts.specs.Added.{AddsDraft, AddsNone, AddsOne, StayUsed}
 use Rattle.line_drafts.specs.Works.{SpendsWithin, Works}
 use Rattle.line_drafts.proofs.Ends.{nothing_spent}
-use Rattle.line_drafts.proofs.Keeping.{adds_draft, adds_none, drafts_stay, only_free, used_same, used_with}
+use Rattle.line_drafts.proofs.KeptDrafts.{adds_draft, adds_none, drafts_stay, only_free, used_same, used_with}
 
 module _ {D : Type 0} (on : Ghosts D) (drafts : List Draft) (store : FileStore) (used : AreUsed store (blocks_of_all drafts)) where
   -- no blocks were taken

@@ -11,7 +11,7 @@ use Rattle.links.specs.Links.{LinksState}
 use Rattle.fetcher.specs.Fetched.{IsFileFault}
 use Rattle.fetcher.specs.declared.fault.FetchFault.{FetchFault}
 use Rattle.fetcher.specs.declared.fault.FetchFault.TheVariants as fetch
-use Rattle.fetcher.proofs.Moving.{stays_same}
+use Rattle.fetcher.proofs.KeptLinks.{stays_same}
 use Rattle.file_store.specs.Stores.{free_of}
 use Rattle.file_store.specs.Writes.{touched}
 use Rattle.file_store.specs.declared.fault.FileFault.{FileFault}

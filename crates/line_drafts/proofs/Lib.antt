@@ -1,7 +1,7 @@
 pub mod Course
 pub mod Ends
-pub mod Keeping
+pub mod KeptDrafts
 pub mod Lines
-pub mod Sealing
+pub mod Sealed
 pub mod Whole
 pub mod Works

@@ -7,9 +7,9 @@ use Rattle.file_store.specs.Stores.{blocks_of_all, draft_blocks, free_of, store_
 use Rattle.file_store.specs.Writes.{WritesOnly}
 use Rattle.file_store.specs.declared.draft.Draft.{Draft}
 use Rattle.file_store.specs.declared.store.FileStore.{FileStore}
-use Rattle.file_store.proofs.Giving.{last_of}
-use Rattle.file_store.proofs.Staying.{writes_then}
-use Rattle.line_drafts.proofs.Keeping.{only_wider}
+use Rattle.file_store.proofs.GivenUp.{last_of}
+use Rattle.file_store.proofs.KeptContents.{writes_then}
+use Rattle.line_drafts.proofs.KeptDrafts.{only_wider}
 
 -- nothing was written but in blocks that were free as the first call began
 pub lines_only : {D : Type 0} (on : Ghosts D) (first store : FileStore) (given : List ℕ) (begun old new : D) → free_of first ≡ given ++ free_of store → store_base store ≡ store_base first

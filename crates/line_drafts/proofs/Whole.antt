@@ -7,7 +7,7 @@ use Rattle.fetcher.specs.Fetched.{IsFile}
 use Rattle.file_store.specs.Stores.{DraftHolds, draft_size, filled_of}
 use Rattle.file_store.specs.declared.draft.Draft.{Draft}
 use Rattle.draft_basket.specs.Basket.{ArePast, ReadsWhole, held_bytes}
-use Rattle.draft_basket.proofs.Holding.{filled_from_taken, held_empty, held_from_taken, holds_from_whole, whole_empty}
+use Rattle.draft_basket.proofs.HeldBytes.{filled_from_taken, held_empty, held_from_taken, holds_from_whole, whole_empty}
 
 module _ (list : List Digest) (size : ℕ) (target : Target) (before after : LinksState) (base : ℕ) (draft : Draft) (is_over : Bool) (past seen : List ℕ)
     (whole : ReadsWhole base draft seen) (over : ArePast draft is_over past) (sized : draft_size draft ≡ size)

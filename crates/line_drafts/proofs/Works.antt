@@ -10,10 +10,10 @@ use Rattle.file_store.specs.Stores.{AreUsed, blocks_of_all, draft_blocks, free_o
 use Rattle.file_store.specs.declared.draft.Draft.{Draft}
 use Rattle.file_store.specs.declared.store.FileStore.{FileStore}
 use Rattle.file_store.proofs.Apart.{apart_other}
-use Rattle.file_store.proofs.Giving.{range_then}
+use Rattle.file_store.proofs.GivenUp.{range_then}
 use Rattle.line_drafts.specs.Works.{Works}
 use Rattle.line_drafts.proofs.Course.{none_works}
-use Rattle.line_drafts.proofs.Keeping.{held_stay}
+use Rattle.line_drafts.proofs.KeptDrafts.{held_stay}
 use Rattle.line_drafts.proofs.Lines.{lines_only}
 
 module _ {D : Type 0} (on : Ghosts D) where

@@ -31,19 +31,19 @@ use Rattle.machine.specs.Valid.{IsApp, Ordered, Valid}
 use Rattle.machine.specs.Views.{View}
 use Rattle.machine.specs.Weight.{app_weight}
 use Rattle.machine.proofs.AppWeights.{KeepsWeight}
-use Rattle.machine.proofs.Changing.{same_part}
-use Rattle.machine.proofs.Choosing.{AllGive, exactly-exact, exactly_with-exact, leaving-exact, unheard_exact}
-use Rattle.machine.proofs.Finding.{some_there, value_of}
+use Rattle.machine.proofs.ChangedEntry.{same_part}
+use Rattle.machine.proofs.FirstRefusal.{AllGive, exactly-exact, exactly_with-exact, leaving-exact, unheard_exact}
+use Rattle.machine.proofs.FirstFound.{some_there, value_of}
 use Rattle.machine.proofs.InstallExact.{reason_one, some_is_not_none, text_one}
-use Rattle.machine.proofs.Installing.{version-above, version-raised_by}
-use Rattle.machine.proofs.Keeping.{same_views_sound}
+use Rattle.machine.proofs.NewView.{version-above, version-raised_by}
+use Rattle.machine.proofs.KeptStores.{same_views_sound}
 use Rattle.machine.proofs.KnownApps.{checked_is_app, known_valid}
 use Rattle.machine.proofs.Leased.{current_by, entry_in}
 use Rattle.machine.proofs.LeasesKept.{keeps_more}
 use Rattle.machine.proofs.Members.{all_in}
 use Rattle.machine.proofs.Moments.{SetsNone}
 use Rattle.machine.proofs.OtherReplies.{all_links_is_other, not_installed_is_other}
-use Rattle.machine.proofs.Raising.{raised_minimum}
+use Rattle.machine.proofs.RaisedMinimums.{raised_minimum}
 use Rattle.machine.proofs.ReadDeployments.{deployment_read}
 use Rattle.machine.proofs.RowFacts.{Acts, Kept, Rises, RowFacts, acts_on, kept_same, rises_as}
 use Rattle.machine.proofs.Shortness.{short_key}

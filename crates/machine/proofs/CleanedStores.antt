@@ -19,19 +19,19 @@ use Rattle.machine.specs.Valid.{AreNumbers, IsApp, IsInstalled, IsView, IsViewOf
 use Rattle.machine.specs.Views.{ListedFile, View, key_of, standing_entries}
 use Rattle.machine.specs.Weight.{weight_of}
 use Rattle.machine.proofs.DataViews.{data_sum, view_blocks}
-use Rattle.machine.proofs.Finding.{find-kept, value_of}
-use Rattle.machine.proofs.Grouping.{blocks_among}
+use Rattle.machine.proofs.FirstFound.{find-kept, value_of}
+use Rattle.machine.proofs.GrownViews.{blocks_among}
 use Rattle.machine.proofs.Leased.{lease_in, view_in}
 use Rattle.machine.proofs.LeasesKept.{KeepsLeases, keeps_by}
 use Rattle.machine.proofs.Lightness.{lighter}
 use Rattle.machine.proofs.LowerWeights.{lower_kept}
-use Rattle.machine.proofs.Mapping.{flat_map_in}
+use Rattle.machine.proofs.ChangedLists.{flat_map_in}
 use Rattle.machine.proofs.Members.{In, all_in, contains_in, filter_in, filter_map_is, in_all, in_contains, in_filter, in_flat_map, in_map, map_in}
 use Rattle.machine.proofs.OtherViews.{over_views}
-use Rattle.machine.proofs.RisingNumbers.{numbers_among}
+use Rattle.machine.proofs.NumberLists.{numbers_among}
 use Rattle.machine.proofs.RowFacts.{TakesMore}
 use Rattle.machine.proofs.Shared.{alike_each, each_alike}
-use Rattle.machine.proofs.Using.{any_in, in_any, is_used, used_is}
+use Rattle.machine.proofs.ViewUse.{any_in, in_any, is_used, used_is}
 
 module _ (old : Store) where
   -- a view that is in use

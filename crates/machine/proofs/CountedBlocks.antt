@@ -5,7 +5,7 @@ use Rattle.std.proofs.lemmas.List.Sums.{sum_by-append}
 use Rattle.manifests.specs.declared.facts.Application.{Application}
 use Rattle.machine.specs.Blocks.{blocks_of, blocks_with, deployed_files, free_blocks, required_files, standing_files, used_blocks}
 use Rattle.machine.specs.Shape.{BareData, BareView, Shape}
-use Rattle.machine.proofs.Grouping.{blocks_among}
+use Rattle.machine.proofs.GrownViews.{blocks_among}
 use Rattle.machine.proofs.Members.{in_right}
 
 pub counted_more : (views : List BareView) (jobs : List Application)

@@ -33,10 +33,10 @@ use Rattle.machine.specs.Shape.{Shape, shape_of}
 use Rattle.machine.specs.Store.{Session, Store}
 use Rattle.machine.specs.Valid.{Valid}
 use Rattle.machine.specs.Views.{DataFile, View}
-use Rattle.machine.proofs.Choosing.{AllGive, given_reply}
+use Rattle.machine.proofs.FirstRefusal.{AllGive, given_reply}
 use Rattle.machine.proofs.CleanedStores.{kept_used, used_at}
 use Rattle.machine.proofs.DataViews.{redone, redone_leaves}
-use Rattle.machine.proofs.Finding.{find-front, some_there, value_of}
+use Rattle.machine.proofs.FirstFound.{find-front, some_there, value_of}
 use Rattle.machine.proofs.GroupKept.{grouped_at}
 use Rattle.machine.proofs.GroupStands.{leased_number}
 use Rattle.machine.proofs.Leased.{leased_by, view_in}
@@ -44,7 +44,7 @@ use Rattle.machine.proofs.NamedItems.{named-with_other, named-with_own, named-wi
 use Rattle.machine.proofs.OneView.{changed_at, left_of, other_at, own_at}
 use Rattle.machine.proofs.Refusals.{kept_or_effect}
 use Rattle.machine.proofs.RowFacts.{Kept}
-use Rattle.machine.proofs.Using.{is_used, used_is}
+use Rattle.machine.proofs.ViewUse.{is_used, used_is}
 use Rattle.machine.proofs.ViewSteps.{run_numbers, step_numbers, view_below}
 
 -- ---- a view whose data files are others

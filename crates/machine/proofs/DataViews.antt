@@ -17,7 +17,7 @@ use Rattle.machine.specs.Valid.{IsView, Ordered, Valid}
 use Rattle.machine.specs.Views.{DataFile, ListedFile, View, standing_entries}
 use Rattle.machine.proofs.Leased.{view_in}
 use Rattle.machine.proofs.LeasesKept.{KeepsLeases, keeps_by}
-use Rattle.machine.proofs.Mapping.{all_mapped, pairs_unmap, same_lists}
+use Rattle.machine.proofs.ChangedLists.{all_mapped, pairs_unmap, same_lists}
 use Rattle.machine.proofs.Members.{all_in, pairs_head, pairs_tail, pairs_weaker, sum_map}
 use Rattle.machine.proofs.NamedItems.{not_equal}
 use Rattle.machine.proofs.OneView.{Leaves, by_number, changed_at, left_of, same_bare_lists, with_one_ordered}

@@ -40,7 +40,7 @@ use Rattle.machine.specs.Valid.{IsApp, IsDataFile, IsInstalled, IsView, Ordered,
 use Rattle.machine.specs.Views.{ContentKey, DataFile, ListedFile, View, content_key, key_of, same_content}
 use Rattle.machine.specs.Weight.{weight_of}
 use Rattle.machine.proofs.Contents.{content_decides}
-use Rattle.machine.proofs.Entering.{order}
+use Rattle.machine.proofs.EntryOrder.{order}
 use Rattle.machine.proofs.FoundTexts.{ascii_text}
 use Rattle.machine.proofs.Lightness.{no_halves}
 use Rattle.machine.proofs.Shortness.{short_key}

@@ -6,7 +6,7 @@ use Rattle.std.proofs.lemmas.List.Folds.{Any-from_list_any, list_any-from_Any}
 use Rattle.url.specs.Parts.{Parts}
 use Rattle.url.specs.Parser.{Parsed, parse_url}
 use Rattle.small_types.specs.declared.target.Target.{Target}
-use Rattle.small_types.specs.Reading.{◌>>=◌}
+use Rattle.small_types.specs.Outcome.{◌>>=◌}
 use Rattle.addresses.specs.declared.fault.UrlFault.{UrlFault}
 use Rattle.addresses.specs.declared.fault.UrlFault.TheVariants.{BadUrl, NotHttp, Memory}
 use Rattle.addresses.specs.Address.{address, is_too_long, url_of}

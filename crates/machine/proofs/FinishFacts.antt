@@ -13,10 +13,10 @@ use Rattle.machine.specs.Rows.{AreExact}
 use Rattle.machine.specs.Shape.{Shape, shape_of}
 use Rattle.machine.specs.Store.{Session}
 use Rattle.machine.specs.Valid.{Valid}
-use Rattle.machine.proofs.Choosing.{exactly-exact}
-use Rattle.machine.proofs.Keeping.{same_views_sound}
+use Rattle.machine.proofs.FirstRefusal.{exactly-exact}
+use Rattle.machine.proofs.KeptStores.{same_views_sound}
 use Rattle.machine.proofs.LeasesKept.{finished_keeps}
-use Rattle.machine.proofs.Leasing.{finished_valid}
+use Rattle.machine.proofs.LeaseLists.{finished_valid}
 use Rattle.machine.proofs.OtherReplies.{no_lease_is_other}
 use Rattle.machine.proofs.RowFacts.{RowFacts, acts_on, kept_unchanged, rises_as}
 

@@ -11,9 +11,9 @@ use Rattle.machine.specs.Store.{Store}
 use Rattle.machine.specs.Valid.{IsView}
 use Rattle.machine.specs.Views.{ContentKey, ListedFile, View, content_key, standing_entries}
 use Rattle.machine.specs.Wanted.{is_held}
-use Rattle.machine.proofs.Mapping.{flat_map_in}
+use Rattle.machine.proofs.ChangedLists.{flat_map_in}
 use Rattle.machine.proofs.Members.{In, all_in, in_all, in_either, in_flat_map, map_in}
-use Rattle.machine.proofs.Needing.{passes_in, same_is}
+use Rattle.machine.proofs.OwnContents.{passes_in, same_is}
 use Rattle.machine.proofs.Shared.{AreAlike, alike_each, each_alike}
 
 -- a file whose content a file of the store has

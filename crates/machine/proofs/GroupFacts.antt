@@ -28,23 +28,23 @@ use Rattle.machine.specs.Valid.{Valid}
 use Rattle.machine.specs.Views.{ListedFile, View}
 use Rattle.machine.specs.Weight.{IsLight, IsTooHeavy, table_room, told_weight, weight_of}
 use Rattle.machine.specs.Words.{IsGroup}
-use Rattle.machine.proofs.Choosing.{AllGive, exactly-exact, exactly_with-exact}
+use Rattle.machine.proofs.FirstRefusal.{AllGive, exactly-exact, exactly_with-exact}
 use Rattle.machine.proofs.CountedBlocks.{counted_more}
 use Rattle.machine.proofs.FileAddresses.{IsReached, bad_or_none, file_reached}
-use Rattle.machine.proofs.Finding.{some_there}
+use Rattle.machine.proofs.FirstFound.{some_there}
 use Rattle.machine.proofs.GroupAnswers.{taken_group}
 use Rattle.machine.proofs.GroupKept.{grouped_keeps}
 use Rattle.machine.proofs.GroupStands.{leased_number}
-use Rattle.machine.proofs.Grouping.{grouped_ordered, grouped_sound, room_after}
+use Rattle.machine.proofs.GrownViews.{grouped_ordered, grouped_sound, room_after}
 use Rattle.machine.proofs.Leased.{leased_bare_kept, leased_shape, leased_valid}
 use Rattle.machine.proofs.LeasesKept.{KeepsLeases}
 use Rattle.machine.proofs.Lightness.{heavy_or_light, is_light}
-use Rattle.machine.proofs.Missing.{none_missing}
+use Rattle.machine.proofs.MissingFiles.{none_missing}
 use Rattle.machine.proofs.Moments.{SetsNone}
 use Rattle.machine.proofs.OtherReplies.{all_links_is_other, bad_url_is_other, full_is_other, no_lease_is_other, table_full_is_other}
 use Rattle.machine.proofs.RowFacts.{Acts, RowFacts, acts_not, acts_on, kept_unchanged, rises_as}
 use Rattle.machine.proofs.ViewWeights.{bare_grown}
-use Rattle.machine.proofs.Weaving.{stand_among}
+use Rattle.machine.proofs.Woven.{stand_among}
 
 -- ---- replies
 

@@ -12,9 +12,9 @@ use Rattle.machine.specs.Groups.{is_in}
 use Rattle.machine.specs.ReadRow.{file_named}
 use Rattle.machine.specs.Store.{Store}
 use Rattle.machine.specs.Views.{ListedFile, View, standing_entries, stands_by}
-use Rattle.machine.proofs.Mapping.{one_of, pairs_unmap}
-use Rattle.machine.proofs.Finding.{find_some}
-use Rattle.machine.proofs.Grouping.{grows_leaves}
+use Rattle.machine.proofs.ChangedLists.{one_of, pairs_unmap}
+use Rattle.machine.proofs.FirstFound.{find_some}
+use Rattle.machine.proofs.GrownViews.{grows_leaves}
 use Rattle.machine.proofs.Leased.{file_in, view_in}
 use Rattle.machine.proofs.LeasesKept.{KeepsFiles, KeepsLeases, keeps_by}
 use Rattle.machine.proofs.Members.{In, filter_in}

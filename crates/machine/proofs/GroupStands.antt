@@ -25,11 +25,11 @@ use Rattle.machine.specs.Shape.{Shape, shape_of}
 use Rattle.machine.specs.Store.{Session, Store}
 use Rattle.machine.specs.Valid.{IsView, Valid}
 use Rattle.machine.specs.Views.{ListedFile, View, standing_entries, stands_by}
-use Rattle.machine.proofs.Choosing.{AllGive, given_reply}
+use Rattle.machine.proofs.FirstRefusal.{AllGive, given_reply}
 use Rattle.machine.proofs.GroupKept.{grouped_at, only_named, standing_differ}
 use Rattle.machine.proofs.Leased.{leased_by, leased_valid, view_in}
 use Rattle.machine.proofs.Members.{In, filter_in, in_contains, in_filter, in_right, map_in}
-use Rattle.machine.proofs.Needing.{in_passes}
+use Rattle.machine.proofs.OwnContents.{in_passes}
 
 -- ---- one reply
 

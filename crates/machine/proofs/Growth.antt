@@ -15,7 +15,7 @@ use Rattle.machine.specs.Views.{ContentKey, ListedFile, content_key}
 use Rattle.machine.specs.Weight.{weight_of}
 use Rattle.machine.proofs.Example as old
 use Rattle.machine.proofs.FoundTexts.{ascii_text}
-use Rattle.machine.proofs.Grouping.{grouped_ordered, grouped_sound, room_after}
+use Rattle.machine.proofs.GrownViews.{grouped_ordered, grouped_sound, room_after}
 use Rattle.machine.proofs.Lightness.{no_halves}
 
 abbrev group : List ℕ

@@ -24,10 +24,10 @@ use Rattle.machine.specs.Shape.{BareView, bare_view, shape_of}
 use Rattle.machine.specs.Store.{Session, Store, session_over}
 use Rattle.machine.specs.Valid.{Ordered}
 use Rattle.machine.specs.Views.{View}
-use Rattle.machine.proofs.Bringing.{bare_current}
-use Rattle.machine.proofs.Entering.{entry_of-other, entry_of-with_entry}
+use Rattle.machine.proofs.BroughtFiles.{bare_current}
+use Rattle.machine.proofs.EntryOrder.{entry_of-other, entry_of-with_entry}
 use Rattle.machine.proofs.InstallSteps.{deployment_passes, held_deployment, of_deployment}
-use Rattle.machine.proofs.Raising.{Holds, minimum_raised, raised_minimum}
+use Rattle.machine.proofs.RaisedMinimums.{Holds, minimum_raised, raised_minimum}
 
 -- ---- a view behind others with smaller numbers
 

@@ -26,7 +26,7 @@ use Rattle.machine.specs.Rows.{AreExact}
 use Rattle.machine.specs.Shape.{Shape}
 use Rattle.machine.specs.Store.{Session}
 use Rattle.machine.specs.Weight.{table_room, told_weight}
-use Rattle.machine.proofs.Choosing.{exactly-exact, exactly_with-exact, unheard_exact}
+use Rattle.machine.proofs.FirstRefusal.{exactly-exact, exactly_with-exact, unheard_exact}
 use Rattle.machine.proofs.Told.{refused_one, same_text, told_one}
 
 pub some_is_not_none : {P X : Type 0} (x : X) → ◌≡◌ {A = Option X} (Some x) None → P

@@ -22,7 +22,7 @@ use Rattle.machine.proofs.InstallApps.{effect_minimum}
 use Rattle.machine.proofs.InstallSteps.{left_sound, left_valid}
 use Rattle.machine.proofs.LeasesKept.{KeepsLeases, keeps_more}
 use Rattle.machine.proofs.Moments.{install_none}
-use Rattle.machine.proofs.Raising.{Holds}
+use Rattle.machine.proofs.RaisedMinimums.{Holds}
 use Rattle.machine.proofs.RowFacts.{Acts, RowFacts, acts_on, kept_unchanged}
 use Rattle.machine.proofs.Unheard.{unheard}
 

@@ -33,13 +33,13 @@ use Rattle.machine.specs.Views.{DataFile, View}
 use Rattle.machine.specs.Wanted.{install_need}
 use Rattle.machine.specs.Weight.{IsLight, IsTooHeavy, weight_of}
 use Rattle.machine.proofs.Addresses.{codebase_is_held, text_is_held}
-use Rattle.machine.proofs.Bringing.{bare_data_current, bare_listed_current, installed_sound, used_after}
+use Rattle.machine.proofs.BroughtFiles.{bare_data_current, bare_listed_current, installed_sound, used_after}
 use Rattle.machine.proofs.CountedBlocks.{counted_more}
 use Rattle.machine.proofs.InstallWeights.{installed_weight}
-use Rattle.machine.proofs.Installing.{Fitting, installed_ordered}
+use Rattle.machine.proofs.NewView.{Fitting, installed_ordered}
 use Rattle.machine.proofs.Lightness.{is_light}
 use Rattle.machine.proofs.Members.{sum_map}
-use Rattle.machine.proofs.Moving.{are_data, few_named}
+use Rattle.machine.proofs.MovedFiles.{are_data, few_named}
 use Rattle.machine.proofs.ReadApplications.{application_read}
 use Rattle.machine.proofs.ReadDeployments.{deployment_read}
 

@@ -25,7 +25,7 @@ use Rattle.machine.specs.Valid.{IsView, Ordered}
 use Rattle.machine.specs.Views.{DataFile, ListedFile, View, standing_entries}
 use Rattle.machine.specs.Weight.{app_weight, content_weight, data_weight, view_weight, weight_of}
 use Rattle.machine.proofs.AppWeights.{alike_sum, same_apps}
-use Rattle.machine.proofs.Bringing.{bare_data_current, bare_listed_current}
+use Rattle.machine.proofs.BroughtFiles.{bare_data_current, bare_listed_current}
 use Rattle.machine.proofs.Leased.{view_in}
 use Rattle.machine.proofs.Members.{all_in}
 use Rattle.machine.proofs.MigratedData.{migrated_weight}
@@ -110,8 +110,8 @@ module _ (provider base : Target) (d : Deployment) (a : Application)
   same_data =
       migrated_weight (data_of (current_view d.identity.key old))
       (listed_by (current_view d.identity.key old)) a originals
-      (current_order old was d.identity.key) facts fetched.deployed fetched.whole_data data_files
-      migrated
+      (current_order old was d.identity.key) facts fetched.deployed
+      (λ k file within. (fetched.whole_data k file within).sized) data_files migrated
       ∙ ap (λ (ds : List BareData).
       sum_by data_weight (migrated_data ds (listed_by (current_view d.identity.key old)) a.files))
       (sym (bare_data_current d.identity.key old))

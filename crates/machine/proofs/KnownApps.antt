@@ -14,11 +14,11 @@ use Rattle.machine.specs.Store.{Store}
 use Rattle.machine.specs.Valid.{IsApp, IsInstalled, Ordered, Valid}
 use Rattle.machine.specs.Views.{View, key_of}
 use Rattle.machine.proofs.AppWeights.{KeepsWeight, known_light}
-use Rattle.machine.proofs.Changing.{greater_apart, less_apart}
-use Rattle.machine.proofs.Entering.{All-with_entry, entry_of-other, entry_of-with_entry, length-with_known, order-with_entry}
-use Rattle.machine.proofs.Finding.{value_of}
-use Rattle.machine.proofs.Keeping.{installed-with_entry, with_apps_ordered}
-use Rattle.machine.proofs.Raising.{entry_of-alike}
+use Rattle.machine.proofs.ChangedEntry.{greater_apart, less_apart}
+use Rattle.machine.proofs.EntryOrder.{All-with_entry, entry_of-other, entry_of-with_entry, length-with_known, order-with_entry}
+use Rattle.machine.proofs.FirstFound.{value_of}
+use Rattle.machine.proofs.KeptStores.{installed-with_entry, with_apps_ordered}
+use Rattle.machine.proofs.RaisedMinimums.{entry_of-alike}
 
 pub fresh_app : (views : List View) (key : Key) → IsShortKey key → IsApp views (fresh key)
 fresh_app views key is_key = record {

@@ -23,12 +23,12 @@ use Rattle.machine.specs.Sound.{Sound}
 use Rattle.machine.specs.Store.{Session}
 use Rattle.machine.specs.Valid.{Ordered, Valid}
 use Rattle.machine.specs.Views.{View, version_of}
-use Rattle.machine.proofs.Choosing.{AllGive, exactly-exact, exactly_with-exact}
-use Rattle.machine.proofs.Finding.{some_there}
-use Rattle.machine.proofs.Keeping.{same_views_sound}
+use Rattle.machine.proofs.FirstRefusal.{AllGive, exactly-exact, exactly_with-exact}
+use Rattle.machine.proofs.FirstFound.{some_there}
+use Rattle.machine.proofs.KeptStores.{same_views_sound}
 use Rattle.machine.proofs.Leased.{current_entry, current_kept, due_installed, due_none}
 use Rattle.machine.proofs.LeasesKept.{launched_keeps}
-use Rattle.machine.proofs.Leasing.{launched_valid, started_minimum}
+use Rattle.machine.proofs.LeaseLists.{launched_valid, started_minimum}
 use Rattle.machine.proofs.Members.{contains_in, in_map}
 use Rattle.machine.proofs.Moments.{SetsNone}
 use Rattle.machine.proofs.OtherReplies.{not_installed_is_other, required_is_other}

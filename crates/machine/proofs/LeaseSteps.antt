@@ -30,15 +30,15 @@ use Rattle.machine.specs.Sound.{IsSoundView, IsWhole, Sound}
 use Rattle.machine.specs.Store.{Session, Store}
 use Rattle.machine.specs.Valid.{Ordered, Valid}
 use Rattle.machine.specs.Views.{ListedFile, View, version_of}
-use Rattle.machine.proofs.Choosing.{AllGive, given_reply, none_refuses}
+use Rattle.machine.proofs.FirstRefusal.{AllGive, given_reply, none_refuses}
 use Rattle.machine.proofs.LaunchFacts.{free_passes, launch_exact}
 use Rattle.machine.proofs.Leased.{current_entry, current_number, due_shown, file_in, leased_kept, leased_lives, leased_sound}
-use Rattle.machine.proofs.Leasing.{lease_new, lease_none}
+use Rattle.machine.proofs.LeaseLists.{lease_new, lease_none}
 use Rattle.machine.proofs.LeasesKept.{keeps_leased}
 use Rattle.machine.proofs.Members.{all_in}
-use Rattle.machine.proofs.Raising.{Holds}
-use Rattle.machine.proofs.Rising.{not_below_chain, run_holds}
-use Rattle.machine.proofs.Stepping.{run_leases}
+use Rattle.machine.proofs.RaisedMinimums.{Holds}
+use Rattle.machine.proofs.HeldMinimums.{not_below_chain, run_holds}
+use Rattle.machine.proofs.KeptSteps.{run_leases}
 
 -- ---- an answer that is a lease
 

@@ -21,8 +21,8 @@ use Rattle.machine.specs.Sound.{IsSoundView, Sound}
 use Rattle.machine.specs.Store.{Store, session_over}
 use Rattle.machine.specs.Valid.{IsApp, IsView, IsViewOf, Ordered}
 use Rattle.machine.specs.Views.{ListedFile, View, standing_entries, version_of}
-use Rattle.machine.proofs.Bringing.{bare_current}
-use Rattle.machine.proofs.Finding.{find-map, find_in, find_some, some_there, then_value, value_of}
+use Rattle.machine.proofs.BroughtFiles.{bare_current}
+use Rattle.machine.proofs.FirstFound.{find-map, find_in, find_some, some_there, then_value, value_of}
 use Rattle.machine.proofs.Members.{In, all_in, in_contains, map_in}
 
 -- ---- views by their numbers

@@ -16,9 +16,9 @@ use Rattle.machine.specs.ReadRow.{file_named}
 use Rattle.machine.specs.Store.{Store, booted}
 use Rattle.machine.specs.Valid.{Ordered}
 use Rattle.machine.specs.Views.{ListedFile, View}
-use Rattle.machine.proofs.Finding.{find-front}
+use Rattle.machine.proofs.FirstFound.{find-front}
 use Rattle.machine.proofs.Leased.{leased_by, leased_kept, leased_valid}
-use Rattle.machine.proofs.Leasing.{lease_below, lease_gone, lease_other, lease_stays}
+use Rattle.machine.proofs.LeaseLists.{lease_below, lease_gone, lease_other, lease_stays}
 
 -- each program file that stands in the view stands in the later one, with the same bytes
 abbrev pub KeepsFiles : View → View → Type 0

@@ -13,7 +13,7 @@ pub not_heavy : (room : Room) (weight : ℕ) → IsLight room weight → IsTooHe
 unfolding IsLight
 not_heavy room weight light = light
 
--- without halves any weight has room
+-- where the half is 0 any weight has room
 pub no_halves : (room : Room) (weight : ℕ) → room.half ≡ 0 → IsLight room weight
 unfolding IsLight
 no_halves room weight none = λ heavy. heavy.0 none

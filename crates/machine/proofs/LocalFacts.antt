@@ -18,8 +18,8 @@ use Rattle.machine.specs.Sound.{Sound}
 use Rattle.machine.specs.Store.{Session}
 use Rattle.machine.specs.Valid.{Ordered, Valid}
 use Rattle.machine.specs.Views.{DataFile, View}
-use Rattle.machine.proofs.Choosing.{AllGive, exactly-exact}
-use Rattle.machine.proofs.Finding.{find-map, some_there}
+use Rattle.machine.proofs.FirstRefusal.{AllGive, exactly-exact}
+use Rattle.machine.proofs.FirstFound.{find-map, some_there}
 use Rattle.machine.proofs.Leased.{leased_bare_kept}
 use Rattle.machine.proofs.Moments.{SetsNone}
 use Rattle.machine.proofs.OtherReplies.{no_file_is_other, no_lease_is_other, read_is_other}

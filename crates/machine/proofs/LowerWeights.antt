@@ -13,7 +13,7 @@ use Rattle.machine.specs.Store.{Store}
 use Rattle.machine.specs.Views.{ContentKey, DataFile, View}
 use Rattle.machine.specs.Weight.{content_weight, data_weight, digests_weight, view_weight, weight_of}
 use Rattle.machine.proofs.DataViews.{redone, same_standing}
-use Rattle.machine.proofs.Grouping.{sum_among}
+use Rattle.machine.proofs.GrownViews.{sum_among}
 use Rattle.machine.proofs.Members.{In, sum_map}
 
 -- ---- contents

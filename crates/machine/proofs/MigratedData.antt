@@ -14,13 +14,16 @@ use Rattle.machine.specs.Blocks.{deployed_data}
 use Rattle.machine.specs.DataFiles.{bare_name}
 use Rattle.machine.specs.Migrated.{Migrated, aside, is_fresh, stays}
 use Rattle.machine.specs.Shape.{BareData, bare_data}
-use Rattle.machine.specs.Sound.{IsWhole}
 use Rattle.machine.specs.Views.{DataFile, ListedFile}
 use Rattle.machine.specs.Weight.{data_weight}
 use Rattle.machine.proofs.Members.{kept_map, pairs_weaker, sum_map, sum_within}
-use Rattle.machine.proofs.Migrating.{differ, files, migration, migration_is, one_migration}
-use Rattle.machine.proofs.Moving.{copied, files_differ, fresh_file, moved_file}
-use Rattle.machine.proofs.Sorting.{IsNamedOther, in_order, in_order_in, order_in, order_is}
+use Rattle.machine.proofs.OneMigration.{differ, files, migration, migration_is, one_migration}
+use Rattle.machine.proofs.MovedFiles.{copied, files_differ, fresh_file, moved_file}
+use Rattle.machine.proofs.DataOrder.{IsNamedOther, in_order, in_order_in, order_in, order_is}
+
+-- as many bytes as the manifest lists
+abbrev pub IsSized : ListedFile → Type 0
+IsSized file = length file.bytes ≡ file.entry.size
 
 -- ---- one file
 
@@ -87,20 +90,20 @@ module _ (old : List DataFile) (old_files : List FileEntry) (a : Application)
       ∙ ap (λ (ds : List BareData). deployed_data o.entry ∷ ds) is
   fresh_by false o kept rest sized is = is
 
-  fresh_bares : (os : List ListedFile) → All IsWhole os
+  fresh_bares : (os : List ListedFile) → All IsSized os
       → map bare_data (map make (filter comes_fresh os))
       ≡ filter (λ (d : BareData). is_fresh names old_files a.files d.name)
       (map deployed_data (map (λ (o : ListedFile). o.entry) os))
-  fresh_bares [] whole = refl
-  fresh_bares (o ∷ os) whole =
+  fresh_bares [] sized = refl
+  fresh_bares (o ∷ os) sized =
       fresh_by (comes_fresh o) o (filter comes_fresh os)
       (filter (λ (d : BareData). is_fresh names old_files a.files d.name)
       (map deployed_data (map (λ (p : ListedFile). p.entry) os)))
-      (All-head IsWhole o os whole).sized (fresh_bares os (All-tail IsWhole o os whole))
+      (All-head IsSized o os sized) (fresh_bares os (All-tail IsSized o os sized))
 
   -- ---- all of them
 
-  module _ (whole : All IsWhole originals) where
+  module _ (sized : All IsSized originals) where
     abbrev all_files : List DataFile
     all_files = files old old_files a originals ordered facts deployed
 
@@ -113,7 +116,7 @@ module _ (old : List DataFile) (old_files : List FileEntry) (a : Application)
         ds ++ map bare_data (map make (filter comes_fresh originals))) (moved_bares old)
         ∙ ap (λ (ds : List BareData).
         flat_map (moved_data old_files a.files) (map bare_data old) ++ ds)
-        (fresh_bares originals whole
+        (fresh_bares originals sized
         ∙ ap (λ (es : List FileEntry).
         filter (λ (d : BareData). is_fresh names old_files a.files d.name) (map deployed_data es))
         deployed

@@ -7,7 +7,7 @@ use Rattle.machine.specs.Machine.{moment_after, moment_set}
 use Rattle.machine.specs.Rows.{Refuses}
 use Rattle.machine.specs.Shape.{Shape}
 use Rattle.machine.specs.Store.{Session}
-use Rattle.machine.proofs.Choosing.{AllGive, give_both, given_reply}
+use Rattle.machine.proofs.FirstRefusal.{AllGive, give_both, given_reply}
 
 -- the reply sets none
 abbrev pub SetsNone : Reply → Type 0

@@ -13,8 +13,8 @@ use Rattle.std.proofs.lemmas.Option.{none-some}
 use Rattle.std.proofs.lemmas.Slice.Eq.{bytes_eq-Decides}
 use Rattle.identity.specs.Printed.{text_cmp}
 use Rattle.machine.specs.DataFiles.{named, with_named, with_named_at, without_named}
-use Rattle.machine.proofs.Entering.{order}
-use Rattle.machine.proofs.Finding.{find-kept, find-lost, find_in}
+use Rattle.machine.proofs.EntryOrder.{order}
+use Rattle.machine.proofs.FirstFound.{find-kept, find-lost, find_in}
 use Rattle.machine.proofs.Keys.{equal_texts}
 use Rattle.machine.proofs.Members.{In, all_in, in_all, filter_in, pairs_head, pairs_tail}
 

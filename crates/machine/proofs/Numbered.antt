@@ -7,8 +7,8 @@ use Rattle.machine.specs.Previous.{numbered_bare, numbered_version}
 use Rattle.machine.specs.Shape.{BareView, bare_view, shape_of}
 use Rattle.machine.specs.Store.{Store, session_over}
 use Rattle.machine.specs.Views.{View, version_of}
-use Rattle.machine.proofs.Bringing.{bare_then}
-use Rattle.machine.proofs.Finding.{map_value, then_value}
+use Rattle.machine.proofs.BroughtFiles.{bare_then}
+use Rattle.machine.proofs.FirstFound.{map_value, then_value}
 use Rattle.machine.proofs.Leased.{view_in}
 use Rattle.machine.proofs.Members.{In}
 

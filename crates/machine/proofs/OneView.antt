@@ -15,9 +15,9 @@ use Rattle.machine.specs.Shape.{BareView, bare_view}
 use Rattle.machine.specs.Store.{Store}
 use Rattle.machine.specs.Valid.{AreNumbers, IsApp, IsInstalled, IsView, IsViewOf, Ordered}
 use Rattle.machine.specs.Views.{View, key_of}
-use Rattle.machine.proofs.Finding.{map_at, map_value}
+use Rattle.machine.proofs.FirstFound.{map_at, map_value}
 use Rattle.machine.proofs.Leased.{view_in}
-use Rattle.machine.proofs.Mapping.{all_mapped, any_mapped, one_of, pairs_unmap, same_parts}
+use Rattle.machine.proofs.ChangedLists.{all_mapped, any_mapped, one_of, pairs_unmap, same_parts}
 use Rattle.machine.proofs.Members.{In, in_all, pairs_weaker, sum_agree, sum_map}
 use Rattle.machine.proofs.OtherViews.{same_app}
 

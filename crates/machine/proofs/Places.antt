@@ -14,7 +14,7 @@ use Rattle.identity.specs.Key.{key_text}
 use Rattle.identity.specs.Printed.{text_cmp}
 use Rattle.machine.specs.declared.app.AppState.{AppState}
 use Rattle.machine.specs.Entries.{AreInOrder, IsBelowAll, entry_of, fresh, key_cmp, with_entry}
-use Rattle.machine.proofs.Entering.{order}
+use Rattle.machine.proofs.EntryOrder.{order}
 use Rattle.machine.proofs.Members.{In}
 
 less_than_equal : (a b c : List ℕ) → text_cmp a b ≡ Less → text_cmp b c ≡ Equal → text_cmp a c ≡ Less

@@ -25,10 +25,10 @@ use Rattle.machine.specs.Store.{Session, Store}
 use Rattle.machine.specs.Valid.{IsDataFile, IsView, Ordered, Valid}
 use Rattle.machine.specs.Views.{DataFile, ListedFile, View}
 use Rattle.machine.specs.Weight.{IsLight, IsTooHeavy, table_room, told_weight, weight_of}
-use Rattle.machine.proofs.Choosing.{AllGive, exactly-exact, exactly_with-exact}
+use Rattle.machine.proofs.FirstRefusal.{AllGive, exactly-exact, exactly_with-exact}
 use Rattle.machine.proofs.CountedBlocks.{counted_more}
 use Rattle.machine.proofs.DataViews.{changed_keeps, changed_ordered, changed_sound, data_with, room_with, same_programs, same_standing, file_blocks}
-use Rattle.machine.proofs.Finding.{some_there}
+use Rattle.machine.proofs.FirstFound.{some_there}
 use Rattle.machine.proofs.GroupStands.{leased_number}
 use Rattle.machine.proofs.Leased.{leased_bare_kept, leased_shape, leased_valid}
 use Rattle.machine.proofs.Lightness.{heavy_or_light, is_light}

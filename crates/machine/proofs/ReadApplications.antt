@@ -14,7 +14,7 @@ use Rattle.manifest_parts.specs.Parts.{Tells, digests_of, identity_in}
 use Rattle.manifest_parts.specs.Values.{filled, needed, size_of, truth, within}
 use Rattle.manifests.specs.declared.facts.Application.{Application}
 use Rattle.manifests.specs.declared.facts.FileEntry.{FileEntry}
-use Rattle.manifests.specs.Applications.{Listing, Start, application_facts, application_of, assembly_listing, child_file, counted, dependency_listing, file_listing, file_name, file_of, files_from, first_assembly, fit_name, group_of, in_group, is_listed_name, is_taken, listed_name, listing_of, locals, new_name, size_limit, start_of, with_file}
+use Rattle.manifests.specs.Applications.{Listing, EntryPoint, application_facts, application_of, assembly_listing, child_file, counted, dependency_listing, file_listing, file_name, file_of, files_from, first_assembly, fit_name, group_of, in_group, is_listed_name, is_taken, listed_name, listing_of, locals, new_name, size_limit, start_of, with_file}
 use Rattle.manifests.specs.Types.{installed_type}
 use Rattle.manifests.proofs.ApplicationsLaw.{read_are_facts}
 use Rattle.manifests.proofs.FoundValues.{then_ok, test_ok, other_ok}
@@ -130,7 +130,7 @@ files_are (t ∷ ts) before are h =
 
 -- ---- the whole
 
-record StartTexts (start : Start) : Type 0 where
+record StartTexts (start : EntryPoint) : Type 0 where
   entry : IsUtf8 start.entry
   parameters : IsUtf8 start.parameters
 

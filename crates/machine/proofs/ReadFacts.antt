@@ -17,8 +17,8 @@ use Rattle.machine.specs.Sound.{Sound}
 use Rattle.machine.specs.Store.{Session}
 use Rattle.machine.specs.Valid.{Ordered, Valid}
 use Rattle.machine.specs.Views.{ListedFile, View, standing_entries}
-use Rattle.machine.proofs.Choosing.{exactly-exact}
-use Rattle.machine.proofs.Finding.{some_there}
+use Rattle.machine.proofs.FirstRefusal.{exactly-exact}
+use Rattle.machine.proofs.FirstFound.{some_there}
 use Rattle.machine.proofs.Leased.{leased_bare_kept, leased_valid, named_entry}
 use Rattle.machine.proofs.OtherReplies.{no_file_is_other, no_lease_is_other, read_is_other}
 use Rattle.machine.proofs.RowFacts.{RowFacts, acts_not, kept_unchanged}

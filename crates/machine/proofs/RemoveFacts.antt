@@ -20,7 +20,7 @@ use Rattle.machine.specs.Valid.{IsDataFile, IsView, Ordered, Valid}
 use Rattle.machine.specs.Views.{DataFile, ListedFile, View}
 use Rattle.machine.specs.Weight.{data_weight, weight_of}
 use Rattle.machine.proofs.DataViews.{changed_keeps, changed_ordered, changed_sound, no_more, room_within, same_programs, same_standing, file_blocks}
-use Rattle.machine.proofs.Finding.{some_there}
+use Rattle.machine.proofs.FirstFound.{some_there}
 use Rattle.machine.proofs.GroupStands.{leased_number}
 use Rattle.machine.proofs.Leased.{leased_bare_kept, leased_valid}
 use Rattle.machine.proofs.Lightness.{lighter}

@@ -19,12 +19,12 @@ use Rattle.machine.specs.Shape.{Shape, shape_of}
 use Rattle.machine.specs.Store.{Session}
 use Rattle.machine.specs.Valid.{Valid}
 use Rattle.machine.specs.Weight.{IsTooHeavy, table_room, told_weight, weight_of}
-use Rattle.machine.proofs.Choosing.{exactly-exact, exactly_with-exact}
-use Rattle.machine.proofs.Keeping.{required_valid, same_views_sound}
+use Rattle.machine.proofs.FirstRefusal.{exactly-exact, exactly_with-exact}
+use Rattle.machine.proofs.KeptStores.{required_valid, same_views_sound}
 use Rattle.machine.proofs.LeasesKept.{keeps_more}
 use Rattle.machine.proofs.Lightness.{heavy_or_light}
 use Rattle.machine.proofs.OtherReplies.{table_full_is_other}
-use Rattle.machine.proofs.Raising.{required_holds}
+use Rattle.machine.proofs.RaisedMinimums.{required_holds}
 use Rattle.machine.proofs.RowFacts.{RowFacts, acts_on, kept_unchanged}
 use Rattle.machine.proofs.Shortness.{short_key}
 

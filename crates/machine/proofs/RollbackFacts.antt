@@ -27,10 +27,10 @@ use Rattle.machine.specs.Valid.{IsApp, IsView, Ordered, Valid}
 use Rattle.machine.specs.Views.{View, version_of}
 use Rattle.machine.specs.Weight.{app_weight}
 use Rattle.machine.proofs.AppWeights.{KeepsWeight}
-use Rattle.machine.proofs.Changing.{same_part}
-use Rattle.machine.proofs.Choosing.{AllGive, exactly-exact, exactly_with-exact}
-use Rattle.machine.proofs.Finding.{some_there, then_value}
-use Rattle.machine.proofs.Keeping.{same_views_sound}
+use Rattle.machine.proofs.ChangedEntry.{same_part}
+use Rattle.machine.proofs.FirstRefusal.{AllGive, exactly-exact, exactly_with-exact}
+use Rattle.machine.proofs.FirstFound.{some_there, then_value}
+use Rattle.machine.proofs.KeptStores.{same_views_sound}
 use Rattle.machine.proofs.KnownApps.{changed_valid, installed_still}
 use Rattle.machine.proofs.Leased.{current_by, entry_in, own_view, previous_kept}
 use Rattle.machine.proofs.LeasesKept.{keeps_more}

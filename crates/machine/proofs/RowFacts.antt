@@ -23,11 +23,11 @@ use Rattle.machine.specs.Store.{Session, Store}
 use Rattle.machine.specs.Valid.{Valid}
 use Rattle.machine.specs.Views.{ListedFile}
 use Rattle.machine.specs.Words.{IsCommand}
-use Rattle.machine.proofs.Choosing.{AllGive, unchanged}
+use Rattle.machine.proofs.FirstRefusal.{AllGive, unchanged}
 use Rattle.machine.proofs.LeasesKept.{KeepsLeases, keeps_itself}
 use Rattle.machine.proofs.Members.{In}
 use Rattle.machine.proofs.Moments.{SetsNone}
-use Rattle.machine.proofs.Raising.{Holds, holds_itself}
+use Rattle.machine.proofs.RaisedMinimums.{Holds, holds_itself}
 
 -- ---- an effect
 

@@ -25,12 +25,12 @@ use Rattle.machine.specs.Valid.{AreNumbers}
 use Rattle.machine.specs.Views.{ListedFile, View}
 use Rattle.machine.specs.Words.{IsEvent}
 use Rattle.machine.proofs.EachRow.{facts}
-use Rattle.machine.proofs.Grouping.{blocks_among}
+use Rattle.machine.proofs.GrownViews.{blocks_among}
 use Rattle.machine.proofs.Members.{In, in_either, in_left, in_right}
 use Rattle.machine.proofs.Refusals.{kept_or_effect}
 use Rattle.machine.proofs.RowFacts.{Kept, TakesFree}
 use Rattle.machine.proofs.Shared.{alike_each, each_alike}
-use Rattle.machine.proofs.Stepping.{step_room, step_leaves, step_sound}
+use Rattle.machine.proofs.KeptSteps.{step_room, step_leaves, step_sound}
 
 -- the applications of jobs
 abbrev wanted_by : List Job → List Application

@@ -16,7 +16,7 @@ use Rattle.machine.specs.ShowRow.{show_refusals, show_row}
 use Rattle.machine.specs.Sound.{Sound}
 use Rattle.machine.specs.Store.{Session}
 use Rattle.machine.specs.Valid.{Valid}
-use Rattle.machine.proofs.Choosing.{exactly-exact}
+use Rattle.machine.proofs.FirstRefusal.{exactly-exact}
 use Rattle.machine.proofs.OtherReplies.{not_installed_is_other}
 use Rattle.machine.proofs.RowFacts.{RowFacts, acts_not, kept_unchanged}
 

@@ -24,10 +24,10 @@ use Rattle.machine.specs.Valid.{IsApp, Ordered, Valid}
 use Rattle.machine.specs.Views.{View}
 use Rattle.machine.specs.Weight.{app_weight}
 use Rattle.machine.proofs.AppWeights.{KeepsWeight}
-use Rattle.machine.proofs.Changing.{same_part}
-use Rattle.machine.proofs.Choosing.{AllGive, exactly-exact, exactly_with-exact}
-use Rattle.machine.proofs.Finding.{some_there, then_value}
-use Rattle.machine.proofs.Keeping.{same_views_sound}
+use Rattle.machine.proofs.ChangedEntry.{same_part}
+use Rattle.machine.proofs.FirstRefusal.{AllGive, exactly-exact, exactly_with-exact}
+use Rattle.machine.proofs.FirstFound.{some_there, then_value}
+use Rattle.machine.proofs.KeptStores.{same_views_sound}
 use Rattle.machine.proofs.KnownApps.{known_valid}
 use Rattle.machine.proofs.Leased.{due_installed}
 use Rattle.machine.proofs.LeasesKept.{keeps_more}

@@ -11,8 +11,8 @@ use Rattle.machine.specs.Shape.{BareView}
 use Rattle.machine.specs.Views.{is_required, same_content}
 use Rattle.machine.specs.Wanted.{is_held, wanted_beside}
 use Rattle.machine.proofs.Members.{filter_in, in_all, sum_map}
-use Rattle.machine.proofs.Missing.{are_missing, passes_over, takes}
-use Rattle.machine.proofs.Wanting.{passes_over as wanted_over, takes_program, was_false}
+use Rattle.machine.proofs.MissingFiles.{are_missing, passes_over, takes}
+use Rattle.machine.proofs.WantedFiles.{passes_over as wanted_over, takes_program, was_false}
 
 abbrev pub ungrouped : FileEntry → FileEntry
 ungrouped entry = record entry { group = None }

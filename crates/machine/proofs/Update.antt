@@ -27,15 +27,15 @@ use Rattle.machine.specs.Valid.{IsDataFile, Valid}
 use Rattle.machine.specs.Views.{DataFile, ListedFile, View, same_content}
 use Rattle.machine.specs.Wanted.{copied_need, program_need}
 use Rattle.machine.specs.Weight.{weight_of}
-use Rattle.machine.proofs.Bringing.{bare_data_current, installed_sound, used_after}
+use Rattle.machine.proofs.BroughtFiles.{bare_data_current, installed_sound, used_after}
 use Rattle.machine.proofs.Contents.{content_decides}
-use Rattle.machine.proofs.Entering.{order}
+use Rattle.machine.proofs.EntryOrder.{order}
 use Rattle.machine.proofs.Example as old
 use Rattle.machine.proofs.FoundTexts.{ascii_text}
-use Rattle.machine.proofs.Installing.{Fitting, installed_ordered}
+use Rattle.machine.proofs.NewView.{Fitting, installed_ordered}
 use Rattle.machine.proofs.Lightness.{no_halves}
-use Rattle.machine.proofs.Migrating.{migration}
-use Rattle.machine.proofs.Moving.{are_data, few_named}
+use Rattle.machine.proofs.OneMigration.{migration}
+use Rattle.machine.proofs.MovedFiles.{are_data, few_named}
 
 -- ---- the release
 

@@ -23,8 +23,8 @@ use Rattle.machine.specs.Valid.{Ordered}
 use Rattle.machine.specs.Views.{View}
 use Rattle.machine.proofs.CleanedStores.{kept_used, used_at}
 use Rattle.machine.proofs.DataViews.{redone, redone_leaves}
-use Rattle.machine.proofs.Finding.{find-other, some_there, value_of}
-use Rattle.machine.proofs.Grouping.{grows_leaves}
+use Rattle.machine.proofs.FirstFound.{find-other, some_there, value_of}
+use Rattle.machine.proofs.GrownViews.{grows_leaves}
 use Rattle.machine.proofs.Leased.{view_in}
 use Rattle.machine.proofs.Members.{all_in, in_map}
 use Rattle.machine.proofs.OneView.{Leaves, kept_before}

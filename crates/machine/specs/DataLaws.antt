@@ -79,7 +79,8 @@ abbrev pub NoneIs : (Store → Event → Option Reply → Type 0) → (now : ℕ
 NoneIs is now old [] replies new run = Unit {0}
 NoneIs is now old (event ∷ events) [] new run = Unit {0}
 NoneIs is now old (event ∷ events) (reply ∷ replies) new run =
-    (is old.store event reply → ⊥) × NoneIs is (moment_after now reply) run.0 events replies new run.2
+    (is old.store event reply → ⊥)
+    × NoneIs is (moment_after now reply) run.0 events replies new run.2
 
 abbrev pub NoneChangesData : ℕ → List ℕ → (now : ℕ) (old : Session) (events : List Event)
     (replies : List (Option Reply)) (new : Session) → Run now old events replies new → Type 0

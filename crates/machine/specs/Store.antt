@@ -21,7 +21,7 @@ pub record Store : Type 0 where
   pub views : List View
   pub apps : List AppState
 
--- the room of so many blocks where the journal has no halves
+-- the room of so many blocks in which any tables have room: its half is 0, which no journal has
 abbrev pub plain_room : ℕ → Room
 plain_room blocks = record { blocks = blocks; half = 0 }
 

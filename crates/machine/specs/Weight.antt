@@ -87,7 +87,7 @@ weight_of views apps =
 
 -- ---- the room of tables
 
--- what tables may weigh where the journal has halves
+-- what tables may weigh in a room with a half
 abbrev pub table_room : Room → ℕ
 table_room room = room.half - CHANGE_ROOM
 
@@ -95,7 +95,7 @@ table_room room = room.half - CHANGE_ROOM
 abbrev pub told_weight : ℕ → ℕ
 told_weight weight = min weight (2 ^ 64 - 1)
 
--- tables of that weight have no room; without halves any weight has
+-- tables of that weight have no room; where the half is 0, which no journal has, any weight has
 abbrev pub IsTooHeavy : Room → ℕ → Type 0
 IsTooHeavy room weight = (◌≢◌ {A = ℕ} room.half 0) × (table_room room < weight)
 

@@ -26,8 +26,8 @@ pub const LOCAL_WEIGHT: u64 = 24;
 /// The weight of a content, but for its digests and its blocks.
 pub const CONTENT_WEIGHT: u64 = 24;
 
-/// The weight of a block, whose bytes stand in the journal.
-pub const BLOCK_WEIGHT: u64 = 4_096;
+/// The weight of a block, whose number stands in the journal.
+pub const BLOCK_WEIGHT: u64 = 4;
 
 /// The bytes of a half of the journal that tables leave to the changes behind them.
 pub const CHANGE_ROOM: u64 = 65_536;
@@ -36,6 +36,6 @@ pub const CHANGE_ROOM: u64 = 65_536;
 pub fn weights_are()
     ensures tables { (STATE_WEIGHT ≡ 131_072) × (APP_WEIGHT ≡ 256) × (VIEW_WEIGHT ≡ 1_024) }
     ensures files { (FILE_WEIGHT ≡ 64) × (LOCAL_WEIGHT ≡ 24) × (CONTENT_WEIGHT ≡ 24) }
-    ensures parts { (DIGEST_WEIGHT ≡ 72) × (GROUP_WEIGHT ≡ 16) × (BLOCK_WEIGHT ≡ 4_096) }
+    ensures parts { (DIGEST_WEIGHT ≡ 72) × (GROUP_WEIGHT ≡ 16) × (BLOCK_WEIGHT ≡ 4) }
     ensures room { CHANGE_ROOM ≡ 65_536 }
 {}

@@ -17,7 +17,7 @@ use Rattle.digest_list.specs.declared.digest.Digest.{Digest}
 use Rattle.manifest_tree.specs.Tree.{Tree, tree_of}
 use Rattle.manifest_parts.specs.declared.fault.ManifestFault.{ManifestFault}
 use Rattle.manifest_parts.specs.Elements.{Read, attribute, called, children_called}
-use Rattle.small_types.specs.Reading.{◌>>=◌}
+use Rattle.small_types.specs.Outcome.{◌>>=◌}
 use Rattle.manifest_parts.specs.Outcome.{Fails, Gives}
 use Rattle.manifest_parts.specs.Parts.{is_identity, all_plain, digest_by, added, some_digest, counted, hash_of, with_digest, and_digest, hashes}
 use Rattle.manifest_parts.proofs.Readings.{fails_then, err_at}

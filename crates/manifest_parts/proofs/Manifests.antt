@@ -6,7 +6,7 @@ use Rattle.manifest_tree.specs.Grammar.{Spells, SpellsTree}
 use Rattle.manifest_parts.specs.declared.fault.ManifestFault.{ManifestFault}
 use Rattle.manifest_parts.specs.declared.fault.ManifestFault.TheVariants as fault
 use Rattle.manifest_parts.specs.Elements.{Read}
-use Rattle.small_types.specs.Reading.{◌>>=◌}
+use Rattle.small_types.specs.Outcome.{◌>>=◌}
 use Rattle.manifest_parts.specs.Outcome.{Fails, Gives}
 use Rattle.manifest_parts.specs.Parts.{root_of, manifest_of, Tells, RefusesBytes, Answers}
 use Rattle.manifest_parts.proofs.Readings.{fails_then}

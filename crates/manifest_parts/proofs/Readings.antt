@@ -3,7 +3,7 @@ use Rattle.std.proofs.Common.{◌≡◌, ℕ, Bool, true, false, List, [], ◌�
 use Rattle.manifest_parts.specs.declared.fault.ManifestFault.{ManifestFault}
 use Rattle.manifest_parts.specs.declared.fault.ManifestFault.TheVariants as fault
 use Rattle.manifest_parts.specs.Elements.{Read}
-use Rattle.small_types.specs.Reading.{◌>>=◌}
+use Rattle.small_types.specs.Outcome.{◌>>=◌}
 use Rattle.manifest_parts.specs.Outcome.{Fails, Gives, Refused, refusal}
 
 -- a refusal, of whatever is read

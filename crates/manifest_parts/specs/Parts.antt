@@ -3,7 +3,7 @@
 use Rattle.std.specs.Prelude.{◌≡◌, ℕ, Bool, true, false, ◌&&◌, ◌||◌, not, ◌==◌, nat_lt, List, [], ◌∷◌, ◌++◌, length, codes, Option, Some, None, Result, Ok, Err, if◌then◌else◌}
 use Rattle.std.specs.List.{flat_map, list_all}
 use Rattle.std.specs.Str.{bytes_eq}
-use Rattle.small_types.specs.Reading.{◌>>=◌}
+use Rattle.small_types.specs.Outcome.{◌>>=◌}
 use Rattle.small_types.specs.declared.limit.Limit.TheVariants.{Hashes}
 use Rattle.small_types.specs.declared.limits.TheConstants.{NAME_LIMIT, IDENTITY_PART_LIMIT, HASH_LIMIT}
 use Rattle.identity.specs.declared.identity.Identity.{Identity}

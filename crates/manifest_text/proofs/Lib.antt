@@ -1,1 +1,1 @@
-pub mod Lengthening
+pub mod LongerTexts

@@ -15,12 +15,12 @@ use Rattle.manifest_tree.specs.declared.node.Attribute.{Attribute}
 use Rattle.manifest_tree.specs.Lexis.{Fault, Read, white, allowed, name_byte, past, has_name, name_at, aside, begin, past_mark, past_declaration, past_white_mark, comment, target, instruction, upto, unit_at, referred, reference_at, plain, past_line_feed, quote_in, quote_at, is_among, TagTurn, attribute, opens, closes, tag_turn, turn_at, attribute_at, end_at, expect, ◌>>=◌}
 use Rattle.manifest_tree.specs.Tree.{Tree}
 use Rattle.manifest_tree.specs.Refusals.{Stands, InTag, InValue, IsFault, entity, entity_in_value, mismatch, twice, deep, IsRefusal, other, syntax, Refuses}
-use Rattle.manifest_tree.specs.Reading.{Spot, start, before, inside, in_tag, in_value, behind, Next, go, stop, done, onward, OpenTree, finished, with_text, names_of, placed, next, root_step, before_step, markup_step, apart_step, inside_step, turned, tag_step, value_step, behind_apart, behind_step, Stops}
+use Rattle.manifest_tree.specs.Spots.{Spot, start, before, inside, in_tag, in_value, behind, Next, go, stop, done, onward, OpenTree, finished, with_text, names_of, placed, next, root_step, before_step, markup_step, apart_step, inside_step, turned, tag_step, value_step, behind_apart, behind_step, Stops}
 use Rattle.manifest_tree.proofs.Flat.{one_fault}
 use Rattle.manifest_tree.proofs.Fronts.{sticks_lost}
 use Rattle.manifest_tree.proofs.Nested.{Holds, steps_hold}
-use Rattle.manifest_tree.proofs.Sticking.{stops_stick}
-use Rattle.manifest_tree.proofs.Stopping.{fault_stops, fault_other}
+use Rattle.manifest_tree.proofs.StuckReads.{stops_stick}
+use Rattle.manifest_tree.proofs.FaultStops.{fault_stops, fault_other}
 
 chosen : {A : Type 0} (b : Bool) (x y z : A) → cond b x y ≡ z → ((b ≡ true) × (x ≡ z)) ⊎ ((b ≡ false) × (y ≡ z))
 chosen true x y z e = inl (refl, e)

@@ -8,7 +8,7 @@ use Rattle.manifest_tree.specs.declared.node.Attribute.{Attribute}
 use Rattle.manifest_tree.specs.Lexis.{Fault, white, name_first, name_byte, past, has_name, name_at, aside, begin, unit_at, quote_at, is_among, attribute, opens, closes, tag_turn, turn_at, attribute_at, end_at}
 use Rattle.manifest_tree.specs.Tree.{Tree, Trees, tree, none, more, with_last, joined}
 use Rattle.manifest_tree.specs.Grammar.{Misc, nothing, space, note, Units, no_unit, one_unit, IsAttribute, Attributes, no_attribute, one_attribute, IsStart, IsEnd, Element, empty, full, Content, no_content, data_unit, note_inside, child, SpellsTree}
-use Rattle.manifest_tree.specs.Reading.{Spot, start, before, inside, in_tag, in_value, behind, go, stop, done, onward, OpenTree, finished, with_child, with_text, opened, names_of, placed, next, root_step, before_step, markup_step, apart_step, inside_step, turned, tag_step, value_step, behind_apart, behind_step, Reads, here, step, Stops}
+use Rattle.manifest_tree.specs.Spots.{Spot, start, before, inside, in_tag, in_value, behind, go, stop, done, onward, OpenTree, finished, with_child, with_text, opened, names_of, placed, next, root_step, before_step, markup_step, apart_step, inside_step, turned, tag_step, value_step, behind_apart, behind_step, Reads, here, step, Stops}
 use Rattle.manifest_tree.proofs.Steps.{reads_join, reads_then, goes_on}
 
 -- ---- before and behind the root

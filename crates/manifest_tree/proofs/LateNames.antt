@@ -14,7 +14,7 @@ use Rattle.std.proofs.lemmas.List.Folds.{list_any-append}
 use Rattle.std.proofs.lemmas.Map.Text.{btree_map_updates_str}
 use Rattle.manifest_tree.specs.declared.node.Attribute.{Attribute}
 use Rattle.manifest_tree.specs.Lexis.{is_among}
-use Rattle.manifest_tree.specs.Reading.{names_of}
+use Rattle.manifest_tree.specs.Spots.{names_of}
 use Rattle.manifest_tree.specs.Pieces.{has_late, HasLate}
 
 pub late_more : {X : Type 0} (old new : BTreeMap (Bor (List ℕ)) X) (name : List ℕ) (x : X)

@@ -1,5 +1,6 @@
 pub mod Completed
 pub mod Cuts
+pub mod FaultStops
 pub mod Faults
 pub mod Flat
 pub mod Fronts
@@ -16,8 +17,7 @@ pub mod Scans
 pub mod Spans
 pub mod Starts
 pub mod Steps
-pub mod Sticking
-pub mod Stopping
+pub mod StuckReads
 pub mod Texts
 pub mod Writables
 pub mod Written

@@ -11,7 +11,7 @@ use Rattle.manifest_tree.specs.Lexis.{Fault, Read, white, name_byte, past, has_n
 use Rattle.manifest_tree.specs.Tree.{Tree, Trees, tree, none, more, with_last, joined}
 use Rattle.manifest_tree.specs.Grammar.{Misc, nothing, space, note, Units, no_unit, one_unit, IsAttribute, Attributes, no_attribute, one_attribute, IsEnd, Element, empty, full, Content, no_content, data_unit, note_inside, child, SpellsTree}
 use Rattle.manifest_tree.specs.Refusals.{Stands, outside, within, InTag, InValue, IsBehind}
-use Rattle.manifest_tree.specs.Reading.{Spot, start, before, inside, in_tag, in_value, behind, Next, go, stop, done, onward, OpenTree, finished, with_text, opened, names_of, placed, next, root_step, before_step, markup_step, apart_step, inside_step, turned, tag_step, value_step, behind_apart, behind_step, Reads, here, step}
+use Rattle.manifest_tree.specs.Spots.{Spot, start, before, inside, in_tag, in_value, behind, Next, go, stop, done, onward, OpenTree, finished, with_text, opened, names_of, placed, next, root_step, before_step, markup_step, apart_step, inside_step, turned, tag_step, value_step, behind_apart, behind_step, Reads, here, step}
 
 -- ---- one more at the end
 

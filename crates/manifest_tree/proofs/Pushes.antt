@@ -11,7 +11,7 @@ use Rattle.manifest_tree.specs.declared.node.Node.{Node}
 use Rattle.manifest_tree.specs.declared.node.Node.TheViews.{out-Node}
 use Rattle.manifest_tree.specs.declared.node.Node.TheFolds.{fold_out-Node}
 use Rattle.manifest_tree.specs.Tree.{Tree, tree, trees, tree_of, tree_step}
-use Rattle.manifest_tree.specs.Writing.{element_text, elements_text, is_bare, escaped, start_text, end_text, counted}
+use Rattle.manifest_tree.specs.WrittenText.{element_text, elements_text, is_bare, escaped, start_text, end_text, counted}
 
 -- ---- counts
 

@@ -14,8 +14,8 @@ use Rattle.manifest_tree.proofs.Flat.{spelled_read, one_fault, read_stops}
 use Rattle.manifest_tree.proofs.Machine.{fresh, State, Goes, cut}
 use Rattle.manifest_tree.proofs.Completed.{goes_text}
 use Rattle.manifest_tree.proofs.Fronts.{goes_begins}
-use Rattle.manifest_tree.proofs.Sticking.{lands}
-use Rattle.manifest_tree.proofs.Stopping.{fault_stops, fault_goes}
+use Rattle.manifest_tree.proofs.StuckReads.{lands}
+use Rattle.manifest_tree.proofs.FaultStops.{fault_stops, fault_goes}
 
 -- ---- the bytes before a place
 

@@ -10,7 +10,7 @@ use Rattle.manifest_tree.specs.declared.fault.TreeKind.TheVariants.{Syntax}
 use Rattle.manifest_tree.specs.declared.node.Attribute.{Attribute}
 use Rattle.manifest_tree.specs.Lexis.{Read, expect, is_among}
 use Rattle.manifest_tree.specs.Outcome.{Gives}
-use Rattle.manifest_tree.specs.Reading.{names_of}
+use Rattle.manifest_tree.specs.Spots.{names_of}
 
 -- a spelling that goes on past the end
 pub expect_cut : (mark : List ℕ) (i : ℕ) (rest : List ℕ) → i < length mark → length rest ≡ 0 → expect (drop i mark) rest ≡ Err (Syntax, length rest)

@@ -6,7 +6,7 @@ use Rattle.std.proofs.lemmas.List.{append-nil}
 use Rattle.manifest_tree.specs.declared.node.Attribute.{Attribute}
 use Rattle.manifest_tree.specs.Lexis.{Read, allowed, plain, unit_at, front, past}
 use Rattle.manifest_tree.specs.Pieces.{itself}
-use Rattle.manifest_tree.specs.Reading.{Spot, go, onward, next, OpenTree, with_text, inside, in_value, inside_step, value_step, Reads, here}
+use Rattle.manifest_tree.specs.Spots.{Spot, go, onward, next, OpenTree, with_text, inside, in_value, inside_step, value_step, Reads, here}
 use Rattle.manifest_tree.proofs.Runs.{take_front}
 use Rattle.manifest_tree.proofs.Steps.{reads_join, goes_on}
 

@@ -12,10 +12,10 @@ use Rattle.manifest_tree.specs.declared.tag.Turn.{Turn}
 use Rattle.manifest_tree.specs.declared.tag.Turn.TheVariants as turns
 use Rattle.manifest_tree.specs.Lexis.{Fault, Read, unit_at, TagTurn, attribute, opens, closes, tag_turn, white, name_byte, past, has_name, name_at, aside, end_at, begin}
 use Rattle.manifest_tree.specs.Pieces.{turn_in, open_tree, opens_of}
-use Rattle.manifest_tree.specs.declared.opened.Opened.{Opened}
+use Rattle.manifest_tree.specs.declared.open_element.OpenElement.{OpenElement}
 use Rattle.manifest_tree.specs.Tree.{Tree, tree, none, more, trees, with_last, tree_of}
 use Rattle.manifest_tree.specs.declared.node.Node.{Node}
-use Rattle.manifest_tree.specs.Reading.{Spot, Next, go, stop, OpenTree, start, with_text, inside, in_tag, in_value, next, onward, before, behind, finished, value_step, inside_step, apart_step, markup_step, before_step, root_step, behind_step, behind_apart, tag_step, turned, opened, placed, names_of, Reads, here, step, Stops}
+use Rattle.manifest_tree.specs.Spots.{Spot, Next, go, stop, OpenTree, start, with_text, inside, in_tag, in_value, next, onward, before, behind, finished, value_step, inside_step, apart_step, markup_step, before_step, root_step, behind_step, behind_apart, tag_step, turned, opened, placed, names_of, Reads, here, step, Stops}
 use Rattle.manifest_tree.specs.Outcome.{Fails, FailsText, Gives, GivesText, TextsAt, StopsBy, Leads, maybe}
 use Rattle.std.specs.Str.{IsUtf8}
 use Rattle.std.proofs.lemmas.Str.{IsUtf8-nil}
@@ -307,7 +307,7 @@ to_spot {s} {t} {u} {a} {b} p is = subst (λ (v : Spot). Reads s a v b) (sym is)
 pub from_spot : {s t u : Spot} {a b : List ℕ} → Reads s a t b → u ≡ s → Reads u a t b
 from_spot {s} {t} {u} {a} {b} p is = subst (λ (v : Spot). Reads v a t b) (sym is) p
 
-pub opens_long : (os : List Opened) → length (opens_of os) ≡ length os
+pub opens_long : (os : List OpenElement) → length (opens_of os) ≡ length os
 opens_long os = length-reverse (map open_tree os) ∙ length-map os open_tree
 
 abbrev aside_ok : Option (List ℕ) → Read (Option (List ℕ))

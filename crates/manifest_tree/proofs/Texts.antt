@@ -8,7 +8,7 @@ use Rattle.manifest_tree.specs.Lexis.{white, name_byte, past}
 use Rattle.manifest_tree.specs.Tree.{Tree, Trees}
 use Rattle.manifest_tree.specs.Grammar.{Misc, nothing, space, note, Units, no_unit, one_unit, IsAttribute, Attributes, no_attribute, one_attribute, IsStart, IsEnd, Element, empty, full, Content, no_content, data_unit, note_inside, child}
 use Rattle.manifest_tree.specs.Refusals.{Stands, outside, within, InTag}
-use Rattle.manifest_tree.specs.Reading.{Spot, start, before, inside, in_tag, in_value, behind, OpenTree}
+use Rattle.manifest_tree.specs.Spots.{Spot, start, before, inside, in_tag, in_value, behind, OpenTree}
 use Rattle.manifest_tree.specs.Outcome.{TextsAt, NoText}
 use Rattle.manifest_tree.proofs.Cuts.{utf8_front, utf8_tail, utf8_past, utf8_white, utf8_name, utf8_past_name, utf8_aside, utf8_begin, utf8_unit, opens_value, white_ascii}
 use Rattle.manifest_tree.proofs.Nested.{Holds, steps_hold}

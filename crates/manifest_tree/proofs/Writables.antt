@@ -6,7 +6,7 @@ use Rattle.std.proofs.lemmas.List.{at_drop_more, at_drop_all}
 use Rattle.manifest_tree.specs.declared.node.Node.{Node}
 use Rattle.manifest_tree.specs.declared.node.Node.TheViews.{out-Node}
 use Rattle.manifest_tree.specs.Tree.{trees, tree_of}
-use Rattle.manifest_tree.specs.Writing.{is_name, is_content, are_attributes, is_element, are_elements}
+use Rattle.manifest_tree.specs.WrittenText.{is_name, is_content, are_attributes, is_element, are_elements}
 use Rattle.manifest_tree.proofs.Pushes.{tree_opened}
 
 abbrev pub are_nodes : ℕ → List Node → Bool

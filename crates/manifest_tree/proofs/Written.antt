@@ -10,7 +10,7 @@ use Rattle.manifest_tree.specs.Lexis.{white, allowed, name_first, name_byte, fro
 use Rattle.manifest_tree.specs.Tree.{Tree, Trees, tree, none, more}
 use Rattle.manifest_tree.specs.Grammar.{nothing, space, Units, no_unit, one_unit, IsAttribute, Attributes, no_attribute, one_attribute, IsStart, IsEnd, Element, empty, full, Content, no_content, data_unit, child, SpellsTree}
 use Rattle.manifest_tree.proofs.Cuts.{utf8_front, utf8_past}
-use Rattle.manifest_tree.specs.Writing.{reference_for, escape, escaped, attribute_text, attributes_text, is_bare, element_text, elements_text, end_text, declaration, written, is_name, is_content, is_attribute, are_attributes, is_element, are_elements, is_writable}
+use Rattle.manifest_tree.specs.WrittenText.{reference_for, escape, escaped, attribute_text, attributes_text, is_bare, element_text, elements_text, end_text, declaration, written, is_name, is_content, is_attribute, are_attributes, is_element, are_elements, is_writable}
 
 -- ---- the declaration
 

@@ -3,7 +3,7 @@ pub mod Lexis
 pub mod Loose
 pub mod Outcome
 pub mod Pieces
-pub mod Reading
 pub mod Refusals
+pub mod Spots
 pub mod Tree
-pub mod Writing
+pub mod WrittenText

@@ -6,7 +6,7 @@ use Rattle.std.specs.Str.{IsUtf8}
 use Rattle.manifest_tree.specs.declared.fault.Stop.{Stop}
 use Rattle.manifest_tree.specs.declared.fault.Stop.TheVariants as stops
 use Rattle.manifest_tree.specs.Lexis.{Read}
-use Rattle.manifest_tree.specs.Reading.{Spot, start, before, inside, in_tag, in_value, behind, Reads, Stops}
+use Rattle.manifest_tree.specs.Spots.{Spot, start, before, inside, in_tag, in_value, behind, Reads, Stops}
 
 -- the same fault, or want of memory
 abbrev pub Fails : {Y : Type 0} → Stop → Read Y → Type 0

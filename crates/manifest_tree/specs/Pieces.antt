@@ -10,12 +10,12 @@ use Rattle.manifest_tree.specs.declared.units.Piece.TheVariants as pieces
 use Rattle.manifest_tree.specs.declared.tag.Turn.{Turn}
 use Rattle.manifest_tree.specs.declared.tag.Turn.TheVariants as turns
 use Rattle.manifest_tree.specs.declared.tag.Tag.{Tag}
-use Rattle.manifest_tree.specs.declared.opened.Opened.{Opened}
-use Rattle.manifest_tree.specs.declared.opened.Stack.{Stack}
-use Rattle.manifest_tree.specs.declared.opened.Position.{Position}
-use Rattle.manifest_tree.specs.declared.opened.Position.TheVariants as positions
+use Rattle.manifest_tree.specs.declared.open_element.OpenElement.{OpenElement}
+use Rattle.manifest_tree.specs.declared.open_element.Stack.{Stack}
+use Rattle.manifest_tree.specs.declared.open_element.Position.{Position}
+use Rattle.manifest_tree.specs.declared.open_element.Position.TheVariants as positions
 use Rattle.manifest_tree.specs.Lexis.{TagTurn, attribute, opens, closes, is_among}
-use Rattle.manifest_tree.specs.Reading.{Spot, inside, behind, OpenTree, opened, names_of, placed}
+use Rattle.manifest_tree.specs.Spots.{Spot, inside, behind, OpenTree, opened, names_of, placed}
 use Rattle.manifest_tree.specs.Tree.{tree, none, trees, tree_of}
 
 abbrev pub piece_of : Piece → List ℕ
@@ -39,7 +39,7 @@ abbrev pub turn_and_rest : Turn × Bor (List ℕ) → TagTurn × List ℕ
 turn_and_rest found = (turn_in found.0, found.1.now)
 
 -- an open element
-abbrev pub open_tree : Opened → OpenTree
+abbrev pub open_tree : OpenElement → OpenTree
 open_tree o = record {
   name = o.name;
   attributes = o.attributes.items;
@@ -49,7 +49,7 @@ open_tree o = record {
 }
 
 -- those around the innermost, from it to the root
-abbrev pub opens_of : List Opened → List OpenTree
+abbrev pub opens_of : List OpenElement → List OpenTree
 opens_of os = reverse (map open_tree os)
 
 abbrev pub below_of : Stack → List OpenTree

@@ -12,7 +12,7 @@ use Rattle.manifest_tree.specs.declared.node.Node.{Node}
 use Rattle.manifest_tree.specs.Tree.{Tree, Trees, tree_of}
 use Rattle.manifest_tree.specs.Grammar.{Misc, Units, IsStart, Element, Content}
 use Rattle.manifest_tree.specs.Loose.{IsLost}
-use Rattle.manifest_tree.specs.Reading.{OpenTree, names_of}
+use Rattle.manifest_tree.specs.Spots.{OpenTree, names_of}
 
 module _ (whole : List ℕ) where
   -- Reading stands in the content of these elements, from the innermost to the root, and these

@@ -1,12 +1,12 @@
 // The content of elements.
 ghost use Rattle.std.specs.Prelude.{◌≡◌, ◌<◌, ◌≤◌, ◌+◌, ◌^◌, ◌∷◌, length, IfOk, None};
 ghost use Rattle.manifest_tree.specs.Lexis.{aside as aside_at};
-ghost use Rattle.manifest_tree.specs.Reading.{inside};
+ghost use Rattle.manifest_tree.specs.Spots.{inside};
 ghost use Rattle.manifest_tree.specs.Outcome.{Leads};
 ghost use Rattle.manifest_tree.specs.Pieces.{open_tree, below_of, spot_of};
 
 use crate::fault::{Stop, TreeKind};
-use crate::opened::{Position, Stack, add_text, close, start};
+use crate::open_element::{Position, Stack, add_text, close, start};
 use crate::scan::{aside, fault, has_name};
 use crate::tag::{end_tag, read_tag};
 use crate::units::read_data;

@@ -6,7 +6,7 @@ mod content;
 mod fault;
 mod laws;
 mod node;
-mod opened;
+mod open_element;
 mod reader;
 mod reference;
 mod scan;

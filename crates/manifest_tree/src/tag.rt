@@ -2,7 +2,7 @@
 ghost use Rattle.std.specs.Prelude.{◌≡◌, ◌<◌, ◌≤◌, ◌+◌, [], List, ℕ, length, IfOk, IfErr, Ok, nat_lt, ◌||◌, if◌then◌else◌};
 ghost use Rattle.std.specs.Str.{bytes_eq};
 ghost use Rattle.manifest_tree.specs.Lexis.{name_byte, past, name_at, is_among, quote_in as quote_inside, quote_at, attribute_at, tag_turn as turn_of, end_at};
-ghost use Rattle.manifest_tree.specs.Reading.{OpenTree, names_of, in_tag};
+ghost use Rattle.manifest_tree.specs.Spots.{OpenTree, names_of, in_tag};
 ghost use Rattle.manifest_tree.specs.Outcome.{Gives, Leads, whole, found_at};
 ghost use Rattle.manifest_tree.specs.Pieces.{turn_and_rest, tag_spot, has_late, HasLate};
 

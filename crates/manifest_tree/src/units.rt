@@ -2,7 +2,7 @@
 ghost use Rattle.std.specs.Prelude.{◌≡◌, ◌<◌, ◌≤◌, ◌++◌, ◌∷◌, [], ℕ, List, length, IfOk, Ok};
 ghost use Rattle.manifest_tree.specs.declared.node.Attribute.{Attribute};
 ghost use Rattle.manifest_tree.specs.Lexis.{plain as plainly, past_line_feed as behind_line_feed, unit_at, front, past};
-ghost use Rattle.manifest_tree.specs.Reading.{OpenTree, with_text, inside, in_tag, in_value};
+ghost use Rattle.manifest_tree.specs.Spots.{OpenTree, with_text, inside, in_tag, in_value};
 ghost use Rattle.manifest_tree.specs.Outcome.{Gives, GivesText, Leads};
 ghost use Rattle.manifest_tree.specs.Pieces.{piece_of, piece_and_rest, itself};
 

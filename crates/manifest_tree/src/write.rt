@@ -5,7 +5,7 @@ ghost use Rattle.small_types.specs.declared.limits.TheConstants as limits;
 ghost use Rattle.manifest_tree.specs.declared.write.WriteFault.TheVariants.{Memory};
 ghost use Rattle.manifest_tree.specs.Grammar.{Spells};
 ghost use Rattle.manifest_tree.specs.Tree.{tree_of};
-ghost use Rattle.manifest_tree.specs.Writing.{counted, element_text, written, is_writable as can_be_written, IsUnwritten};
+ghost use Rattle.manifest_tree.specs.WrittenText.{counted, element_text, written, is_writable as can_be_written, IsUnwritten};
 
 mod escape;
 mod measure;

@@ -17,7 +17,7 @@ use Rattle.identity.specs.declared.version.Version.{Version}
 use Rattle.identity.specs.Version.{IsVersion, version_text}
 use Rattle.small_types.proofs.DecimalLemmas.{own}
 use Rattle.manifest_tree.specs.Lexis.{allowed}
-use Rattle.manifest_tree.specs.Writing.{is_content}
+use Rattle.manifest_tree.specs.WrittenText.{is_content}
 use Rattle.manifests.specs.Applications.{size_limit}
 use Rattle.manifest_writer.specs.Applications.{backslashed}
 

@@ -13,7 +13,7 @@ use Rattle.small_types.specs.declared.limits.TheConstants.{DIGIT_LIMIT, FILE_COU
 use Rattle.small_types.specs.Name.{name_text, name_of, name_parts, is_name_byte, IsName, IsBelowPre}
 use Rattle.manifest_tree.specs.Tree.{Tree, trees}
 use Rattle.manifest_parts.specs.Elements.{Read, local, declares, value_of, called, children_called, once, children_of, attribute, has_called, any_called}
-use Rattle.small_types.specs.Reading.{◌>>=◌}
+use Rattle.small_types.specs.Outcome.{◌>>=◌}
 use Rattle.manifest_parts.specs.Values.{needed, within, truth_of, truth, size_of}
 use Rattle.manifest_parts.specs.Parts.{identity_in, digests_of, root_of, manifest_of}
 use Rattle.manifest_parts.proofs.Lookups.{listed_trees}

@@ -9,7 +9,7 @@ use Rattle.identity.proofs.VersionLemmas.{version_read-version_text}
 use Rattle.manifest_tree.specs.declared.node.Attribute.{Attribute}
 use Rattle.manifest_tree.specs.Tree.{Tree, trees}
 use Rattle.manifest_parts.specs.Elements.{local, declares, value_of, called, children_called, first_called, one_of, once, children_of, attribute, has_called, any_called}
-use Rattle.small_types.specs.Reading.{◌>>=◌}
+use Rattle.small_types.specs.Outcome.{◌>>=◌}
 use Rattle.manifest_parts.specs.Values.{needed, truth_of, truth, number_of, size_of}
 use Rattle.manifest_parts.specs.Parts.{identity_in, digests_of, root_of, manifest_of}
 use Rattle.manifest_parts.proofs.Lookups.{listed_trees}

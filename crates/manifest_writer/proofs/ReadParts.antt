@@ -22,7 +22,7 @@ use Rattle.digest_list.specs.Digest.{IsSized, digest_of}
 use Rattle.digest_list.proofs.TextLemmas.{digest_of-encode_of}
 use Rattle.manifest_tree.specs.Tree.{Tree, trees}
 use Rattle.manifest_parts.specs.Elements.{local, declares, value_of, called, children_called, once, has_called, any_called}
-use Rattle.small_types.specs.Reading.{◌>>=◌}
+use Rattle.small_types.specs.Outcome.{◌>>=◌}
 use Rattle.manifest_parts.specs.Values.{filled, within, defaulted, number_in, number_of, as_version}
 use Rattle.manifest_parts.specs.Parts.{named as named_of, versioned, short_of, key_of, identity_of, is_plain, digest_by, hash_of, hashes, counted, some_digest}
 use Rattle.manifest_writer.specs.Elements.{key_attributes, kind_attributes, identity_tree, hash_tree, hash_trees}

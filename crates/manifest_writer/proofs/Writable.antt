@@ -5,7 +5,7 @@ use Rattle.std.proofs.lemmas.Bool.{and_parts, le-leb}
 use Rattle.std.proofs.lemmas.List.Elements.{All-head, All-tail}
 use Rattle.manifest_tree.specs.Lexis.{allowed, name_byte, name_first}
 use Rattle.manifest_tree.specs.Tree.{Tree, trees}
-use Rattle.manifest_tree.specs.Writing.{is_name, is_content, are_attributes, is_element, are_elements}
+use Rattle.manifest_tree.specs.WrittenText.{is_name, is_content, are_attributes, is_element, are_elements}
 use Rattle.small_types.specs.declared.limits.TheConstants.{LEVEL_LIMIT, NAME_LIMIT}
 use Rattle.identity.specs.declared.identity.Identity.{Identity}
 use Rattle.identity.specs.declared.key.Key.{Key}

@@ -2,7 +2,7 @@
 use Rattle.std.specs.Prelude.{ℕ, Bool, true, false, ◌==◌, List, [], ◌∷◌, ◌++◌, map, codes, decimal, Option, Some, None, if◌then◌else◌}
 use Rattle.manifest_tree.specs.declared.node.Attribute.{Attribute}
 use Rattle.manifest_tree.specs.Tree.{Tree}
-use Rattle.manifest_tree.specs.Writing.{written}
+use Rattle.manifest_tree.specs.WrittenText.{written}
 use Rattle.manifests.specs.declared.facts.FileEntry.{FileEntry}
 use Rattle.manifests.specs.declared.facts.Application.{Application}
 use Rattle.manifest_writer.specs.Elements.{named, element, leaf, root_tree, own_identity_tree, hash_trees}

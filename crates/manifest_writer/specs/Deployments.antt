@@ -4,7 +4,7 @@ use Rattle.identity.specs.declared.version.Version.{Version}
 use Rattle.identity.specs.Version.{version_text}
 use Rattle.manifest_tree.specs.declared.node.Attribute.{Attribute}
 use Rattle.manifest_tree.specs.Tree.{Tree}
-use Rattle.manifest_tree.specs.Writing.{written}
+use Rattle.manifest_tree.specs.WrittenText.{written}
 use Rattle.manifests.specs.declared.facts.Rule.{Rule}
 use Rattle.manifests.specs.declared.facts.Rule.TheVariants.{Never, Before, Age}
 use Rattle.manifests.specs.declared.facts.Deployment.{Deployment}

@@ -2,7 +2,7 @@
 ghost use Rattle.std.specs.Prelude.{◌≡◌, ◌<◌, length, IfOk, IfErr, OnOk, Ok};
 ghost use Rattle.small_types.specs.declared.limits.TheConstants.{MANIFEST_LIMIT};
 ghost use Rattle.manifest_tree.specs.Tree.{tree_of};
-ghost use Rattle.manifest_tree.specs.Writing.{IsUnwritten};
+ghost use Rattle.manifest_tree.specs.WrittenText.{IsUnwritten};
 ghost use Rattle.manifest_parts.specs.Parts.{Tells};
 ghost use Rattle.manifests.specs.Applications.{application_of};
 ghost use Rattle.manifest_writer.specs.Applications.{entry_tree, application_tree, application_text};
@@ -52,7 +52,7 @@ fn application_node(alloc: Global, a: &Application) -> Result<Node, NoMemory>
 /// The text of the application manifest that says this. What it says is what reading can give: key
 /// parts of 1 to 240 and 1 to 64 bytes, an entry of 1 to 240 bytes and parameters of at most 2,048,
 /// and at most 16,384 files, among them at most 256 data files, of names that differ. No file is
-/// below `.pre`; a file has at most 67,108,864 bytes, and digests of the lengths of their
+/// below `.pre`; a file has at most 268,435,456 bytes, and digests of the lengths of their
 /// algorithms; a group has 1 to 240 bytes; a data file is in no group, and its name has at most 235
 /// bytes. No byte of a text is below 32 but tab, line feed and carriage return.
 ///

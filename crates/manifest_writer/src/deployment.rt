@@ -2,7 +2,7 @@
 ghost use Rattle.std.specs.Prelude.{◌≡◌, ◌<◌, length, IsTrue, IfOk, IfErr, OnOk, Ok};
 ghost use Rattle.small_types.specs.declared.limits.TheConstants.{MANIFEST_LIMIT};
 ghost use Rattle.manifest_tree.specs.Tree.{tree_of};
-ghost use Rattle.manifest_tree.specs.Writing.{is_content, IsUnwritten};
+ghost use Rattle.manifest_tree.specs.WrittenText.{is_content, IsUnwritten};
 ghost use Rattle.manifest_parts.specs.Parts.{Tells};
 ghost use Rattle.manifests.specs.Deployments.{deployment_of};
 ghost use Rattle.manifest_writer.specs.Deployments.{description_tree, dependency_tree, assembly_attributes, assembly_tree, deployment_tree, deployment_text};

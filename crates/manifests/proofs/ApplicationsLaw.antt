@@ -15,7 +15,7 @@ use Rattle.manifest_parts.specs.Parts.{identity_in, digests_of}
 use Rattle.manifests.specs.declared.facts.FileEntry.{FileEntry}
 use Rattle.manifests.specs.declared.facts.Application.{Application}
 use Rattle.manifests.specs.Types.{installed_type}
-use Rattle.manifests.specs.Applications.{Listing, Start, file_listing, assembly_listing, dependency_listing, first_assembly, listing_of, is_pre, is_below_pre, is_listed_name, fit_name, listed_name, is_taken, new_name, file_name, in_group, group_of, locals, counted, size_limit, file_of, with_file, child_file, files_from, start_of, application_facts, application_of}
+use Rattle.manifests.specs.Applications.{Listing, EntryPoint, file_listing, assembly_listing, dependency_listing, first_assembly, listing_of, is_pre, is_below_pre, is_listed_name, fit_name, listed_name, is_taken, new_name, file_name, in_group, group_of, locals, counted, size_limit, file_of, with_file, child_file, files_from, start_of, application_facts, application_of}
 use Rattle.manifests.specs.Facts.{IsValue, IsIdentity, IsFile, ReadApplicationsAreFacts}
 use Rattle.manifests.proofs.FilesLaw.{have_files}
 use Rattle.manifests.proofs.FoundValues.{IsContent, IsHeld, then_ok, test_ok, other_ok, attribute_held, children_held, first_held, once_held, needed_held, filled_is, within_is}
@@ -152,7 +152,7 @@ files_are (t ∷ ts) before are h =
 
 -- ---- the whole
 
-record IsStart (start : Start) : Type 0 where
+record IsStart (start : EntryPoint) : Type 0 where
   entry : IsValue 1 NAME_LIMIT start.entry
   parameters : IsValue 0 URL_LIMIT start.parameters
 

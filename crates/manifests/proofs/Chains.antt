@@ -4,7 +4,7 @@ use Rattle.std.specs.Result.{IsErr, IsErrAnd, IfErr}
 use Rattle.manifest_tree.specs.Tree.{Tree}
 use Rattle.manifest_parts.specs.declared.fault.ManifestFault.{ManifestFault}
 use Rattle.manifest_parts.specs.Elements.{Read}
-use Rattle.small_types.specs.Reading.{◌>>=◌}
+use Rattle.small_types.specs.Outcome.{◌>>=◌}
 use Rattle.manifest_parts.specs.Outcome.{Fails, Gives}
 use Rattle.manifest_parts.specs.Parts.{RefusesBytes, Answers}
 

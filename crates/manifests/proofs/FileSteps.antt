@@ -8,7 +8,7 @@ use Rattle.manifest_tree.specs.Tree.{Tree, tree_of}
 use Rattle.manifest_parts.specs.declared.fault.ManifestFault.{ManifestFault}
 use Rattle.manifest_parts.specs.declared.fault.ManifestFault.TheVariants.{Memory}
 use Rattle.manifest_parts.specs.Elements.{Read}
-use Rattle.small_types.specs.Reading.{◌>>=◌}
+use Rattle.small_types.specs.Outcome.{◌>>=◌}
 use Rattle.manifest_parts.specs.Outcome.{Fails, Gives}
 use Rattle.manifest_parts.proofs.Readings.{ok_at, fails_then, fails_same}
 use Rattle.manifests.specs.declared.facts.FileEntry.{FileEntry}

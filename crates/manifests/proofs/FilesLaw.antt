@@ -8,16 +8,16 @@ use Rattle.digest_list.specs.declared.digest.Digest.{Digest}
 use Rattle.manifest_tree.specs.Tree.{Tree}
 use Rattle.manifest_parts.specs.declared.fault.ManifestFault.TheVariants.{TooMany, TwiceNamed}
 use Rattle.manifest_parts.specs.Elements.{Read, children_of}
-use Rattle.small_types.specs.Reading.{◌>>=◌}
+use Rattle.small_types.specs.Outcome.{◌>>=◌}
 use Rattle.manifest_parts.specs.Values.{needed, size_of}
 use Rattle.manifest_parts.specs.Parts.{identity_in, digests_of, root_of, manifest_of}
 use Rattle.manifest_parts.proofs.Readings.{ok_at}
 use Rattle.identity.specs.declared.identity.Identity.{Identity}
 use Rattle.manifests.specs.declared.facts.FileEntry.{FileEntry}
 use Rattle.manifests.specs.declared.facts.Application.{Application}
-use Rattle.manifests.specs.Applications.{Listing, Start, listing_of, is_taken, listed_name, new_name, file_name, group_of, locals, counted, size_limit, file_of, with_file, child_file, files_from, start_of, application_facts, application_of}
+use Rattle.manifests.specs.Applications.{Listing, EntryPoint, listing_of, is_taken, listed_name, new_name, file_name, group_of, locals, counted, size_limit, file_of, with_file, child_file, files_from, start_of, application_facts, application_of}
 use Rattle.manifests.specs.FileLists.{AreFiles, ApplicationsHaveFiles}
-use Rattle.manifests.proofs.Differing.{differ_more}
+use Rattle.manifests.proofs.TakenNames.{differ_more}
 use Rattle.manifests.proofs.KnownFiles.{locals_more, locals_of_local, locals_of_other}
 
 -- ---- what is read was read in steps
@@ -129,10 +129,10 @@ none_are : AreFiles []
 none_are = record { few = omega arith; few_local = omega arith; differ = λ i j d lt within. absurd (omega arith) }
 
 module _ (t : Tree) where
-  abbrev with_files : Identity → Start → List FileEntry → Read Application
+  abbrev with_files : Identity → EntryPoint → List FileEntry → Read Application
   with_files identity start files = Ok (record { identity = identity; entry = start.entry; parameters = start.parameters; files = files })
 
-  abbrev with_start : Identity → Start → Read Application
+  abbrev with_start : Identity → EntryPoint → Read Application
   with_start identity start = files_from [] (children_of t) >>= with_files identity start
 
   facts_are : (a : Application) → application_facts t ≡ Ok a → AreFiles a.files

@@ -6,7 +6,7 @@ use Rattle.manifest_tree.specs.declared.node.Node.{Node}
 use Rattle.manifest_tree.specs.Tree.{Tree, tree_of}
 use Rattle.manifest_parts.specs.declared.fault.ManifestFault.{ManifestFault}
 use Rattle.manifest_parts.specs.Elements.{Read, called, children_called, children_of}
-use Rattle.small_types.specs.Reading.{◌>>=◌}
+use Rattle.small_types.specs.Outcome.{◌>>=◌}
 use Rattle.manifest_parts.specs.Outcome.{Fails}
 use Rattle.manifests.specs.declared.deployment_entry.Found.{Found}
 use Rattle.manifests.specs.declared.deployment_entry.Found.TheVariants.{Nothing}

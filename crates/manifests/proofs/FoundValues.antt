@@ -4,10 +4,10 @@ use Rattle.std.specs.Prelude.{◌&&◌, nat_le, All, IfSome, IfOk, option_map, i
 use Rattle.std.specs.List.{find, flat_map}
 use Rattle.std.proofs.lemmas.Bool.{and_parts, leb-true}
 use Rattle.std.proofs.lemmas.List.Elements.{All-nil, All-cons, All-append, All-filter}
-use Rattle.small_types.specs.Reading.{◌>>=◌}
+use Rattle.small_types.specs.Outcome.{◌>>=◌}
 use Rattle.manifest_tree.specs.declared.node.Attribute.{Attribute}
 use Rattle.manifest_tree.specs.Tree.{Tree, Trees, tree, none, more}
-use Rattle.manifest_tree.specs.Writing.{is_content}
+use Rattle.manifest_tree.specs.WrittenText.{is_content}
 use Rattle.manifest_parts.specs.declared.fault.ManifestFault.{ManifestFault}
 use Rattle.manifest_parts.specs.Elements.{Read, listed, children_of, is_attribute, value_of, attribute, called, children_called, first_called, one_of, once}
 use Rattle.manifest_parts.specs.Values.{needed, filled, within, or_default, defaulted}

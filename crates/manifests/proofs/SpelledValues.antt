@@ -11,7 +11,7 @@ use Rattle.manifest_tree.specs.declared.node.Attribute.{Attribute}
 use Rattle.manifest_tree.specs.Lexis.{Fault, allowed, is_character, character_of, number_at, numbered_at, named_at, reference_at, plain, past_line_feed, referred, unit_at}
 use Rattle.manifest_tree.specs.Tree.{Tree, Trees, tree, none, more}
 use Rattle.manifest_tree.specs.Grammar.{Units, no_unit, one_unit, Attributes, no_attribute, one_attribute, Element, empty, full, Content, no_content, data_unit, note_inside, child, SpellsTree}
-use Rattle.manifest_tree.specs.Writing.{is_content}
+use Rattle.manifest_tree.specs.WrittenText.{is_content}
 
 -- ---- what a tree holds
 

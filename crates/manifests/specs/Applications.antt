@@ -11,7 +11,7 @@ use Rattle.small_types.specs.Name.{name_of, name_parts}
 use Rattle.manifest_tree.specs.Tree.{Tree}
 use Rattle.manifest_parts.specs.declared.fault.ManifestFault.TheVariants.{BadName, TwiceNamed, TooMany}
 use Rattle.manifest_parts.specs.Elements.{Read, attribute, called, children_of, first_called, once}
-use Rattle.small_types.specs.Reading.{◌>>=◌}
+use Rattle.small_types.specs.Outcome.{◌>>=◌}
 use Rattle.manifest_parts.specs.Values.{needed, filled, within, truth, size_of}
 use Rattle.manifest_parts.specs.Parts.{identity_in, digests_of, manifest_of}
 use Rattle.manifests.specs.declared.facts.FileEntry.{FileEntry}
@@ -169,12 +169,12 @@ files_from before (t ∷ ts) = child_file before t >>= λ after. files_from afte
 
 -- ---- the whole
 
-pub record Start : Type 0 where
+pub record EntryPoint : Type 0 where
   pub entry : List ℕ
   pub parameters : List ℕ
 
 -- what is started: the one command line of the one entry point
-unfoldable pub start_of : Tree → Read Start
+unfoldable pub start_of : Tree → Read EntryPoint
 start_of t = do
   point ← once (codes "entryPoint") t
   command ← once (codes "commandLine") point

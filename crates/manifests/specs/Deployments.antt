@@ -12,7 +12,7 @@ use Rattle.identity.specs.Version.{version_cmp}
 use Rattle.manifest_tree.specs.Tree.{Tree}
 use Rattle.manifest_parts.specs.declared.fault.ManifestFault.TheVariants.{Missing, Twice, BadValue, OnlineOnly, MinimumAboveVersion}
 use Rattle.manifest_parts.specs.Elements.{Read, attribute, children_called, first_called, once}
-use Rattle.small_types.specs.Reading.{◌>>=◌}
+use Rattle.small_types.specs.Outcome.{◌>>=◌}
 use Rattle.manifest_parts.specs.Values.{needed, filled, truth, number_of, size_of, version_value}
 use Rattle.manifest_parts.specs.Parts.{identity_in, digests_of, manifest_of}
 use Rattle.manifests.specs.Types.{installed_type}

@@ -9,7 +9,7 @@ use Rattle.identity.specs.declared.identity.Identity.{Identity}
 use Rattle.identity.specs.declared.version.Version.{Version}
 use Rattle.identity.specs.Version.{version_cmp}
 use Rattle.digest_list.specs.Digest.{IsSized}
-use Rattle.manifest_tree.specs.Writing.{is_content}
+use Rattle.manifest_tree.specs.WrittenText.{is_content}
 use Rattle.manifest_parts.specs.Parts.{Tells}
 use Rattle.manifests.specs.declared.ages.TheConstants.{AGE_LIMIT, HOUR}
 use Rattle.manifests.specs.declared.facts.Rule.{Rule}

@@ -3,7 +3,7 @@ use Rattle.std.specs.Prelude.{List, ◌∷◌, codes, Err}
 use Rattle.manifest_tree.specs.Tree.{Tree}
 use Rattle.manifest_parts.specs.declared.fault.ManifestFault.TheVariants.{Twice}
 use Rattle.manifest_parts.specs.Elements.{Read}
-use Rattle.small_types.specs.Reading.{◌>>=◌}
+use Rattle.small_types.specs.Outcome.{◌>>=◌}
 use Rattle.manifest_parts.specs.Outcome.{tree_at}
 use Rattle.manifests.specs.declared.deployment_entry.Found.{Found}
 use Rattle.manifests.specs.declared.deployment_entry.Found.TheVariants.{Nothing, One, More}

@@ -23,13 +23,13 @@ use std::alloc::Global;
 
 // What is started.
 #[derive(Drop)]
-struct Start {
+struct EntryPoint {
     entry: Text,
     parameters: Text,
 }
 
 // What the one command line of the one entry point says.
-fn start_of(alloc: Global, root: &Node) -> Result<Start, ManifestFault>
+fn start_of(alloc: Global, root: &Node) -> Result<EntryPoint, ManifestFault>
     ensures { Gives start result (spec.start_of (tree_of root.now)) }
 {
     let point = once(alloc, root, "entryPoint")?;
@@ -42,7 +42,7 @@ fn start_of(alloc: Global, root: &Node) -> Result<Start, ManifestFault>
         "parameters",
         attribute(command, "parameters"),
     )?;
-    Ok(Start { entry, parameters })
+    Ok(EntryPoint { entry, parameters })
 }
 
 // These files, and the one that is listed.
@@ -83,7 +83,7 @@ fn facts_of(alloc: Global, root: &Node) -> Result<Application, ManifestFault>
     let identity = identity_in(alloc, root)?;
     let start = start_of(alloc, root)?;
     let files = files_of(alloc, root)?;
-    let Start { entry, parameters } = start;
+    let EntryPoint { entry, parameters } = start;
     Ok(Application {
         identity,
         entry,

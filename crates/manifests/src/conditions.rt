@@ -3,7 +3,7 @@ ghost use Rattle.std.specs.Prelude.{◌≡◌, ◌↔◌, ◌≤◌, true, lengt
 ghost use Rattle.small_types.specs.declared.limits.TheConstants.{LOCAL_NAME_LIMIT, MANIFEST_LIMIT, NAME_LIMIT, URL_LIMIT};
 ghost use Rattle.digest_list.specs.Digest.{IsSized};
 ghost use Rattle.manifest_tree.specs.Lexis.{allowed};
-ghost use Rattle.manifest_tree.specs.Writing.{is_content};
+ghost use Rattle.manifest_tree.specs.WrittenText.{is_content};
 ghost use Rattle.manifests.specs.Facts.{IsValue, IsIdentity, IsMinimum, IsAge, IsRule, IsProvider, AreDeploymentFacts, IsFile, AreApplicationFacts};
 
 use crate::ages::{AGE_LIMIT, AgeUnit, HOUR};
@@ -162,7 +162,7 @@ fn is_use(entry: &FileEntry) -> bool
     !entry.local || (entry.name.as_bytes().len() <= LOCAL_NAME_LIMIT && entry.group.is_none())
 }
 
-/// Whether a manifest can say the file: it is not below `.pre`, has at most 67,108,864 bytes and
+/// Whether a manifest can say the file: it is not below `.pre`, has at most 268,435,456 bytes and
 /// digests of the lengths of their algorithms, and its group, if there is one, is a value of 1 to
 /// 240 bytes. A data file has at most 1,048,576 bytes and a name of at most 235, and is in no
 /// group.

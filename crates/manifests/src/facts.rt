@@ -21,7 +21,7 @@ pub enum Rule {
 pub struct FileEntry {
     /// Its name, with `/` between parts.
     pub name: Name,
-    /// Its length in bytes, at most 67,108,864, and of a data file at most 1,048,576.
+    /// Its length in bytes, at most 268,435,456, and of a data file at most 1,048,576.
     pub size: u64,
     /// Its digests.
     pub list: DigestList,

@@ -48,7 +48,8 @@ pub struct Mirrors {
     ghost some: { 1 ≤ vec_len links },
     ghost within: { vec_len links ≤ LINK_LIMIT },
     ghost even: { AreEven (λ g. g.place) (length links.items) retired.noted },
-    ghost summed: { AreSummed (λ g. g.place) (λ g. g.count) (length links.items) retired.noted gone },
+    ghost summed: { AreSummed (λ g. g.place) (λ g. g.count) (length links.items)
+        retired.noted gone },
 }
 
 impl Mirrors {

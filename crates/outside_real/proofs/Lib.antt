@@ -1,3 +1,3 @@
-pub mod Calling
-pub mod Telling
-pub mod Recalling
+pub mod DiskTells
+pub mod FolderTells
+pub mod ToldCall

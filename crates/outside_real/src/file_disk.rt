@@ -74,7 +74,7 @@ impl<R: Files<File = File> + Drop, S: Start> FileDisk<R, S> {
 // Each method makes a call of the file and then notes it with its answer.
 impl<R: Files<File = File> + Drop, S: Start> Disk for FileDisk<R, S> {
     ghost use Rattle.outside_real.specs.FileDisk.{disk_calls, disk_answers, DiskIsHonest, MayChange, Notes, OnlyReads, disk_seen, disk_left};
-    ghost use Rattle.disks.proofs.Replaying.{seen_is_left};
+    ghost use Rattle.disks.proofs.NextAnswer.{seen_is_left};
 
     ghost tells = { λ d. IsHonest S.Start.first d.told.answers.noted };
 
@@ -88,8 +88,8 @@ impl<R: Files<File = File> + Drop, S: Start> Disk for FileDisk<R, S> {
 
     ghost count = { λ d. d.faults };
 
-    ghost seen_left = { λ d. seen_is_left S.Start.first S.Start.left S.Start.first_left d.told.answers.noted
-        d.told.calls d.told.numbered };
+    ghost seen_left = { λ d. seen_is_left S.Start.first S.Start.left S.Start.first_left
+        d.told.answers.noted d.told.calls d.told.numbered };
 
     fn length(&mut self) -> Result<u64, Failed>
         ensures noted { disk_answers self.new ≡ disk_answers self.old ++ told_length result }

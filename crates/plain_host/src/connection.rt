@@ -6,9 +6,9 @@ ghost use Rattle.plain_host.specs.Connection.{AsksFile, BreaksOff, answered_code
 
 use crate::answer::{prepare_answer, served_of};
 use crate::fault::{ServeFault, Served, fault_of};
+use crate::host_room::HostRoom;
 use crate::reply::send_answer;
 use crate::request::receive_front;
-use crate::room::Room;
 use connections::Door;
 use folders::Folder;
 use std::alloc::Global;
@@ -19,7 +19,7 @@ pub fn serve_in_room<G: Door, F: Folder>(
     alloc: Global,
     door: &mut G,
     folder: &mut F,
-    room: &mut Room,
+    room: &mut HostRoom,
 ) -> Result<Served, ServeFault>
     requires { G.tells → G.accepted door.old ≢ [] }
 
@@ -118,6 +118,6 @@ pub fn serve_connection<G: Door, F: Folder>(
     ensures misses { G.misses door.new ≡ G.misses door.old }
     ensures held { F.tells → F.held folder.new ≡ F.held folder.old }
 {
-    let mut room = Room::new(alloc);
+    let mut room = HostRoom::new(alloc);
     serve_in_room(alloc, door, folder, &mut room)
 }

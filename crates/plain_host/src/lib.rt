@@ -4,13 +4,13 @@
 mod answer;
 mod connection;
 mod fault;
+mod host_room;
 mod laws;
 mod reply;
 mod request;
-mod room;
 
 pub use connection::{serve_connection, serve_in_room};
 pub use fault::{ServeFault, Served};
+pub use host_room::HostRoom;
 pub use laws::numbers_are;
 pub use request::REQUEST_PIECE;
-pub use room::Room;

@@ -1,6 +1,6 @@
 pub mod Ages
 pub mod CommandFacts
-pub mod Ending
+pub mod EndCounts
 pub mod Example
-pub mod Joining
+pub mod NextMark
 pub mod Rows

@@ -4,8 +4,8 @@ use Rattle.small_types.specs.Limit.{limit_text}
 use Rattle.identity.specs.Key.{key_text, word_text}
 use Rattle.identity.specs.Version.{version_text}
 use Rattle.manifest_text.specs.Lines.{line, two}
-use Rattle.publication.specs.declared.publication.End.{End}
-use Rattle.publication.specs.declared.publication.End.TheVariants as ends
+use Rattle.publication.specs.declared.publication.PublishEnd.{PublishEnd}
+use Rattle.publication.specs.declared.publication.PublishEnd.TheVariants as ends
 use Rattle.publisher.specs.declared.published.Published.{Published}
 use Rattle.publisher.specs.declared.fault.PublishFault.{PublishFault}
 use Rattle.publisher.specs.declared.fault.PublishFault.TheVariants.{BadName, MinimumAbove, ReadFault, VersionExists, EmptyInput, BadInput, TooMany, NoEntryPoint, BadMark, FileTooLong, ManifestTooLong, WriteFault, Changed, Memory}
@@ -43,19 +43,19 @@ line_of (Ok p) = published_line p
 line_of (Err e) = refusal_line e
 
 -- how the call ends after a fault: the folder failed, or memory ran out, and all else is a refusal
-abbrev pub end_of_fault : PublishFault → End
+abbrev pub end_of_fault : PublishFault → PublishEnd
 end_of_fault ReadFault = ends.ReadFault
 end_of_fault WriteFault = ends.WriteFault
 end_of_fault Memory = ends.Memory
 end_of_fault e = ends.Refused
 
 -- how it ends after a publish with this result, once its line is written, if it has one
-abbrev pub end_of_publish : Result Published PublishFault → End
+abbrev pub end_of_publish : Result Published PublishFault → PublishEnd
 end_of_publish (Ok p) = ends.Done
 end_of_publish (Err e) = end_of_fault e
 
 -- whether an end has a line
-abbrev pub has_line : End → Bool
+abbrev pub has_line : PublishEnd → Bool
 has_line ends.Done = true
 has_line ends.Refused = true
 has_line end = false

@@ -7,12 +7,12 @@ use Rattle.publish_plan.specs.declared.options.Options.{Options}
 use Rattle.publisher.specs.declared.fault.PublishFault.{PublishFault}
 use Rattle.publisher.specs.declared.published.Published.{Published}
 use Rattle.publisher.specs.Published.{IsPublish}
-use Rattle.publication.specs.declared.publication.End.{End}
-use Rattle.publication.specs.declared.publication.End.TheVariants as ends
+use Rattle.publication.specs.declared.publication.PublishEnd.{PublishEnd}
+use Rattle.publication.specs.declared.publication.PublishEnd.TheVariants as ends
 use Rattle.publication.specs.Lines.{end_of_publish, has_line, line_of}
 
 -- the exit status
-abbrev pub status_of : End → ℕ
+abbrev pub status_of : PublishEnd → ℕ
 status_of ends.Done = 0
 status_of ends.ReadFault = 2
 status_of ends.WriteFault = 3
@@ -22,7 +22,7 @@ status_of ends.Refused = 7
 
 -- how the call ends after a publish with this result, and what is written to the sink
 abbrev pub EndsWith : {K : Type 0} → Type 0 → (K → List ℕ) → K → K → Result Published PublishFault
-    → End → Type 0
+    → PublishEnd → Type 0
 -- it was done, or it is refused, and its line was written whole
 EndsWith tells taken old new result ends.Done =
     (end_of_publish result ≡ ends.Done)
@@ -46,7 +46,8 @@ EndsWith tells taken old new result ends.Memory =
 
 -- A publish by the options was made, and the call ends by what came of it.
 pub record PublishesOptions {F K : Type 0} (folder : FolderGhosts F) (to : SinkGhosts K)
-    (o : Options) (folder_old folder_new : F) (sink_old sink_new : K) (end : End) : Type 0 where
+    (o : Options) (folder_old folder_new : F) (sink_old sink_new : K) (end : PublishEnd)
+    : Type 0 where
   pub result : Result Published PublishFault
   pub published : IsPublish folder o folder_old folder_new result
   pub ended : EndsWith to.tells to.taken sink_old sink_new result end

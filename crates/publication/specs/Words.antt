@@ -9,7 +9,7 @@ use Rattle.small_types.specs.Name.{name_of}
 use Rattle.identity.specs.declared.version.Version.{Version}
 use Rattle.identity.specs.declared.version.VersionFault.{VersionFault}
 use Rattle.identity.specs.Version.{version_of}
-use Rattle.manifest_tree.specs.Writing.{is_content}
+use Rattle.manifest_tree.specs.WrittenText.{is_content}
 use Rattle.addresses.specs.Address.{target_of_text}
 use Rattle.manifests.specs.Ages.{seconds_in}
 use Rattle.manifests.specs.declared.ages.TheConstants.{AGE_DIGIT_LIMIT}

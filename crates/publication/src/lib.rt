@@ -8,6 +8,6 @@ mod publication;
 mod values;
 mod words;
 
-pub use publication::{End, publish_options};
+pub use publication::{PublishEnd, publish_options};
 pub use values::WordFault;
 pub use words::read_options;

@@ -4,7 +4,7 @@ ghost use Rattle.identity.specs.Key.{word_text};
 ghost use Rattle.manifest_text.specs.Lines as text;
 ghost use Rattle.publication.specs.Lines.{published_line, cause_text, refusal_line, line_of, end_of_publish, end_of_fault};
 
-use crate::publication::End;
+use crate::publication::PublishEnd;
 use itoa::Buffer;
 use manifest_text::{about, line, two};
 use publisher::{PublishFault, Published};
@@ -98,13 +98,13 @@ pub(crate) fn line_of(
 }
 
 // How the call ends after a fault.
-fn end_of_fault(fault: &PublishFault) -> End
+fn end_of_fault(fault: &PublishFault) -> PublishEnd
     ensures { result ≡ end_of_fault fault.now }
 {
     match fault {
-        PublishFault::ReadFault => End::ReadFault,
-        PublishFault::WriteFault => End::WriteFault,
-        PublishFault::Memory => End::Memory,
+        PublishFault::ReadFault => PublishEnd::ReadFault,
+        PublishFault::WriteFault => PublishEnd::WriteFault,
+        PublishFault::Memory => PublishEnd::Memory,
         PublishFault::BadName { .. }
         | PublishFault::MinimumAbove { .. }
         | PublishFault::VersionExists { .. }
@@ -115,16 +115,16 @@ fn end_of_fault(fault: &PublishFault) -> End
         | PublishFault::BadMark { .. }
         | PublishFault::FileTooLong { .. }
         | PublishFault::ManifestTooLong { .. }
-        | PublishFault::Changed { .. } => End::Refused,
+        | PublishFault::Changed { .. } => PublishEnd::Refused,
     }
 }
 
 /// How the call ends after a publish with this result, once its line is written, if it has one.
-pub(crate) fn end_of_publish(done: &Result<Published, PublishFault>) -> End
+pub(crate) fn end_of_publish(done: &Result<Published, PublishFault>) -> PublishEnd
     ensures { result ≡ end_of_publish done.now }
 {
     match done {
-        Ok(_) => End::Done,
+        Ok(_) => PublishEnd::Done,
         Err(fault) => end_of_fault(fault),
     }
 }

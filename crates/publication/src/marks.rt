@@ -83,7 +83,7 @@ fn read_mark(alloc: Global, word: &[u8]) -> Result<Mark, WordFault>
 }
 
 // All of them.
-#[tactic(auto, using(crate::proofs::Joining::one_more), unfolding(crate::specs::Words::marks_of))]
+#[tactic(auto, using(crate::proofs::NextMark::one_more), unfolding(crate::specs::Words::marks_of))]
 pub(crate) fn read_marks(alloc: Global, words: &[&str]) -> Result<List<Mark>, WordFault>
     ensures value { IfOk result (λ marks. marks_of (map (λ s. s.now) words.now) ≡ Some marks) }
     ensures fit { IfOk result (λ marks. All (λ (m : Mark). IsKind m.kind) marks) }

@@ -2,7 +2,7 @@
 ghost use Rattle.std.specs.Prelude.{◌≡◌, ◌≢◌, ◌≤◌};
 ghost use Rattle.outside.specs.Streams.{Rose};
 ghost use Rattle.publisher.specs.Options.{IsPublishable};
-ghost use Rattle.publication.specs.declared.publication.End.TheVariants as ends;
+ghost use Rattle.publication.specs.declared.publication.PublishEnd.TheVariants as ends;
 ghost use Rattle.publication.specs.Lines.{has_line};
 ghost use Rattle.publication.specs.Publication.{status_of, EndsWith, PublishesOptions};
 
@@ -15,7 +15,7 @@ use std::alloc::Global;
 
 /// How such a publish ends.
 #[derive(Clone, Copy, Debug, PartialEq, Eq)]
-pub enum End {
+pub enum PublishEnd {
     /// The release was written, and so was the line that says so.
     Done,
     /// The folder failed at a listing or a reading.
@@ -30,18 +30,18 @@ pub enum End {
     Refused,
 }
 
-impl End {
+impl PublishEnd {
     /// The exit status: 0 done, 2 the folder failed at a reading, 3 at a writing or the sink failed,
     /// 6 no memory, 7 refused.
     pub fn code(self) -> u8
         ensures { result ≡ status_of self }
     {
         match self {
-            End::Done => 0,
-            End::ReadFault => 2,
-            End::WriteFault | End::SinkFault => 3,
-            End::Memory => 6,
-            End::Refused => 7,
+            PublishEnd::Done => 0,
+            PublishEnd::ReadFault => 2,
+            PublishEnd::WriteFault | PublishEnd::SinkFault => 3,
+            PublishEnd::Memory => 6,
+            PublishEnd::Refused => 7,
         }
     }
 
@@ -49,12 +49,16 @@ impl End {
     fn has_line(self) -> bool
         ensures { result ≡ has_line self }
     {
-        matches!(self, End::Done | End::Refused)
+        matches!(self, PublishEnd::Done | PublishEnd::Refused)
     }
 }
 
 // Writes the line of what came of a publish, where there is one, and says how the call ends.
-fn say_done<K: Sink>(alloc: Global, done: &Result<Published, PublishFault>, sink: &mut K) -> End
+fn say_done<K: Sink>(
+    alloc: Global,
+    done: &Result<Published, PublishFault>,
+    sink: &mut K,
+) -> PublishEnd
     ensures ended { EndsWith K.tells K.taken sink.old sink.new done.now result }
     ensures sink_count { K.count sink.old ≤ K.count sink.new }
     ensures sink_cause { result ≡ ends.SinkFault → Rose (K.count sink.old) (K.count sink.new) }
@@ -66,10 +70,10 @@ fn say_done<K: Sink>(alloc: Global, done: &Result<Published, PublishFault>, sink
     }
     let line = match line_of(alloc, done) {
         Ok(line) => line,
-        Err(PrintFault::Memory) => return End::Memory,
+        Err(PrintFault::Memory) => return PublishEnd::Memory,
     };
     let Ok(()) = write_all(sink, line.as_slice()) else {
-        return End::SinkFault;
+        return PublishEnd::SinkFault;
     };
     end
 }
@@ -82,7 +86,7 @@ pub fn publish_options<F: Folder, K: Sink>(
     options: &Options,
     folder: &mut F,
     sink: &mut K,
-) -> End
+) -> PublishEnd
     requires { IsPublishable options.now }
     ensures done { PublishesOptions F.Folder K.Sink options.now folder.old folder.new
         sink.old sink.new result }

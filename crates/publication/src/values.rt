@@ -4,7 +4,7 @@ ghost use Rattle.std.specs.List.{list_all};
 ghost use Rattle.std.specs.Str.{is_utf8};
 ghost use Rattle.manifest_tree.specs.Lexis.{allowed};
 ghost use Rattle.manifests.specs.Facts.{IsProvider, IsRule, IsValue};
-ghost use Rattle.manifest_tree.specs.Writing.{is_content};
+ghost use Rattle.manifest_tree.specs.WrittenText.{is_content};
 ghost use Rattle.publication.specs.Words.{age_of, check_of, file_of, group_of, number_of, provider_of, publisher_of, release_of, unit_of};
 ghost use Rattle.publication.specs.declared.values.WordFault.TheVariants.{Unreadable, Memory};
 
@@ -76,7 +76,7 @@ pub(crate) fn is_allowed_text(bytes: &[u8]) -> bool
 }
 
 // The bytes as text.
-#[tactic(auto, using(small_types::proofs::Spelling::spelled, small_types::proofs::Spelling::unspelled))]
+#[tactic(auto, using(small_types::proofs::Spelled::spelled, small_types::proofs::Spelled::unspelled))]
 pub(crate) fn text(bytes: &[u8]) -> Result<&str, WordFault>
     ensures value { IfOk result (λ s. s.now ≡ bytes.now) }
     ensures text { IfOk result (λ s. is_utf8 bytes.now ≡ true) }
@@ -90,7 +90,7 @@ pub(crate) fn text(bytes: &[u8]) -> Result<&str, WordFault>
 }
 
 // The publisher.
-#[tactic(auto, using(small_types::proofs::Spelling::spelled), unfolding(crate::specs::Words::publisher_of))]
+#[tactic(auto, using(small_types::proofs::Spelled::spelled), unfolding(crate::specs::Words::publisher_of))]
 pub(crate) fn read_publisher(alloc: Global, word: &str) -> Result<Text, WordFault>
     ensures value { IfOk result (λ t. publisher_of word.now ≡ Some t) }
     ensures fit { IfOk result (IsValue 0 NAME_LIMIT) }

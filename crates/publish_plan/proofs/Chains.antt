@@ -1,9 +1,9 @@
 -- What a call gives whose steps end at the first refusal.
 use Rattle.std.proofs.Common.{◌≡◌, Ok, Err, sym, subst}
 use Rattle.std.specs.Result.{IsErr, IsErrAnd}
-use Rattle.small_types.specs.Reading.{◌>>=◌}
+use Rattle.small_types.specs.Outcome.{◌>>=◌}
 use Rattle.publish_plan.specs.declared.fault.PlanFault.{PlanFault}
-use Rattle.small_types.proofs.ReadingLemmas as reading
+use Rattle.small_types.proofs.OutcomeLemmas as reading
 use Rattle.publish_plan.specs.Outcome.{Read, Fails, Gives, is_memory}
 
 -- a call that fails as is wanted

@@ -13,8 +13,8 @@ use Rattle.std.proofs.lemmas.Str.Ascii.{IsAscii-nil, IsAscii-cons}
 use Rattle.small_types.specs.declared.name.NameFault.{NameFault}
 use Rattle.small_types.specs.declared.name.NameFault.TheVariants.{Bad}
 use Rattle.small_types.specs.Name.{name_parts, is_memory, is_name_byte, is_name_part, is_name, IsName, name_of}
-use Rattle.small_types.specs.Reading.{FailsBut}
-use Rattle.small_types.proofs.Spelling.{read_again}
+use Rattle.small_types.specs.Outcome.{FailsBut}
+use Rattle.small_types.proofs.Spelled.{read_again}
 use Rattle.publish_plan.specs.Paths.{is_path, IsPath, CanFollow}
 use Rattle.publish_plan.specs.Places.{within, front_of, has_front, behind}
 

@@ -7,12 +7,12 @@ use Rattle.std.proofs.lemmas.Bool.{and_parts, both_ways, ltb-false, cases_Bool}
 use Rattle.std.proofs.lemmas.List.Elements.{All-nil, All-cons, All-map, All-weaker}
 use Rattle.small_types.specs.Name.{IsBelowPre}
 use Rattle.small_types.specs.declared.limit.Limit.TheVariants.{Files, Locals}
-use Rattle.small_types.specs.Reading.{◌>>=◌}
+use Rattle.small_types.specs.Outcome.{◌>>=◌}
 use Rattle.manifests.specs.Applications.{is_below_pre}
 use Rattle.publish_plan.specs.declared.fault.PlanFault.{PlanFault}
 use Rattle.publish_plan.specs.declared.fault.PlanFault.TheVariants.{VersionExists, BadInput, TooMany, NoEntryPoint, BadMark}
 use Rattle.publish_plan.specs.declared.options.Options.{Options}
-use Rattle.publish_plan.specs.declared.options.Plan.{Plan}
+use Rattle.publish_plan.specs.declared.options.PublishPlan.{PublishPlan}
 use Rattle.publish_plan.specs.declared.options.PlannedFile.{PlannedFile}
 use Rattle.publish_plan.specs.Early.{early_of}
 use Rattle.publish_plan.specs.Facts.{file_of, target_of, written_names, IsListed, IsApart, AreFacts}
@@ -39,10 +39,10 @@ taken : {A B : Type 0} (r : Read A) (next : A → Read B) (y : B) → (r >>= nex
 taken (Ok x) next y is = record { value = x; is = refl; then_is = is }
 taken (Err e) next y is = absurd cc
 
-abbrev ok_at : Plan → Read Plan
+abbrev ok_at : PublishPlan → Read PublishPlan
 ok_at plan = Ok plan
 
-same_plan : (p q : Plan) → ok_at p ≡ ok_at q → p ≡ q
+same_plan : (p q : PublishPlan) → ok_at p ≡ ok_at q → p ≡ q
 same_plan p q same = cc
 
 nothing : (refusal : Option PlanFault) → unless refusal ≡ done → refusal ≡ None
@@ -155,7 +155,7 @@ module _ (o : Options) (names : List (List ℕ)) (early : early_of o ≡ None) w
         written_differ = λ distinct. subst (λ (ts : List (List ℕ)). IsDistinct bytes_eq (ts ++ manifest_name o ∷ deployment_name o ∷ [])) (sym (targets_of o inputs)) (planned_written distinct good);
       }
 
-  facts_for : (plan : Plan) → standing o names ≡ done → plan_for o inputs ≡ Ok plan → AreFacts o names plan
+  facts_for : (plan : PublishPlan) → standing o names ≡ done → plan_for o inputs ≡ Ok plan → AreFacts o names plan
   unfolding plan_for
   facts_for plan stands is =
       let fit = taken (fit_inputs o inputs) _ plan is in
@@ -164,7 +164,7 @@ module _ (o : Options) (names : List (List ℕ)) (early : early_of o ≡ None) w
       let marked = taken (good_marks o inputs) _ plan started.then_is in
       subst (AreFacts o names) (same_plan _ plan marked.then_is) (planned_facts stands fit.is counted.is started.is marked.is)
 
-  pub plan_facts : (plan : Plan) → plan_of o names ≡ Ok plan → AreFacts o names plan
+  pub plan_facts : (plan : PublishPlan) → plan_of o names ≡ Ok plan → AreFacts o names plan
   unfolding plan_of
   plan_facts plan is =
       let free = taken (standing o names) _ plan is in

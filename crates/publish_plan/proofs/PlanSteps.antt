@@ -3,10 +3,10 @@ use Rattle.std.proofs.Common.{◌≡◌, ℕ, Bool, List, [], Option, Result, Ok
 use Rattle.std.specs.Prelude.{find, option_map, if◌then◌else◌}
 use Rattle.std.specs.BTreeMap.{BTreeMap}
 use Rattle.std.specs.List.{list_any}
-use Rattle.small_types.specs.Reading.{◌>>=◌}
+use Rattle.small_types.specs.Outcome.{◌>>=◌}
 use Rattle.publish_plan.specs.declared.fault.PlanFault.{PlanFault}
 use Rattle.publish_plan.specs.declared.options.Options.{Options}
-use Rattle.publish_plan.specs.declared.options.Plan.{Plan}
+use Rattle.publish_plan.specs.declared.options.PublishPlan.{PublishPlan}
 use Rattle.publish_plan.specs.declared.options.PlannedFile.{PlannedFile}
 use Rattle.publish_plan.specs.declared.fault.PlanFault.TheVariants.{VersionExists, EmptyInput, NoEntryPoint, BadMark}
 use Rattle.publish_plan.specs.declared.marked.Seen.{Seen}
@@ -21,7 +21,7 @@ use Rattle.publish_plan.proofs.MarkLemmas.{fresh_known}
 abbrev pub done : Read (Unit {0})
 done = Ok tt
 
-abbrev pub planned : Options → List (List ℕ) → Read Plan
+abbrev pub planned : Options → List (List ℕ) → Read PublishPlan
 planned o inputs = Ok (record { files = planned_files o inputs; manifest = manifest_name o; deployment = deployment_name o })
 
 -- ---- over the files that are published
@@ -70,7 +70,7 @@ module _ (o : Options) (names inputs : List (List ℕ)) (are : inputs ≡ input_
       rest_fails e h =
           then_fails e (standing o names) tt _ free (then_fails e (some_input o names) tt _ some (subst (λ (files : List (List ℕ)). Fails e (plan_for o files)) are h))
 
-      rest_gives : (wanted : Read Plan) → plan_for o inputs ≡ wanted → plan_of o names ≡ wanted
+      rest_gives : (wanted : Read PublishPlan) → plan_for o inputs ≡ wanted → plan_of o names ≡ wanted
       unfolding plan_of
       rest_gives wanted is =
           ap (λ (r : Read (Unit {0})). r >>= λ free. some_input o names >>= λ some. plan_for o (input_names o.from names)) free
@@ -114,7 +114,7 @@ module _ (o : Options) (table : BTreeMap (List ℕ) Seen) (inputs : List (List �
 pub marks_are : (o : Options) (inputs : List (List ℕ)) (bad : Option (List ℕ)) → bad ≡ bad_mark inputs [] o.marks → unless (option_map BadMark bad) ≡ good_marks o inputs
 marks_are o inputs bad is = ap (λ (b : Option (List ℕ)). unless (option_map BadMark b)) is
 
-abbrev pub plan_at : List PlannedFile → List ℕ → List ℕ → Read Plan
+abbrev pub plan_at : List PlannedFile → List ℕ → List ℕ → Read PublishPlan
 plan_at files manifest deployment = Ok (record { files = files; manifest = manifest; deployment = deployment })
 
 pub planned_is : (o : Options) (inputs : List (List ℕ)) (files : List PlannedFile) (manifest deployment : List ℕ)

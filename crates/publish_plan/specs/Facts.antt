@@ -5,7 +5,7 @@ use Rattle.std.specs.Str.{bytes_eq}
 use Rattle.small_types.specs.declared.limits.TheConstants.{FILE_COUNT_LIMIT, LOCAL_COUNT_LIMIT, LOCAL_NAME_LIMIT}
 use Rattle.small_types.specs.Name.{IsBelowPre}
 use Rattle.publish_plan.specs.declared.options.Options.{Options}
-use Rattle.publish_plan.specs.declared.options.Plan.{Plan}
+use Rattle.publish_plan.specs.declared.options.PublishPlan.{PublishPlan}
 use Rattle.publish_plan.specs.declared.options.PlannedFile.{PlannedFile}
 use Rattle.publish_plan.specs.Early.{early_of}
 use Rattle.publish_plan.specs.Marks.{is_among}
@@ -19,7 +19,7 @@ abbrev pub target_of : PlannedFile → List ℕ
 target_of file = file.target
 
 -- the names that are written, in the order of writing
-abbrev pub written_names : Plan → List (List ℕ)
+abbrev pub written_names : PublishPlan → List (List ℕ)
 written_names plan = map target_of plan.files ++ plan.manifest ∷ plan.deployment ∷ []
 
 -- a planned file that an application manifest can list: not below `.pre`, a data file's name of at
@@ -34,7 +34,7 @@ pub record IsApart (folder : List ℕ) (file : PlannedFile) : Type 0 where
   pub target : lies_below folder file.target ≡ true
   pub source : lies_below folder file.source ≡ false
 
-pub record AreFacts (o : Options) (names : List (List ℕ)) (plan : Plan) : Type 0 where
+pub record AreFacts (o : Options) (names : List (List ℕ)) (plan : PublishPlan) : Type 0 where
   pub files : plan.files ≡ planned_files o (input_names o.from names)
   pub manifest : plan.manifest ≡ manifest_name o
   pub deployment : plan.deployment ≡ deployment_name o
@@ -52,5 +52,5 @@ pub record AreFacts (o : Options) (names : List (List ℕ)) (plan : Plan) : Type
 
 -- each plan is so
 abbrev pub PlansHaveFacts : Type 0
-PlansHaveFacts = (o : Options) (names : List (List ℕ)) (plan : Plan)
+PlansHaveFacts = (o : Options) (names : List (List ℕ)) (plan : PublishPlan)
     → early_of o ≡ None → plan_of o names ≡ Ok plan → AreFacts o names plan

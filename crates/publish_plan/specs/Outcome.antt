@@ -1,6 +1,6 @@
 -- What a call gives, against what the definitions give. Memory may always run out.
 use Rattle.std.specs.Prelude.{Bool, true, false, Option, Some, None, Result, Ok, Err}
-use Rattle.small_types.specs.Reading.{FailsBut, GivesBut}
+use Rattle.small_types.specs.Outcome.{FailsBut, GivesBut}
 use Rattle.publish_plan.specs.declared.fault.PlanFault.{PlanFault}
 use Rattle.publish_plan.specs.declared.fault.PlanFault.TheVariants.{Memory}
 

@@ -4,12 +4,12 @@ use Rattle.std.specs.List.{list_any}
 use Rattle.std.specs.Str.{bytes_eq}
 use Rattle.small_types.specs.declared.limit.Limit.TheVariants.{Files, Locals}
 use Rattle.small_types.specs.declared.limits.TheConstants.{FILE_COUNT_LIMIT, LOCAL_COUNT_LIMIT, LOCAL_NAME_LIMIT, NAME_LIMIT}
-use Rattle.small_types.specs.Reading.{◌>>=◌}
+use Rattle.small_types.specs.Outcome.{◌>>=◌}
 use Rattle.manifests.specs.Applications.{is_below_pre}
 use Rattle.publish_plan.specs.declared.fault.PlanFault.{PlanFault}
 use Rattle.publish_plan.specs.declared.fault.PlanFault.TheVariants.{VersionExists, EmptyInput, BadInput, TooMany, NoEntryPoint, BadMark}
 use Rattle.publish_plan.specs.declared.options.Options.{Options}
-use Rattle.publish_plan.specs.declared.options.Plan.{Plan}
+use Rattle.publish_plan.specs.declared.options.PublishPlan.{PublishPlan}
 use Rattle.publish_plan.specs.declared.options.PlannedFile.{PlannedFile}
 use Rattle.publish_plan.specs.Marks.{is_marked, is_data, group_of, is_among, bad_mark}
 use Rattle.publish_plan.specs.Outcome.{Read, unless}
@@ -71,7 +71,7 @@ abbrev pub planned_files : Options → List (List ℕ) → List PlannedFile
 planned_files o inputs = map (planned o) inputs
 
 -- the plan for these files, or the first refusal of them
-unfoldable pub plan_for : Options → List (List ℕ) → Read Plan
+unfoldable pub plan_for : Options → List (List ℕ) → Read PublishPlan
 plan_for o inputs = do
   fit ← fit_inputs o inputs
   counted ← few (planned_files o inputs)
@@ -84,7 +84,7 @@ plan_for o inputs = do
   })
 
 -- the plan over a folder with these names, or the first refusal
-unfoldable pub plan_of : Options → List (List ℕ) → Read Plan
+unfoldable pub plan_of : Options → List (List ℕ) → Read PublishPlan
 plan_of o names = do
   free ← standing o names
   some ← some_input o names

@@ -14,6 +14,6 @@ mod written;
 pub use early::check_options;
 pub use fault::PlanFault;
 pub use laws::{plain_name_limit_is, plans_have_facts};
-pub use options::{Mark, MarkKind, Options, Plan, PlannedFile};
+pub use options::{Mark, MarkKind, Options, PlannedFile, PublishPlan};
 pub use places::{PLAIN_NAME_LIMIT, codebase_of};
 pub use plans::plan;

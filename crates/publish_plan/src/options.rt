@@ -64,7 +64,7 @@ pub struct PlannedFile {
 
 /// What will be written.
 #[derive(Drop, Debug, PartialEq, Eq)]
-pub struct Plan {
+pub struct PublishPlan {
     /// The files, in byte order of their names.
     pub files: List<PlannedFile>,
     /// The name that the application manifest is written under.

@@ -13,7 +13,7 @@ use crate::files::planned_files;
 use crate::marked::Marked;
 use crate::places::{deployment_name, front_of, has_front, name_from};
 use crate::written::Written;
-use crate::{Options, Plan, PlanFault, PlannedFile};
+use crate::{Options, PlanFault, PlannedFile, PublishPlan};
 use small_types::limits::{FILE_COUNT_LIMIT, LOCAL_COUNT_LIMIT};
 use small_types::{Duplicate, Limit, List, Name};
 use std::alloc::Global;
@@ -114,7 +114,7 @@ fn check_marks(marked: Marked) -> Result<(), PlanFault>
 /// then with `Locals` for more than 256 data files; `NoEntryPoint` where the file that is started
 /// is none of the files, or has a mark; `BadMark` with the file of the first mark that names none
 /// of the files, or one that an earlier mark named. `Memory` may come at any options and names.
-pub fn plan(alloc: Global, options: &Options, names: &[Name]) -> Result<Plan, PlanFault>
+pub fn plan(alloc: Global, options: &Options, names: &[Name]) -> Result<PublishPlan, PlanFault>
     requires { early_of options.now ≡ None }
     ensures { Gives result (spec.plan_of options.now names.now) }
 {
@@ -130,7 +130,7 @@ pub fn plan(alloc: Global, options: &Options, names: &[Name]) -> Result<Plan, Pl
     let manifest = name_from(alloc, written.manifest.as_bytes())?;
     let deployment = deployment_name(alloc, options)?;
     let deployment = name_from(alloc, deployment.as_bytes())?;
-    Ok(Plan {
+    Ok(PublishPlan {
         files: List::from_vec(files),
         manifest,
         deployment,

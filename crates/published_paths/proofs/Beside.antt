@@ -19,7 +19,7 @@ use Rattle.url.proofs.PathLemmas.{without_last_valid}
 use Rattle.url.proofs.TextLemmas.{is_query_byte}
 use Rattle.url.proofs.ParsedCanonical.{before_special}
 use Rattle.small_types.specs.declared.target.Target.{Target}
-use Rattle.small_types.specs.Reading.{◌>>=◌}
+use Rattle.small_types.specs.Outcome.{◌>>=◌}
 use Rattle.identity.proofs.KeyLemmas.{bytes_of_text}
 use Rattle.small_types.specs.declared.limits.TheConstants.{URL_LIMIT}
 use Rattle.addresses.specs.Address.{http, is_refused, is_too_long, address, target_of_url, target_of_text, url_of}

@@ -31,7 +31,7 @@ use Rattle.publish_plan.specs.declared.options.Options.{Options}
 use Rattle.publish_plan.specs.Places.{is_plain_byte, codebase, deploy_end, deployment_name, manifest_end, manifest_name, release_word, target_name, version_folder}
 use Rattle.published_paths.specs.Reached.{IsPublishable, Reaches, FilesAreReached, PublishedIsReached, last_part}
 use Rattle.published_paths.proofs.Sound.{IsPath}
-use Rattle.published_paths.proofs.Decoding.{decode_joined, name_joined, named_back, path_named, query_cut}
+use Rattle.published_paths.proofs.PathEscapes.{decode_joined, name_joined, named_back, path_named, query_cut}
 use Rattle.published_paths.proofs.Paths.{IsFree, name_parsed, three_parsed}
 use Rattle.published_paths.proofs.Beside.{IsAddressOf, IsJoined, app_joined, file_joined, text_target}
 use Rattle.published_paths.proofs.References.{IsPlainByte, codebase_reference, ending_bytes, file_word, folder_bytes, manifest_bytes, release_bytes, word_byte, word_bytes, word_free, word_reference}

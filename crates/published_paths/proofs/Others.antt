@@ -20,7 +20,7 @@ use Rattle.http_plain.specs.Path.{name_in_path, without_query}
 use Rattle.publish_plan.specs.declared.options.Options.{Options}
 use Rattle.publish_plan.specs.Places.{codebase, deployment_name, manifest_end, manifest_name, release_word, version_folder}
 use Rattle.published_paths.specs.Reached.{IsPublishable, OthersMiss, ends_whole, last_part}
-use Rattle.published_paths.proofs.Decoding.{named_back, query_cut}
+use Rattle.published_paths.proofs.PathEscapes.{named_back, query_cut}
 use Rattle.published_paths.proofs.Beside.{IsAddressOf, IsJoined, app_joined, text_target}
 use Rattle.published_paths.proofs.References.{codebase_reference, folder_bytes, manifest_bytes, release_bytes}
 use Rattle.published_paths.proofs.Names.{begins, codebase_path, cut_at_last, decoded_name, deployment_bytes, folder, path_no_query, same_fronts, target_path, version_path, word_named, words_no_slash}

@@ -5,11 +5,11 @@ use Rattle.std.proofs.lemmas.Bool.{cases_Bool}
 use Rattle.std.proofs.lemmas.List.Elements.{All-nil, All-cons, All-head, All-tail}
 use Rattle.small_types.specs.declared.target.Target.{Target}
 use Rattle.small_types.specs.Name.{IsName}
-use Rattle.small_types.specs.Reading.{◌>>=◌}
+use Rattle.small_types.specs.Outcome.{◌>>=◌}
 use Rattle.identity.specs.Version.{IsVersion}
 use Rattle.publish_plan.specs.declared.fault.PlanFault.TheVariants.{BadInput}
 use Rattle.publish_plan.specs.declared.options.Options.{Options}
-use Rattle.publish_plan.specs.declared.options.Plan.{Plan}
+use Rattle.publish_plan.specs.declared.options.PublishPlan.{PublishPlan}
 use Rattle.publish_plan.specs.Early.{early_of}
 use Rattle.publish_plan.specs.Outcome.{Read, unless}
 use Rattle.publish_plan.specs.Paths.{IsPath}
@@ -64,7 +64,7 @@ found_none test (name ∷ names) none =
       | inr other ↦ All-cons (λ (n : List ℕ). test n ≡ false) name names other (found_none test names (rw other at none))
     ]
 
-inputs_fit : (o : Options) (names : List (List ℕ)) (plan : Plan) → plan_of o names ≡ Ok plan → All (λ file. is_bad_input o file ≡ false) (input_names o.from names)
+inputs_fit : (o : Options) (names : List (List ℕ)) (plan : PublishPlan) → plan_of o names ≡ Ok plan → All (λ file. is_bad_input o file ≡ false) (input_names o.from names)
 unfolding plan_of plan_for
 inputs_fit o names plan is =
     let free = first_taken (standing o names) _ plan is in

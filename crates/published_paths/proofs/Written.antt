@@ -25,7 +25,7 @@ use Rattle.identity.proofs.KeyLemmas.{word_again, word_encoded}
 use Rattle.http_plain.specs.Path.{without_query}
 use Rattle.published_paths.specs.Reached.{is_host_byte, WrittenReach, ends_whole, last_part, written_address}
 use Rattle.published_paths.proofs.Sound.{IsPath, path_sound}
-use Rattle.published_paths.proofs.Decoding.{query_cut}
+use Rattle.published_paths.proofs.PathEscapes.{query_cut}
 use Rattle.published_paths.proofs.Paths.{name_parsed, word_joined}
 use Rattle.published_paths.proofs.Again.{SoundAt, path_again, written}
 use Rattle.published_paths.proofs.Beside.{IsAddressOf, text_at}

@@ -12,7 +12,7 @@ use Rattle.addresses.specs.Address.{target_of_text}
 use Rattle.addresses.specs.Join.{app_target_of, file_target_of}
 use Rattle.http_plain.specs.Path.{name_in_path, without_query}
 use Rattle.publish_plan.specs.declared.options.Options.{Options}
-use Rattle.publish_plan.specs.declared.options.Plan.{Plan}
+use Rattle.publish_plan.specs.declared.options.PublishPlan.{PublishPlan}
 use Rattle.publish_plan.specs.declared.options.PlannedFile.{PlannedFile}
 use Rattle.publish_plan.specs.Early.{early_of}
 use Rattle.publish_plan.specs.Plans.{plan_of}
@@ -63,7 +63,7 @@ IsReached mapped base file =
 -- so the way leads to all that a plan over a folder writes
 abbrev pub PlansAreReached : Type 0
 PlansAreReached =
-    (o : Options) (names : List (List ℕ)) (plan : Plan) (text : List ℕ) (given base : Target)
+    (o : Options) (names : List (List ℕ)) (plan : PublishPlan) (text : List ℕ) (given base : Target)
     → IsName o.from → IsName o.to → IsVersion o.version → All IsName names
     → early_of o ≡ None → plan_of o names ≡ Ok plan
     → target_of_text text ≡ Ok given → Reaches given plan.deployment

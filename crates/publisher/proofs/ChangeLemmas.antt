@@ -7,7 +7,7 @@ use Rattle.publisher.specs.declared.fault.PublishFault.{PublishFault}
 use Rattle.publisher.specs.declared.fault.PublishFault.TheVariants.{Changed, Memory}
 use Rattle.publisher.specs.Changes.{IsChangeOf, IsLate}
 use Rattle.publisher.specs.Entries.{IsEntry}
-use Rattle.publisher.proofs.Entering.{entry_small}
+use Rattle.publisher.proofs.EntryReads.{entry_small}
 
 -- the entry is of the bytes that were read first
 pub change_late : (file : PlannedFile) (entry : FileEntry) (bytes : List ℕ) (e : PublishFault) → IsEntry file entry → IsChangeOf entry bytes e → IsLate e

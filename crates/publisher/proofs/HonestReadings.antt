@@ -8,7 +8,7 @@ use Rattle.folders.specs.declared.answer.FolderAnswer.{FolderAnswer}
 use Rattle.folders.specs.declared.answer.FolderAnswer.TheVariants.{Gave}
 use Rattle.folders.specs.declared.folder.Held.{Held}
 use Rattle.folders.specs.Answers.{AreHonest}
-use Rattle.folders.proofs.Answering.{agreed, file_stays}
+use Rattle.folders.proofs.HonestAnswers.{agreed, file_stays}
 use Rattle.digest_list.specs.declared.difference.Difference.{Difference}
 use Rattle.digest_list.specs.Difference.{difference_of, is_other}
 use Rattle.digest_list.proofs.DifferenceLemmas.{difference_of-none}

@@ -7,7 +7,7 @@ use Rattle.folders.specs.declared.folder.Held.{Held}
 use Rattle.folders.specs.Files.{IsNames, file_in}
 use Rattle.manifests.specs.declared.facts.FileEntry.{FileEntry}
 use Rattle.publish_plan.specs.declared.options.Options.{Options}
-use Rattle.publish_plan.specs.declared.options.Plan.{Plan}
+use Rattle.publish_plan.specs.declared.options.PublishPlan.{PublishPlan}
 use Rattle.publish_plan.specs.declared.options.PlannedFile.{PlannedFile}
 use Rattle.publish_plan.specs.Early.{early_of}
 use Rattle.publish_plan.specs.Places.{deployment_name}
@@ -18,31 +18,31 @@ use Rattle.publisher.specs.Options.{IsPublishable}
 use Rattle.publisher.specs.Outcome.{KeepsStanding, Leaves, LeavesInput, Publishes}
 use Rattle.publisher.specs.Publication.{copy_in, entry_in, manifests_of, publish_of, published_files, read_entries}
 use Rattle.publisher.specs.Puts.{IsNewPlan, PutsEach, PutsSome}
-use Rattle.publisher.proofs.Entering.{entries_are}
+use Rattle.publisher.proofs.EntryReads.{entries_are}
 use Rattle.publisher.proofs.NewNames.{plan_new}
 use Rattle.publisher.proofs.PlanFacts.{IsGoodPlan, plan_good, strict_distinct}
 use Rattle.publisher.proofs.PublishSteps.{all_written, input_left, part_left, all_published}
 use Rattle.publisher.proofs.SecondReads.{input_alone}
-use Rattle.publisher.proofs.Standing.{deployment_kept, standing_each, standing_some}
+use Rattle.publisher.proofs.StoodFiles.{deployment_kept, standing_each, standing_some}
 
 -- the plan of options that can be published
-pub good : (o : Options) (names : List (List ℕ)) (plan : Plan) → IsPublishable o → early_of o ≡ None → IsStrictlySortedBy (slice_cmp nat_cmp) names → plan_of o names ≡ Ok plan
+pub good : (o : Options) (names : List (List ℕ)) (plan : PublishPlan) → IsPublishable o → early_of o ≡ None → IsStrictlySortedBy (slice_cmp nat_cmp) names → plan_of o names ≡ Ok plan
     → IsGoodPlan o names plan
 good o names plan options fit ascending is = plan_good o names plan options ascending (plan_facts o names fit plan is)
 
 -- nothing stands under the names that it writes
-pub new : (o : Options) (names : List (List ℕ)) (plan : Plan) (old held : List Held) → early_of o ≡ None → IsStrictlySortedBy (slice_cmp nat_cmp) names → plan_of o names ≡ Ok plan → IsNames old names → held ≡ old
+pub new : (o : Options) (names : List (List ℕ)) (plan : PublishPlan) (old held : List Held) → early_of o ≡ None → IsStrictlySortedBy (slice_cmp nat_cmp) names → plan_of o names ≡ Ok plan → IsNames old names → held ≡ old
     → IsNewPlan plan held
 new o names plan old held fit ascending is are kept =
     subst (IsNewPlan plan) (sym kept) (plan_new o names plan old (plan_facts o names fit plan is) (strict_distinct names ascending) are)
 
 -- a plan, what was read of its files, and the release that was made of that
-pub record IsKnown (o : Options) (names : List (List ℕ)) (old : List Held) (plan : Plan) (entries : List FileEntry) (release : ReleaseTexts) : Type 0 where
+pub record IsKnown (o : Options) (names : List (List ℕ)) (old : List Held) (plan : PublishPlan) (entries : List FileEntry) (release : ReleaseTexts) : Type 0 where
   pub plan_is_good : IsGoodPlan o names plan
   pub read : read_entries old plan.files ≡ Ok entries
   pub written : publish_of o names old ≡ Ok (published_files old plan release)
 
-pub known : (o : Options) (names : List (List ℕ)) (old : List Held) (plan : Plan) (files : List PlannedFile) (entries : List FileEntry) (release : ReleaseTexts)
+pub known : (o : Options) (names : List (List ℕ)) (old : List Held) (plan : PublishPlan) (files : List PlannedFile) (entries : List FileEntry) (release : ReleaseTexts)
     → IsPublishable o → early_of o ≡ None → IsStrictlySortedBy (slice_cmp nat_cmp) names → plan_of o names ≡ Ok plan → files ≡ plan.files
     → read_entries old files ≡ Ok entries → manifests_of o entries ≡ Ok release → IsKnown o names old plan entries release
 known o names old plan files entries release options fit ascending is same read made =
@@ -53,7 +53,7 @@ known o names old plan files entries release options fit ascending is same read 
       written = all_written o names old plan entries release fit is read_all made;
     }
 
-module _ (o : Options) (names : List (List ℕ)) (old mid new : List Held) (plan : Plan) (entries : List FileEntry) (release : ReleaseTexts) (k : IsKnown o names old plan entries release) (kept : mid ≡ old) where
+module _ (o : Options) (names : List (List ℕ)) (old mid new : List Held) (plan : PublishPlan) (entries : List FileEntry) (release : ReleaseTexts) (k : IsKnown o names old plan entries release) (kept : mid ≡ old) where
   some_put : PutsSome (published_files mid plan release) mid new → PutsSome (published_files old plan release) old new
   some_put = subst (λ (h : List Held). PutsSome (published_files h plan release) h new) kept
 

@@ -1,6 +1,6 @@
 -- The two manifests, one after the other.
 use Rattle.std.proofs.Common.{◌≡◌, ℕ, List, Ok, ap, ◌∙◌}
-use Rattle.small_types.specs.Reading.{◌>>=◌}
+use Rattle.small_types.specs.Outcome.{◌>>=◌}
 use Rattle.manifests.specs.declared.facts.FileEntry.{FileEntry}
 use Rattle.manifest_writer.specs.Applications.{application_text}
 use Rattle.publish_plan.specs.declared.options.Options.{Options}
@@ -8,7 +8,7 @@ use Rattle.publisher.specs.declared.fault.PublishFault.{PublishFault}
 use Rattle.publisher.specs.declared.release.ReleaseTexts.{ReleaseTexts}
 use Rattle.publisher.specs.Outcome.{Fails}
 use Rattle.publisher.specs.Publication.{Outcome, application_of, deployment_key, deployment_manifest_of, limited, manifests_of}
-use Rattle.publisher.proofs.Giving.{fails_then, fails_after}
+use Rattle.publisher.proofs.Outcomes.{fails_then, fails_after}
 
 abbrev made : Options → List FileEntry → List ℕ → List ℕ → Outcome ReleaseTexts
 made o entries application deployment = Ok (record { key = deployment_key o; entries = entries; application = application; deployment = deployment })

@@ -5,18 +5,18 @@ use Rattle.std.specs.Str.{bytes_eq}
 use Rattle.std.proofs.lemmas.Map.Keys.{IsDistinct-cons, IsDistinct-head, IsDistinct-tail}
 use Rattle.folders.specs.declared.folder.Held.{Held}
 use Rattle.folders.specs.Files.{IsNames, file_in, is_named}
-use Rattle.folders.proofs.Filing.{clash}
+use Rattle.folders.proofs.PutFiles.{clash}
 use Rattle.publish_plan.specs.declared.options.Options.{Options}
-use Rattle.publish_plan.specs.declared.options.Plan.{Plan}
+use Rattle.publish_plan.specs.declared.options.PublishPlan.{PublishPlan}
 use Rattle.publish_plan.specs.declared.options.PlannedFile.{PlannedFile}
 use Rattle.publish_plan.specs.Facts.{AreFacts, target_of}
 use Rattle.publish_plan.specs.Places.{lies_below, version_folder}
 use Rattle.publisher.specs.Publication.{copy_in}
 use Rattle.publisher.specs.Puts.{AreNew, IsNewPlan, PutsEach}
 use Rattle.publisher.proofs.PlanFacts.{distinct_none, free_at}
-use Rattle.publisher.proofs.Putting.{kept_each}
+use Rattle.publisher.proofs.PutFiles.{kept_each}
 use Rattle.publisher.proofs.SecondReads.{neither}
-use Rattle.publisher.proofs.Standing.{named_there}
+use Rattle.publisher.proofs.StoodFiles.{named_there}
 
 -- ---- files that are put before one
 
@@ -57,7 +57,7 @@ none_has_last old (f ∷ fs) last rest differ =
     (none_has_last old fs last rest (IsDistinct-tail bytes_eq f.target (map target_of fs ++ last ∷ rest) differ))
 
 -- it does not stand once the files are put
-pub manifest_new : (plan : Plan) (old mid : List Held) → IsNewPlan plan old → PutsEach (map (copy_in old) plan.files) old mid → file_in plan.manifest mid ≡ None
+pub manifest_new : (plan : PublishPlan) (old mid : List Held) → IsNewPlan plan old → PutsEach (map (copy_in old) plan.files) old mid → file_in plan.manifest mid ≡ None
 manifest_new plan old mid new puts =
     kept_each (map (copy_in old) plan.files) old mid plan.manifest (none_has_last old plan.files plan.manifest (plan.deployment ∷ []) new.differ) puts ∙ new.manifest
 
@@ -71,7 +71,7 @@ front_distinct (f ∷ fs) rest differ =
     IsDistinct-cons bytes_eq f.target (map target_of fs) (front_apart f.target fs rest (IsDistinct-head bytes_eq f.target (map target_of fs ++ rest) differ))
     (front_distinct fs rest (IsDistinct-tail bytes_eq f.target (map target_of fs ++ rest) differ))
 
-pub files_new : (plan : Plan) (held : List Held) → IsNewPlan plan held → AreNew plan.files held
+pub files_new : (plan : PublishPlan) (held : List Held) → IsNewPlan plan held → AreNew plan.files held
 files_new plan held new = record { free = new.free; differ = front_distinct plan.files (plan.manifest ∷ plan.deployment ∷ []) new.differ }
 
 -- ---- the folder of the version
@@ -85,7 +85,7 @@ absent : (folder name : List ℕ) (held : List Held) (names : List (List ℕ)) �
 absent folder name held names are free below =
     none_or_some (file_in name held) (λ some. clash (lies_below folder name) below (free_at folder name names free (named_there name held names are some)))
 
-pub plan_new : (o : Options) (names : List (List ℕ)) (plan : Plan) (held : List Held) → AreFacts o names plan → IsDistinct bytes_eq names → IsNames held names → IsNewPlan plan held
+pub plan_new : (o : Options) (names : List (List ℕ)) (plan : PublishPlan) (held : List Held) → AreFacts o names plan → IsDistinct bytes_eq names → IsNames held names → IsNewPlan plan held
 plan_new o names plan held facts differ are = record {
   free = λ k d within. absent (version_folder o) (get_or plan.files k d).target held names are facts.free (facts.apart k d within).target;
   manifest = absent (version_folder o) plan.manifest held names are facts.free facts.manifest_inside;

@@ -14,7 +14,7 @@ use Rattle.identity.specs.Version.{IsVersion, version_cmp}
 use Rattle.small_types.proofs.DecimalLemmas.{own}
 use Rattle.digest_list.specs.Digest.{IsSized}
 use Rattle.manifest_tree.specs.Lexis.{allowed}
-use Rattle.manifest_tree.specs.Writing.{is_content}
+use Rattle.manifest_tree.specs.WrittenText.{is_content}
 use Rattle.manifests.specs.declared.facts.Deployment.{Deployment}
 use Rattle.manifests.specs.declared.facts.FileEntry.{FileEntry}
 use Rattle.manifests.specs.FileLists.{AreFiles}

@@ -13,13 +13,13 @@ use Rattle.std.proofs.lemmas.Map.Keys.{IsDistinct-cons, IsDistinct-head, IsDisti
 use Rattle.std.proofs.lemmas.Slice.Eq.{bytes_eq-Decides}
 use Rattle.folders.specs.declared.folder.Held.{Held}
 use Rattle.folders.specs.Files.{distinct, is_named, names_of}
-use Rattle.folders.proofs.Filing.{clash, other_named}
+use Rattle.folders.proofs.PutFiles.{clash, other_named}
 use Rattle.manifests.specs.Facts.{IsValue}
 use Rattle.publish_plan.specs.declared.options.Mark.{Mark}
 use Rattle.publish_plan.specs.declared.options.MarkKind.{MarkKind}
 use Rattle.publish_plan.specs.declared.options.MarkKind.TheVariants.{Local, Group}
 use Rattle.publish_plan.specs.declared.options.Options.{Options}
-use Rattle.publish_plan.specs.declared.options.Plan.{Plan}
+use Rattle.publish_plan.specs.declared.options.PublishPlan.{PublishPlan}
 use Rattle.publish_plan.specs.declared.options.PlannedFile.{PlannedFile}
 use Rattle.publish_plan.specs.Facts.{AreFacts, IsApart, file_of, target_of}
 use Rattle.publish_plan.specs.Marks.{group_at, group_in, group_of, names_file}
@@ -34,7 +34,7 @@ use Rattle.publisher.proofs.ReleaseFacts.{IsFitFile}
 use Rattle.publisher.proofs.SecondReads.{neither, none_named}
 
 -- what a plan over these names has
-pub record IsGoodPlan (o : Options) (names : List (List ℕ)) (plan : Plan) : Type 0 where
+pub record IsGoodPlan (o : Options) (names : List (List ℕ)) (plan : PublishPlan) : Type 0 where
   pub few : length plan.files ≤ 16384
   pub few_local : count_by is_local_file plan.files ≤ 256
   pub differ : IsDistinct bytes_eq (map file_of plan.files)
@@ -119,7 +119,7 @@ any_then p (x ∷ xs) ys first rest = by (p x) refl (λ more. any_then p xs ys m
     by true is more = absurd (clash (p x || list_any p xs) (ap (λ (b : Bool). b || list_any p xs) is) first)
     by false is more = ap (λ (b : Bool). b || list_any p (xs ++ ys)) is ∙ more (sym (ap (λ (b : Bool). b || list_any p xs) is) ∙ first)
 
-none_new : (o : Options) (names : List (List ℕ)) (plan : Plan) (held : List Held) (release : ReleaseTexts) (name : List ℕ) → AreFacts o names plan → list_any (bytes_eq name) names ≡ true → name ≢ deployment_name o → list_any (is_named name) (published_files held plan release) ≡ false
+none_new : (o : Options) (names : List (List ℕ)) (plan : PublishPlan) (held : List Held) (release : ReleaseTexts) (name : List ℕ) → AreFacts o names plan → list_any (bytes_eq name) names ≡ true → name ≢ deployment_name o → list_any (is_named name) (published_files held plan release) ≡ false
 none_new o names plan held release name facts there differs =
     let folder = version_folder o in
     let outside : lies_below folder name ≡ false = free_at folder name names facts.free there in
@@ -147,7 +147,7 @@ distinct_same (x ∷ xs) differ =
 pub strict_distinct : (names : List (List ℕ)) → IsStrictlySortedBy (slice_cmp nat_cmp) names → IsDistinct bytes_eq names
 strict_distinct names ascending = distinct_same names (IsDistinct-from_sorted (slice_cmp nat_cmp) names ascending)
 
-pub plan_good : (o : Options) (names : List (List ℕ)) (plan : Plan) → IsPublishable o → IsStrictlySortedBy (slice_cmp nat_cmp) names → AreFacts o names plan → IsGoodPlan o names plan
+pub plan_good : (o : Options) (names : List (List ℕ)) (plan : PublishPlan) → IsPublishable o → IsStrictlySortedBy (slice_cmp nat_cmp) names → AreFacts o names plan → IsGoodPlan o names plan
 plan_good o names plan publishable ascending facts =
     let differ = strict_distinct names ascending in
     let groups : All HasGroup plan.files = subst (All HasGroup) (sym facts.files) (groups_fit o (input_names o.from names) publishable) in

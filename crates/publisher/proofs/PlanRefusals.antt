@@ -3,11 +3,11 @@ use Rattle.std.proofs.Common.{◌≡◌, ℕ, Bool, true, false, List, [], lengt
 use Rattle.std.specs.Prelude.{◌&&◌, count_by, find, if◌then◌else◌, not, nat_lt, option_map}
 use Rattle.std.specs.List.{list_any}
 use Rattle.small_types.specs.declared.limit.Limit.TheVariants.{Files, Locals}
-use Rattle.small_types.specs.Reading.{◌>>=◌}
+use Rattle.small_types.specs.Outcome.{◌>>=◌}
 use Rattle.publish_plan.specs.declared.fault.PlanFault.{PlanFault}
 use Rattle.publish_plan.specs.declared.fault.PlanFault.TheVariants as plan
 use Rattle.publish_plan.specs.declared.options.Options.{Options}
-use Rattle.publish_plan.specs.declared.options.Plan.{Plan}
+use Rattle.publish_plan.specs.declared.options.PublishPlan.{PublishPlan}
 use Rattle.publish_plan.specs.Outcome as plans
 use Rattle.publish_plan.specs.Marks.{bad_mark, is_among, is_marked}
 use Rattle.publish_plan.specs.Outcome.{Read}
@@ -53,13 +53,13 @@ late_few false true e d first second f is = subst IsPlanFault (same_fault {A = U
 late_few false false e d first second f is = absurd cc
 
 -- what follows a step that is judged, one step after another
-abbrev with_marks : Options → List (List ℕ) → Unit {0} → Read Plan
+abbrev with_marks : Options → List (List ℕ) → Unit {0} → Read PublishPlan
 with_marks o inputs started = good_marks o inputs >>= λ marked. Ok (record { files = planned_files o inputs; manifest = manifest_name o; deployment = deployment_name o })
 
-abbrev with_start : Options → List (List ℕ) → Unit {0} → Read Plan
+abbrev with_start : Options → List (List ℕ) → Unit {0} → Read PublishPlan
 with_start o inputs counted = with_entry o inputs >>= with_marks o inputs
 
-abbrev with_count : Options → List (List ℕ) → Unit {0} → Read Plan
+abbrev with_count : Options → List (List ℕ) → Unit {0} → Read PublishPlan
 with_count o inputs fit = few (planned_files o inputs) >>= with_start o inputs
 
 late_inputs : (o : Options) (inputs : List (List ℕ)) → LateRead (plan_for o inputs)

@@ -4,7 +4,7 @@ use Rattle.std.specs.Prelude.{IsErrAnd, true}
 use Rattle.folders.specs.declared.folder.Folder.{Ghosts as FolderGhosts}
 use Rattle.folders.specs.declared.folder.Held.{Held}
 use Rattle.folders.specs.Files.{IsNames, distinct, file_in}
-use Rattle.folders.proofs.Sorting.{has_one_list}
+use Rattle.folders.proofs.SortedNames.{has_one_list}
 use Rattle.publish_plan.specs.declared.fault.PlanFault.{PlanFault}
 use Rattle.publish_plan.specs.declared.fault.PlanFault.TheVariants as plan
 use Rattle.publish_plan.specs.declared.options.Options.{Options}
@@ -20,10 +20,10 @@ use Rattle.publisher.specs.Outcome.{KeepsStanding, Leaves, LeavesInput, Refuses}
 use Rattle.publisher.specs.Publication.{publish_of}
 use Rattle.publisher.specs.Published.{IsAnswer, IsPublish, PublishesFiles}
 use Rattle.publisher.specs.Readings.{ReadsChange}
-use Rattle.publisher.proofs.Counting.{counted_still, plan_quiet}
-use Rattle.publisher.proofs.Giving.{err_then}
+use Rattle.publisher.proofs.FaultCounts.{counted_still, plan_quiet}
+use Rattle.publisher.proofs.Outcomes.{err_then}
 use Rattle.publisher.proofs.PublishSteps.{nothing_left, no_input_left, options_refused, refuses_from}
-use Rattle.publisher.proofs.Standing.{standing_same}
+use Rattle.publisher.proofs.StoodFiles.{standing_same}
 use Rattle.publisher.proofs.TwoReadings.{plan_reads}
 
 abbrev fails_with : PublishFault → Result Published PublishFault

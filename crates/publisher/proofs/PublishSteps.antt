@@ -3,14 +3,14 @@ use Rattle.std.proofs.Common.{◌≡◌, ℕ, ◌<◌, List, [], ◌∷◌, leng
 use Rattle.std.specs.Prelude.{is_ok, true}
 use Rattle.std.proofs.lemmas.Bool.{false≢true}
 use Rattle.std.proofs.lemmas.List.{length-map}
-use Rattle.small_types.specs.Reading.{◌>>=◌}
+use Rattle.small_types.specs.Outcome.{◌>>=◌}
 use Rattle.folders.specs.declared.folder.Held.{Held}
 use Rattle.folders.specs.Files.{distinct, file_in}
 use Rattle.manifests.specs.declared.facts.FileEntry.{FileEntry}
 use Rattle.publish_plan.specs.declared.fault.PlanFault.{PlanFault}
 use Rattle.publish_plan.specs.declared.fault.PlanFault.TheVariants as plan
 use Rattle.publish_plan.specs.declared.options.Options.{Options}
-use Rattle.publish_plan.specs.declared.options.Plan.{Plan}
+use Rattle.publish_plan.specs.declared.options.PublishPlan.{PublishPlan}
 use Rattle.publish_plan.specs.declared.options.PlannedFile.{PlannedFile}
 use Rattle.publish_plan.specs.Early.{early_of}
 use Rattle.publish_plan.specs.Facts.{file_of}
@@ -25,8 +25,8 @@ use Rattle.publisher.specs.Faults.{IsDevice, fault_of}
 use Rattle.publisher.specs.Outcome.{Fails, Leaves, LeavesInput, Publishes, Refuses}
 use Rattle.publisher.specs.Publication.{Outcome, copy_in, judged, manifests_of, publish_of, published_files, read_entries, release_of}
 use Rattle.publisher.specs.Puts.{PutsEach, PutsInput, PutsSome}
-use Rattle.publisher.proofs.Giving.{fails_same, fails_then, fails_after}
-use Rattle.publisher.proofs.Putting.{all_put, distinct_front}
+use Rattle.publisher.proofs.Outcomes.{fails_same, fails_then, fails_after}
+use Rattle.publisher.proofs.PutFiles.{all_put, distinct_front}
 
 abbrev after : Options → List (List ℕ) → List Held → Unit {0} → Outcome (List Held)
 after o names held fit = judged (plan_of o names) >>= release_of o held
@@ -37,8 +37,8 @@ unfolding publish_of
 after_early o names held fit = ap (λ (first : Option PlanFault). judged (plans.unless first) >>= after o names held) fit
 
 -- where the plan stands, the entries and the manifests decide
-after_plan : (o : Options) (names : List (List ℕ)) (held : List Held) (plan : Plan) → early_of o ≡ None → plan_of o names ≡ Ok plan → publish_of o names held ≡ release_of o held plan
-after_plan o names held plan fit is = after_early o names held fit ∙ ap (λ (r : Result Plan PlanFault). judged r >>= release_of o held) is
+after_plan : (o : Options) (names : List (List ℕ)) (held : List Held) (plan : PublishPlan) → early_of o ≡ None → plan_of o names ≡ Ok plan → publish_of o names held ≡ release_of o held plan
+after_plan o names held plan fit is = after_early o names held fit ∙ ap (λ (r : Result PublishPlan PlanFault). judged r >>= release_of o held) is
 
 -- what is judged to be refused is refused
 fault_fails : {A B : Type 0} (f : PlanFault) (r : Result A PlanFault) (next : A → Outcome B) → plans.Fails f r → Fails (fault_of f) (judged r >>= next)
@@ -60,27 +60,27 @@ pub plan_refused : (o : Options) (names : List (List ℕ)) (held : List Held) (f
 plan_refused o names held f fit failed =
     fails_same (fault_of f) (judged (plan_of o names) >>= release_of o held) (publish_of o names held) (after_early o names held fit) (fault_fails f (plan_of o names) (release_of o held) failed)
 
-abbrev written : List Held → Plan → ReleaseTexts → Outcome (List Held)
+abbrev written : List Held → PublishPlan → ReleaseTexts → Outcome (List Held)
 written held plan release = Ok (published_files held plan release)
 
-abbrev entered : Options → List Held → Plan → List FileEntry → Outcome (List Held)
+abbrev entered : Options → List Held → PublishPlan → List FileEntry → Outcome (List Held)
 entered o held plan entries = manifests_of o entries >>= written held plan
 
-release_is : (o : Options) (held : List Held) (plan : Plan) → release_of o held plan ≡ (read_entries held plan.files >>= entered o held plan)
+release_is : (o : Options) (held : List Held) (plan : PublishPlan) → release_of o held plan ≡ (read_entries held plan.files >>= entered o held plan)
 unfolding release_of
 release_is o held plan = refl
 
-pub entries_refused : (o : Options) (names : List (List ℕ)) (held : List Held) (plan : Plan) (e : PublishFault) → early_of o ≡ None → plan_of o names ≡ Ok plan → Fails e (read_entries held plan.files) → Fails e (publish_of o names held)
+pub entries_refused : (o : Options) (names : List (List ℕ)) (held : List Held) (plan : PublishPlan) (e : PublishFault) → early_of o ≡ None → plan_of o names ≡ Ok plan → Fails e (read_entries held plan.files) → Fails e (publish_of o names held)
 entries_refused o names held plan e fit is failed =
     fails_same e (read_entries held plan.files >>= entered o held plan) (publish_of o names held) (after_plan o names held plan fit is ∙ release_is o held plan)
     (fails_then e (read_entries held plan.files) (entered o held plan) failed)
 
-pub manifests_refused : (o : Options) (names : List (List ℕ)) (held : List Held) (plan : Plan) (entries : List FileEntry) (e : PublishFault) → early_of o ≡ None → plan_of o names ≡ Ok plan → read_entries held plan.files ≡ Ok entries → Fails e (manifests_of o entries) → Fails e (publish_of o names held)
+pub manifests_refused : (o : Options) (names : List (List ℕ)) (held : List Held) (plan : PublishPlan) (entries : List FileEntry) (e : PublishFault) → early_of o ≡ None → plan_of o names ≡ Ok plan → read_entries held plan.files ≡ Ok entries → Fails e (manifests_of o entries) → Fails e (publish_of o names held)
 manifests_refused o names held plan entries e fit is read failed =
     fails_same e (read_entries held plan.files >>= entered o held plan) (publish_of o names held) (after_plan o names held plan fit is ∙ release_is o held plan)
     (fails_after e (read_entries held plan.files) entries (entered o held plan) read (fails_then e (manifests_of o entries) (written held plan) failed))
 
-pub all_written : (o : Options) (names : List (List ℕ)) (held : List Held) (plan : Plan) (entries : List FileEntry) (release : ReleaseTexts) → early_of o ≡ None → plan_of o names ≡ Ok plan → read_entries held plan.files ≡ Ok entries → manifests_of o entries ≡ Ok release
+pub all_written : (o : Options) (names : List (List ℕ)) (held : List Held) (plan : PublishPlan) (entries : List FileEntry) (release : ReleaseTexts) → early_of o ≡ None → plan_of o names ≡ Ok plan → read_entries held plan.files ≡ Ok entries → manifests_of o entries ≡ Ok release
     → publish_of o names held ≡ Ok (published_files held plan release)
 all_written o names held plan entries release fit is read made =
     after_plan o names held plan fit is ∙ release_is o held plan ∙ ap (λ (r : Outcome (List FileEntry)). r >>= entered o held plan) read ∙ ap (λ (r : Outcome ReleaseTexts). r >>= written held plan) made
@@ -114,7 +114,7 @@ not_early : (early : Option PlanFault) (x : Unit {0}) → judged (plans.unless e
 not_early None x is = refl
 not_early (Some fault) x is = absurd cc
 
-the_plan : (r : Result Plan PlanFault) (plan : Plan) → judged r ≡ Ok plan → r ≡ Ok plan
+the_plan : (r : Result PublishPlan PlanFault) (plan : PublishPlan) → judged r ≡ Ok plan → r ≡ Ok plan
 the_plan (Ok p) plan is = ap Ok (the_ok p plan is)
 the_plan (Err fault) plan is = absurd cc
 

@@ -9,7 +9,7 @@ use Rattle.std.proofs.lemmas.List.Elements.{All-nil, All-cons, All-head, All-tai
 use Rattle.std.proofs.lemmas.Map.Keys.{apart_from_distinct}
 use Rattle.std.proofs.lemmas.Slice.Eq.{bytes_eq-Decides}
 use Rattle.small_types.specs.Name.{IsBelowPre}
-use Rattle.folders.proofs.Filing.{clash}
+use Rattle.folders.proofs.PutFiles.{clash}
 use Rattle.manifests.specs.declared.facts.FileEntry.{FileEntry}
 use Rattle.manifests.specs.Applications.{locals, size_limit}
 use Rattle.manifests.specs.FileLists.{AreFiles}
@@ -18,7 +18,7 @@ use Rattle.publish_plan.specs.declared.options.PlannedFile.{PlannedFile}
 use Rattle.publish_plan.specs.Facts.{file_of}
 use Rattle.publish_plan.specs.Plans.{is_local_file}
 use Rattle.publisher.specs.Entries.{AreEntries, IsEntry}
-use Rattle.publisher.proofs.Entering.{entries_long}
+use Rattle.publisher.proofs.EntryReads.{entries_long}
 
 -- a planned file that a manifest can list
 pub record IsFitFile (file : PlannedFile) : Type 0 where

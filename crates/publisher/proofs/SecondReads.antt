@@ -6,14 +6,14 @@ use Rattle.std.proofs.lemmas.List.{take_more, get_or-map, length-map, length-app
 use Rattle.std.proofs.lemmas.List.Folds.{list_all_at}
 use Rattle.folders.specs.declared.folder.Held.{Held}
 use Rattle.folders.specs.Files.{distinct, is_named, Puts}
-use Rattle.folders.proofs.Filing.{clash, not_true}
-use Rattle.publish_plan.specs.declared.options.Plan.{Plan}
+use Rattle.folders.proofs.PutFiles.{clash, not_true}
+use Rattle.publish_plan.specs.declared.options.PublishPlan.{PublishPlan}
 use Rattle.publish_plan.specs.declared.options.PlannedFile.{PlannedFile}
 use Rattle.publish_plan.specs.Places.{lies_below}
 use Rattle.publisher.specs.declared.release.ReleaseTexts.{ReleaseTexts}
 use Rattle.publisher.specs.Publication.{bytes_in, copy_in, published_files}
 use Rattle.publisher.specs.Puts.{PutsEach, PutsInput, PutsSome, is_apart}
-use Rattle.publisher.proofs.Putting.{all_put, distinct_front, kept_each, named_is, none_before, put_more}
+use Rattle.publisher.proofs.PutFiles.{all_put, distinct_front, kept_each, named_is, none_before, put_more}
 
 pub left_so : (a b : Bool) → (a && b) ≡ true → a ≡ true
 left_so true b is = refl
@@ -79,10 +79,10 @@ copies_some old new files i within puts = record { count = i; below = simp (leng
 
 -- ---- the whole release
 
-abbrev manifest_of : Plan → ReleaseTexts → Held
+abbrev manifest_of : PublishPlan → ReleaseTexts → Held
 manifest_of plan release = record { name = plan.manifest; bytes = release.application }
 
-abbrev deployment_of : Plan → ReleaseTexts → Held
+abbrev deployment_of : PublishPlan → ReleaseTexts → Held
 deployment_of plan release = record { name = plan.deployment; bytes = release.deployment }
 
 -- a first part of a first part
@@ -100,7 +100,7 @@ whole_before front next back old new puts =
     record { count = length front; below = simp length-append (omega arith); puts = subst (λ (hs : List Held). PutsEach hs old new) (sym same) puts }
 
 -- a part of the input files was put
-pub part_of_files : (old new : List Held) (plan : Plan) (release : ReleaseTexts) → PutsSome (map (copy_in old) plan.files) old new → PutsSome (published_files old plan release) old new
+pub part_of_files : (old new : List Held) (plan : PublishPlan) (release : ReleaseTexts) → PutsSome (map (copy_in old) plan.files) old new → PutsSome (published_files old plan release) old new
 part_of_files old new plan release some = some_before (map (copy_in old) plan.files) (manifest_of plan release ∷ deployment_of plan release ∷ []) old new some
 
 -- of files whose names differ, a part of those before the last two
@@ -116,22 +116,22 @@ before_two front one other old new differ some =
     }
 
 -- a part of the input files was put, and no manifest
-pub input_alone : (old new : List Held) (plan : Plan) (release : ReleaseTexts) → distinct (published_files old plan release) ≡ true → PutsSome (map (copy_in old) plan.files) old new → PutsInput (published_files old plan release) old new
+pub input_alone : (old new : List Held) (plan : PublishPlan) (release : ReleaseTexts) → distinct (published_files old plan release) ≡ true → PutsSome (map (copy_in old) plan.files) old new → PutsInput (published_files old plan release) old new
 input_alone old new plan release differ some = before_two (map (copy_in old) plan.files) (manifest_of plan release) (deployment_of plan release) old new differ some
 
 -- the input files were put, and no manifest
-pub part_without_manifests : (old new : List Held) (plan : Plan) (release : ReleaseTexts) → PutsEach (map (copy_in old) plan.files) old new → PutsSome (published_files old plan release) old new
+pub part_without_manifests : (old new : List Held) (plan : PublishPlan) (release : ReleaseTexts) → PutsEach (map (copy_in old) plan.files) old new → PutsSome (published_files old plan release) old new
 part_without_manifests old new plan release puts = whole_before (map (copy_in old) plan.files) (manifest_of plan release) (deployment_of plan release ∷ []) old new puts
 
 -- the application manifest was put too, and not the deployment manifest
-pub part_without_deployment : (old mid new : List Held) (plan : Plan) (release : ReleaseTexts) → PutsEach (map (copy_in old) plan.files) old mid → Puts mid new plan.manifest release.application → PutsSome (published_files old plan release) old new
+pub part_without_deployment : (old mid new : List Held) (plan : PublishPlan) (release : ReleaseTexts) → PutsEach (map (copy_in old) plan.files) old mid → Puts mid new plan.manifest release.application → PutsSome (published_files old plan release) old new
 part_without_deployment old mid new plan release puts put =
     let files = map (copy_in old) plan.files in
     subst (λ (hs : List Held). PutsSome hs old new) (append_assoc files (manifest_of plan release ∷ []) (deployment_of plan release ∷ []))
     (whole_before (files ++ manifest_of plan release ∷ []) (deployment_of plan release) [] old new (put_more files old mid new (manifest_of plan release) puts put))
 
 -- all were put
-pub all_of_release : (old mid later new : List Held) (plan : Plan) (release : ReleaseTexts) → PutsEach (map (copy_in old) plan.files) old mid → Puts mid later plan.manifest release.application → Puts later new plan.deployment release.deployment
+pub all_of_release : (old mid later new : List Held) (plan : PublishPlan) (release : ReleaseTexts) → PutsEach (map (copy_in old) plan.files) old mid → Puts mid later plan.manifest release.application → Puts later new plan.deployment release.deployment
     → PutsEach (published_files old plan release) old new
 all_of_release old mid later new plan release puts put last =
     let files = map (copy_in old) plan.files in

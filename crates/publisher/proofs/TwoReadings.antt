@@ -8,7 +8,7 @@ use Rattle.folders.specs.declared.answer.FolderAnswer.{FolderAnswer}
 use Rattle.folders.specs.declared.answer.FolderAnswer.TheVariants.{Listed, Gave, Measured, Put}
 use Rattle.folders.specs.Honesty.{AllLeave, Leaves}
 use Rattle.folders.specs.Told.{told_put}
-use Rattle.folders.proofs.Filing.{clash}
+use Rattle.folders.proofs.PutFiles.{clash}
 use Rattle.digest_list.specs.Difference.{difference_of}
 use Rattle.manifests.specs.declared.facts.FileEntry.{FileEntry}
 use Rattle.publish_plan.specs.declared.fault.PlanFault.{PlanFault}
@@ -23,8 +23,8 @@ use Rattle.publisher.specs.Faults.{IsManifestFault, IsReading, IsWriting, fault_
 use Rattle.publisher.specs.Publication.{Outcome, entry_of}
 use Rattle.publisher.specs.Puts.{is_apart}
 use Rattle.publisher.specs.Readings.{AnswersMore, AreReadings, CopiesFile, IsFirstReading, IsSourced, ReadsChange, ReadsEach, ReadsEntry, ReadsFile, ReadsTwice, ShowsOther, given_bytes}
-use Rattle.publisher.proofs.Entering.{entry_is, entry_small}
-use Rattle.publisher.proofs.Giving.{err_then}
+use Rattle.publisher.proofs.EntryReads.{entry_is, entry_small}
+use Rattle.publisher.proofs.Outcomes.{err_then}
 use Rattle.publisher.proofs.SecondReads.{all_at, left_so, not_so, right_so}
 
 -- ---- one call

@@ -3,7 +3,7 @@
 use Rattle.std.specs.Prelude.{ℕ, nat_lt, true, List, [], ◌∷◌, ◌++◌, length, map, codes, unwrap_or, Result, Ok, Err, if◌then◌else◌}
 use Rattle.sha2.specs.Sha256.{sha256}
 use Rattle.small_types.specs.declared.limits.TheConstants.{MANIFEST_LIMIT}
-use Rattle.small_types.specs.Reading.{◌>>=◌}
+use Rattle.small_types.specs.Outcome.{◌>>=◌}
 use Rattle.folders.specs.declared.folder.Held.{Held}
 use Rattle.folders.specs.Files.{file_in}
 use Rattle.identity.specs.declared.identity.Identity.{Identity}
@@ -14,11 +14,11 @@ use Rattle.manifests.specs.declared.facts.Application.{Application}
 use Rattle.manifests.specs.declared.facts.Deployment.{Deployment}
 use Rattle.manifests.specs.declared.facts.FileEntry.{FileEntry}
 use Rattle.manifests.specs.Applications.{size_limit}
-use Rattle.manifest_tree.specs.Writing.{counted}
+use Rattle.manifest_tree.specs.WrittenText.{counted}
 use Rattle.manifest_writer.specs.Applications.{application_text}
 use Rattle.manifest_writer.specs.Deployments.{deployment_text}
 use Rattle.publish_plan.specs.declared.options.Options.{Options}
-use Rattle.publish_plan.specs.declared.options.Plan.{Plan}
+use Rattle.publish_plan.specs.declared.options.PublishPlan.{PublishPlan}
 use Rattle.publish_plan.specs.declared.options.PlannedFile.{PlannedFile}
 use Rattle.publish_plan.specs.declared.fault.PlanFault.{PlanFault}
 use Rattle.publish_plan.specs.Early.{early_of}
@@ -132,7 +132,7 @@ abbrev pub copy_in : List Held → PlannedFile → Held
 copy_in held file = record { name = file.target; bytes = bytes_in held file }
 
 -- the files in order, then the application manifest, then the deployment manifest
-abbrev pub published_files : List Held → Plan → ReleaseTexts → List Held
+abbrev pub published_files : List Held → PublishPlan → ReleaseTexts → List Held
 published_files held plan release =
     map (copy_in held) plan.files
     ++ record { name = plan.manifest; bytes = release.application }
@@ -156,7 +156,7 @@ judged (Ok x) = Ok x
 judged (Err fault) = Err (fault_of fault)
 
 -- what is written of a plan
-unfoldable pub release_of : Options → List Held → Plan → Outcome (List Held)
+unfoldable pub release_of : Options → List Held → PublishPlan → Outcome (List Held)
 release_of o held plan = do
   entries ← read_entries held plan.files
   release ← manifests_of o entries

@@ -5,7 +5,7 @@ use Rattle.std.specs.Option.{option_or}
 use Rattle.std.specs.Str.{bytes_eq}
 use Rattle.folders.specs.declared.folder.Held.{Held}
 use Rattle.folders.specs.Files.{file_in, Puts}
-use Rattle.publish_plan.specs.declared.options.Plan.{Plan}
+use Rattle.publish_plan.specs.declared.options.PublishPlan.{PublishPlan}
 use Rattle.publish_plan.specs.declared.options.PlannedFile.{PlannedFile}
 use Rattle.publish_plan.specs.Facts.{target_of, written_names}
 use Rattle.publish_plan.specs.Places.{lies_below}
@@ -46,7 +46,7 @@ pub record AreNew (files : List PlannedFile) (held : List Held) : Type 0 where
   pub differ : IsDistinct bytes_eq (map target_of files)
 
 -- no file stands under a name of the plan but that of the deployment manifest, and the names differ
-pub record IsNewPlan (plan : Plan) (held : List Held) : Type 0 where
+pub record IsNewPlan (plan : PublishPlan) (held : List Held) : Type 0 where
   pub free : All (λ (file : PlannedFile). file_in file.target held ≡ None) plan.files
   pub manifest : file_in plan.manifest held ≡ None
   pub differ : IsDistinct bytes_eq (written_names plan)

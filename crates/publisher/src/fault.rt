@@ -38,7 +38,7 @@ pub enum PublishFault {
     NoEntryPoint,
     /// The first mark that names no file, or one that an earlier mark names, has this file.
     BadMark { file: Name },
-    /// The first file that is longer than 67,108,864 bytes, or a data file that is longer than
+    /// The first file that is longer than 268,435,456 bytes, or a data file that is longer than
     /// 1,048,576, and its length.
     FileTooLong { file: Name, length: u64 },
     /// A manifest is longer than 4,194,304 bytes: its length.

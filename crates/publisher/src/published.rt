@@ -23,7 +23,7 @@ use crate::names::list_names;
 use crate::release::{ReleaseTexts, key_of, manifests_of};
 use folders::Folder;
 use identity::{Key, Version};
-use publish_plan::{Options, Plan, check_options, plan};
+use publish_plan::{Options, PublishPlan, check_options, plan};
 use small_types::Name;
 use std::alloc::Global;
 
@@ -40,7 +40,7 @@ pub struct Published {
 // Writes the files, the application manifest and the deployment manifest, in this order.
 fn write_release<F: Folder>(
     alloc: Global,
-    plan: &Plan,
+    plan: &PublishPlan,
     release: &ReleaseTexts,
     folder: &mut F,
 ) -> Result<(), PublishFault>

@@ -15,6 +15,7 @@ ghost use Rattle.publisher.specs.Publication.{application_identity as applicatio
 
 use crate::PublishFault;
 use crate::entries::digests_of;
+use digest_list::DigestList;
 use identity::{Identity, Key, Version};
 use manifest_writer::{write_application, write_deployment};
 use manifests::{Application, Deployment, FileEntry};
@@ -136,6 +137,39 @@ fn places_of(alloc: Global, options: &Options) -> Result<(Option<Text>, Text), P
     Ok((provider, codebase_of(alloc, options)?))
 }
 
+// What a deployment says besides the options and its application.
+#[derive(Drop)]
+struct DeploymentParts {
+    identity: Identity,
+    provider: Option<Text>,
+    codebase: Text,
+    digests: DigestList,
+}
+
+// The parts of the deployment of the application manifest with this text. The identity comes last, so that no exit lets it go.
+fn deployment_parts(
+    alloc: Global,
+    options: &Options,
+    text: &[u8],
+) -> Result<DeploymentParts, PublishFault>
+    ensures identity { IfOk result (λ parts. parts.identity ≡ deployment_identity_of options.now) }
+    ensures numbers { IfOk result (λ parts. IsVersion parts.identity.version) }
+    ensures provider { IfOk result (λ parts. parts.provider ≡ options.now.provider) }
+    ensures codebase { IfOk result (λ parts. parts.codebase ≡ codebase options.now) }
+    ensures digests { IfOk result (λ parts. parts.digests ≡ digests_in text.now) }
+    ensures sized { IfOk result (λ parts. All IsSized parts.digests) }
+    ensures memory { OnErr result (result ≡ Err Memory) }
+{
+    let (provider, codebase) = places_of(alloc, options)?;
+    let digests = digests_of(alloc, text)?;
+    Ok(DeploymentParts {
+        identity: deployment_identity(alloc, options)?,
+        provider,
+        codebase,
+        digests,
+    })
+}
+
 // The deployment of the application manifest with this text, which is that of the application.
 fn deployment_of(
     alloc: Global,
@@ -150,21 +184,24 @@ fn deployment_of(
     ensures numbers { IfOk result (λ deployment. IsVersion deployment.identity.version) }
     ensures memory { OnErr result (result ≡ Err Memory) }
 {
-    let identity = deployment_identity(alloc, options)?;
-    let (provider, codebase) = places_of(alloc, options)?;
-    let app_list = digests_of(alloc, text)?;
-    Ok(Deployment {
-        identity,
-        install: true,
-        minimum: options.minimum,
-        mapped: options.mapped,
-        rule: options.rule,
-        provider,
-        codebase,
-        app,
-        app_size: text.len() as u64,
-        app_list,
-    })
+    match deployment_parts(alloc, options, text) {
+        Ok(parts) => Ok(Deployment {
+            identity: parts.identity,
+            install: true,
+            minimum: options.minimum,
+            mapped: options.mapped,
+            rule: options.rule,
+            provider: parts.provider,
+            codebase: parts.codebase,
+            app,
+            app_size: text.len() as u64,
+            app_list: parts.digests,
+        }),
+        Err(fault) => {
+            drop(app);
+            Err(fault)
+        }
+    }
 }
 
 // The key of the deployment.
@@ -193,7 +230,10 @@ fn deployment_manifest(
     let deployment = deployment_of(alloc, options, app, text)?;
     match write_deployment(alloc, &deployment, &options.publisher, &options.name) {
         Ok(text) => Ok((text, into_key(deployment))),
-        Err(fault) => Err(PublishFault::from(fault)),
+        Err(fault) => {
+            drop(deployment);
+            Err(PublishFault::from(fault))
+        }
     }
 }
 

@@ -14,47 +14,49 @@ use Rattle.store_state.specs.declared.view.LocalFile.{LocalFile}
 use Rattle.store_state.specs.declared.view.View.{View}
 use Rattle.record_codec.specs.Codec.{change_text, group_text, heard_text, install_text, IsChange, length_limit}
 use Rattle.record_fields.specs.Fields.{text_field, key_field, version_field}
-use Rattle.record_fields.specs.Spelling.{application_field, deployment_field, digest_field, list_field, option_field, target_field}
-use Rattle.record_codec.specs.Spelling.{content_field, local_field, view_field}
+use Rattle.record_fields.specs.Spelled.{application_field, deployment_field, digest_field, list_field, option_field, target_field}
+use Rattle.record_codec.specs.Spelled.{block_field, content_field, local_field, view_field}
 use Rattle.record_codec.specs.Values.{IsEncodableContent, IsEncodableGroup, IsEncodableCheck, IsEncodableInstall, IsEncodableLocal, IsEncodableView}
 use Rattle.record_fields.proofs.Long.{length-text_field, length-version_field}
 use Rattle.record_fields.proofs.Sizes.{name_le}
+use Rattle.record_codec.proofs.Blocks.{length-blocks_field}
 use Rattle.record_codec.proofs.Written.{length-change_text_boot, length-change_text_require, length-change_text_unheard, length-change_text_skip, length-change_text_rollback, length-change_text_launch, length-change_text_finish, length-change_text_put, length-change_text_remove, length-change_text_clean}
 use Rattle.record_fields.proofs.Bounds.{application_le, deployment_le, digests_le, key_le, list_le, named_le, option_le, target_le, text_le, version_le}
 
 -- ---- views and their files
 
-pub content_le : (c : Content) → IsEncodableContent c → length (content_field c) ≤ 4294967863
+pub content_le : (c : Content) → IsEncodableContent c → length (content_field c) ≤ 17179869748
 unfolding content_field
 content_le c is =
     let s = to_be_bytes w64 c.size in
     let l = list_field digest_field c.list in
-    let bytes = is.bytes in
-    let b = text_field c.held in
+    let b = list_field block_field c.held in
     omega (
       arith,
       digests_le c.list is.list,
-      length-text_field c.held,
+      is.few_blocks,
+      length-blocks_field c.held,
       length-append s (l ++ b),
       length-append l b,
     )
 
-pub local_le : (f : LocalFile) → IsEncodableLocal f → length (local_field f) ≤ 4294967551
+pub local_le : (f : LocalFile) → IsEncodableLocal f → length (local_field f) ≤ 17179869436
 unfolding local_field
 local_le f is =
     let s = to_be_bytes w64 f.length in
-    let bytes = is.bytes in
+    let b = list_field block_field f.held in
     omega (
       arith,
       name_le f.name is.name,
+      is.few_blocks,
       length-text_field f.name,
-      length-text_field f.held,
-      length-append (text_field f.name) (s ++ text_field f.held),
-      length-append s (text_field f.held),
+      length-blocks_field f.held,
+      length-append (text_field f.name) (s ++ b),
+      length-append s b,
     )
 
 pub view_le : (v : View) → IsEncodableView FILE_COUNT_LIMIT v
-    → length (view_field v) ≤ 70368769999999
+    → length (view_field v) ≤ 281475009999999
 unfolding view_field
 view_le v is =
     let n = to_be_bytes w64 v.number in
@@ -70,7 +72,7 @@ view_le v is =
       target_le v.base is.base,
       list_le text_field (IsShort NAME_LIMIT) 244 FILE_COUNT_LIMIT v.groups (text_le NAME_LIMIT)
           is.few_groups is.groups,
-      list_le local_field IsEncodableLocal 4294967551 FILE_COUNT_LIMIT v.locals local_le is.few_locals
+      list_le local_field IsEncodableLocal 17179869436 FILE_COUNT_LIMIT v.locals local_le is.few_locals
           is.locals,
       length-append n (d ++ (a ++ (b ++ (g ++ l)))),
       length-append d (a ++ (b ++ (g ++ l))),
@@ -81,7 +83,7 @@ view_le v is =
 
 install_le : (v : View) (contents : List Content) (provider : Target) (now : ℕ)
     → IsEncodableInstall v contents provider now
-    → length (install_text v contents provider now) ≤ 2 ^ 48
+    → length (install_text v contents provider now) ≤ 2 ^ 50
 unfolding install_text
 install_le v contents provider now is =
     let w = view_field v in
@@ -91,7 +93,7 @@ install_le v contents provider now is =
     omega (
       arith,
       view_le v is.view,
-      list_le content_field IsEncodableContent 4294967863 FILE_COUNT_LIMIT contents content_le is.few
+      list_le content_field IsEncodableContent 17179869748 FILE_COUNT_LIMIT contents content_le is.few
           is.contents,
       target_le provider is.provider,
       length-append w (c ++ (p ++ n)),
@@ -118,7 +120,7 @@ heard_le key version minimum now is =
     )
 
 group_le : (view : ℕ) (group : List ℕ) (contents : List Content) → IsEncodableGroup view group contents
-    → length (group_text view group contents) ≤ 2 ^ 48
+    → length (group_text view group contents) ≤ 2 ^ 50
 unfolding group_text
 group_le view group contents is =
     let v = to_be_bytes w64 view in
@@ -127,7 +129,7 @@ group_le view group contents is =
     omega (
       arith,
       text_le NAME_LIMIT group is.group,
-      list_le content_field IsEncodableContent 4294967863 FILE_COUNT_LIMIT contents content_le is.few
+      list_le content_field IsEncodableContent 17179869748 FILE_COUNT_LIMIT contents content_le is.few
           is.contents,
       length-append v (g ++ c),
       length-append g c,
@@ -156,10 +158,10 @@ change_le Clean is = omega (arith, length-change_text_clean)
 
 pub installed_le : {change : Change} {view : View} {contents : List Content} {provider : Target}
     {now : ℕ} → change ≡ Install view contents provider now → IsChange change
-    → length (change_text change) ≤ 2 ^ 48
+    → length (change_text change) ≤ 2 ^ 50
 installed_le {change} is fits =
     let most = change_le change fits in
-    let limit : length_limit change ≡ 2 ^ 48 = ap length_limit is in
+    let limit : length_limit change ≡ 2 ^ 50 = ap length_limit is in
     omega arith
 
 pub heard_within : {change : Change} {key : Key} {version : Version} {minimum : Option Version}
@@ -171,8 +173,8 @@ heard_within {change} is fits =
     omega arith
 
 pub grouped_within : {change : Change} {view : ℕ} {group : List ℕ} {contents : List Content}
-    → change ≡ Group view group contents → IsChange change → length (change_text change) ≤ 2 ^ 48
+    → change ≡ Group view group contents → IsChange change → length (change_text change) ≤ 2 ^ 50
 grouped_within {change} is fits =
     let most = change_le change fits in
-    let limit : length_limit change ≡ 2 ^ 48 = ap length_limit is in
+    let limit : length_limit change ≡ 2 ^ 50 = ap length_limit is in
     omega arith

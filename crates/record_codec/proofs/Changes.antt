@@ -6,7 +6,7 @@ use Rattle.std.proofs.lemmas.Bool.{cases_Bool, eqb-true, eq-eqb}
 use Rattle.std.proofs.lemmas.List.{append-nil}
 use Rattle.small_types.specs.declared.limits.TheConstants.{FILE_COUNT_LIMIT, NAME_LIMIT}
 use Rattle.small_types.specs.declared.target.Target.{Target}
-use Rattle.small_types.specs.Reading.{◌>>=◌}
+use Rattle.small_types.specs.Outcome.{◌>>=◌}
 use Rattle.identity.specs.declared.key.Key.{Key}
 use Rattle.identity.specs.declared.version.Version.{Version}
 use Rattle.store_state.specs.declared.change.Change.{Change}
@@ -20,12 +20,12 @@ use Rattle.record_fields.specs.declared.fault.CodecFault.TheVariants.{Bad}
 use Rattle.record_codec.specs.Codec.{change_text, group_text, heard_text, install_text, put_text, remove_text, IsChange}
 use Rattle.record_fields.specs.Fields.{key_field, text_field, version_field}
 use Rattle.record_fields.specs.Places.{Stands}
-use Rattle.record_fields.specs.Reading.{Gives, number_at, text_at, key_at, version_at}
+use Rattle.record_fields.specs.Readers.{Gives, number_at, text_at, key_at, version_at}
 use Rattle.record_fields.specs.Parts.{Reader, list_at, name_at, option_at, target_at}
 use Rattle.record_codec.specs.Records.{content_at, local_at, view_at}
 use Rattle.record_codec.specs.Changes.{boot_at, require_at, install_at, heard_at, unheard_at, skip_at, rollback_at, launch_at, finish_at, group_at, put_at, remove_at, clean_at, change_at, change_of}
-use Rattle.record_fields.specs.Spelling.{list_field, option_field, target_field}
-use Rattle.record_codec.specs.Spelling.{content_field, local_field, view_field}
+use Rattle.record_fields.specs.Spelled.{list_field, option_field, target_field}
+use Rattle.record_codec.specs.Spelled.{content_field, local_field, view_field}
 use Rattle.record_codec.specs.Values.{IsEncodableGroup, IsEncodableCheck, IsEncodableInstall}
 use Rattle.record_fields.specs.Reads.{IsBytes}
 use Rattle.record_fields.proofs.Fields.{bind_ok, ok_is, passed_test, Stands-then, Stands-first, Stands-second, wide32, wide64, number_takes, number_again, text_takes, text_again}

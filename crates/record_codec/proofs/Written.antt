@@ -13,8 +13,8 @@ use Rattle.store_state.specs.declared.view.View.{View}
 use Rattle.record_codec.specs.declared.numbers.TheConstants.{BOOT_KIND, CLEAN_KIND, FINISH_KIND, LAUNCH_KIND, REQUIRE_KIND, ROLLBACK_KIND, SKIP_KIND, UNHEARD_KIND}
 use Rattle.record_codec.specs.Codec.{change_text, group_text, heard_text, install_text, put_text, remove_text}
 use Rattle.record_fields.specs.Fields.{key_field, text_field, version_field}
-use Rattle.record_fields.specs.Spelling.{list_field, option_field, target_field}
-use Rattle.record_codec.specs.Spelling.{content_field, local_field, view_field}
+use Rattle.record_fields.specs.Spelled.{list_field, option_field, target_field}
+use Rattle.record_codec.specs.Spelled.{content_field, local_field, view_field}
 use Rattle.record_fields.proofs.Long.{length-version_field}
 
 -- ---- the parts of changes

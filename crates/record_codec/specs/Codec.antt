@@ -14,8 +14,8 @@ use Rattle.store_state.specs.declared.view.LocalFile.{LocalFile}
 use Rattle.store_state.specs.declared.view.View.{View}
 use Rattle.record_codec.specs.declared.numbers.TheConstants.{BOOT_KIND, CLEAN_KIND, FINISH_KIND, GROUP_KIND, HEARD_KIND, INSTALL_KIND, LAUNCH_KIND, PUT_KIND, REMOVE_KIND, REQUIRE_KIND, ROLLBACK_KIND, SKIP_KIND, UNHEARD_KIND}
 use Rattle.record_fields.specs.Fields.{key_field, text_field, version_field}
-use Rattle.record_fields.specs.Spelling.{list_field, option_field, target_field}
-use Rattle.record_codec.specs.Spelling.{content_field, local_field, view_field}
+use Rattle.record_fields.specs.Spelled.{list_field, option_field, target_field}
+use Rattle.record_codec.specs.Spelled.{content_field, local_field, view_field}
 use Rattle.record_codec.specs.Values.{IsEncodableGroup, IsEncodableCheck, IsEncodableInstall, IsEncodableLocal}
 
 -- the number of the kind, and the fields
@@ -56,7 +56,7 @@ change_text (Remove view name) = remove_text view name
 change_text Clean = CLEAN_KIND ∷ []
 
 -- The fields are within their limits: just such a change has an encoding. A part of a key may be
--- empty, as any text. A data file may be below `.pre`, and of any length that four bytes can say.
+-- empty, as any text. A data file may be below `.pre`, and of any length that eight bytes can say.
 abbrev pub IsChange : Change → Type 0
 IsChange (Boot boot) = boot < 2 ^ 64
 IsChange (Require key version) = IsShortKey key × IsVersion version
@@ -76,14 +76,14 @@ IsChange Clean = Unit {0}
 abbrev pub length_limit : Change → ℕ
 length_limit (Boot boot) = 9
 length_limit (Require key version) = 457
-length_limit (Install view contents provider now) = 2 ^ 48
+length_limit (Install view contents provider now) = 2 ^ 50
 length_limit (Heard key version minimum now) = 474
 length_limit (Unheard key) = 449
 length_limit (Skip app) = 5
 length_limit (Rollback app) = 5
 length_limit (Launch app) = 5
 length_limit (Finish lease) = 9
-length_limit (Group view group contents) = 2 ^ 48
-length_limit (Put view file) = 2 ^ 33
+length_limit (Group view group contents) = 2 ^ 50
+length_limit (Put view file) = 2 ^ 35
 length_limit (Remove view name) = 253
 length_limit Clean = 1

@@ -1,5 +1,5 @@
 pub mod Changes
 pub mod Codec
 pub mod Records
-pub mod Spelling
+pub mod Spelled
 pub mod Values

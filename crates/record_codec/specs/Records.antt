@@ -1,29 +1,34 @@
 -- Reading views and their files, from the left. The fault of a part is the first of its fields that
 -- cannot be read.
 use Rattle.std.specs.Prelude.{ℕ, Ok}
-use Rattle.std.specs.Int.{w64}
+use Rattle.std.specs.Int.{w32, w64}
 use Rattle.small_types.specs.declared.limits.TheConstants.{NAME_LIMIT}
-use Rattle.small_types.specs.Reading.{◌>>=◌}
+use Rattle.small_types.specs.Outcome.{◌>>=◌}
 use Rattle.store_state.specs.declared.view.Content.{Content}
 use Rattle.store_state.specs.declared.view.LocalFile.{LocalFile}
 use Rattle.store_state.specs.declared.view.View.{View}
-use Rattle.record_codec.specs.declared.numbers.TheConstants.{BYTES_LIMIT}
-use Rattle.record_fields.specs.Reading.{number_at, text_at}
-use Rattle.record_fields.specs.Parts.{Reader, bytes_at, digests_at, list_at, name_at, target_at}
+use Rattle.record_codec.specs.declared.numbers.TheConstants.{COUNT_LIMIT}
+use Rattle.record_fields.specs.Readers.{number_at, text_at}
+use Rattle.record_fields.specs.Parts.{Reader, digests_at, list_at, name_at, target_at}
 use Rattle.record_fields.specs.Records.{application_at, deployment_at}
 
+abbrev pub block_at : Reader ℕ
+block_at bytes place = number_at w32 bytes place
+
+-- with as many blocks as four bytes can count, whatever its size
 unfoldable pub content_at : Reader Content
 content_at bytes place = do
   size ← number_at w64 bytes place
   list ← digests_at bytes size.1
-  held ← bytes_at BYTES_LIMIT bytes list.1
+  held ← list_at COUNT_LIMIT block_at bytes list.1
   Ok (record { size = size.0; list = list.0; held = held.0 }, held.1)
 
+-- with as many blocks as four bytes can count, whatever its length
 unfoldable pub local_at : Reader LocalFile
 local_at bytes place = do
   name ← name_at bytes place
   size ← number_at w64 bytes name.1
-  held ← bytes_at BYTES_LIMIT bytes size.1
+  held ← list_at COUNT_LIMIT block_at bytes size.1
   Ok (record { name = name.0; length = size.0; held = held.0 }, held.1)
 
 -- with at most so many groups, and so many data files

@@ -12,17 +12,26 @@ use Rattle.identity.specs.Version.{IsVersion}
 use Rattle.store_state.specs.declared.view.Content.{Content}
 use Rattle.store_state.specs.declared.view.LocalFile.{LocalFile}
 use Rattle.store_state.specs.declared.view.View.{View}
+use Rattle.record_codec.specs.declared.numbers.TheConstants.{COUNT_LIMIT}
 use Rattle.record_fields.specs.Values.{AreDigests, IsEncodableApplication, IsEncodableDeployment}
 
+-- a number that four bytes can say
+abbrev pub IsBlock : ℕ → Type 0
+IsBlock block = block < 2 ^ 32
+
+-- with as many blocks as four bytes can count, whatever its size
 pub record IsEncodableContent (c : Content) : Type 0 where
   pub size : c.size < 2 ^ 64
   pub list : AreDigests c.list
-  pub bytes : length c.held < 2 ^ 32
+  pub few_blocks : length c.held ≤ COUNT_LIMIT
+  pub blocks : All IsBlock c.held
 
+-- with as many blocks as four bytes can count, whatever its length
 pub record IsEncodableLocal (f : LocalFile) : Type 0 where
   pub name : IsName f.name
   pub size : f.length < 2 ^ 64
-  pub bytes : length f.held < 2 ^ 32
+  pub few_blocks : length f.held ≤ COUNT_LIMIT
+  pub blocks : All IsBlock f.held
 
 -- with at most so many groups, and so many data files
 pub record IsEncodableView (most : ℕ) (v : View) : Type 0 where

@@ -1,11 +1,30 @@
 // The values that lists hold.
-ghost use Rattle.record_codec.specs.Spelling.{content_field, local_field};
-ghost use Rattle.record_codec.specs.Values.{IsEncodableContent, IsEncodableLocal};
+ghost use Rattle.record_codec.specs.Spelled.{block_field, content_field, local_field};
+ghost use Rattle.record_codec.specs.Values.{IsBlock, IsEncodableContent, IsEncodableLocal};
 
 use crate::lengths::{content_length, local_length};
-use crate::view_writing::{write_content, write_local};
-use record_fields::Item;
+use crate::view_writers::{write_content, write_local};
+use record_fields::{Item, write_u32};
 use store_state::{Content, LocalFile};
+
+/// How the numbers of blocks stand in lists.
+pub struct BlockField;
+
+impl Item for BlockField {
+    type Value = u32;
+
+    ghost field = { block_field };
+
+    ghost fits = { IsBlock };
+
+    fn item_length(_: &u32) -> u64 {
+        4
+    }
+
+    fn write_item(out: &mut [u8], place: usize, value: &u32) -> usize {
+        write_u32(out, place, *value)
+    }
+}
 
 /// How contents stand in lists.
 pub struct ContentField;

@@ -1,35 +1,35 @@
 // How many bytes views, their files and changes take.
 ghost use Rattle.std.specs.Prelude.{◌≡◌, ◌<◌, ◌^◌, length};
 ghost use Rattle.record_codec.specs.Codec.{group_text, heard_text, install_text};
-ghost use Rattle.record_codec.specs.Spelling.{content_field, local_field, view_field};
+ghost use Rattle.record_codec.specs.Spelled.{content_field, local_field, view_field};
 
-use crate::item_values::{ContentField, LocalField};
+use crate::item_values::{BlockField, ContentField, LocalField};
 use identity::{Key, Version};
 use record_fields::{
-    TextField, VersionField, application_length, bytes_length, deployment_length, digests_length,
-    key_length, list_length, name_length, option_length, target_length, text_length,
+    TextField, VersionField, application_length, deployment_length, digests_length, key_length,
+    list_length, name_length, option_length, target_length, text_length,
 };
 use small_types::{Target, Text};
 use store_state::{Content, LocalFile, View};
 
-#[tactic(auto, using(record_fields::proofs::Long::lengths), unfolding(crate::specs::Spelling::content_field))]
+#[tactic(auto, using(record_fields::proofs::Long::lengths), unfolding(crate::specs::Spelled::content_field))]
 pub(crate) fn content_length(content: &Content) -> u64
     requires { length (content_field content.now) < 2 ^ 63 }
     ensures { result ≡ length (content_field content.now) }
 {
-    8 + digests_length(&content.list) + bytes_length(content.held.as_slice())
+    8 + digests_length(&content.list) + list_length::<BlockField>(content.held.as_slice())
 }
 
-#[tactic(auto, using(record_fields::proofs::Long::lengths), unfolding(crate::specs::Spelling::local_field))]
+#[tactic(auto, using(record_fields::proofs::Long::lengths), unfolding(crate::specs::Spelled::local_field))]
 pub(crate) fn local_length(local: &LocalFile) -> u64
     requires { length (local_field local.now) < 2 ^ 63 }
     ensures { result ≡ length (local_field local.now) }
 {
-    name_length(&local.name) + 8 + bytes_length(local.held.as_slice())
+    name_length(&local.name) + 8 + list_length::<BlockField>(local.held.as_slice())
 }
 
 /// How many bytes a view takes.
-#[tactic(auto, using(record_fields::proofs::Long::lengths), unfolding(crate::specs::Spelling::view_field))]
+#[tactic(auto, using(record_fields::proofs::Long::lengths), unfolding(crate::specs::Spelled::view_field))]
 pub fn view_length(view: &View) -> u64
     requires { length (view_field view.now) < 2 ^ 63 }
     ensures { result ≡ length (view_field view.now) }

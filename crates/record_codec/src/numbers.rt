@@ -40,21 +40,17 @@ pub const REMOVE_KIND: u8 = 11;
 /// The number of a clean.
 pub const CLEAN_KIND: u8 = 12;
 
-/// The most bytes of a content or a data file: their length has four bytes.
-pub const BYTES_LIMIT: usize = 4_294_967_295;
-
 /// The most items that a list can say: their number has four bytes.
 pub const COUNT_LIMIT: usize = 4_294_967_295;
 
-/// The numbers of the encoding: those of the kinds, each the first byte of a change, the most bytes
-/// of a content or a data file, and the most items of a list.
+/// The numbers of the encoding: those of the kinds, each the first byte of a change, and the most
+/// items of a list.
 pub fn change_numbers_are()
     ensures tables { (BOOT_KIND ≡ 0) × (REQUIRE_KIND ≡ 1) × (CLEAN_KIND ≡ 12) }
     ensures installs { (INSTALL_KIND ≡ 2) × (GROUP_KIND ≡ 9) × (PUT_KIND ≡ 10)
         × (REMOVE_KIND ≡ 11) }
     ensures checks { (HEARD_KIND ≡ 3) × (UNHEARD_KIND ≡ 4) × (SKIP_KIND ≡ 5)
         × (ROLLBACK_KIND ≡ 6) }
-    ensures bytes { BYTES_LIMIT ≡ 4_294_967_295 }
     ensures counts { COUNT_LIMIT ≡ 4_294_967_295 }
     ensures leases { (LAUNCH_KIND ≡ 7) × (FINISH_KIND ≡ 8) }
 {}

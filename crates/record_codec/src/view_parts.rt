@@ -5,13 +5,13 @@ ghost use Rattle.store_state.specs.declared.view.Content.{Content};
 ghost use Rattle.store_state.specs.declared.view.LocalFile.{LocalFile};
 ghost use Rattle.store_state.specs.declared.view.View.{View};
 ghost use Rattle.record_fields.specs.Places.{Stands};
-ghost use Rattle.record_fields.specs.Reading.{Gives, IsFaultWithin};
-ghost use Rattle.record_codec.specs.Spelling.{content_field, local_field, view_field};
+ghost use Rattle.record_fields.specs.Readers.{Gives, IsFaultWithin};
+ghost use Rattle.record_codec.specs.Spelled.{content_field, local_field, view_field};
 ghost use Rattle.record_codec.specs.Values.{IsEncodableContent, IsEncodableLocal, IsEncodableView};
 ghost use Rattle.record_codec.specs.Records.{content_at, local_at, view_at};
 
 use crate::item_values::{ContentField, LocalField};
-use crate::view_reading::view_here;
+use crate::view_readers::view_here;
 use record_fields::{CodecFault, Readable};
 use std::alloc::Global;
 use store_state::{Content, LocalFile, View};

@@ -21,7 +21,7 @@ use Rattle.manifests.specs.declared.facts.Rule.TheVariants.{Never, Before, Age}
 use Rattle.small_types.specs.Short.{IsShort, IsTarget}
 use Rattle.identity.specs.Key.{IsShortKey}
 use Rattle.record_fields.specs.Fields.{text_field, key_field, version_field}
-use Rattle.record_fields.specs.Spelling.{application_field, deployment_field, digest_field, entry_field, identity_field, list_field, listed_field, option_field, rule_field, target_field, terms_field, truth_field}
+use Rattle.record_fields.specs.Spelled.{application_field, deployment_field, digest_field, entry_field, identity_field, list_field, listed_field, option_field, rule_field, target_field, terms_field, truth_field}
 use Rattle.record_fields.specs.Values.{AreDigests, IsEncodableApplication, IsEncodableDeployment, IsEncodableEntry, IsEncodableIdentity}
 use Rattle.record_fields.proofs.Long.{length-text_field, length-list_field, length-key_field, length-version_field, length-truth_field}
 use Rattle.record_fields.proofs.Sizes.{digest_le, name_le}

@@ -8,12 +8,12 @@ use Rattle.std.proofs.lemmas.Bool.{leb-true, le-leb, and_parts, eqb-true, eq-eqb
 use Rattle.std.proofs.lemmas.List.{take_at, length-take, length-drop}
 use Rattle.small_types.specs.declared.limits.TheConstants.{NAME_LIMIT}
 use Rattle.small_types.specs.Name.{is_name, is_name_byte, is_name_part, name_parts, IsName}
-use Rattle.small_types.specs.Reading.{◌>>=◌}
+use Rattle.small_types.specs.Outcome.{◌>>=◌}
 use Rattle.record_fields.specs.declared.fault.CodecFault.{CodecFault}
 use Rattle.record_fields.specs.declared.fault.CodecFault.TheVariants.{Bad}
 use Rattle.record_fields.specs.Fields.{text_field}
 use Rattle.record_fields.specs.Places.{Stands}
-use Rattle.record_fields.specs.Reading.{number_at}
+use Rattle.record_fields.specs.Readers.{number_at}
 use Rattle.record_fields.specs.Values.{IsEncodableLength}
 use Rattle.record_fields.specs.Parts.{span_of, span_at, part_of, bytes_at, name_of, name_at, value_of, value_at}
 use Rattle.record_fields.specs.Reads.{ReadsField}

@@ -2,7 +2,7 @@
 use Rattle.std.proofs.Common.{◌≡◌, ℕ, ◌^◌, ◌<◌, ◌≤◌, true, ltb, List, [], ◌∷◌, length, Result, Ok, refl, ap, subst, ◌∙◌, arith}
 use Rattle.std.proofs.lemmas.Bool.{ltb-true, lt-ltb}
 use Rattle.small_types.specs.declared.limits.TheConstants.{HASH_LIMIT}
-use Rattle.small_types.specs.Reading.{◌>>=◌}
+use Rattle.small_types.specs.Outcome.{◌>>=◌}
 use Rattle.digest_list.specs.declared.algorithm.Algorithm.{Algorithm}
 use Rattle.digest_list.specs.declared.algorithm.Algorithm.TheVariants.{Sha1, Sha256, Sha384, Sha512}
 use Rattle.digest_list.specs.declared.digest.Digest.{Digest}
@@ -14,7 +14,7 @@ use Rattle.record_fields.specs.declared.numbers.TheConstants.{SHA1_NUMBER, SHA25
 use Rattle.record_fields.specs.Fields.{text_field}
 use Rattle.record_fields.specs.Places.{Stands}
 use Rattle.record_fields.specs.Parts.{byte_at, algorithm_of, algorithm_at, value_at, digest_at, list_at, digests_of, digests_at}
-use Rattle.record_fields.specs.Spelling.{algorithm_number, digest_field, list_field}
+use Rattle.record_fields.specs.Spelled.{algorithm_number, digest_field, list_field}
 use Rattle.record_fields.specs.Values.{AreDigests}
 use Rattle.record_fields.specs.Reads.{ReadsField}
 use Rattle.record_fields.proofs.Fields.{bind_ok, ok_is, passed_test}

@@ -1,10 +1,10 @@
 -- How a reading fails that fails at one of its fields.
 use Rattle.std.proofs.Common.{◌≡◌, ℕ, Result, Ok, Err, sym, ap, subst}
 use Rattle.std.specs.Prelude.{IfErr, IsErr, IsErrAnd}
-use Rattle.small_types.specs.Reading.{◌>>=◌}
+use Rattle.small_types.specs.Outcome.{◌>>=◌}
 use Rattle.record_fields.specs.declared.fault.CodecFault.{CodecFault}
 use Rattle.record_fields.specs.declared.fault.CodecFault.TheVariants.{Bad, Memory}
-use Rattle.record_fields.specs.Reading.{Fails, Gives, IsFaultWithin}
+use Rattle.record_fields.specs.Readers.{Fails, Gives, IsFaultWithin}
 
 -- the field that cannot be read
 pub fails_here : {A B : Type 0} (r : Result A CodecFault) (f : A → Result B CodecFault) (e : CodecFault) → Fails e r → Fails e (r >>= f)

@@ -8,12 +8,12 @@ use Rattle.std.proofs.lemmas.List.{take_at, drop_at, drop-drop, take-append-drop
 use Rattle.std.proofs.lemmas.Nat.{be_bytes_2, be_bytes_4, be_bytes_8, from_be_bytes-to_be_bytes_2, from_be_bytes-to_be_bytes_4, from_be_bytes-to_be_bytes_8}
 use Rattle.std.proofs.lemmas.Str.{IsUtf8-from_is_utf8, is_utf8-from_IsUtf8}
 use Rattle.small_types.specs.Short.{IsShort}
-use Rattle.small_types.specs.Reading.{◌>>=◌}
+use Rattle.small_types.specs.Outcome.{◌>>=◌}
 use Rattle.record_fields.specs.declared.fault.CodecFault.{CodecFault}
 use Rattle.record_fields.specs.declared.fault.CodecFault.TheVariants.{Bad}
 use Rattle.record_fields.specs.Fields.{text_field}
 use Rattle.record_fields.specs.Places.{Stands}
-use Rattle.record_fields.specs.Reading.{number_at, sized_at, text_at}
+use Rattle.record_fields.specs.Readers.{number_at, sized_at, text_at}
 use Rattle.record_fields.specs.Reads.{IsBytes}
 
 -- ---- steps

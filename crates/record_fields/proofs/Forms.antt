@@ -1,13 +1,13 @@
 -- Bytes and truth values are read just as they are spelled.
 use Rattle.std.proofs.Common.{◌≡◌, ℕ, zero, suc, ◌+◌, ◌<◌, Bool, true, false, cond, eqb, ltb, List, [], ◌∷◌, length, get_or, drop, Result, Ok, refl, sym, ap, subst, ◌∙◌, arith, inl, inr}
 use Rattle.std.proofs.lemmas.Bool.{cases_Bool, eqb-true, ltb-true, lt-ltb}
-use Rattle.small_types.specs.Reading.{◌>>=◌}
+use Rattle.small_types.specs.Outcome.{◌>>=◌}
 use Rattle.record_fields.specs.declared.fault.CodecFault.{CodecFault}
 use Rattle.record_fields.specs.declared.fault.CodecFault.TheVariants.{Bad}
 use Rattle.record_fields.specs.declared.numbers.TheConstants.{FALSE_BYTE, TRUE_BYTE}
 use Rattle.record_fields.specs.Places.{Stands}
 use Rattle.record_fields.specs.Parts.{byte_at, truth_of, truth_at}
-use Rattle.record_fields.specs.Spelling.{truth_field}
+use Rattle.record_fields.specs.Spelled.{truth_field}
 use Rattle.record_fields.specs.Reads.{ReadsField}
 use Rattle.record_fields.proofs.Fields.{bind_ok, ok_is, passed_test}
 

@@ -1,10 +1,10 @@
 -- Items that are read one behind another.
 use Rattle.std.proofs.Common.{◌≡◌, ℕ, zero, suc, ◌-◌, ◌<◌, ◌≤◌, List, [], ◌∷◌, ◌++◌, length, Result, Ok, Err, refl, sym, ap, ◌∙◌, append_assoc, arith}
 use Rattle.std.proofs.lemmas.List.{append-nil}
-use Rattle.small_types.specs.Reading.{◌>>=◌}
+use Rattle.small_types.specs.Outcome.{◌>>=◌}
 use Rattle.record_fields.specs.declared.fault.CodecFault.{CodecFault}
 use Rattle.record_fields.specs.declared.fault.CodecFault.TheVariants.{Bad, Memory}
-use Rattle.record_fields.specs.Reading.{Fails}
+use Rattle.record_fields.specs.Readers.{Fails}
 use Rattle.record_fields.specs.Parts.{Reader, items_at}
 
 -- the items that were made, before those that are left

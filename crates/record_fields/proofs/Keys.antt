@@ -5,11 +5,11 @@ use Rattle.identity.specs.declared.version.Version.{Version}
 use Rattle.identity.specs.declared.key.Key.{Key}
 use Rattle.identity.specs.Key.{IsShortKey}
 use Rattle.identity.specs.Version.{IsVersion}
-use Rattle.small_types.specs.Reading.{◌>>=◌}
+use Rattle.small_types.specs.Outcome.{◌>>=◌}
 use Rattle.small_types.specs.declared.limits.TheConstants.{IDENTITY_PART_LIMIT, NAME_LIMIT}
 use Rattle.record_fields.specs.Fields.{text_field, key_field, version_field}
 use Rattle.record_fields.specs.Places.{Stands}
-use Rattle.record_fields.specs.Reading.{number_at, text_at, key_at, version_at}
+use Rattle.record_fields.specs.Readers.{number_at, text_at, key_at, version_at}
 use Rattle.record_fields.specs.Reads.{IsBytes}
 use Rattle.record_fields.proofs.Fields.{bind_ok, ok_is, Stands-then, Stands-first, Stands-second, wide16, number_takes, number_again, text_takes, text_again}
 

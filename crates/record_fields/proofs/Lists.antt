@@ -4,15 +4,15 @@ use Rattle.std.specs.Prelude.{All, IfSome, flat_map}
 use Rattle.std.specs.Int.{w32, to_be_bytes}
 use Rattle.std.proofs.lemmas.Bool.{leb-true, le-leb}
 use Rattle.std.proofs.lemmas.List.Elements.{All-cons, All-head, All-nil, All-tail}
-use Rattle.small_types.specs.Reading.{◌>>=◌}
+use Rattle.small_types.specs.Outcome.{◌>>=◌}
 use Rattle.record_fields.specs.declared.fault.CodecFault.{CodecFault}
 use Rattle.record_fields.specs.declared.fault.CodecFault.TheVariants.{Bad}
 use Rattle.record_fields.specs.declared.numbers.TheConstants.{TRUE_BYTE}
 use Rattle.record_fields.specs.Places.{Stands}
-use Rattle.record_fields.specs.Reading.{number_at}
+use Rattle.record_fields.specs.Readers.{number_at}
 use Rattle.record_fields.specs.Parts.{Reader, truth_at, option_of, option_at, items_at, list_of, list_at}
 use Rattle.record_fields.specs.Values.{IsEncodableLength}
-use Rattle.record_fields.specs.Spelling.{truth_field, option_field, list_field}
+use Rattle.record_fields.specs.Spelled.{truth_field, option_field, list_field}
 use Rattle.record_fields.specs.Reads.{IsBytes, ReadsField}
 use Rattle.record_fields.proofs.Fields.{Stands-then, Stands-first, Stands-second, bind_ok, ok_is, wide32, number_takes, number_again}
 use Rattle.record_fields.proofs.Forms.{truth_reads}

@@ -5,7 +5,7 @@ use Rattle.std.proofs.lemmas.List.{length-append}
 use Rattle.identity.specs.declared.version.Version.{Version}
 use Rattle.identity.specs.declared.key.Key.{Key}
 use Rattle.record_fields.specs.Fields.{text_field, key_field, version_field}
-use Rattle.record_fields.specs.Spelling.{list_field, truth_field}
+use Rattle.record_fields.specs.Spelled.{list_field, truth_field}
 
 pub length-text_field : (text : List ℕ) → length (text_field text) ≡ 4 + length text
 unfolding text_field

@@ -3,7 +3,7 @@ use Rattle.std.proofs.Common.{◌≡◌, ◌≢◌, ℕ, true, List, Ok, Err, sy
 use Rattle.std.proofs.lemmas.Bool.{cond-false, false_from_ne_true}
 use Rattle.small_types.specs.declared.name.NameFault.TheVariants.{Bad as NoName}
 use Rattle.small_types.specs.Name.{is_name, name_of as read_of}
-use Rattle.small_types.proofs.Spelling.{read_again}
+use Rattle.small_types.proofs.Spelled.{read_again}
 use Rattle.record_fields.specs.declared.fault.CodecFault.TheVariants.{Bad}
 use Rattle.record_fields.specs.Parts.{name_of}
 

@@ -3,19 +3,19 @@ use Rattle.std.proofs.Common.{◌≡◌, ℕ, ◌<◌, ◌≤◌, ◌^◌, List,
 use Rattle.std.specs.Prelude.{All, IfSome}
 use Rattle.std.specs.Int.{w64, to_be_bytes}
 use Rattle.small_types.specs.declared.limits.TheConstants.{FILE_COUNT_LIMIT, NAME_LIMIT, URL_LIMIT}
-use Rattle.small_types.specs.Reading.{◌>>=◌}
+use Rattle.small_types.specs.Outcome.{◌>>=◌}
 use Rattle.identity.specs.Version.{IsVersion}
 use Rattle.manifests.specs.declared.facts.Application.{Application}
 use Rattle.manifests.specs.declared.facts.Deployment.{Deployment}
 use Rattle.manifests.specs.declared.facts.FileEntry.{FileEntry}
 use Rattle.small_types.specs.Short.{IsShort}
-use Rattle.record_fields.specs.declared.deployment_reading.Terms.{Terms}
-use Rattle.record_fields.specs.declared.deployment_reading.Listed.{Listed}
+use Rattle.record_fields.specs.declared.deployment_readers.Terms.{Terms}
+use Rattle.record_fields.specs.declared.deployment_readers.Listed.{Listed}
 use Rattle.record_fields.specs.Fields.{text_field, version_field}
-use Rattle.record_fields.specs.Reading.{number_at, text_at, version_at}
+use Rattle.record_fields.specs.Readers.{number_at, text_at, version_at}
 use Rattle.record_fields.specs.Parts.{digests_at, identity_at, list_at, option_at, rule_at, truth_at}
 use Rattle.record_fields.specs.Records.{entry_at, terms_at, listed_at, joined, deployment_at, application_at}
-use Rattle.record_fields.specs.Spelling.{truth_field, option_field, list_field, identity_field, rule_field, digest_field, entry_field, terms_field, listed_field, deployment_field, application_field}
+use Rattle.record_fields.specs.Spelled.{truth_field, option_field, list_field, identity_field, rule_field, digest_field, entry_field, terms_field, listed_field, deployment_field, application_field}
 use Rattle.record_fields.specs.Values.{IsEncodableIdentity, IsEncodableRule, AreDigests, IsEncodableEntry, IsEncodableDeployment, IsEncodableApplication}
 use Rattle.record_fields.specs.Reads.{ReadsField}
 use Rattle.record_fields.proofs.Forms.{truth_reads}

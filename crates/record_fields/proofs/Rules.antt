@@ -1,15 +1,15 @@
 -- Rules are read just as they are spelled.
 use Rattle.std.proofs.Common.{◌≡◌, ℕ, ◌+◌, ◌^◌, List, [], ◌∷◌, Result, Ok, ap, subst, ◌∙◌, arith}
 use Rattle.std.specs.Int.{w64, to_be_bytes}
-use Rattle.small_types.specs.Reading.{◌>>=◌}
+use Rattle.small_types.specs.Outcome.{◌>>=◌}
 use Rattle.manifests.specs.declared.facts.Rule.{Rule}
 use Rattle.manifests.specs.declared.facts.Rule.TheVariants.{Never, Before, Age}
 use Rattle.record_fields.specs.declared.fault.CodecFault.{CodecFault}
 use Rattle.record_fields.specs.declared.numbers.TheConstants.{AGE_RULE, BEFORE_RULE, NEVER_RULE}
 use Rattle.record_fields.specs.Places.{Stands}
-use Rattle.record_fields.specs.Reading.{number_at}
+use Rattle.record_fields.specs.Readers.{number_at}
 use Rattle.record_fields.specs.Parts.{age_at, byte_at, rule_of, rule_at}
-use Rattle.record_fields.specs.Spelling.{rule_field}
+use Rattle.record_fields.specs.Spelled.{rule_field}
 use Rattle.record_fields.specs.Values.{IsEncodableRule}
 use Rattle.record_fields.specs.Reads.{IsBytes, ReadsField}
 use Rattle.record_fields.proofs.Fields.{Stands-then, Stands-first, Stands-second, bind_ok, ok_is, wide64, number_takes, number_again}

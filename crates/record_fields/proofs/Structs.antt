@@ -3,15 +3,15 @@ use Rattle.std.proofs.Common.{◌≡◌, ℕ, ◌<◌, ◌^◌, ◌++◌, Ok, re
 use Rattle.std.specs.Int.{w16, w32, w64, to_be_bytes}
 use Rattle.small_types.specs.declared.limits.TheConstants.{IDENTITY_PART_LIMIT, NAME_LIMIT, URL_LIMIT}
 use Rattle.small_types.specs.declared.target.Target.{Target}
-use Rattle.small_types.specs.Reading.{◌>>=◌}
+use Rattle.small_types.specs.Outcome.{◌>>=◌}
 use Rattle.identity.specs.declared.identity.Identity.{Identity}
 use Rattle.identity.specs.Version.{IsVersion}
 use Rattle.small_types.specs.Short.{IsShort, IsTarget}
 use Rattle.identity.specs.Key.{IsShortKey}
 use Rattle.record_fields.specs.Fields.{text_field, key_field, version_field}
-use Rattle.record_fields.specs.Reading.{number_at, text_at, key_at, version_at}
+use Rattle.record_fields.specs.Readers.{number_at, text_at, key_at, version_at}
 use Rattle.record_fields.specs.Parts.{target_at, identity_at}
-use Rattle.record_fields.specs.Spelling.{target_field, identity_field}
+use Rattle.record_fields.specs.Spelled.{target_field, identity_field}
 use Rattle.record_fields.specs.Values.{IsEncodableIdentity}
 use Rattle.record_fields.specs.Reads.{ReadsField}
 use Rattle.record_fields.proofs.Fields.{wide16, wide32, wide64, number_takes, number_again, IsText, text_takes, text_again, any_text_takes, any_text_again}

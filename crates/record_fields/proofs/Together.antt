@@ -1,10 +1,10 @@
 -- A field that is read just as it is spelled, and how fields are put together.
 use Rattle.std.proofs.Common.{◌≡◌, ℕ, ◌+◌, ◌≤◌, List, ◌++◌, length, Result, Ok, Err, sym, ap, subst, ◌∙◌}
 use Rattle.std.specs.Prelude.{IfOk}
-use Rattle.small_types.specs.Reading.{◌>>=◌}
+use Rattle.small_types.specs.Outcome.{◌>>=◌}
 use Rattle.record_fields.specs.declared.fault.CodecFault.{CodecFault}
 use Rattle.record_fields.specs.Places.{Stands}
-use Rattle.record_fields.specs.Reading.{Gives}
+use Rattle.record_fields.specs.Readers.{Gives}
 use Rattle.record_fields.specs.Parts.{Reader}
 use Rattle.record_fields.specs.Reads.{IsBytes, ReadsField}
 use Rattle.record_fields.proofs.Fields.{Stands-then, Stands-first, Stands-second, bind_ok, ok_is}

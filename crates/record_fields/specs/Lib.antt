@@ -1,8 +1,8 @@
 pub mod Fields
 pub mod Parts
 pub mod Places
-pub mod Reading
+pub mod Readers
 pub mod Reads
 pub mod Records
-pub mod Spelling
+pub mod Spelled
 pub mod Values

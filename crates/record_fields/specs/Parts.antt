@@ -5,7 +5,7 @@ use Rattle.std.specs.Int.{w16, w32, w64}
 use Rattle.small_types.specs.declared.limits.TheConstants.{HASH_LIMIT, IDENTITY_PART_LIMIT, NAME_LIMIT, URL_LIMIT}
 use Rattle.small_types.specs.declared.target.Target.{Target}
 use Rattle.small_types.specs.Name.{is_name}
-use Rattle.small_types.specs.Reading.{◌>>=◌}
+use Rattle.small_types.specs.Outcome.{◌>>=◌}
 use Rattle.identity.specs.declared.identity.Identity.{Identity}
 use Rattle.digest_list.specs.declared.algorithm.Algorithm.{Algorithm}
 use Rattle.digest_list.specs.declared.algorithm.Algorithm.TheVariants.{Sha1, Sha256, Sha384, Sha512}
@@ -16,7 +16,7 @@ use Rattle.manifests.specs.declared.facts.Rule.TheVariants.{Never, Before, Age}
 use Rattle.record_fields.specs.declared.fault.CodecFault.{CodecFault}
 use Rattle.record_fields.specs.declared.fault.CodecFault.TheVariants.{Bad}
 use Rattle.record_fields.specs.declared.numbers.TheConstants.{AGE_RULE, BEFORE_RULE, FALSE_BYTE, NEVER_RULE, SHA1_NUMBER, SHA256_NUMBER, SHA384_NUMBER, SHA512_NUMBER, TRUE_BYTE}
-use Rattle.record_fields.specs.Reading.{number_at, text_at, key_at, version_at}
+use Rattle.record_fields.specs.Readers.{number_at, text_at, key_at, version_at}
 
 -- a reading gives a value and the place behind it
 abbrev pub Reader : Type 0 → Type 0

@@ -3,13 +3,13 @@
 use Rattle.std.specs.Prelude.{Ok}
 use Rattle.std.specs.Int.{w64}
 use Rattle.small_types.specs.declared.limits.TheConstants.{FILE_COUNT_LIMIT, NAME_LIMIT, URL_LIMIT}
-use Rattle.small_types.specs.Reading.{◌>>=◌}
+use Rattle.small_types.specs.Outcome.{◌>>=◌}
 use Rattle.manifests.specs.declared.facts.Application.{Application}
 use Rattle.manifests.specs.declared.facts.Deployment.{Deployment}
 use Rattle.manifests.specs.declared.facts.FileEntry.{FileEntry}
-use Rattle.record_fields.specs.declared.deployment_reading.Terms.{Terms}
-use Rattle.record_fields.specs.declared.deployment_reading.Listed.{Listed}
-use Rattle.record_fields.specs.Reading.{number_at, text_at, version_at}
+use Rattle.record_fields.specs.declared.deployment_readers.Terms.{Terms}
+use Rattle.record_fields.specs.declared.deployment_readers.Listed.{Listed}
+use Rattle.record_fields.specs.Readers.{number_at, text_at, version_at}
 use Rattle.record_fields.specs.Parts.{Reader, digests_at, identity_at, list_at, name_at, option_at, rule_at, truth_at}
 
 unfoldable pub entry_at : Reader FileEntry

@@ -2,7 +2,7 @@
 ghost use Rattle.std.specs.Prelude.{◌≡◌, ◌-◌, ◌<◌, ◌≤◌, length, take, drop, true, false, IfOk, IfErr, MatchOption};
 ghost use Rattle.std.specs.Int.{w16, w32, w64};
 ghost use Rattle.std.specs.Str.{is_utf8};
-ghost use Rattle.record_fields.specs.Reading.{Gives, IsBad, IsFaultWithin, number_at, sized_at, text_at, key_at, version_at};
+ghost use Rattle.record_fields.specs.Readers.{Gives, IsBad, IsFaultWithin, number_at, sized_at, text_at, key_at, version_at};
 
 use crate::CodecFault;
 use identity::{Key, Version};
@@ -125,7 +125,7 @@ fn sized_text(
 // The text at the place, behind its length in four bytes, and the place behind it. The fault is at
 // the place, where the bytes end before the text does, or it has more bytes than the limit or is
 // no UTF-8. An empty text is one.
-#[tactic(auto, unfolding(crate::specs::Reading::text_at))]
+#[tactic(auto, unfolding(crate::specs::Readers::text_at))]
 pub(crate) fn text_here(
     alloc: Global,
     bytes: &[u8],
@@ -143,7 +143,7 @@ pub(crate) fn text_here(
 
 // The key at the place, its four parts as texts of at most 240 and 64 bytes, and the place behind
 // it. The fault is that of the first part that cannot be read.
-#[tactic(auto, unfolding(crate::specs::Reading::key_at))]
+#[tactic(auto, unfolding(crate::specs::Readers::key_at))]
 pub(crate) fn key_here(
     alloc: Global,
     bytes: &[u8],
@@ -169,7 +169,7 @@ pub(crate) fn key_here(
 
 // The version at the place, its four numbers in two bytes each, and the place behind it. The fault
 // is that of the first number that the bytes end before.
-#[tactic(auto, unfolding(crate::specs::Reading::version_at))]
+#[tactic(auto, unfolding(crate::specs::Readers::version_at))]
 pub(crate) fn version_here(bytes: &[u8], place: usize) -> Result<(Version, usize), CodecFault>
     requires { place ≤ length bytes.now }
     ensures exact { Gives result (version_at bytes.now place) }

@@ -1,7 +1,7 @@
 // Lists and options: how long they are, and how they are written.
 ghost use Rattle.std.specs.Prelude.{◌≡◌, ℕ, ◌+◌, ◌<◌, ◌≤◌, ◌^◌, List, All, IfSome, length, flat_map};
 ghost use Rattle.record_fields.specs.Places.{WritesField};
-ghost use Rattle.record_fields.specs.Spelling.{list_field, option_field};
+ghost use Rattle.record_fields.specs.Spelled.{list_field, option_field};
 
 use crate::field_writers::{write_u8, write_u32};
 use crate::numbers::{FALSE_BYTE, TRUE_BYTE};
@@ -70,7 +70,7 @@ fn items_length<T: Item>(items: &[T::Value]) -> u64
 }
 
 /// How many bytes a list takes.
-#[tactic(auto, using(crate::proofs::Long::lengths), unfolding(crate::specs::Spelling::list_field))]
+#[tactic(auto, using(crate::proofs::Long::lengths), unfolding(crate::specs::Spelled::list_field))]
 pub fn list_length<T: Item>(items: &[T::Value]) -> u64
     requires { length (list_field T.field items.now) < 2 ^ 63 }
     ensures { result ≡ length (list_field T.field items.now) }

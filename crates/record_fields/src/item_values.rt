@@ -2,13 +2,13 @@
 ghost use Rattle.std.specs.Prelude.{◌<◌, ◌^◌, length};
 ghost use Rattle.digest_list.specs.Digest.{IsSized};
 ghost use Rattle.record_fields.specs.Fields.{text_field, version_field};
-ghost use Rattle.record_fields.specs.Spelling.{digest_field, entry_field};
+ghost use Rattle.record_fields.specs.Spelled.{digest_field, entry_field};
 ghost use Rattle.record_fields.specs.Values.{IsEncodableEntry};
 
 use crate::field_writers::{write_text, write_version};
 use crate::item::Item;
 use crate::lengths::{digest_length, entry_length, text_length};
-use crate::manifest_writing::{write_digest, write_entry};
+use crate::manifest_writers::{write_digest, write_entry};
 use digest_list::Digest;
 use identity::Version;
 use manifests::FileEntry;

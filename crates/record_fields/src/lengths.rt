@@ -1,7 +1,7 @@
 // How many bytes values take.
 ghost use Rattle.std.specs.Prelude.{◌≡◌, ◌<◌, ◌^◌, length};
 ghost use Rattle.record_fields.specs.Fields.{key_field, text_field};
-ghost use Rattle.record_fields.specs.Spelling.{application_field, deployment_field, digest_field, entry_field, identity_field, list_field, listed_field, rule_field, target_field, terms_field};
+ghost use Rattle.record_fields.specs.Spelled.{application_field, deployment_field, digest_field, entry_field, identity_field, list_field, listed_field, rule_field, target_field, terms_field};
 
 use crate::item::{list_length, option_length};
 use crate::item_values::{DigestField, EntryField, TextField, VersionField};
@@ -48,7 +48,7 @@ pub fn key_length(key: &Key) -> u64
 }
 
 /// How many bytes an address takes.
-#[tactic(auto, using(crate::proofs::Long::lengths), unfolding(crate::specs::Spelling::target_field))]
+#[tactic(auto, using(crate::proofs::Long::lengths), unfolding(crate::specs::Spelled::target_field))]
 pub fn target_length(target: &Target) -> u64
     requires { length (target_field target.now) < 2 ^ 63 }
     ensures { result ≡ length (target_field target.now) }
@@ -57,7 +57,7 @@ pub fn target_length(target: &Target) -> u64
 }
 
 /// How many bytes an identity takes.
-#[tactic(auto, using(crate::proofs::Long::lengths), unfolding(crate::specs::Spelling::identity_field))]
+#[tactic(auto, using(crate::proofs::Long::lengths), unfolding(crate::specs::Spelled::identity_field))]
 pub fn identity_length(identity: &Identity) -> u64
     requires { length (identity_field identity.now) < 2 ^ 63 }
     ensures { result ≡ length (identity_field identity.now) }
@@ -66,7 +66,7 @@ pub fn identity_length(identity: &Identity) -> u64
 }
 
 /// How many bytes a rule takes.
-#[tactic(auto, using(crate::proofs::Long::lengths), unfolding(crate::specs::Spelling::rule_field))]
+#[tactic(auto, using(crate::proofs::Long::lengths), unfolding(crate::specs::Spelled::rule_field))]
 pub fn rule_length(rule: Rule) -> u64
     ensures { result ≡ length (rule_field rule) }
 {
@@ -77,7 +77,7 @@ pub fn rule_length(rule: Rule) -> u64
 }
 
 /// How many bytes a digest takes.
-#[tactic(auto, using(crate::proofs::Long::lengths), unfolding(crate::specs::Spelling::digest_field))]
+#[tactic(auto, using(crate::proofs::Long::lengths), unfolding(crate::specs::Spelled::digest_field))]
 pub fn digest_length(digest: &Digest) -> u64
     requires { length (digest_field digest.now) < 2 ^ 63 }
     ensures { result ≡ length (digest_field digest.now) }
@@ -94,7 +94,7 @@ pub fn digests_length(digests: &DigestList) -> u64
 }
 
 /// How many bytes a listed file takes.
-#[tactic(auto, using(crate::proofs::Long::lengths), unfolding(crate::specs::Spelling::entry_field))]
+#[tactic(auto, using(crate::proofs::Long::lengths), unfolding(crate::specs::Spelled::entry_field))]
 pub fn entry_length(entry: &FileEntry) -> u64
     requires { length (entry_field entry.now) < 2 ^ 63 }
     ensures { result ≡ length (entry_field entry.now) }
@@ -106,7 +106,7 @@ pub fn entry_length(entry: &FileEntry) -> u64
         + 1
 }
 
-#[tactic(auto, using(crate::proofs::Long::lengths), unfolding(crate::specs::Spelling::terms_field))]
+#[tactic(auto, using(crate::proofs::Long::lengths), unfolding(crate::specs::Spelled::terms_field))]
 fn terms_length(deployment: &Deployment) -> u64
     requires { length (terms_field deployment.now) < 2 ^ 63 }
     ensures { result ≡ length (terms_field deployment.now) }
@@ -119,7 +119,7 @@ fn terms_length(deployment: &Deployment) -> u64
         + option_length::<TextField>(&deployment.provider)
 }
 
-#[tactic(auto, using(crate::proofs::Long::lengths), unfolding(crate::specs::Spelling::listed_field))]
+#[tactic(auto, using(crate::proofs::Long::lengths), unfolding(crate::specs::Spelled::listed_field))]
 fn listed_length(deployment: &Deployment) -> u64
     requires { length (listed_field deployment.now) < 2 ^ 63 }
     ensures { result ≡ length (listed_field deployment.now) }
@@ -131,7 +131,7 @@ fn listed_length(deployment: &Deployment) -> u64
 }
 
 /// How many bytes what a deployment manifest says takes.
-#[tactic(auto, using(crate::proofs::Long::lengths), unfolding(crate::specs::Spelling::deployment_field))]
+#[tactic(auto, using(crate::proofs::Long::lengths), unfolding(crate::specs::Spelled::deployment_field))]
 pub fn deployment_length(deployment: &Deployment) -> u64
     requires { length (deployment_field deployment.now) < 2 ^ 63 }
     ensures { result ≡ length (deployment_field deployment.now) }
@@ -140,7 +140,7 @@ pub fn deployment_length(deployment: &Deployment) -> u64
 }
 
 /// How many bytes what an application manifest says takes.
-#[tactic(auto, using(crate::proofs::Long::lengths), unfolding(crate::specs::Spelling::application_field))]
+#[tactic(auto, using(crate::proofs::Long::lengths), unfolding(crate::specs::Spelled::application_field))]
 pub fn application_length(application: &Application) -> u64
     requires { length (application_field application.now) < 2 ^ 63 }
     ensures { result ≡ length (application_field application.now) }

@@ -2,24 +2,24 @@
 //! the one spelling of each, and the value that bytes spell at a place.
 #![tactic(auto)]
 
-mod application_reading;
-mod byte_reading;
-mod deployment_reading;
-mod digest_reading;
+mod application_readers;
+mod byte_readers;
+mod deployment_readers;
+mod digest_readers;
 mod fault;
 mod field_readers;
 mod field_writers;
-mod form_reading;
+mod form_readers;
 mod item;
 mod item_values;
 mod lengths;
-mod list_reading;
-mod manifest_writing;
+mod manifest_writers;
 mod numbers;
-mod option_reading;
-mod part_reading;
-mod part_writing;
+mod option_readers;
+mod part_readers;
+mod part_writers;
 mod parts;
+mod readable;
 mod record_parts;
 
 pub use fault::CodecFault;
@@ -34,19 +34,19 @@ pub use lengths::{
     entry_length, identity_length, key_length, name_length, rule_length, target_length,
     text_length,
 };
-pub use list_reading::Readable;
-pub use manifest_writing::{
+pub use manifest_writers::{
     write_application, write_deployment, write_digest, write_digests, write_entry,
 };
 pub use numbers::{
     AGE_RULE, BEFORE_RULE, FALSE_BYTE, NEVER_RULE, SHA1_NUMBER, SHA256_NUMBER, SHA384_NUMBER,
     SHA512_NUMBER, TRUE_BYTE, field_numbers_are,
 };
-pub use part_writing::{write_identity, write_rule, write_target, write_truth};
+pub use part_writers::{write_identity, write_rule, write_target, write_truth};
 pub use parts::{
     read_bytes, read_identity, read_key, read_name, read_rule, read_target, read_text, read_truth,
     read_u8, read_u16, read_u32, read_u64, read_version,
 };
+pub use readable::Readable;
 pub use record_parts::{
     read_application, read_deployment, read_digest, read_digests, read_entries, read_entry,
     read_list, read_text_option, read_texts, read_version_option,

@@ -13,19 +13,19 @@ ghost use Rattle.manifests.specs.declared.facts.Deployment.{Deployment};
 ghost use Rattle.manifests.specs.declared.facts.FileEntry.{FileEntry};
 ghost use Rattle.record_fields.specs.Fields.{text_field, version_field};
 ghost use Rattle.record_fields.specs.Places.{Stands};
-ghost use Rattle.record_fields.specs.Spelling.{application_field, deployment_field, digest_field, entry_field, list_field, option_field};
+ghost use Rattle.record_fields.specs.Spelled.{application_field, deployment_field, digest_field, entry_field, list_field, option_field};
 ghost use Rattle.record_fields.specs.Values.{AreDigests, IsEncodableApplication, IsEncodableLength, IsEncodableDeployment, IsEncodableEntry};
-ghost use Rattle.record_fields.specs.Reading.{Gives, IsBad, IsFaultWithin, text_at, version_at};
+ghost use Rattle.record_fields.specs.Readers.{Gives, IsBad, IsFaultWithin, text_at, version_at};
 ghost use Rattle.record_fields.specs.Parts.{digest_at, digests_at, list_at, option_at};
 ghost use Rattle.record_fields.specs.Records.{application_at, deployment_at, entry_at};
 
 use crate::CodecFault;
-use crate::application_reading::application_here;
-use crate::deployment_reading::deployment_here;
-use crate::digest_reading::digests_here;
+use crate::application_readers::application_here;
+use crate::deployment_readers::deployment_here;
+use crate::digest_readers::digests_here;
 use crate::item_values::{DigestField, EntryField, TextField};
-use crate::list_reading::{Readable, list_here};
-use crate::option_reading::{text_option_here, version_option_here};
+use crate::option_readers::{text_option_here, version_option_here};
+use crate::readable::{Readable, list_here};
 use digest_list::{Digest, DigestList};
 use identity::Version;
 use manifests::{Application, Deployment, FileEntry};
@@ -102,8 +102,8 @@ pub fn read_list<T: Readable>(
 pub fn read_digest(alloc: Global, bytes: &[u8], place: usize) -> Result<(Digest, usize), CodecFault>
     requires { place ≤ length bytes.now }
     ensures found { IfOk result (λ x. Stands bytes.now place (digest_field x.0) x.1 × IsSized x.0) }
-    ensures only { (x : Digest) (next : ℕ) → IsSized x → Stands bytes.now place (digest_field x) next
-        → Gives result (Ok (x, next)) }
+    ensures only { (x : Digest) (next : ℕ) → IsSized x
+        → Stands bytes.now place (digest_field x) next → Gives result (Ok (x, next)) }
     ensures exact { Gives result (digest_at bytes.now place) }
     ensures next { IfOk result (λ x. x.1 ≤ length bytes.now) }
     ensures fault { IfErr result (IsFaultWithin (length bytes.now)) }

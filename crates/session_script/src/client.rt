@@ -2,10 +2,11 @@
 use crate::next::{Next, number_of, numbered};
 use crate::releases::{inspect, publish};
 use crate::runs::{
-    Site, disk_of, empty_disk, empty_folder, empty_report, print_calls, print_target, run_lines,
-    run_silently, run_unheard, site_of, store_of,
+    Site, disk_of, empty_disk, empty_folder, empty_report, print_calls, print_target, ran_lines,
+    run_lines, run_silently, run_unheard, site_of, store_of,
 };
 use crate::site::{folder_failing, folder_without};
+use crate::steps::{Device, Steps};
 use disks::{Disk, MemDisk, Pick};
 use folders::MemFolder;
 use std::io::{self, ErrorKind};
@@ -291,5 +292,43 @@ impl Client {
         self.stop_each(rt, words, call, moment)?;
         self.next.clear();
         Ok(())
+    }
+    /// Runs the words with the lines over copies of its disk, once for each call of their source, their
+    /// sink and the disk, which fails then, and prints which store is left.
+    pub fn fail_each(&mut self, rt: &HostRuntime, words: &str) -> io::Result<()> {
+        let bytes = self.disk.bytes();
+        let steps = Steps::of(rt.alloc(), &self.next, words, bytes, &mut self.site)?;
+        steps.print(rt)?;
+        for device in [Device::Source, Device::Sink, Device::Disk] {
+            steps.fail_each(rt, &mut self.next, device, bytes, &mut self.site)?;
+        }
+        self.next.clear();
+        Ok(())
+    }
+
+    /// Runs the words with the lines, and stops its disk at each moment since the session had been opened,
+    /// in each way. Prints which store is left.
+    pub fn stop_each_moment(&mut self, rt: &HostRuntime, words: &str) -> io::Result<()> {
+        let alloc = rt.alloc();
+        let bytes = self.disk.bytes();
+        let steps = Steps::of(alloc, &self.next, words, bytes, &mut self.site)?;
+        steps.print(rt)?;
+        self.begin();
+        let mut report = empty_report(alloc);
+        let ran = ran_lines(
+            alloc,
+            &self.next,
+            words,
+            &mut self.disk,
+            &mut self.site,
+            &mut report,
+        );
+        self.next.clear();
+        let told = print_calls(rt, self.opened, &report);
+        let stopped = steps.stop_each(rt, &self.disk, self.opened, &report, &mut self.site);
+        drop(report);
+        let _ = ran?;
+        told?;
+        stopped
     }
 }

@@ -3,12 +3,13 @@
 //! that is to be done; what is printed is compared with what must be printed.
 #![tactic(auto)]
 
-mod changing;
+mod changing_folder;
 mod client;
 mod next;
 mod releases;
 mod runs;
 mod script;
 mod site;
+mod steps;
 
 pub use script::play;

@@ -16,6 +16,8 @@ pub struct Next {
     pub sink: u64,
     /// The lines of a session.
     pub lines: String,
+    /// The lines that look at what a session left.
+    pub look: String,
     /// The marks of the files that are published.
     pub marks: Vec<Word>,
     /// Bytes that stand before an inspected file.
@@ -52,6 +54,7 @@ impl Next {
             source: 0,
             sink: 0,
             lines: String::new(alloc),
+            look: String::new(alloc),
             marks: Vec::new(alloc),
             bytes: Vec::new(alloc),
             swap: None,
@@ -64,6 +67,7 @@ impl Next {
         self.source = 0;
         self.sink = 0;
         self.lines.clear();
+        self.look.clear();
         self.marks.clear();
         self.bytes.clear();
         self.swap = None;
@@ -117,6 +121,13 @@ impl Next {
     pub fn add(&mut self, line: &str) -> io::Result<()> {
         self.lines.push_str(line)?;
         self.lines.push('\n')?;
+        Ok(())
+    }
+
+    /// Adds a line that looks at what a session left.
+    pub fn add_look(&mut self, line: &str) -> io::Result<()> {
+        self.look.push_str(line)?;
+        self.look.push('\n')?;
         Ok(())
     }
 

@@ -1,5 +1,5 @@
 // Releases that are published, and manifests that are inspected.
-use crate::changing::Changing;
+use crate::changing_folder::ChangingFolder;
 use crate::next::{Next, first_of};
 use crate::runs::{run_apart, unused_folder, words_of};
 use crate::site::held;
@@ -47,7 +47,7 @@ pub fn publish_changing(rt: &HostRuntime, next: &mut Next, words: &str) -> io::R
     let (first, rest) = first_of(words);
     let (later, words) = first_of(rest);
     let words = words_of(alloc, words)?;
-    let mut folder = Changing {
+    let mut folder = ChangingFolder {
         first: reading_of(alloc, first)?,
         later: reading_of(alloc, later)?,
         reads: 0,

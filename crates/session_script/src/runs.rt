@@ -185,8 +185,8 @@ pub fn run_apart<F: Folder>(
     ran
 }
 
-// The words with the lines that are set, over a disk and a site.
-fn ran_lines(
+/// The status of the words with the lines that are set, over a disk and a site, and what they write.
+pub fn ran_lines(
     alloc: Global,
     next: &Next,
     words: &str,

@@ -38,7 +38,8 @@ fn change_site(rt: &HostRuntime, client: &mut Client, word: &str, rest: &str) ->
 
 // Adds what the line says to the next session. Its first word says what: `>` and `times` add lines,
 // `zeros` one that ends in zero bytes, and `last`, `repeat` and `return` a text, a text so many
-// times and a carriage return, without a line feed.
+// times and a carriage return, without a line feed. `look` adds a line of the sessions that look at
+// what it left.
 fn add_text(rt: &HostRuntime, client: &mut Client, word: &str, rest: &str) -> io::Result<()> {
     if word == ">" {
         return client.next.add(rest);
@@ -57,6 +58,9 @@ fn add_text(rt: &HostRuntime, client: &mut Client, word: &str, rest: &str) -> io
     }
     if word == "return" {
         return client.next.add_last("\r");
+    }
+    if word == "look" {
+        return client.next.add_look(rest);
     }
     change_site(rt, client, word, rest)
 }
@@ -94,15 +98,24 @@ fn set(rt: &HostRuntime, client: &mut Client, word: &str, rest: &str) -> io::Res
 
 // Does what the line says of the disk. Its first word says what: `stops` stops the last session at
 // each of its moments, `stop` after that call of it, and the next one runs over what is left;
+// `moments` runs a session and tells which of its lines a stop at each of its moments leaves, and
+// `faults` which of them it leaves where a call of its source, its sink or its disk fails;
 // `left` goes on with what a stop leaves, `aside` does so until `back`; `disk` goes on with zeros,
-// `failing` with the same bytes and a call that fails; `half` has the halves of the stores that
-// `format` makes from here on that many bytes long; and `calls` prints how many calls there were.
+// `failing` with the same bytes and a call that fails, or none where it is 0: a stop makes no call
+// from before it anew; `half` has the halves of the stores that `format` makes from here on that many
+// bytes long; and `calls` prints how many calls there were.
 fn change_disk(rt: &HostRuntime, client: &mut Client, word: &str, rest: &str) -> io::Result<()> {
     if word == "stops" {
         return client.stops(rt, rest);
     }
     if word == "stop" {
         return client.stop_once(rt, rest);
+    }
+    if word == "moments" {
+        return client.stop_each_moment(rt, rest);
+    }
+    if word == "faults" {
+        return client.fail_each(rt, rest);
     }
     if word == "left" {
         return client.go_on(rt, rest);

@@ -1,8 +1,8 @@
 pub mod BlockContents
 pub mod BlockPlaces
-pub mod BlockStaying
 pub mod CutLemmas
 pub mod DecimalLemmas
-pub mod Putting
-pub mod ReadingLemmas
-pub mod Spelling
+pub mod KeptBlocks
+pub mod OutcomeLemmas
+pub mod PutBytes
+pub mod Spelled

@@ -1,6 +1,10 @@
 -- Where blocks stand in an image, which contents they hold, and what stays round them.
 use Rattle.std.specs.Prelude.{◌≡◌, ◌≢◌, ℕ, ◌+◌, ◌-◌, ◌*◌, ◌/◌, ◌%◌, ◌<◌, ◌≤◌, min, slice_index, List, [], ◌∷◌, ◌++◌, length, take, drop, Contains, AllPairs}
-use Rattle.small_types.specs.declared.limits.TheConstants.{BLOCK_SIZE}
+use Rattle.small_types.specs.declared.limits.TheConstants.{BLOCK_SIZE, HEAD_BLOCK_SIZE}
+
+-- where the block 0 begins, behind a head block and two halves of so many bytes
+abbrev pub blocks_start : ℕ → ℕ
+blocks_start half = HEAD_BLOCK_SIZE + 2 * half
 
 -- where a block begins, if the block 0 begins at the base
 abbrev pub place_of : ℕ → ℕ → ℕ

@@ -5,6 +5,6 @@ pub mod Cuts
 pub mod Decimal
 pub mod Limit
 pub mod Name
-pub mod Reading
+pub mod Outcome
 pub mod Room
 pub mod Short

@@ -3,7 +3,7 @@ use Rattle.std.specs.Prelude.{ℕ, Bool, true, false, List, length, map, slice_g
 use Rattle.std.specs.Bool.{IsTrue}
 use Rattle.std.specs.List.{list_all, slice_split}
 use Rattle.std.specs.Str.{bytes_eq, is_utf8}
-use Rattle.small_types.specs.Reading.{GivesBut}
+use Rattle.small_types.specs.Outcome.{GivesBut}
 use Rattle.small_types.specs.declared.limits.TheConstants.{NAME_LIMIT}
 use Rattle.small_types.specs.declared.name.NameFault.{NameFault}
 use Rattle.small_types.specs.declared.name.NameFault.TheVariants.{Bad, Memory}

@@ -3,7 +3,7 @@
 #![tactic(auto)]
 
 mod bytes;
-mod cutting;
+mod cut;
 mod decimal;
 mod duplicate;
 mod laws;
@@ -19,7 +19,7 @@ mod text;
 mod word;
 
 pub use bytes::Bytes;
-pub use cutting::cut_once;
+pub use cut::cut_once;
 pub use decimal::{are_digits, parse_digits, read_decimal};
 pub use duplicate::{CopyFault, Duplicate};
 pub use laws::{contents_are_bytes, contents_stay};

@@ -44,7 +44,7 @@ pub const MANIFEST_LIMIT: usize = 4_194_304;
 pub const LEVEL_LIMIT: usize = 64;
 
 /// The most bytes of a file.
-pub const FILE_SIZE_LIMIT: u64 = 67_108_864;
+pub const FILE_SIZE_LIMIT: u64 = 268_435_456;
 
 /// The most bytes of a deployed data file.
 pub const LOCAL_SIZE_LIMIT: u64 = 1_048_576;
@@ -59,7 +59,7 @@ pub const PIECE_LIMIT: usize = 30_000;
 pub const BLOCK_SIZE: usize = 4_096;
 
 /// The most blocks of a store.
-pub const BLOCK_LIMIT: u64 = 65_536;
+pub const BLOCK_LIMIT: u64 = 1_048_576;
 
 /// The greatest number on lines and in words, 2^62.
 pub const NUMBER_LIMIT: u64 = 4_611_686_018_427_387_904;
@@ -67,31 +67,24 @@ pub const NUMBER_LIMIT: u64 = 4_611_686_018_427_387_904;
 /// The most decimal digits of a number.
 pub const DIGIT_LIMIT: usize = 19;
 
-// What follows holds of a store in blocks: a head block, a journal in two halves, and blocks of
-// `BLOCK_SIZE` bytes behind them.
+// A store has a head block, a journal in two halves, and its blocks behind them.
 
-/// The bytes of the head block of a store in blocks.
+/// The bytes of the head block of a store.
 pub const HEAD_BLOCK_SIZE: usize = 4_096;
 
-/// The most blocks of a store in blocks.
-pub const STORED_BLOCK_LIMIT: u64 = 1_048_576;
-
-/// The most bytes of a file of a store in blocks.
-pub const STORED_FILE_LIMIT: u64 = 268_435_456;
-
-/// The fewest bytes of a half of the journal of a store in blocks.
+/// The fewest bytes of a half of the journal.
 pub const HALF_LEAST: u64 = 1_048_576;
 
-/// The most bytes of such a half. It is to hold the bytes of all files, which stand in the journal.
-pub const HALF_LIMIT: u64 = 536_870_912;
+/// The most bytes of a half of the journal.
+pub const HALF_LIMIT: u64 = 67_108_864;
 
-/// The length of such a half is a multiple of so many bytes.
+/// The length of a half is a multiple of so many bytes.
 pub const HALF_STEP: u64 = 4_096;
 
-/// The bytes of such a half, beside those of the blocks that it is to hold.
+/// The bytes of a half of a new store's journal, where no other length is asked for.
 pub const HALF_DEFAULT: u64 = 16_777_216;
 
-/// The numbers of today's limits.
+/// The numbers of the limits.
 pub fn limits_are()
     ensures store { (APPLICATION_LIMIT ≡ 256) × (VIEW_LIMIT ≡ 1_024) × (LEASE_LIMIT ≡ 1_024) }
     ensures session { (JOB_LIMIT ≡ 16) × (LINK_LIMIT ≡ 8) }
@@ -99,17 +92,10 @@ pub fn limits_are()
     ensures names { (NAME_LIMIT ≡ 240) × (LOCAL_NAME_LIMIT ≡ 235) × (IDENTITY_PART_LIMIT ≡ 64) }
     ensures urls { URL_LIMIT ≡ 2_048 }
     ensures manifests { (MANIFEST_LIMIT ≡ 4_194_304) × (LEVEL_LIMIT ≡ 64) }
-    ensures files { (FILE_SIZE_LIMIT ≡ 67_108_864) × (LOCAL_SIZE_LIMIT ≡ 1_048_576) }
+    ensures files { (FILE_SIZE_LIMIT ≡ 268_435_456) × (LOCAL_SIZE_LIMIT ≡ 1_048_576) }
     ensures lines { (LINE_LIMIT ≡ 65_536) × (PIECE_LIMIT ≡ 30_000) }
-    ensures blocks { (BLOCK_SIZE ≡ 4_096) × (BLOCK_LIMIT ≡ 65_536) }
-    ensures numbers { (NUMBER_LIMIT ≡ 4_611_686_018_427_387_904) × (DIGIT_LIMIT ≡ 19) }
-{}
-
-/// The numbers of the limits of a store in blocks.
-pub fn block_limits_are()
-    ensures head { HEAD_BLOCK_SIZE ≡ 4_096 }
-    ensures blocks { STORED_BLOCK_LIMIT ≡ 1_048_576 }
-    ensures files { STORED_FILE_LIMIT ≡ 268_435_456 }
-    ensures halves { (HALF_LEAST ≡ 1_048_576) × (HALF_LIMIT ≡ 536_870_912) }
+    ensures blocks { (BLOCK_SIZE ≡ 4_096) × (BLOCK_LIMIT ≡ 1_048_576) × (HEAD_BLOCK_SIZE ≡ 4_096) }
+    ensures halves { (HALF_LEAST ≡ 1_048_576) × (HALF_LIMIT ≡ 67_108_864) }
     ensures steps { (HALF_STEP ≡ 4_096) × (HALF_DEFAULT ≡ 16_777_216) }
+    ensures numbers { (NUMBER_LIMIT ≡ 4_611_686_018_427_387_904) × (DIGIT_LIMIT ≡ 19) }
 {}

@@ -110,7 +110,7 @@ fn is_fit(text: &[u8]) -> bool
 }
 
 // Whether the bytes are UTF-8.
-#[tactic(auto, using(crate::proofs::Spelling::spelled, crate::proofs::Spelling::unspelled))]
+#[tactic(auto, using(crate::proofs::Spelled::spelled, crate::proofs::Spelled::unspelled))]
 fn is_text(bytes: &[u8]) -> bool
     ensures { result ≡ is_utf8 bytes.now }
 {
@@ -138,7 +138,7 @@ fn with_slashes_here(bytes: &[u8]) -> ArrayVec<u8, NAME_LIMIT>
 }
 
 /// Whether the bytes spell a name, so that `Name::read` gives it where there is memory. It takes none itself.
-#[tactic(auto, using(crate::proofs::Spelling::no_long_name))]
+#[tactic(auto, using(crate::proofs::Spelled::no_long_name))]
 pub fn is_name(bytes: &[u8]) -> bool
     ensures { result ≡ is_name (name_text bytes.now) }
 {

@@ -10,7 +10,7 @@ use Rattle.store_state.specs.Named.{content_at, file_at, named_at}
 use Rattle.store_state.specs.Shows.{bytes_in}
 use Rattle.store_state.specs.Stored.{content_bytes}
 use Rattle.store_state.specs.Tables.{Tables}
-use Rattle.store_state.proofs.Naming.{named_held}
+use Rattle.store_state.proofs.NamedFiles.{named_held}
 
 module _ (contents : List Content) where
   bytes_of : (room : Room) (image : List ℕ) (content : Option Content) → IsSome content

@@ -12,8 +12,8 @@ use Rattle.manifests.specs.Applications.{is_below_pre}
 use Rattle.machine.specs.Blocks.{standing_files}
 use Rattle.machine.specs.DataFiles.{with_named, without_named}
 use Rattle.machine.specs.Views.{standing_entries}
-use Rattle.machine.proofs.Finding.{find_in as found_in}
-use Rattle.machine.proofs.Mapping.{all_mapped}
+use Rattle.machine.proofs.FirstFound.{find_in as found_in}
+use Rattle.machine.proofs.ChangedLists.{all_mapped}
 use Rattle.machine.proofs.Members.{In}
 use Rattle.store_state.specs.declared.view.LocalFile.{LocalFile}
 use Rattle.store_state.specs.declared.view.View.{View}
@@ -25,10 +25,10 @@ use Rattle.store_state.specs.Named.{AreNameIndexes, IsNameIndex}
 use Rattle.store_state.specs.Rows.{row_at, with_row}
 use Rattle.store_state.specs.Tables.{Tables, bare_row}
 use Rattle.store_state.proofs.ByNumber.{became, change, changed_place, map_kept, one_is, sum_kept}
-use Rattle.store_state.proofs.Growing.{of_view, some_with}
+use Rattle.store_state.proofs.GrownTables.{of_view, some_with}
 use Rattle.store_state.proofs.Indexed.{pairs_of_map}
-use Rattle.store_state.proofs.Naming.{same_indexes}
-use Rattle.store_state.proofs.Putting.{all_left, all_with, fewer_left, order_with}
+use Rattle.store_state.proofs.NamedFiles.{same_indexes}
+use Rattle.store_state.proofs.PutItems.{all_left, all_with, fewer_left, order_with}
 
 module _ (number : ℕ) (h : List LocalFile → List LocalFile) where
   abbrev pub edit : View → View

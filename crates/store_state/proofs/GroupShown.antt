@@ -2,7 +2,7 @@
 use Rattle.std.proofs.Common.{◌≡◌, ◌∙◌, ◌⊎◌, ◌++◌, ◌&&◌, ◌||◌, inl, inr, refl, sym, ap, subst, ℕ, Bool, true, false, cond, not, List, [], ◌∷◌, map, AllPairs, ◌<◌, Some, IsSome, eqb, eq-eqb, eqb-true}
 use Rattle.std.specs.Prelude.{filter, option_map}
 use Rattle.std.proofs.lemmas.Bool.{cond-false, cond-true}
-use Rattle.std.proofs.lemmas.List.Elements.{All-weaker}
+use Rattle.std.proofs.lemmas.List.Elements.{All-append, All-weaker}
 use Rattle.small_types.specs.declared.room.Room.{Room}
 use Rattle.manifests.specs.declared.facts.FileEntry.{FileEntry}
 use Rattle.machine.specs.Current.{view_at}
@@ -12,7 +12,7 @@ use Rattle.machine.specs.Store.{Store}
 use Rattle.machine.specs.Views.{ListedFile, standing_entries}
 use Rattle.machine.specs.Views.{View as KeptView}
 use Rattle.store_state.proofs.ByNumber.{change}
-use Rattle.machine.proofs.Finding.{find-map}
+use Rattle.machine.proofs.FirstFound.{find-map}
 use Rattle.machine.proofs.Members.{In, all_in, filter_map_is, in_all}
 use Rattle.store_state.specs.declared.change.Change.TheVariants.{Group}
 use Rattle.store_state.specs.declared.view.Content.{Content}
@@ -21,12 +21,12 @@ use Rattle.store_state.specs.Change.{MayGrow, effect, grown}
 use Rattle.store_state.specs.Contents.{content_of}
 use Rattle.store_state.specs.Laws.{ShowsGroup, came_files, stand_files}
 use Rattle.store_state.specs.Rows.{row_at}
-use Rattle.store_state.specs.Shows.{SameFiles, Shows, shown_file, shown_store, shown_view}
+use Rattle.store_state.specs.Shows.{HoldsNew, SameFiles, Shows, shown_file, shown_store, shown_view}
 use Rattle.store_state.specs.Tables.{Tables}
-use Rattle.store_state.proofs.Growing.{each_grown, grown_either, of_view, one_view, standing_apart, standing_grown, view_number, view_there}
+use Rattle.store_state.proofs.GrownTables.{each_grown, grown_either, of_view, one_view, standing_apart, standing_grown, view_number, view_there}
 use Rattle.store_state.proofs.Keyed.{found_more}
-use Rattle.store_state.proofs.Naming.{is_standing}
-use Rattle.store_state.proofs.Showing.{HasMeasured, IsHeld, same_files, shows_same}
+use Rattle.store_state.proofs.NamedFiles.{is_standing}
+use Rattle.store_state.proofs.ShownTables.{HasMeasured, IsHeld, IsWhole, same_files, shows_same}
 
 -- ---- lists that are filtered twice
 
@@ -90,6 +90,7 @@ entries_shown room later contents (entry ∷ entries) =
 module _ (room : Room) (tables : Tables) (number : ℕ) (group : List ℕ) (contents : List Content)
     (view : View) (image later : List ℕ) (store : Store) (first : Shows room tables image store)
     (same : SameFiles room tables image later)
+    (holds : HoldsNew room (Group number group contents) later)
     (rising : AllPairs (λ (m n : ℕ). m < n) (map of_view tables.views))
     (kept : row_at number tables.views ≡ Some view) (may : MayGrow tables group contents view) where
   abbrev after : List Content
@@ -220,6 +221,7 @@ module _ (room : Room) (tables : Tables) (number : ℕ) (group : List ℕ) (cont
     held =
         each_grown number group tables.views view rising kept (IsHeld after) grown_held
         (λ other of unlike. still_held other of);
+    whole = All-append (IsWhole room later) tables.contents contents shows.whole holds;
     measured =
         each_grown number group tables.views view rising kept (HasMeasured room later)
         (all_in (HasMeasured room later) tables.views view shows.measured

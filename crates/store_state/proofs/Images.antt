@@ -1,95 +1,48 @@
 -- Images of a disk that have the same bytes of the files that tables name.
 use Rattle.std.proofs.Common.{◌≡◌, ◌∙◌, refl, ap, ℕ, List, [], ◌∷◌, All, Option, Some, None, length, map}
-use Rattle.std.proofs.lemmas.List.Elements.{All-cons, All-head, All-nil, All-tail, All-weaker}
+use Rattle.std.proofs.lemmas.List.Elements.{All-head, All-tail}
 use Rattle.small_types.specs.declared.room.Room.{Room}
 use Rattle.manifests.specs.declared.facts.FileEntry.{FileEntry}
 use Rattle.machine.specs.Views.{DataFile, ListedFile, standing_entries}
 use Rattle.machine.specs.Views.{View as KeptView}
-use Rattle.machine.proofs.Finding.{find_in}
-use Rattle.machine.proofs.Members.{all_in, in_all}
-use Rattle.store_state.specs.declared.change.Change.{Change}
-use Rattle.store_state.specs.declared.change.Change.TheVariants.{Boot, Require, Install, Heard, Unheard, Skip, Rollback, Launch, Finish, Group, Put, Remove, Clean}
+use Rattle.machine.proofs.FirstFound.{find_in}
+use Rattle.machine.proofs.Members.{In, all_in, in_all}
 use Rattle.store_state.specs.declared.view.Content.{Content}
 use Rattle.store_state.specs.declared.view.LocalFile.{LocalFile}
 use Rattle.store_state.specs.declared.view.View.{View}
-use Rattle.store_state.specs.Change.{Fits, FitsPut, IsLocal, MayPut}
-use Rattle.store_state.specs.Contents.{IsMeasured, content_of, is_content_of}
-use Rattle.store_state.specs.Rows.{row_at}
-use Rattle.store_state.specs.Shows.{HoldsNew, SameFiles, bytes_in, shown_data, shown_file, shown_view}
-use Rattle.store_state.specs.Stored.{HasContents, HasLocals, SameContents, SameLocals, content_bytes, data_bytes}
+use Rattle.store_state.specs.Contents.{content_of, is_content_of}
+use Rattle.store_state.specs.Shows.{SameFiles, bytes_in, shown_data, shown_file, shown_view}
+use Rattle.store_state.specs.Stored.{HasContents, HasLocals, SameContents, SameLocals, content_bytes, data_bytes, stored_bytes}
 use Rattle.store_state.specs.Tables.{Tables}
-use Rattle.store_state.proofs.Growing.{row_grows, some_with}
 
--- ---- the bytes of files stand in what is held of them
+-- ---- what is shown, where the files are the same
 
--- all images have the same files
-pub images_have : (room : Room) (tables : Tables) (image later : List ℕ)
+-- An image has the same files as another one where it has the same bytes of each content and of
+-- each data file.
+pub same_by : (room : Room) (tables : Tables) (image later : List ℕ)
+    → ((content : Content) → In content tables.contents
+    → stored_bytes room later content.held content.size
+    ≡ stored_bytes room image content.held content.size)
+    → ((view : View) → In view tables.views → (file : LocalFile) → In file view.locals
+    → stored_bytes room later file.held file.length
+    ≡ stored_bytes room image file.held file.length)
     → SameFiles room tables image later
-images_have room tables image later = record {
+same_by room tables image later contents locals = record {
   contents =
       in_all (λ (c : Content). content_bytes room later c ≡ content_bytes room image c)
-      tables.contents (λ content there. refl);
+      tables.contents contents;
   locals =
       in_all (λ (view : View). SameLocals room image later view.locals) tables.views
       (λ view there. in_all
       (λ (f : LocalFile). data_bytes room later f ≡ data_bytes room image f) view.locals
-      (λ file of. refl));
+      (λ file of. locals view there file of));
 }
 
--- each image has the files of a change that fits
-contents_held : (room : Room) (contents : List Content) (image : List ℕ) → All IsMeasured contents
-    → HasContents room image contents
-contents_held room contents image are = are
-
-locals_held : (room : Room) (locals : List LocalFile) (image : List ℕ) → All IsLocal locals
-    → HasLocals room image locals
-locals_held room locals image are =
-    All-weaker IsLocal (λ (file : LocalFile). length (data_bytes room image file) ≡ file.length)
-    (λ file is. is.measured) locals are
-
--- the view of a data file that is put
-put_local : (number : ℕ) (file : LocalFile) (tables : Tables) → FitsPut tables number file
-    → IsLocal file
-put_local number file tables fits =
-    (some_with (MayPut file) (row_at number tables.views) fits).2.local
-
-pub images_hold : (room : Room) (tables : Tables) (change : Change) (image : List ℕ)
-    → Fits tables change → HoldsNew room change image
-images_hold room tables (Boot boot) image fits = tt
-images_hold room tables (Require key version) image fits = tt
-images_hold room tables (Install view contents provider now) image fits = (
-  contents_held room contents image fits.brings.measured,
-  locals_held room view.locals image fits.row.locals,
-)
-images_hold room tables (Heard key version minimum now) image fits = tt
-images_hold room tables (Unheard key) image fits = tt
-images_hold room tables (Skip app) image fits = tt
-images_hold room tables (Rollback app) image fits = tt
-images_hold room tables (Launch app) image fits = tt
-images_hold room tables (Finish lease) image fits = tt
-images_hold room tables (Group number group contents) image fits =
-    contents_held room contents image (row_grows number group tables contents fits).2.brings.measured
-images_hold room tables (Put number file) image fits =
-    locals_held room (file ∷ []) image
-    (All-cons IsLocal file [] (put_local number file tables fits) (All-nil IsLocal))
-images_hold room tables (Remove number name) image fits = tt
-images_hold room tables Clean image fits = tt
-
--- ---- what is shown, where the files are the same
-
--- an image has the same files as itself
+-- as it has those of itself
 pub same_image : (room : Room) (tables : Tables) (image : List ℕ)
     → SameFiles room tables image image
-same_image room tables image = record {
-  contents =
-      in_all (λ (c : Content). content_bytes room image c ≡ content_bytes room image c)
-      tables.contents (λ content there. refl);
-  locals =
-      in_all (λ (view : View). SameLocals room image image view.locals) tables.views
-      (λ view there. in_all
-      (λ (f : LocalFile). data_bytes room image f ≡ data_bytes room image f) view.locals
-      (λ file of. refl));
-}
+same_image room tables image =
+    same_by room tables image image (λ content there. refl) (λ view there file of. refl)
 
 module _ (room : Room) (image later : List ℕ) where
   bytes_same : (contents : List Content) (entry : FileEntry)
@@ -148,7 +101,19 @@ module _ (room : Room) (image later : List ℕ) where
       ∙ ap (λ (rest : List KeptView). shown_view room image contents view ∷ rest)
       (views_same contents same views (All-tail OfView view views locals))
 
-  -- files stay as long as they are
+  -- contents stay as long as they are
+  pub still_whole : (contents : List Content) → SameContents room image later contents
+      → HasContents room image contents → HasContents room later contents
+  still_whole contents same whole =
+      in_all (λ (content : Content). length (content_bytes room later content) ≡ content.size)
+      contents
+      (λ content there. ap (λ (bytes : List ℕ). length bytes)
+      (all_in (λ (c : Content). content_bytes room later c ≡ content_bytes room image c) contents
+      content same there)
+      ∙ all_in (λ (c : Content). length (content_bytes room image c) ≡ c.size) contents content
+      whole there)
+
+  -- and so do data files
   pub still_measured : (files : List LocalFile) → SameLocals room image later files
       → HasLocals room image files → HasLocals room later files
   still_measured files same measured =
@@ -158,3 +123,24 @@ module _ (room : Room) (image later : List ℕ) where
       same there)
       ∙ all_in (λ (f : LocalFile). length (data_bytes room image f) ≡ f.length) files file
       measured there)
+
+-- ---- all files of tables
+
+-- where both images have the same files, each has as many bytes of the contents as their sizes say
+pub contents_stay : (room : Room) (tables : Tables) (image later : List ℕ)
+    → SameFiles room tables image later → HasContents room image tables.contents
+    → HasContents room later tables.contents
+contents_stay room tables image later same whole =
+    still_whole room image later tables.contents same.contents whole
+
+-- and as many of the data files as their lengths say
+pub locals_stay : (room : Room) (tables : Tables) (image later : List ℕ)
+    → SameFiles room tables image later
+    → All (λ (view : View). HasLocals room image view.locals) tables.views
+    → All (λ (view : View). HasLocals room later view.locals) tables.views
+locals_stay room tables image later same measured =
+    in_all (λ (view : View). HasLocals room later view.locals) tables.views
+    (λ view there. still_measured room image later view.locals
+    (all_in (λ (v : View). SameLocals room image later v.locals) tables.views view same.locals
+    there)
+    (all_in (λ (v : View). HasLocals room image v.locals) tables.views view measured there))

@@ -17,12 +17,12 @@ use Rattle.std.proofs.lemmas.Option.{same_Some, slice_get-map, slice_get_read}
 use Rattle.digest_list.specs.declared.digest.Digest.{Digest}
 use Rattle.manifests.specs.declared.facts.FileEntry.{FileEntry}
 use Rattle.machine.specs.Views.{ContentKey, content_key}
-use Rattle.machine.proofs.Finding.{find_none}
+use Rattle.machine.proofs.FirstFound.{find_none}
 use Rattle.machine.proofs.Members.{In, all_in, contains_in, in_all, in_contains, in_either, in_left, in_map, in_right, map_in, pairs_map, pairs_weaker}
-use Rattle.machine.proofs.Needing.{in_passes, passes_in}
+use Rattle.machine.proofs.OwnContents.{in_passes, passes_in}
 use Rattle.store_state.specs.declared.view.Content.{Content}
 use Rattle.store_state.specs.ContentKeys.{Agree, IsIndex, content_key_cmp}
-use Rattle.store_state.specs.Contents.{Brings, IsMeasured, content_of, held_key, is_content_of, is_same}
+use Rattle.store_state.specs.Contents.{Brings, content_of, held_key, is_content_of, is_same}
 use Rattle.store_state.specs.Places.{ArePlaces, AreSorted}
 use Rattle.store_state.proofs.Firsts.{PassesOnce, find_place, none_pass}
 use Rattle.store_state.proofs.Inserted.{sorted_still}
@@ -186,9 +186,8 @@ module _ (old new : List Content) (entries : List FileEntry) (standing brought :
       inr (subst (λ (key : ContentKey). Contains brought key) (sym (of_key entry content of))
       (in_index held_key new brought news.same content there))
 
-  agree_brings : All IsMeasured new → Agree (map held_key old) standing brought
-      → Brings old entries new
-  agree_brings measured agree = record {
+  agree_brings : Agree (map held_key old) standing brought → Brings old entries new
+  agree_brings agree = record {
     each =
         in_all (λ (entry : FileEntry). IsSome (content_of (old ++ new) entry)) entries
         (λ entry there. has_content entry
@@ -227,7 +226,6 @@ module _ (old new : List Content) (entries : List FileEntry) (standing brought :
         (pairs_of_map held_key (λ (a b : ContentKey). a ≢ b) new
         (differ_moved brought (map held_key new)
         (IsPermutation-sym (map held_key new) brought news.same) agree.once));
-    measured = measured;
   }
 
   brings_agree : Brings old entries new → Agree (map held_key old) standing brought
@@ -270,11 +268,10 @@ module _ (old new : List Content) (entries : List FileEntry) (standing brought :
         ));
   }
 
-  pub brings_is : (result : Bool) → All IsMeasured new
-      → IsTrue result ↔ Agree (map held_key old) standing brought
+  pub brings_is : (result : Bool) → IsTrue result ↔ Agree (map held_key old) standing brought
       → IsTrue result ↔ Brings old entries new
-  brings_is result measured answers =
-      (λ found. agree_brings measured (answers.0 found), λ brings. answers.1 (brings_agree brings))
+  brings_is result answers =
+      (λ found. agree_brings (answers.0 found), λ brings. answers.1 (brings_agree brings))
 
 -- ---- the index of contents, once there are more
 

@@ -18,7 +18,7 @@ use Rattle.digest_list.specs.Algorithm.{name_of}
 use Rattle.manifests.specs.declared.facts.FileEntry.{FileEntry}
 use Rattle.machine.specs.Views.{ContentKey, same_content, same_digest}
 use Rattle.machine.proofs.Contents.{content_decides}
-use Rattle.machine.proofs.Entering.{order}
+use Rattle.machine.proofs.EntryOrder.{order}
 use Rattle.machine.proofs.Members.{pairs_weaker}
 use Rattle.store_state.specs.ContentKeys.{content_key_cmp, digest_cmp}
 

@@ -12,7 +12,7 @@ use Rattle.machine.specs.Views.{ContentKey, content_key, same_content}
 use Rattle.machine.specs.Wanted.{is_held}
 use Rattle.machine.proofs.Contents.{content_decides}
 use Rattle.machine.proofs.Members.{In, all_in, any_left, contains_in, in_all, in_contains, in_map, in_right, map_in, pairs_head, pairs_map, pairs_tail, sum_map, sum_within}
-use Rattle.machine.proofs.Needing.{Apart, distinct_apart, distinct_in, each_stands, in_passes, passes_in}
+use Rattle.machine.proofs.OwnContents.{Apart, distinct_apart, distinct_in, each_stands, in_passes, passes_in}
 use Rattle.store_state.specs.declared.view.Content.{Content}
 use Rattle.store_state.specs.Contents.{AreContentsOf, Brings, content_of, held_key, is_content_of, is_same}
 

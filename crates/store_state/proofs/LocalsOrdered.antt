@@ -18,9 +18,9 @@ use Rattle.machine.specs.Store.{Store}
 use Rattle.machine.specs.Valid.{AreNumbers, IsApp, IsDataFile, IsInstalled, IsView, IsViewOf, Ordered}
 use Rattle.machine.specs.Views.{DataFile, View, key_of}
 use Rattle.machine.proofs.OneView.{only_one}
-use Rattle.machine.proofs.Mapping.{all_mapped, any_mapped, same_parts}
+use Rattle.machine.proofs.ChangedLists.{all_mapped, any_mapped, same_parts}
 use Rattle.machine.proofs.Members.{In, in_all, sum_agree, sum_map}
-use Rattle.store_state.proofs.Putting.{all_left, all_with, fewer_left, order_with}
+use Rattle.store_state.proofs.PutItems.{all_left, all_with, fewer_left, order_with}
 
 module _ (number : ℕ) (k : List DataFile → List DataFile) (old : Store) where
   abbrev kept_with : View → View

@@ -10,7 +10,7 @@ use Rattle.machine.specs.Shape.{BareData, BareView}
 use Rattle.machine.specs.Store.{Store}
 use Rattle.machine.specs.Views.{DataFile}
 use Rattle.machine.specs.Views.{View as KeptView}
-use Rattle.machine.proofs.Finding.{find-map}
+use Rattle.machine.proofs.FirstFound.{find-map}
 use Rattle.machine.proofs.Members.{filter_map_is}
 use Rattle.store_state.specs.declared.change.Change.TheVariants.{Put, Remove}
 use Rattle.store_state.specs.declared.view.Content.{Content}
@@ -25,9 +25,9 @@ use Rattle.store_state.specs.Tables.{Tables, bare_local, bare_row, table_shape}
 use Rattle.store_state.proofs.ByNumber.{change}
 use Rattle.store_state.proofs.Current.{bare_at}
 use Rattle.store_state.proofs.Edited.{all_edited, edit, edited}
-use Rattle.store_state.proofs.Growing.{of_view}
-use Rattle.store_state.proofs.Putting.{all_left, all_with, named_shown}
-use Rattle.store_state.proofs.Showing.{HasMeasured, IsHeld, shows_same}
+use Rattle.store_state.proofs.GrownTables.{of_view}
+use Rattle.store_state.proofs.PutItems.{all_left, all_with, named_shown}
+use Rattle.store_state.proofs.ShownTables.{HasMeasured, IsHeld, shows_same}
 use Rattle.store_state.proofs.ShownFiles.{mapped_some, row_shown}
 
 -- ---- once those of one view are others
@@ -70,6 +70,7 @@ module _ (room : Room) (image : List ℕ) (number : ℕ) (h : List LocalFile →
         ∙ ap (λ (views : List KeptView). record (shown_store room image tables) { views = views })
         (views_shown tables.contents tables.views);
     held = all_edited number h (IsHeld tables.contents) (λ v held. held) tables.views shows.held;
+    whole = shows.whole;
     measured =
         all_edited number h (HasMeasured room image) (λ v are. keeps v.locals are) tables.views shows.measured;
   }

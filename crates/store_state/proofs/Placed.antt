@@ -10,8 +10,8 @@ use Rattle.identity.specs.Key.{key_text}
 use Rattle.identity.specs.declared.key.Key.{Key}
 use Rattle.machine.specs.declared.app.AppState.{AppState}
 use Rattle.machine.specs.Entries.{AreInOrder, KeepsKeys, fresh, key_cmp, with_entry}
-use Rattle.machine.proofs.Entering.{order-with_entry}
-use Rattle.machine.proofs.Entering.{order as text_order}
+use Rattle.machine.proofs.EntryOrder.{order-with_entry}
+use Rattle.machine.proofs.EntryOrder.{order as text_order}
 use Rattle.machine.proofs.Places.{changed_at}
 use Rattle.store_state.specs.Rows.{with_app}
 

@@ -15,10 +15,10 @@ use Rattle.machine.specs.declared.app.AppState.{AppState}
 use Rattle.machine.specs.Entries.{KeepsKeys, entry_at, entry_of, fresh, key_cmp, with_entry, with_entry_at}
 use Rattle.machine.specs.Minimums.{minimum_of, raised, raised_app}
 use Rattle.machine.specs.RequireRow.{required}
-use Rattle.machine.proofs.Entering.{order-with_entry}
+use Rattle.machine.proofs.EntryOrder.{order-with_entry}
 use Rattle.machine.proofs.Places.{IsGap, changed_at, inserted_at, searched_keys, texts}
 use Rattle.store_state.specs.Kept.{AreKept}
-use Rattle.store_state.proofs.Searching.{IsFound}
+use Rattle.store_state.proofs.KeySearch.{IsFound}
 
 pub raised_keeps : (version : Version) → KeepsKeys (raised_app version)
 raised_keeps version app = refl

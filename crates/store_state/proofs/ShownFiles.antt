@@ -9,7 +9,7 @@ use Rattle.machine.specs.Shape.{BareView}
 use Rattle.machine.specs.Store.{Store}
 use Rattle.machine.specs.Views.{ListedFile, standing_entries}
 use Rattle.machine.specs.Views.{View as KeptView}
-use Rattle.machine.proofs.Finding.{find-map}
+use Rattle.machine.proofs.FirstFound.{find-map}
 use Rattle.store_state.specs.declared.view.Content.{Content}
 use Rattle.store_state.specs.declared.view.View.{View}
 use Rattle.store_state.specs.Contents.{content_of}

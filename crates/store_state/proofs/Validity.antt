@@ -7,7 +7,7 @@ use Rattle.std.proofs.lemmas.List.Elements.{All-map, All-weaker}
 use Rattle.std.proofs.lemmas.Option.{MatchOption-at_some}
 use Rattle.std.proofs.lemmas.Slice.Eq.{bytes_eq-Decides}
 use Rattle.small_types.specs.declared.room.Room.{Room}
-use Rattle.small_types.specs.declared.limits.TheConstants.{APPLICATION_LIMIT, BLOCK_LIMIT, LEASE_LIMIT, LOCAL_COUNT_LIMIT, NAME_LIMIT, NUMBER_LIMIT}
+use Rattle.small_types.specs.declared.limits.TheConstants.{APPLICATION_LIMIT, LEASE_LIMIT, LOCAL_COUNT_LIMIT, NAME_LIMIT, NUMBER_LIMIT}
 use Rattle.small_types.specs.declared.target.Target.{Target}
 use Rattle.identity.specs.Printed.{text_cmp}
 use Rattle.identity.specs.declared.key.Key.{Key}
@@ -31,7 +31,6 @@ use Rattle.machine.specs.LaunchRow.{launched}
 use Rattle.machine.specs.RollbackRow.{rolled_back}
 use Rattle.machine.specs.Shape.{Shape, bare_view, shape_of}
 use Rattle.machine.specs.SkipRow.{skipped, skipped_app}
-use Rattle.machine.specs.Store as stores
 use Rattle.machine.specs.Store.{Store, booted, session_over}
 use Rattle.machine.specs.Valid.{IsApp, IsDataFile, IsView, IsViewOf, Ordered}
 use Rattle.machine.specs.Views.{DataFile, ListedFile, standing_entries}
@@ -39,12 +38,12 @@ use Rattle.machine.specs.Views.{View as KeptView}
 use Rattle.machine.specs.Weight.{IsLight, weight_of}
 use Rattle.machine.proofs.CheckFacts.{heard_is_app, unheard_is_app}
 use Rattle.machine.proofs.CleanedStores.{cleaned_ordered}
-use Rattle.machine.proofs.Finding.{some_there, then_value, value_of}
-use Rattle.machine.proofs.Grouping.{grouped_ordered}
-use Rattle.machine.proofs.Installing.{Fitting, installed_ordered, standing_required}
-use Rattle.machine.proofs.Keeping.{booted_ordered, empty_ordered, required_ordered}
+use Rattle.machine.proofs.FirstFound.{some_there, then_value, value_of}
+use Rattle.machine.proofs.GrownViews.{grouped_ordered}
+use Rattle.machine.proofs.NewView.{Fitting, installed_ordered, standing_required}
+use Rattle.machine.proofs.KeptStores.{booted_ordered, required_ordered}
 use Rattle.machine.proofs.Leased.{view_in}
-use Rattle.machine.proofs.Leasing.{finished_ordered, launched_ordered}
+use Rattle.machine.proofs.LeaseLists.{finished_ordered, launched_ordered}
 use Rattle.machine.proofs.Members.{In, all_in, contains_in, filter_in, in_contains, in_map, pairs_map, sum_map}
 use Rattle.machine.proofs.SkipFacts.{skipped_is_app}
 use Rattle.store_state.specs.declared.change.Change.{Change}
@@ -52,23 +51,23 @@ use Rattle.store_state.specs.declared.change.Change.TheVariants.{Boot, Clean, Fi
 use Rattle.store_state.specs.declared.view.Content.{Content}
 use Rattle.store_state.specs.declared.view.LocalFile.{LocalFile}
 use Rattle.store_state.specs.declared.view.View.{View}
-use Rattle.store_state.specs.Change.{Fits, FitsInstall, FitsPut, IsLocal, MayPut, Replays, effect}
+use Rattle.store_state.specs.Change.{Fits, FitsInstall, FitsPut, IsLocal, MayPut, effect}
 use Rattle.store_state.specs.Laws.{ShowsOrdered, stand_files}
 use Rattle.store_state.specs.Locals.{outside_locals, with_local}
 use Rattle.store_state.specs.Rows.{current_at, current_row, listed_files, offer_at, row_at}
 use Rattle.store_state.specs.Shows.{HoldsNew, SameFiles, Shows, shown_data, shown_file, shown_view}
-use Rattle.store_state.specs.Tables.{Tables, bare_row, empty, table_shape}
-use Rattle.store_state.proofs.Checking.{current_entry, entry_ordered, own_entry, shows_heard, shows_skipped, shows_unheard, version_shown}
-use Rattle.store_state.proofs.Cleaning.{cleans_shown}
+use Rattle.store_state.specs.Tables.{Tables, bare_row, table_shape}
+use Rattle.store_state.proofs.CheckedApps.{current_entry, entry_ordered, own_entry, shows_heard, shows_skipped, shows_unheard, version_shown}
+use Rattle.store_state.proofs.CleanedTables.{cleans_shown}
 use Rattle.store_state.proofs.Firsts.{in_place}
 use Rattle.store_state.proofs.GroupShown.{group_shown}
-use Rattle.store_state.proofs.Growing.{of_view, row_grows, some_in, some_with}
-use Rattle.store_state.proofs.Holding.{room_is}
-use Rattle.store_state.proofs.Images.{images_hold, same_image}
+use Rattle.store_state.proofs.GrownTables.{of_view, row_grows, some_in, some_with}
+use Rattle.store_state.proofs.ChangedTables.{room_is}
+use Rattle.store_state.proofs.Images.{same_image}
 use Rattle.store_state.proofs.LocalsOrdered.{outside_data, put_ordered, removed_ordered}
 use Rattle.store_state.proofs.LocalsShown.{put_agrees, puts_shown, removals_shown}
-use Rattle.store_state.proofs.RollingBack.{back_key, back_ordered, back_shown, back_version}
-use Rattle.store_state.proofs.Showing.{data_files, files, installed, shape_shown, shows_booted, shows_empty, shows_finished, shows_installed, shows_launched, shows_required, shows_same}
+use Rattle.store_state.proofs.RolledBack.{back_key, back_ordered, back_shown, back_version}
+use Rattle.store_state.proofs.ShownTables.{data_files, files, installed, shape_shown, shows_booted, shows_finished, shows_installed, shows_launched, shows_required, shows_same}
 use Rattle.store_state.proofs.ShownFiles.{row_shown}
 
 -- the store that tables show has their applications
@@ -355,7 +354,7 @@ changed_shown room image old (Group number group contents) fits holds shown =
     let row = row_grows number group old contents fits in
     let rising = rows_rising shown.shows shown.ordered in
     let is = group_shown room old number group contents row.0 image image shown.store shown.shows
-    (same_image room old image) rising row.1 row.2 in
+    (same_image room old image) holds rising row.1 row.2 in
     record {
       store = grouped number group (stand_files room image old contents group row.0) shown.store;
       shows = is.shows;
@@ -394,15 +393,6 @@ changed_shown room image old Clean fits holds shown = record {
   shows = cleans_shown room old image image shown.store shown.shows (same_image room old image);
   ordered = cleaned_ordered shown.store shown.ordered;
 }
-
-replays_shown : (room : Room) (image : List ℕ) (old last : Tables) (changes : List Change)
-    → Shown room old image → Replays old changes last → Shown room last image
-replays_shown room image old last [] shown replays =
-    subst (λ (t : Tables). Shown room t image) (sym replays) shown
-replays_shown room image old last (change ∷ changes) shown replays =
-    replays_shown room image (effect change old) last changes
-    (changed_shown room image old change replays.0 (images_hold room old change image replays.0)
-    shown) replays.1
 
 room_shown : (room : Room) (tables : Tables) (image : List ℕ) (store : Store)
     → Shows room tables image store → used_blocks (map bare_row tables.views) ≤ room.blocks
@@ -444,15 +434,3 @@ change_ordered room tables change image later store shows ordered same holds fit
     as_ordered room (effect change tables) later
     (changed_shown room later tables change fits holds
     (record { store = store; shows = shows_same later same shows; ordered = ordered }))
-
-pub loaded_ordered : (room : Room) (changes : List Change) (tables : Tables) (image : List ℕ)
-    → 1 ≤ room.blocks → room.blocks ≤ BLOCK_LIMIT → Replays empty changes tables
-    → ShowsOrdered room tables image
-loaded_ordered room changes tables image some few replays =
-    as_ordered room tables image
-    (replays_shown room image empty tables changes
-    (record {
-      store = stores.empty room;
-      shows = shows_empty room image;
-      ordered = empty_ordered room some few;
-    }) replays)

@@ -20,10 +20,10 @@ use Rattle.digest_list.specs.declared.digest.Digest.{Digest}
 use Rattle.manifests.specs.declared.facts.FileEntry.{FileEntry}
 use Rattle.machine.specs.Blocks.{standing_files}
 use Rattle.machine.specs.Views.{ContentKey, content_key, standing_entries}
-use Rattle.machine.proofs.Finding.{find_some, map_value}
-use Rattle.machine.proofs.Finding.{find_in as found_in}
+use Rattle.machine.proofs.FirstFound.{find_some, map_value}
+use Rattle.machine.proofs.FirstFound.{find_in as found_in}
 use Rattle.machine.proofs.Members.{In, all_in, filter_in, filter_map_is, in_all, in_filter, in_map, map_in, pairs_weaker, sum_within}
-use Rattle.machine.proofs.Needing.{in_passes, passes_in}
+use Rattle.machine.proofs.OwnContents.{in_passes, passes_in}
 use Rattle.store_state.specs.declared.view.Content.{Content}
 use Rattle.store_state.specs.declared.view.View.{View}
 use Rattle.store_state.specs.Change.{IsRow}
@@ -37,11 +37,11 @@ use Rattle.store_state.specs.Places.{ArePlaces, AreSorted}
 use Rattle.store_state.specs.Rows.{listed_files}
 use Rattle.store_state.specs.Tables.{Tables, bare_row}
 use Rattle.store_state.proofs.Firsts.{PassesOnce, none_pass}
-use Rattle.store_state.proofs.Growing.{files_row, of_view, row_files}
+use Rattle.store_state.proofs.GrownTables.{files_row, of_view, row_files}
 use Rattle.store_state.proofs.Indexed.{one_content, pairs_of_map}
 use Rattle.store_state.proofs.Keyed.{any_in, differ, find_in, in_any, in_find, key_of, of_key}
-use Rattle.store_state.proofs.Marking.{kept_filter, kept_indexes, marked_at, marked_nowhere, some_item}
-use Rattle.store_state.proofs.Naming.{is_standing, same_indexes}
+use Rattle.store_state.proofs.MarkedItems.{kept_filter, kept_indexes, marked_at, marked_nowhere, some_item}
+use Rattle.store_state.proofs.NamedFiles.{is_standing, same_indexes}
 use Rattle.store_state.proofs.Numbered.{no_number, number_at}
 
 -- ---- how many contents there are

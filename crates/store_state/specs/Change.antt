@@ -30,16 +30,14 @@ use Rattle.store_state.specs.Contents.{Brings}
 use Rattle.store_state.specs.Dropped.{dropped, removable_in}
 use Rattle.store_state.specs.Locals.{local_at, outside_locals, with_local, without_local}
 use Rattle.store_state.specs.Rows.{current_at, current_row, current_row_at, current_version, listed_files, offer_at, previous_row_at, row_at, version_at, with_app, with_row}
-use Rattle.store_state.specs.Stored.{IsHeldFor}
 use Rattle.store_state.specs.Tables.{Tables}
 
 -- ---- views
 
--- a data file has a name within its limit, and what is held of it is what its length needs
+-- a data file has a name within its limit
 pub record IsLocal (file : LocalFile) : Type 0 where
   pub name : IsName file.name
   pub short : ¬ IsBelowPre file.name → length file.name ≤ LOCAL_NAME_LIMIT
-  pub measured : IsHeldFor file.length file.held
 
 -- what manifests can say, an address within its limits, and data files in order of their names, few
 -- enough
@@ -233,8 +231,3 @@ effect (Group view group contents) old = record old {
 effect (Put view file) old = record old { views = with_row view (with_local file) old.views }
 effect (Remove view name) old = record old { views = with_row view (without_local name) old.views }
 effect Clean old = dropped (removable_in old) old
-
--- one change after another leads from old to new, and each fits
-abbrev pub Replays : Tables → List Change → Tables → Type 0
-Replays old [] new = new ≡ old
-Replays old (change ∷ changes) new = Fits old change × Replays (effect change old) changes new

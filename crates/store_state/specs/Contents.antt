@@ -27,15 +27,14 @@ pub record AreContentsOf (entries : List FileEntry) (contents : List Content) : 
   pub only : All (λ content. Any (λ entry. is_content_of entry content ≡ true) entries) contents
   pub once : AllPairs (λ (a b : Content). is_same a b ≡ false) contents
 
--- what is held of a content is what its size needs
+-- it has as many blocks as its size needs
 abbrev pub IsMeasured : Content → Type 0
 IsMeasured content = IsHeldFor content.size content.held
 
--- The new contents are exactly those that files lack, each once, and whole.
+-- The new contents are exactly those that files lack, each once.
 pub record Brings (old : List Content) (entries : List FileEntry) (new : List Content)
     : Type 0 where
   pub each : All (λ entry. IsSome (content_of (old ++ new) entry)) entries
   pub only : All (λ content. Any (λ entry. is_content_of entry content ≡ true) entries) new
   pub lacking : All (λ content. All (λ other. is_same other content ≡ false) old) new
   pub once : AllPairs (λ (a b : Content). is_same a b ≡ false) new
-  pub measured : All IsMeasured new

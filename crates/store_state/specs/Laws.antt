@@ -2,7 +2,6 @@
 use Rattle.std.specs.Prelude.{◌≡◌, ◌≤◌, ◌++◌, ◌==◌, ℕ, List, [], ◌∷◌, All, Some, filter, is_some, map, not, option_and_then, option_map, slice_get}
 use Rattle.std.specs.List.{list_any}
 use Rattle.small_types.specs.declared.room.Room.{Room}
-use Rattle.small_types.specs.declared.limits.TheConstants.{BLOCK_LIMIT}
 use Rattle.small_types.specs.declared.target.Target.{Target}
 use Rattle.identity.specs.declared.key.Key.{Key}
 use Rattle.identity.specs.declared.version.Version.{Version}
@@ -33,10 +32,11 @@ use Rattle.store_state.specs.declared.change.Change.TheVariants.{Boot, Require, 
 use Rattle.store_state.specs.declared.view.Content.{Content}
 use Rattle.store_state.specs.declared.view.LocalFile.{LocalFile}
 use Rattle.store_state.specs.declared.view.View.{View}
-use Rattle.store_state.specs.Change.{Fits, Replays, effect}
+use Rattle.store_state.specs.Change.{Fits, effect}
 use Rattle.store_state.specs.Dropped.{dropped}
 use Rattle.store_state.specs.Kept.{AreTables}
 use Rattle.store_state.specs.Locals.{local_at}
+use Rattle.store_state.specs.Measured.{AreMeasured, BringsMeasured}
 use Rattle.store_state.specs.Named.{content_at, file_at, named_at}
 use Rattle.store_state.specs.Rows.{row_at}
 use Rattle.store_state.specs.Shows.{HoldsNew, SameFiles, Shows, shown_data, shown_file, shown_view}
@@ -54,19 +54,14 @@ ShapesAreShown = (room : Room) (tables : Tables) (image : List ℕ) (session : S
     → session.jobs ≡ [] → Shows room tables image session.store
     → shape_of session ≡ table_shape room tables
 
--- Tables that changes led to from the empty ones show a store within its order and its limits,
--- where the number of blocks is possible. Where its files and its tables have room, it is valid.
+-- Tables show a store within its order and its limits. Where its files and its tables have room, it is
+-- valid.
 pub record ShowsOrdered (room : Room) (tables : Tables) (image : List ℕ) : Type 0 where
   pub store : Store
   pub shows : Shows room tables image store
   pub ordered : Ordered store
   pub valid : used_blocks (map bare_row tables.views) ≤ room.blocks
       → IsLight room (weight_of (map bare_row tables.views) tables.apps) → Valid store
-
-abbrev pub ChangesShowOrderedStores : Type 0
-ChangesShowOrderedStores = (room : Room) (changes : List Change) (tables : Tables) (image : List ℕ)
-    → 1 ≤ room.blocks → room.blocks ≤ BLOCK_LIMIT → Replays empty changes tables
-    → ShowsOrdered room tables image
 
 -- A change that fits leads from tables that show a store in its order to tables that show one.
 abbrev pub EachChangeShowsAnOrderedStore : Type 0
@@ -275,12 +270,12 @@ abbrev pub NamesHaveContents : Type 0
 NamesHaveContents = (tables : Tables) (number : ℕ) (name : List ℕ) → AreTables tables
     → is_some (content_at number name tables) ≡ is_some (named_at number name tables)
 
--- In this form files stand in the tables: all images have the same bytes of them, and each has those
--- of a change that fits.
-abbrev pub ImagesHaveTheFiles : Type 0
-ImagesHaveTheFiles = (room : Room) (tables : Tables) (image later : List ℕ)
-    → SameFiles room tables image later
+-- A change that brings files with as many blocks as their lengths need leaves tables of which each
+-- file has so many.
+abbrev pub MeasuredTablesStay : Type 0
+MeasuredTablesStay = (tables : Tables) (change : Change) → AreMeasured tables
+    → BringsMeasured change → AreMeasured (effect change tables)
 
-abbrev pub ImagesHoldTheNew : Type 0
-ImagesHoldTheNew = (room : Room) (tables : Tables) (change : Change) (image : List ℕ)
-    → Fits tables change → HoldsNew room change image
+-- the empty tables have no file
+abbrev pub EmptyTablesAreMeasured : Type 0
+EmptyTablesAreMeasured = AreMeasured empty

@@ -6,6 +6,7 @@ pub mod Kept
 pub mod Laws
 pub mod Locals
 pub mod Marks
+pub mod Measured
 pub mod Named
 pub mod Notes
 pub mod Parts

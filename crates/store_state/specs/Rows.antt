@@ -1,11 +1,13 @@
 -- Views and applications of the tables, by numbers, keys and places.
-use Rattle.std.specs.Prelude.{ℕ, ◌==◌, List, find, map, sum_by, length, Option, option_and_then, option_map, slice_get, slice_set, unwrap_or, if◌then◌else◌}
+use Rattle.std.specs.Prelude.{ℕ, ◌==◌, List, [], find, map, sum_by, length, Option, Some, None, option_and_then, option_map, slice_get, slice_set, unwrap_or, if◌then◌else◌}
 use Rattle.identity.specs.declared.key.Key.{Key}
 use Rattle.identity.specs.declared.version.Version.{Version}
+use Rattle.manifests.specs.declared.facts.FileEntry.{FileEntry}
 use Rattle.machine.specs.declared.app.AppState.{AppState}
 use Rattle.machine.specs.Current.{current_of}
 use Rattle.machine.specs.Leases.{lease_of}
 use Rattle.machine.specs.Previous.{previous_of}
+use Rattle.store_state.specs.declared.view.LocalFile.{LocalFile}
 use Rattle.store_state.specs.declared.view.View.{View}
 use Rattle.store_state.specs.Tables.{Tables}
 
@@ -17,6 +19,15 @@ row_at number views = find (λ view. view.number == number) views
 abbrev pub current_row : Key → Tables → Option View
 current_row key tables =
     option_and_then (λ number. row_at number tables.views) (current_of key tables.apps)
+
+-- the data files of a view, and the files that its application lists; of no view there are none
+abbrev pub row_locals : Option View → List LocalFile
+row_locals None = []
+row_locals (Some view) = view.locals
+
+abbrev pub row_files : Option View → List FileEntry
+row_files None = []
+row_files (Some view) = view.application.files
 
 -- its version
 abbrev pub current_version : Key → Tables → Option Version

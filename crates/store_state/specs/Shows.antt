@@ -34,7 +34,8 @@ shown_view room image contents view = record {
   application = view.application;
   base = view.base;
   groups = view.groups;
-  program_files = map (shown_file room image contents) (standing_entries view.groups view.application);
+  program_files = map (shown_file room image contents)
+      (standing_entries view.groups view.application);
   data_files = map (shown_data room image) view.locals;
 }
 
@@ -71,10 +72,11 @@ HoldsNew room (Finish lease) image = Unit {0}
 HoldsNew room (Remove number name) image = Unit {0}
 HoldsNew room Clean image = Unit {0}
 
--- Each program file that stands has its content, and each data file has as many bytes in the image
--- as its length says.
+-- Each program file that stands has its content, and each content and each data file has as many
+-- bytes in the image as its length says.
 pub record Shows (room : Room) (tables : Tables) (image : List ℕ) (store : Store) : Type 0 where
   pub is : store ≡ shown_store room image tables
   pub held : All (λ view. All (λ entry. IsSome (content_of tables.contents entry))
       (standing_entries view.groups view.application)) tables.views
+  pub whole : HasContents room image tables.contents
   pub measured : All (λ view. HasLocals room image view.locals) tables.views

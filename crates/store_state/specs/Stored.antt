@@ -1,17 +1,19 @@
--- How the bytes of files are held.
+-- How the bytes of files are held: in blocks.
 use Rattle.std.specs.Prelude.{◌≡◌, ℕ, List, All, length}
+use Rattle.small_types.specs.Blocks.{blocks_start, bytes_in, count_for}
 use Rattle.small_types.specs.declared.room.Room.{Room}
 use Rattle.store_state.specs.declared.view.Content.{Content}
 use Rattle.store_state.specs.declared.view.LocalFile.{LocalFile}
 
--- The bytes of a file of so many bytes that is held so, on a disk of this room with this image. They
--- stand in what is held, so nothing is read in the image.
+-- The bytes of a file of so many bytes that is held in these blocks, on a disk of this room with this
+-- image: those of its blocks, in their order, cut at its length. They are fewer where the image ends
+-- before one of them.
 abbrev pub stored_bytes : Room → List ℕ → List ℕ → ℕ → List ℕ
-stored_bytes room image held length = held
+stored_bytes room image held size = bytes_in (blocks_start room.half) held size image
 
--- what is held is what a file of so many bytes needs
+-- there are as many blocks as a file of so many bytes needs
 abbrev pub IsHeldFor : ℕ → List ℕ → Type 0
-IsHeldFor size held = length held ≡ size
+IsHeldFor size held = length held ≡ count_for size
 
 abbrev pub content_bytes : Room → List ℕ → Content → List ℕ
 content_bytes room image content = stored_bytes room image content.held content.size

@@ -5,7 +5,7 @@ ghost use Rattle.std.specs.declared.cmp.Ordering.TheVariants.{Less};
 ghost use Rattle.machine.specs.Groups.{group_files};
 ghost use Rattle.machine.specs.Views.{ContentKey, content_key, standing_entries, stands_by};
 ghost use Rattle.store_state.specs.ContentKeys.{Agree, content_key_cmp};
-ghost use Rattle.store_state.specs.Contents.{IsMeasured, held_key};
+ghost use Rattle.store_state.specs.Contents.{held_key};
 
 use crate::content_key::{ContentKey, has_key, key_order};
 use crate::view::{is_in_group, is_one_of};
@@ -13,20 +13,6 @@ use crate::{Content, StateFault, StoreState, View};
 use manifests::FileEntry;
 use small_types::{Duplicate, Text};
 use std::alloc::Global;
-
-// Whether the content has as many bytes as its size says.
-fn is_measured(content: &Content) -> bool
-    ensures { IsTrue result ↔ IsMeasured content.now }
-{
-    content.held.as_slice().len() as u64 == content.size
-}
-
-// Whether each content has.
-pub(crate) fn are_measured(contents: &[Content]) -> bool
-    ensures { IsTrue result ↔ All IsMeasured contents.now }
-{
-    contents.iter().all(|content| is_measured(content))
-}
 
 // ---- the files that stand
 

@@ -11,7 +11,7 @@ ghost use Rattle.store_state.specs.Contents.{Brings};
 ghost use Rattle.store_state.specs.Locals.{local_at};
 ghost use Rattle.store_state.specs.Rows.{current_at, listed_files, offer_at};
 
-use crate::brought_contents::{agree, are_measured, group_keys, standing_keys};
+use crate::brought_contents::{agree, group_keys, standing_keys};
 use crate::content_key::{ContentKey, keys_of, sort_keys};
 use crate::fields::{is_local, is_row, is_short_key, is_some_version, is_target, is_version};
 use crate::local_files::has_room_for;
@@ -251,9 +251,6 @@ impl StoreState {
             → files.items ≡ map content_key entries
             → IsTrue answer ↔ Brings self.now.contents entries contents.now) }
     {
-        if !are_measured(contents) {
-            return Ok(false);
-        }
         sort_keys(&mut files);
         let mut brought = keys_of(alloc, contents)?;
         sort_keys(&mut brought);

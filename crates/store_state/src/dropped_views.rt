@@ -63,7 +63,8 @@ fn mark_views(marks: &mut MarkList, views: &[View], numbers: &[u64])
 fn unmark_view(marks: &mut MarkList, views: &[View], number: u64)
     requires long { length marks.old ≡ length views.now }
     requires rising { AllPairs (λ (m n : ℕ). m < n) (map (λ view. view.number) views.now) }
-    ensures marks { (numbers : List ℕ) → marks.old ≡ map (λ view. not (is_among numbers view)) views.now
+    ensures marks { (numbers : List ℕ)
+        → marks.old ≡ map (λ view. not (is_among numbers view)) views.now
         → marks.new ≡ map (λ view. not (is_among (numbers ++ number ∷ []) view)) views.now }
     ensures long { length marks.new ≡ length views.now }
 {

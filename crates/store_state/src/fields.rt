@@ -161,9 +161,7 @@ fn is_short_name(name: &Name) -> bool
 pub(crate) fn is_local(file: &LocalFile) -> bool
     ensures { IsTrue result ↔ IsLocal file.now }
 {
-    is_file_name(&file.name)
-        && is_short_name(&file.name)
-        && file.held.as_slice().len() as u64 == file.length
+    is_file_name(&file.name) && is_short_name(&file.name)
 }
 
 fn are_each_locals(files: &[LocalFile]) -> bool

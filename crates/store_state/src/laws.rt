@@ -11,12 +11,6 @@ pub fn shapes_are_shown()
     ensures { laws.ShapesAreShown }
 {}
 
-/// Tables that changes led to from the empty ones show a store in its order, which is valid where
-/// its files and its tables have room.
-pub fn changes_show_ordered_stores()
-    ensures { laws.ChangesShowOrderedStores }
-{}
-
 /// An install that fits leads to tables that show the store with the new view.
 pub fn installs_show_the_view()
     ensures { laws.InstallsShowTheView }
@@ -96,14 +90,11 @@ pub fn files_are_their_contents()
     ensures names { laws.NamesHaveContents }
 {}
 
-/// All images of a disk have the files that the tables name.
-pub fn images_have_the_files()
-    ensures { laws.ImagesHaveTheFiles }
-{}
-
-/// Each image of a disk holds what a change that fits brings.
-pub fn images_hold_the_new()
-    ensures { laws.ImagesHoldTheNew }
+/// A change that brings files with as many blocks as their lengths need leaves tables of which each
+/// file has so many, as the empty ones.
+pub fn measured_tables_stay()
+    ensures changed { laws.MeasuredTablesStay }
+    ensures empty { laws.EmptyTablesAreMeasured }
 {}
 
 /// Each change that fits leads to tables that show a store in its order, which is valid where its

@@ -29,12 +29,12 @@ mod views;
 
 pub use change::Change;
 pub use laws::{
-    boots_show_the_store, changes_show_ordered_stores, checks_show_the_entry, cleans_show_the_rest,
-    drops_show_the_rest, each_change_shows_an_ordered_store, empty_tables_are_shown,
-    files_are_their_contents, finishes_show_the_rest, groups_show_the_files, images_have_the_files,
-    images_hold_the_new, installs_show_the_view, launches_show_the_lease, locals_show_files,
-    one_store_is_shown, puts_show_the_file, reads_show_files, removals_show_the_rest,
-    requires_show_the_entry, rollbacks_show_the_entry, shapes_are_shown, skips_show_the_entry,
+    boots_show_the_store, checks_show_the_entry, cleans_show_the_rest, drops_show_the_rest,
+    each_change_shows_an_ordered_store, empty_tables_are_shown, files_are_their_contents,
+    finishes_show_the_rest, groups_show_the_files, installs_show_the_view, launches_show_the_lease,
+    locals_show_files, measured_tables_stay, one_store_is_shown, puts_show_the_file,
+    reads_show_files, removals_show_the_rest, requires_show_the_entry, rollbacks_show_the_entry,
+    shapes_are_shown, skips_show_the_entry,
 };
 pub use lease_list::LeaseList;
 pub use state::{StateFault, StoreState};

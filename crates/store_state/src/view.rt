@@ -10,13 +10,13 @@ use crate::fields::count_outside;
 use crate::local_files::find_local;
 use digest_list::DigestList;
 use manifests::{Application, Deployment, FileEntry};
-use small_types::{Bytes, CopyFault, Duplicate, List, Name, Target, Text};
+use small_types::{CopyFault, Duplicate, List, Name, Target, Text};
 use std::alloc::Global;
 
-/// How the bytes of a file are held: in this form they are the bytes.
-pub type Stored = Bytes;
+/// How the bytes of a file are held: the numbers of its blocks, in the order of its bytes.
+pub type Stored = List<u32>;
 
-/// The bytes that program files of one size and one list of digests share.
+/// What program files of one size and one list of digests share.
 #[derive(Drop, Debug, PartialEq, Eq)]
 pub struct Content {
     /// Its length in bytes.

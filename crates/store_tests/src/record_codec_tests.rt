@@ -37,7 +37,7 @@ const ROLLBACK: &[u8] = &[6, 0, 0, 1, 2];
 
 const CLEAN: &[u8] = &[12];
 
-// With no content, and with one that has one SHA-1.
+// With no content, and with one that has one SHA-1 and one block.
 const GROUP: &[u8] = &[
     9, 1, 2, 3, 4, 5, 6, 7, 8, 0, 0, 0, 4, b'h', b'e', b'l', b'p', 0, 0, 0, 0,
 ];
@@ -45,17 +45,17 @@ const GROUP: &[u8] = &[
 const GROUP_CONTENT: &[u8] = &[
     9, 0, 0, 0, 0, 0, 0, 0, 1, 0, 0, 0, 1, b'g', 0, 0, 0, 1, 0, 0, 0, 0, 0, 0, 0, 3, 0, 0, 0, 1, 0,
     0, 0, 0, 20, 0xa9, 0x99, 0x3e, 0x36, 0x47, 0x06, 0x81, 0x6a, 0xba, 0x3e, 0x25, 0x71, 0x78,
-    0x50, 0xc2, 0x6c, 0x9c, 0xd0, 0xd8, 0x9d, 0, 0, 0, 3, b'a', b'b', b'c',
+    0x50, 0xc2, 0x6c, 0x9c, 0xd0, 0xd8, 0x9d, 0, 0, 0, 1, 0, 0, 1, 2,
 ];
 
-// An empty one, and one of three bytes in a folder. The number says how long it is.
+// An empty one, and one of three bytes in a folder, which has a block.
 const PUT_EMPTY: &[u8] = &[
     10, 0, 0, 0, 0, 0, 0, 0, 1, 0, 0, 0, 1, b'd', 0, 0, 0, 0, 0, 0, 0, 0, 0, 0, 0, 0,
 ];
 
 const PUT: &[u8] = &[
     10, 1, 2, 3, 4, 5, 6, 7, 8, 0, 0, 0, 7, b'd', b'/', b'a', b'.', b'd', b'a', b't', 0, 0, 0, 0,
-    0, 0, 0, 3, 0, 0, 0, 3, b'a', b'b', b'c',
+    0, 0, 0, 3, 0, 0, 0, 1, 255, 255, 255, 255,
 ];
 
 // Below `.pre`, which is a name like any other.
@@ -89,9 +89,9 @@ enum Said {
     Rollback(u32),
     Launch(u32),
     Finish(u64),
-    // The view, how many bytes the group has, how many contents, and how many bytes the first has.
+    // The view, how many bytes the group has, how many contents, and how many blocks the first has.
     Group(u64, usize, [usize; 2]),
-    // The view, how many bytes the name has, the length, and how many bytes there are.
+    // The view, how many bytes the name has, the length, and how many blocks there are.
     Put(u64, usize, u64, usize),
     // The view, and how many bytes the name has.
     Remove(u64, usize),
@@ -152,7 +152,7 @@ fn short_form(change: &Change) -> Said {
     }
 }
 
-// How many there are, and how many bytes the first has.
+// How many there are, and how many blocks the first has.
 fn sizes(contents: &[Content]) -> [usize; 2] {
     match contents {
         [] => [0, 0],
@@ -275,9 +275,9 @@ const READ: &[(&[u8], Said)] = &[
         Said::Finish(0x0102_0304_0506_0708),
     ),
     (GROUP, Said::Group(0x0102_0304_0506_0708, 4, [0, 0])),
-    (GROUP_CONTENT, Said::Group(1, 1, [1, 3])),
+    (GROUP_CONTENT, Said::Group(1, 1, [1, 1])),
     (PUT_EMPTY, Said::Put(1, 1, 0, 0)),
-    (PUT, Said::Put(0x0102_0304_0506_0708, 7, 3, 3)),
+    (PUT, Said::Put(0x0102_0304_0506_0708, 7, 3, 1)),
     (REMOVE, Said::Remove(0x0102_0304_0506_0708, 6)),
     (CLEAN, Said::Clean),
     (REQUIRE, Said::Require(1, 4, [1, 1, 1, 1])),
@@ -367,11 +367,14 @@ const CUT: &[(&[u8], usize, u64)] = &[
     (GROUP, 20, 17),
     (GROUP_CONTENT, 18, 18),
     (GROUP_CONTENT, 54, 31),
-    (GROUP_CONTENT, 61, 55),
+    (GROUP_CONTENT, 58, 55),
+    (GROUP_CONTENT, 59, 59),
+    (GROUP_CONTENT, 62, 59),
     (PUT, 8, 1),
     (PUT, 19, 9),
     (PUT, 27, 20),
-    (PUT, 34, 28),
+    (PUT, 31, 28),
+    (PUT, 35, 32),
     (REMOVE, 8, 1),
     (REMOVE, 18, 9),
 ];
@@ -397,11 +400,14 @@ const CHANGED: &[(&[u8], usize, u8, u64)] = &[
     (HEARD, 29, 2, 29),
     (GROUP_CONTENT, 30, 4, 30),
     // A second content is missing.
-    (GROUP_CONTENT, 17, 2, 62),
+    (GROUP_CONTENT, 17, 2, 63),
     // A byte is left over.
     (HEARD_MINIMUM, 29, 0, 38),
-    (GROUP_CONTENT, 58, 2, 61),
-    (PUT, 31, 2, 34),
+    (GROUP_CONTENT, 58, 0, 59),
+    (PUT, 31, 0, 32),
+    // A second block is missing.
+    (GROUP_CONTENT, 58, 2, 63),
+    (PUT, 31, 2, 36),
     (REMOVE, 12, 4, 17),
     // Each is read as its own kind alone.
     (PUT, 0, 11, 20),

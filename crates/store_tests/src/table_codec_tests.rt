@@ -1,6 +1,6 @@
 // Tables as bytes, by encodings that were written from the format.
 ghost use Rattle.std.specs.Prelude.{◌<◌, ◌^◌, length};
-ghost use Rattle.table_codec.specs.Spelling.{state_text};
+ghost use Rattle.table_codec.specs.Spelled.{state_text};
 ghost use Rattle.table_codec.specs.Values.{IsEncodableState};
 
 use record_fields::CodecFault;
@@ -15,7 +15,8 @@ pub(crate) const EMPTY: &[u8] = &[
     0, 0, 0, 0, 0, 0, 0, 0,
 ];
 
-// Tables with leases, a view, applications and a content.
+// Tables with leases, a view, applications and a content. The content lies in the block 0, and a data
+// file in the block 1.
 pub(crate) const FULL: &[u8] = &[
     // The boot number, and the next numbers of views and leases.
     0, 0, 0, 0, 0, 0, 0, 5, 0, 0, 0, 0, 0, 0, 0, 2, 0, 0, 0, 0, 0, 0, 0, 3,
@@ -40,7 +41,7 @@ pub(crate) const FULL: &[u8] = &[
     156, 208, 216, 157, 0, 1,
     // Its address, the group that stands, and two data files.
     0, 0, 0, 1, 104, 0, 80, 0, 0, 0, 2, 47, 109, 0, 0, 0, 1, 0, 0, 0, 1, 104, 0, 0, 0, 2, 0, 0, 0,
-    1, 100, 0, 0, 0, 0, 0, 0, 0, 3, 0, 0, 0, 3, 97, 98, 99, 0, 0, 0, 1, 101, 0, 0, 0, 0, 0, 0, 0,
+    1, 100, 0, 0, 0, 0, 0, 0, 0, 3, 0, 0, 0, 1, 0, 0, 0, 1, 0, 0, 0, 1, 101, 0, 0, 0, 0, 0, 0, 0,
     0, 0, 0, 0, 0,
     // Two applications: one with a current view and an offer, and one with a minimum alone.
     0, 0, 0, 2, 0, 0, 0, 1, 97, 0, 0, 0, 1, 116, 0, 0, 0, 1, 108, 0, 0, 0, 1, 120, 1, 0, 0, 0, 1,
@@ -49,7 +50,7 @@ pub(crate) const FULL: &[u8] = &[
     0, 1, 108, 0, 0, 0, 1, 120, 0, 0, 0, 1, 0, 3, 0, 0, 0, 0, 0, 0, 0, 0, 0, 0, 0,
     // The content of the program files that stand.
     0, 0, 0, 1, 0, 0, 0, 0, 0, 0, 0, 3, 0, 0, 0, 1, 0, 0, 0, 0, 20, 169, 153, 62, 54, 71, 6, 129,
-    106, 186, 62, 37, 113, 120, 80, 194, 108, 156, 208, 216, 157, 0, 0, 0, 3, 97, 98, 99,
+    106, 186, 62, 37, 113, 120, 80, 194, 108, 156, 208, 216, 157, 0, 0, 0, 1, 0, 0, 0, 0,
 ];
 
 // What bytes were read as.
@@ -132,7 +133,7 @@ fn with_more(alloc: Global) -> Result<Said, AllocError> {
 #[test]
 fn a_byte_too_many_is_found(rt: HostRuntime) -> Result<(), Fail> {
     let said = with_more(rt.alloc())?;
-    assert!(rt; said == Said::Bad(617));
+    assert!(rt; said == Said::Bad(619));
     Ok(())
 }
 
@@ -142,22 +143,23 @@ const CHANGED: &[(usize, u8, u64)] = &[
     // No third truth value, option and rule.
     (104, 2, 104),
     (346, 2, 346),
-    (531, 2, 531),
+    (532, 2, 532),
     (105, 2, 105),
     (115, 3, 115),
     // 1,026 leases are too many, and 1,025 views.
     (26, 4, 24),
     (62, 4, 60),
     // The view has no number below the next one, and the leases do not rise.
-    (15, 1, 617),
-    (51, 1, 617),
+    (15, 1, 619),
+    (51, 1, 619),
     // Data files and applications are out of order.
-    (421, b'f', 617),
-    (462, b'c', 617),
+    (421, b'f', 619),
+    (463, b'c', 619),
     // The content is of no program file.
-    (580, 4, 617),
-    // What is held of a data file is not of its length.
-    (429, 2, 617),
+    (581, 4, 619),
+    // The content has no second block, and not as many as may be counted.
+    (614, 2, 619),
+    (611, 1, 619),
 ];
 
 fn with_byte(alloc: Global, place: usize, byte: u8) -> Result<Said, AllocError> {
@@ -178,17 +180,29 @@ fn tables_with_another_byte_are_none(rt: HostRuntime) -> Result<(), Fail> {
     Ok(())
 }
 
-// The tables whose content holds two bytes, though its size says three.
-fn with_less_held(alloc: Global) -> Result<Said, AllocError> {
-    let mut other = Vec::from_slice(alloc, &FULL[..613])?;
-    other.extend_from_slice(&[2, 97, 98])?;
+// The tables whose content has other blocks: their number and themselves.
+fn with_blocks(alloc: Global, blocks: &[u8]) -> Result<Said, AllocError> {
+    let mut other = Vec::from_slice(alloc, &FULL[..611])?;
+    other.extend_from_slice(blocks)?;
     Ok(read(alloc, &other))
 }
 
+// The blocks of a content, and what the tables are then. They do not say whether its blocks are as
+// many as its size needs.
+const BLOCKS: &[(&[u8], Said)] = &[
+    (&[0, 0, 0, 0], Said::Same),
+    (&[0, 0, 0, 2, 0, 0, 0, 5, 0, 0, 0, 5], Said::Same),
+    (&[0, 0, 0, 1, 255, 255, 255, 255], Said::Same),
+    (&[0, 0, 0, 1, 0, 0, 0], Said::Bad(615)),
+    (&[0, 0, 0], Said::Bad(611)),
+];
+
 #[test]
-fn contents_hold_as_many_bytes_as_their_sizes_say(rt: HostRuntime) -> Result<(), Fail> {
-    let said = with_less_held(rt.alloc())?;
-    assert!(rt; said == Said::Bad(616));
+fn a_content_has_any_blocks(rt: HostRuntime) -> Result<(), Fail> {
+    for (number, (blocks, wanted)) in BLOCKS.iter().enumerate() {
+        let said = with_blocks(rt.alloc(), blocks)?;
+        assert!(rt; said == *wanted, "case {number}");
+    }
     Ok(())
 }
 

@@ -2,13 +2,13 @@
 // format.
 ghost use Rattle.store_state.specs.Change.{Fits};
 
-use small_types::{Bytes, Name};
+use small_types::{List, Name};
 use std::alloc::{AllocError, Global};
 use std::test::Fail;
 use store_state::{Change, LocalFile, StateFault, StoreState};
 use table_changes::make;
 use table_codec::decode_state;
-use table_files::{freed, held, lets_go};
+use table_files::{brought, freed, held, lets_go};
 
 // Tables of two views that share a content. The first one is in no use.
 const TABLES: &[u8] = &[
@@ -30,7 +30,7 @@ const TABLES: &[u8] = &[
     108, 156, 208, 216, 157, 0, 0,
     // Its address, no group that stands, and a data file.
     0, 0, 0, 1, 104, 0, 80, 0, 0, 0, 2, 47, 109, 0, 0, 0, 0, 0, 0, 0, 1, 0, 0, 0, 1, 100, 0, 0, 0,
-    0, 0, 0, 0, 2, 0, 0, 0, 2, 68, 49,
+    0, 0, 0, 32, 0, 0, 0, 0, 2, 0, 0, 0, 5, 0, 0, 0, 3,
     // The second view: its number and its deployment.
     0, 0, 0, 0, 0, 0, 0, 2, 0, 0, 0, 1, 97, 0, 0, 0, 1, 116, 0, 0, 0, 1, 108, 0, 0, 0, 1, 120, 0,
     1, 0, 0, 0, 0, 0, 0, 0, 0, 0, 0, 1, 1, 0, 1, 0, 0, 0, 0, 0, 0, 0, 2, 0, 0, 0, 0, 0, 0, 14, 16,
@@ -47,97 +47,105 @@ const TABLES: &[u8] = &[
     108, 156, 208, 216, 158, 0, 0,
     // Its address, no group that stands, and two data files.
     0, 0, 0, 1, 104, 0, 80, 0, 0, 0, 2, 47, 109, 0, 0, 0, 0, 0, 0, 0, 2, 0, 0, 0, 1, 100, 0, 0, 0,
-    0, 0, 0, 0, 2, 0, 0, 0, 2, 50, 50, 0, 0, 0, 1, 101, 0, 0, 0, 0, 0, 0, 0, 1, 0, 0, 0, 1, 69,
+    0, 0, 0, 16, 1, 0, 0, 0, 2, 0, 0, 0, 4, 0, 0, 0, 7, 0, 0, 0, 1, 101, 0, 0, 0, 0, 0, 0, 0, 1, 0,
+    0, 0, 1, 0, 0, 0, 6,
     // One application, whose current view is the second one.
     0, 0, 0, 1, 0, 0, 0, 1, 97, 0, 0, 0, 1, 116, 0, 0, 0, 1, 108, 0, 0, 0, 1, 120, 1, 0, 0, 0, 1,
     104, 0, 80, 0, 0, 0, 2, 47, 97, 1, 0, 0, 0, 0, 0, 0, 0, 2, 0, 0, 0, 0, 0, 0, 0,
     // Three contents.
     0, 0, 0, 3, 0, 0, 0, 0, 0, 0, 0, 3, 0, 0, 0, 1, 0, 0, 0, 0, 20, 169, 153, 62, 54, 71, 6, 129,
-    106, 186, 62, 37, 113, 120, 80, 194, 108, 156, 208, 216, 157, 0, 0, 0, 3, 97, 98, 99, 0, 0, 0,
+    106, 186, 62, 37, 113, 120, 80, 194, 108, 156, 208, 216, 157, 0, 0, 0, 1, 0, 0, 0, 0, 0, 0, 0,
     0, 0, 0, 0, 1, 0, 0, 0, 1, 0, 0, 0, 0, 20, 169, 153, 62, 54, 71, 6, 129, 106, 186, 62, 37, 113,
-    120, 80, 194, 108, 156, 208, 216, 157, 0, 0, 0, 1, 120, 0, 0, 0, 0, 0, 0, 0, 1, 0, 0, 0, 1, 0,
-    0, 0, 0, 20, 169, 153, 62, 54, 71, 6, 129, 106, 186, 62, 37, 113, 120, 80, 194, 108, 156, 208,
-    216, 158, 0, 0, 0, 1, 121,
+    120, 80, 194, 108, 156, 208, 216, 157, 0, 0, 0, 1, 0, 0, 0, 1, 0, 0, 0, 0, 0, 0, 0, 1, 0, 0, 0,
+    1, 0, 0, 0, 0, 20, 169, 153, 62, 54, 71, 6, 129, 106, 186, 62, 37, 113, 120, 80, 194, 108, 156,
+    208, 216, 158, 0, 0, 0, 1, 0, 0, 0, 2,
 ];
 
 // What is done to the tables.
 #[derive(Clone, Copy, Debug)]
 enum Act {
     Boot,
-    // The view of that number gets a data file of that name, with these bytes.
-    Put(u64, &'static str, &'static [u8]),
+    // The view of that number gets a data file of that name, in these blocks.
+    Put(u64, &'static str, &'static [u32]),
     // It loses the one of that name.
     Remove(u64, &'static str),
     Clean,
 }
 
-// A change, whether it may let something go, what it lets go, and what is held then.
+// A change, whether it may let something go, what it brings and lets go, and what is held then.
 struct Step {
     act: Act,
     lets_go: bool,
-    freed: &'static [u8],
-    held: &'static [u8],
+    brought: &'static [u32],
+    freed: &'static [u32],
+    held: &'static [u32],
 }
 
-// The contents are `abc`, `x` and `y`, of which the views share the first. The data files are the
-// `D1` of the first view, and the `22` and `E` of the second one.
+// The contents lie in the blocks 0, 1 and 2, and the views share the first. The data files are one of
+// the first view, in the blocks 5 and 3, and two of the second one, in the blocks 4 and 7 and in 6.
 const STEPS: &[Step] = &[
     Step {
         act: Act::Boot,
         lets_go: false,
-        freed: b"",
-        held: b"abcxyD122E",
+        brought: &[],
+        freed: &[],
+        held: &[0, 1, 2, 5, 3, 4, 7, 6],
     },
     // It takes the place of one.
     Step {
-        act: Act::Put(2, "d", b"new"),
+        act: Act::Put(2, "d", &[9, 8]),
         lets_go: true,
-        freed: b"22",
-        held: b"abcxyD1newE",
+        brought: &[9, 8],
+        freed: &[4, 7],
+        held: &[0, 1, 2, 5, 3, 9, 8, 6],
     },
     // It takes the place of none, as one of its name stands in the other view alone.
     Step {
-        act: Act::Put(1, "e", b"new"),
+        act: Act::Put(1, "e", &[9, 8]),
         lets_go: true,
-        freed: b"",
-        held: b"abcxyD1new22E",
+        brought: &[9, 8],
+        freed: &[],
+        held: &[0, 1, 2, 5, 3, 9, 8, 4, 7, 6],
     },
     Step {
         act: Act::Remove(2, "d"),
         lets_go: true,
-        freed: b"22",
-        held: b"abcxyD1E",
+        brought: &[],
+        freed: &[4, 7],
+        held: &[0, 1, 2, 5, 3, 6],
     },
     Step {
         act: Act::Remove(1, "d"),
         lets_go: true,
-        freed: b"D1",
-        held: b"abcxy22E",
+        brought: &[],
+        freed: &[5, 3],
+        held: &[0, 1, 2, 4, 7, 6],
     },
     // The content that the views share stays.
     Step {
         act: Act::Clean,
         lets_go: true,
-        freed: b"xD1",
-        held: b"abcy22E",
+        brought: &[],
+        freed: &[1, 5, 3],
+        held: &[0, 2, 4, 7, 6],
     },
 ];
 
-fn data_file(alloc: Global, name: &str, bytes: &[u8]) -> Result<LocalFile, Fail> {
+fn data_file(alloc: Global, name: &str, blocks: &[u32]) -> Result<LocalFile, Fail> {
     let name = Name::read(alloc, name.as_bytes())?;
     Ok(LocalFile {
         name,
-        length: bytes.len() as u64,
-        held: Bytes::from_slice(alloc, bytes)?,
+        length: 5_000,
+        held: List::from_vec(blocks.to_vec(alloc)?),
     })
 }
 
 fn change_of(alloc: Global, act: Act) -> Result<Change, Fail> {
     match act {
         Act::Boot => Ok(Change::Boot { boot: 1 }),
-        Act::Put(view, name, bytes) => Ok(Change::Put {
+        Act::Put(view, name, blocks) => Ok(Change::Put {
             view,
-            file: data_file(alloc, name, bytes)?,
+            file: data_file(alloc, name, blocks)?,
         }),
         Act::Remove(view, name) => Ok(Change::Remove {
             view,
@@ -147,8 +155,13 @@ fn change_of(alloc: Global, act: Act) -> Result<Change, Fail> {
     }
 }
 
-fn are_held(alloc: Global, state: &StoreState, wanted: &[u8]) -> Result<bool, AllocError> {
+fn are_held(alloc: Global, state: &StoreState, wanted: &[u32]) -> Result<bool, AllocError> {
     let items = held(alloc, state)?;
+    Ok(items.as_slice() == wanted)
+}
+
+fn are_brought(alloc: Global, change: &Change, wanted: &[u32]) -> Result<bool, AllocError> {
+    let items = brought(alloc, change)?;
     Ok(items.as_slice() == wanted)
 }
 
@@ -156,7 +169,7 @@ fn are_freed(
     alloc: Global,
     state: &StoreState,
     change: &Change,
-    wanted: &[u8],
+    wanted: &[u32],
 ) -> Result<bool, AllocError> {
     let items = freed(alloc, state, change)?;
     Ok(items.as_slice() == wanted)
@@ -180,7 +193,7 @@ fn made(alloc: Global, state: &mut StoreState, change: Change) -> Result<bool, S
     }
 }
 
-// Whether the change lets go what it is to.
+// Whether the change brings and lets go what it is to.
 fn is_told(
     alloc: Global,
     state: &StoreState,
@@ -188,7 +201,8 @@ fn is_told(
     step: &Step,
 ) -> Result<bool, AllocError> {
     let told = are_freed(alloc, state, change, step.freed)?;
-    Ok(told && lets_go(change) == step.lets_go)
+    let comes = are_brought(alloc, change, step.brought)?;
+    Ok(told && comes && lets_go(change) == step.lets_go)
 }
 
 // The same, and whether that is held then which is to be.
@@ -213,7 +227,7 @@ fn is_done(
 }
 
 fn takes(alloc: Global, state: &mut StoreState, step: &Step) -> Result<bool, Fail> {
-    let before = are_held(alloc, state, b"abcxyD122E")?;
+    let before = are_held(alloc, state, &[0, 1, 2, 5, 3, 4, 7, 6])?;
     let change = change_of(alloc, step.act)?;
     Ok(is_done(alloc, state, change, step)? && before)
 }

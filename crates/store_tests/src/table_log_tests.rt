@@ -4,7 +4,7 @@ ghost use Rattle.std.specs.Prelude.{◌≡◌, ◌+◌, ◌<◌, ◌^◌, length
 ghost use Rattle.journal.specs.Log.{half_of};
 ghost use Rattle.record_codec.specs.Codec.{IsChange};
 ghost use Rattle.store_state.specs.Change.{Fits};
-ghost use Rattle.table_codec.specs.Spelling.{state_text};
+ghost use Rattle.table_codec.specs.Spelled.{state_text};
 ghost use Rattle.table_codec.specs.Values.{IsEncodableState};
 
 use disks::{Disk, MemDisk, Pick};
@@ -15,7 +15,7 @@ use std::alloc::{AllocError, Global};
 use std::test::Fail;
 use store_state::{Change, StoreState};
 use table_codec::{decode_state, encoded_length_of_state};
-use table_log::{Opened, RecoverFault, Rooms, StepFault, format, make_durable, recover};
+use table_log::{OpenFault, OpenTables, Rooms, StepFault, format, make_durable, recover};
 
 // The least length of a half.
 const HALF: u64 = 1_048_576;
@@ -25,7 +25,7 @@ const ROOM: Room = Room {
     half: HALF,
 };
 
-// Tables behind their boot number, up to the bytes of their one data file.
+// Tables behind their boot number, up to the blocks of their one data file.
 const FRONT: &[u8] = &[
     // The next numbers of views and leases, and no lease.
     0, 0, 0, 0, 0, 0, 0, 2, 0, 0, 0, 0, 0, 0, 0, 3, 0, 0, 0, 0,
@@ -45,31 +45,32 @@ const FRONT: &[u8] = &[
     0, 0, 0, 1, 104, 0, 80, 0, 0, 0, 2, 47, 109, 0, 0, 0, 0, 0, 0, 0, 1, 0, 0, 0, 1, 101,
 ];
 
-// And behind these bytes.
+// And behind these blocks.
 const BACK: &[u8] = &[
     // One application, whose view it is.
     0, 0, 0, 1, 0, 0, 0, 1, 97, 0, 0, 0, 1, 116, 0, 0, 0, 1, 108, 0, 0, 0, 1, 120, 1, 0, 0, 0, 1,
     104, 0, 80, 0, 0, 0, 2, 47, 97, 1, 0, 0, 0, 0, 0, 0, 0, 1, 0, 0, 0, 0, 0, 0, 0,
     // The content of its program file.
     0, 0, 0, 1, 0, 0, 0, 0, 0, 0, 0, 3, 0, 0, 0, 1, 0, 0, 0, 0, 20, 169, 153, 62, 54, 71, 6, 129,
-    106, 186, 62, 37, 113, 120, 80, 194, 108, 156, 208, 216, 157, 0, 0, 0, 3, 97, 98, 99,
+    106, 186, 62, 37, 113, 120, 80, 194, 108, 156, 208, 216, 157, 0, 0, 0, 1, 0, 0, 0, 0,
 ];
 
-// So long are the tables that a half has room for so many bytes beside them: for two entries of a
-// boot number, of 14 bytes each, and not for three.
+// So long are the tables that a half has room for so many bytes beside them, or up to three more:
+// for two entries of a boot number, of 14 bytes each, and not for three.
 const LEFT: usize = 34;
 
-// Tables of that boot number: their data file has as many zeros as are needed.
+// Tables of that boot number: their data file has as many blocks as are needed. Each of them is the
+// block 0, since tables alone do not say that a block is held once.
 fn text_of(alloc: Global, boot: u8) -> Result<Vec<u8>, AllocError> {
     let around = 11 + 8 + FRONT.len() + 12 + BACK.len() + LEFT;
-    let zeros = (HALF as usize).saturating_sub(around) as u32;
-    let [a, b, c, d] = zeros.to_be_bytes();
+    let blocks = (HALF as usize).saturating_sub(around) / 4;
+    let [a, b, c, d] = (blocks as u32).to_be_bytes();
     let mut text = vec![in alloc; 0u8; 7]?;
     text.push(boot)?;
     text.extend_from_slice(FRONT)?;
     text.extend_from_slice(&[0, 0, 0, 0, a, b, c, d, a, b, c, d])?;
     let before = text.len();
-    text.resize(before.saturating_add(zeros as usize), 0)?;
+    text.resize(before.saturating_add(blocks.saturating_mul(4)), 0)?;
     text.extend_from_slice(BACK)?;
     Ok(text)
 }
@@ -102,9 +103,9 @@ fn found(alloc: Global, disk: &mut MemDisk) -> Said {
             drop(opened);
             said
         }
-        Err(RecoverFault::NotTables) => Said::NotTables,
-        Err(RecoverFault::DiskFault) => Said::DiskFault,
-        Err(RecoverFault::Memory) => Said::Other,
+        Err(OpenFault::NotTables) => Said::NotTables,
+        Err(OpenFault::DiskFault) => Said::DiskFault,
+        Err(OpenFault::Memory) => Said::Other,
     }
 }
 
@@ -171,16 +172,16 @@ fn boot_from(
 // Opens the tables, whose boot number is one less, and makes it this one.
 fn step(alloc: Global, disk: &mut MemDisk, boot: u8) -> Said {
     match recover(alloc, disk) {
-        Err(RecoverFault::DiskFault) => Said::DiskFault,
+        Err(OpenFault::DiskFault) => Said::DiskFault,
         Err(_) => Said::Other,
         Ok(opened) => step_in(alloc, disk, opened, boot),
     }
 }
 
-fn step_in(alloc: Global, disk: &mut MemDisk, opened: Opened, boot: u8) -> Said
+fn step_in(alloc: Global, disk: &mut MemDisk, opened: OpenTables, boot: u8) -> Said
     requires half { opened.room.half ≡ half_of opened.log }
 {
-    let Opened {
+    let OpenTables {
         mut log,
         room,
         state,
@@ -222,7 +223,9 @@ fn a_new_journal_has_no_boot(rt: HostRuntime) -> Result<(), Fail> {
 }
 
 // How many disk calls a step makes, and what a stop before them and behind each of them leaves: the
-// old tables or the new ones, by what becomes of that which is not synced.
+// old tables or the new ones, by what becomes of that which is not synced. A space stands where a stop
+// leaves the bytes of one that is looked at: behind a sync those are kept that were before it, and
+// before the next one all is lost.
 struct Turn {
     calls: u64,
     left: &'static [(Pick, &'static [u8])],
@@ -237,15 +240,15 @@ const FITS: Turn = Turn {
 // A checkpoint of four calls, and an append.
 const TURNS: Turn = Turn {
     calls: 8,
-    left: &[(Pick::Kept, b"ooooooonn"), (Pick::Lost, b"oooooooon")],
+    left: &[(Pick::Kept, b"oo o o n "), (Pick::Lost, b"  o o o n")],
 };
 
 // A checkpoint that closes a gate first, and an append.
 const TURNS_BACK: Turn = Turn {
     calls: 10,
     left: &[
-        (Pick::Kept, b"ooooooooonn"),
-        (Pick::Filled(1), b"ooooooooonn"),
+        (Pick::Kept, b"oo o o o n "),
+        (Pick::Filled(1), b" o o o o n "),
     ],
 };
 
@@ -275,6 +278,9 @@ fn first_left(
     want: &[u8],
 ) -> Option<usize> {
     for (call, letter) in want.iter().enumerate() {
+        if *letter == b' ' {
+            continue;
+        }
         let old = (boot as u64).saturating_sub(1);
         let wanted = if *letter == b'n' { boot as u64 } else { old };
         if left(alloc, disk, from.saturating_add(call as u64), pick) != Said::Boot(wanted) {

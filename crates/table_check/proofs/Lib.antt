@@ -1,3 +1,4 @@
+pub mod BlockEnds
+pub mod EqualLists
 pub mod ShownOrder
 pub mod ShownViews
-pub mod Telling

@@ -21,10 +21,10 @@ use Rattle.store_state.specs.Kept.{AreTables}
 use Rattle.store_state.specs.Laws.{ShowsOrdered}
 use Rattle.store_state.specs.Rows.{row_at}
 use Rattle.store_state.specs.Shows.{Shows, shown_store}
-use Rattle.store_state.specs.Stored.{HasLocals}
+use Rattle.store_state.specs.Stored.{HasContents, HasLocals}
 use Rattle.store_state.specs.Tables.{Tables, bare_row, table_shape}
-use Rattle.store_state.proofs.Growing.{files_row}
-use Rattle.store_state.proofs.Showing.{shape_shown}
+use Rattle.store_state.proofs.GrownTables.{files_row}
+use Rattle.store_state.proofs.ShownTables.{shape_shown}
 use Rattle.table_check.specs.OrderedTables.{AreOrderedTables, IsAppOf, IsInstalledRow}
 use Rattle.table_check.proofs.ShownViews.{app_kept, app_shown, listed_are, number_kept, number_shown, numbers_are, of_kept, shown, view_shown}
 
@@ -120,15 +120,17 @@ module _ (room : Room) (image : List ℕ) (tables : Tables) (are : AreTables tab
   abbrev Holds : FileEntry → Type 0
   Holds entry = IsSome (content_of tables.contents entry)
 
-  shows_store : All (λ (view : View). HasLocals room image view.locals) views
+  shows_store : HasContents room image tables.contents
+      → All (λ (view : View). HasLocals room image view.locals) views
       → Shows room tables image (shown_store room image tables)
-  shows_store measured = record {
+  shows_store whole measured = record {
     is = refl;
     held =
         in_all (λ (view : View). All Holds (standing_entries view.groups view.application)) views
         (λ view there. in_all Holds (standing_entries view.groups view.application)
         (λ entry stands. all_in Holds (standing_files (map bare_row views)) entry are.contents.each
         (files_row views view entry there stands)));
+    whole = whole;
     measured = measured;
   }
 
@@ -146,14 +148,15 @@ module _ (room : Room) (image : List ℕ) (tables : Tables) (are : AreTables tab
       }
 
   pub ordered_shown : AreOrderedTables tables → 1 ≤ room.blocks → room.blocks ≤ BLOCK_LIMIT
+      → HasContents room image tables.contents
       → All (λ (view : View). HasLocals room image view.locals) views
       → ShowsOrdered room tables image
-  ordered_shown ordered some few measured = record {
+  ordered_shown ordered some few whole measured = record {
     store = shown_store room image tables;
-    shows = shows_store measured;
+    shows = shows_store whole measured;
     ordered = ordered_store ordered some few;
     valid =
-        λ few_blocks light. valid_shown (shown_store room image tables) (shows_store measured)
+        λ few_blocks light. valid_shown (shown_store room image tables) (shows_store whole measured)
         (ordered_store ordered some few) few_blocks light;
   }
 

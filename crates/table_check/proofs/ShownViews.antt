@@ -15,7 +15,7 @@ use Rattle.machine.specs.Fields.{IsShort}
 use Rattle.machine.specs.Valid.{IsApp, IsDataFile, IsView, IsViewOf}
 use Rattle.machine.specs.Views.{DataFile, ListedFile, key_of, standing_entries}
 use Rattle.machine.specs.Views.{View as KeptView}
-use Rattle.machine.proofs.Finding.{find_in, find_some, some_there, value_of}
+use Rattle.machine.proofs.FirstFound.{find_in, find_some, some_there, value_of}
 use Rattle.machine.proofs.Members.{In, contains_in, in_contains, in_map, map_in, pairs_map, sum_map}
 use Rattle.store_state.specs.declared.view.Content.{Content}
 use Rattle.store_state.specs.declared.view.LocalFile.{LocalFile}
@@ -25,7 +25,7 @@ use Rattle.store_state.specs.Locals.{outside_locals}
 use Rattle.store_state.specs.Rows.{listed_files, row_at}
 use Rattle.store_state.specs.Shows.{shown_data, shown_file, shown_view}
 use Rattle.store_state.proofs.ByNumber.{one_of}
-use Rattle.store_state.proofs.Growing.{of_view, some_with}
+use Rattle.store_state.proofs.GrownTables.{of_view, some_with}
 use Rattle.store_state.proofs.Indexed.{pairs_of_map}
 use Rattle.store_state.proofs.Keyed.{any_in, in_any}
 use Rattle.table_check.specs.OrderedTables.{IsAppOf, IsRowOf}

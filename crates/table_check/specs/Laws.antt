@@ -7,7 +7,7 @@ use Rattle.machine.specs.Valid.{Ordered}
 use Rattle.store_state.specs.Kept.{AreTables}
 use Rattle.store_state.specs.Laws.{ShowsOrdered}
 use Rattle.store_state.specs.Shows.{Shows}
-use Rattle.store_state.specs.Stored.{HasLocals}
+use Rattle.store_state.specs.Stored.{HasContents, HasLocals}
 use Rattle.store_state.specs.Tables.{Tables}
 use Rattle.table_check.specs.OrderedTables.{AreOrderedTables}
 
@@ -18,10 +18,11 @@ OrderedTablesAreOfOrderedStores = (room : Room) (tables : Tables) (image : List 
     → AreTables tables → 1 ≤ room.blocks → room.blocks ≤ BLOCK_LIMIT
     → Shows room tables image store → AreOrderedTables tables ↔ Ordered store
 
--- Ordered tables show such a store, where the image has as many bytes of each data file as its
--- length says.
+-- Ordered tables show such a store, where the image has as many bytes of each content and of each
+-- data file as its length says.
 abbrev pub OrderedTablesShowAStore : Type 0
 OrderedTablesShowAStore = (room : Room) (tables : Tables) (image : List ℕ)
     → AreTables tables → AreOrderedTables tables → 1 ≤ room.blocks → room.blocks ≤ BLOCK_LIMIT
+    → HasContents room image tables.contents
     → All (λ view. HasLocals room image view.locals) tables.views
     → ShowsOrdered room tables image

@@ -23,22 +23,20 @@ use Rattle.machine.specs.LaunchRow.{started_app}
 use Rattle.machine.specs.Minimums.{raised, raised_app}
 use Rattle.machine.specs.RollbackRow.{rolled_back_app}
 use Rattle.machine.specs.SkipRow.{skipped_app}
-use Rattle.machine.proofs.Entering.{All-with_entry}
-use Rattle.machine.proofs.Finding.{find_in, map_value, then_value}
-use Rattle.machine.proofs.Mapping.{all_mapped}
+use Rattle.machine.proofs.EntryOrder.{All-with_entry}
+use Rattle.machine.proofs.FirstFound.{find_in, map_value, then_value}
+use Rattle.machine.proofs.ChangedLists.{all_mapped}
 use Rattle.machine.proofs.Members.{all_in}
 use Rattle.store_state.specs.declared.change.Change.TheVariants.{Boot, Require, Install, Heard, Unheard, Skip, Rollback, Launch, Finish, Group, Put, Remove, Clean}
 use Rattle.store_state.specs.declared.view.Content.{Content}
 use Rattle.store_state.specs.declared.view.LocalFile.{LocalFile}
 use Rattle.store_state.specs.declared.view.View.{View}
 use Rattle.store_state.specs.Change.{FitsGroup, FitsInstall, effect, grown, leased}
-use Rattle.store_state.specs.Contents.{IsMeasured}
 use Rattle.store_state.specs.Dropped.{is_among, is_needed, needed, removable_in, without_rows}
 use Rattle.store_state.specs.Locals.{local_name, with_local, without_local}
 use Rattle.store_state.specs.Rows.{current_at, current_row_at, current_version, row_at, version_at, with_app, with_row}
 use Rattle.store_state.specs.Tables.{Tables, bare_row}
-use Rattle.store_state.proofs.Growing.{row_grows}
-use Rattle.store_state.proofs.Putting.{all_left, all_with}
+use Rattle.store_state.proofs.PutItems.{all_left, all_with}
 use Rattle.record_codec.specs.Codec.{IsChange}
 use Rattle.record_codec.specs.Values.{IsEncodableContent, IsEncodableGroup, IsEncodableInstall, IsEncodableLocal}
 use Rattle.table_codec.specs.Laws.{FieldsStay}
@@ -277,13 +275,12 @@ with_apps t apps have are = record {
   views = have.views;
   apps = are;
   contents = have.contents;
-  measured = have.measured;
 }
 
 with_views : (t : Tables) (views : List View) (contents : List Content) → HaveFields t
-    → All HasFields views → All IsEncodableContent contents → All IsMeasured contents
+    → All HasFields views → All IsEncodableContent contents
     → HaveFields (record t { views = views; contents = contents })
-with_views t views contents have are encode measured = record {
+with_views t views contents have are encode = record {
   boot = have.boot;
   next_view = have.next_view;
   next_lease = have.next_lease;
@@ -291,7 +288,6 @@ with_views t views contents have are encode measured = record {
   views = are;
   apps = have.apps;
   contents = encode;
-  measured = measured;
 }
 
 heard_have : (t : Tables) (key : Key) (version : Version) (minimum : Option Version) (now : ℕ)
@@ -358,7 +354,6 @@ launched_have t place have next = by (current_at place t.apps) refl
       views = have.views;
       apps = by_place place started_app started_has t.apps have.apps;
       contents = have.contents;
-      measured = have.measured;
     }
 
 installed_have : (t : Tables) (view : View) (contents : List Content) (provider : Target) (now : ℕ)
@@ -377,18 +372,15 @@ installed_have t view contents provider now have fits is = record {
       (installed_has view.number view.deployment provider now is.view.number
       is.view.deployment.minimum is.provider is.now) t.apps have.apps;
   contents = All-append IsEncodableContent t.contents contents have.contents is.contents;
-  measured = All-append IsMeasured t.contents contents have.measured fits.brings.measured;
 }
 
 grown_have : (t : Tables) (number : ℕ) (group : List ℕ) (contents : List Content) → HaveFields t
     → FitsGroup t number group contents → IsEncodableGroup number group contents
     → HaveFields (effect (Group number group contents) t)
 grown_have t number group contents have fits is =
-    let grows = (row_grows number group t contents fits).2 in
     with_views t (with_row number (grown group) t.views) (t.contents ++ contents) have
     (by_number number (grown group) (grown_has group is.group) t.views have.views)
     (All-append IsEncodableContent t.contents contents have.contents is.contents)
-    (All-append IsMeasured t.contents contents have.measured grows.brings.measured)
 
 cleaned_have : (t : Tables) → HaveFields t → HaveFields (effect Clean t)
 cleaned_have t have =
@@ -397,7 +389,6 @@ cleaned_have t have =
     with_views t views (needed views t.contents) have
     (All-filter (λ (view : View). not (is_among (removable_in t) view)) HasFields t.views have.views)
     (All-filter kept IsEncodableContent t.contents have.contents)
-    (All-filter kept IsMeasured t.contents have.measured)
 
 -- ---- every change
 
@@ -410,7 +401,6 @@ fields_stay t (Boot boot) have fits is = record {
   views = have.views;
   apps = have.apps;
   contents = have.contents;
-  measured = have.measured;
 }
 fields_stay t (Require key version) have fits is =
     with_apps t (with_entry key (raised_app version) t.apps) have
@@ -436,16 +426,13 @@ fields_stay t (Finish number) have fits is = record {
   views = have.views;
   apps = have.apps;
   contents = have.contents;
-  measured = have.measured;
 }
 fields_stay t (Group number group contents) have fits is =
     grown_have t number group contents have fits is
 fields_stay t (Put number file) have fits is =
     with_views t (with_row number (with_local file) t.views) t.contents have
     (by_number number (with_local file) (with_has file is.1) t.views have.views) have.contents
-    have.measured
 fields_stay t (Remove number name) have fits is =
     with_views t (with_row number (without_local name) t.views) t.contents have
     (by_number number (without_local name) (without_has name) t.views have.views) have.contents
-    have.measured
 fields_stay t Clean have fits is = cleaned_have t have

@@ -17,7 +17,7 @@ use Rattle.store_state.specs.Kept.{AreTables}
 use Rattle.store_state.specs.Rows.{listed_files}
 use Rattle.store_state.specs.Tables.{Tables, bare_row}
 use Rattle.store_state.proofs.Keyed.{any_in, differ, of_key}
-use Rattle.store_state.proofs.Naming.{is_standing}
+use Rattle.store_state.proofs.NamedFiles.{is_standing}
 use Rattle.record_codec.specs.declared.numbers.TheConstants.{COUNT_LIMIT}
 use Rattle.record_codec.specs.Values.{IsEncodableView}
 use Rattle.table_codec.specs.Laws.{AreEncodable, StayEncodable}
@@ -132,7 +132,6 @@ are_encodable t are have light = record {
   apps = have.apps;
   few_contents = few_contents t are;
   contents = have.contents;
-  measured = have.measured;
 }
 
 pub stay_encodable : StayEncodable

@@ -26,5 +26,4 @@ have_fields t is = record {
   views = All-weaker (IsEncodableView COUNT_LIMIT) HasFields has_fields t.views is.views;
   apps = is.apps;
   contents = is.contents;
-  measured = is.measured;
 }

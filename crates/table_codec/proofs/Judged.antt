@@ -5,9 +5,9 @@ use Rattle.store_state.specs.Kept.{AreTables}
 use Rattle.store_state.specs.Tables.{Tables}
 use Rattle.record_fields.specs.declared.fault.CodecFault.{CodecFault}
 use Rattle.record_fields.specs.declared.fault.CodecFault.TheVariants.{Bad, Memory}
-use Rattle.record_fields.specs.Reading.{Fails, Gives, IsFaultWithin}
-use Rattle.table_codec.specs.Reading.{IsRefused, Judges, tables_of}
-use Rattle.table_codec.specs.Spelling.{state_text}
+use Rattle.record_fields.specs.Readers.{Fails, Gives, IsFaultWithin}
+use Rattle.table_codec.specs.Readers.{IsRefused, Judges, tables_of}
+use Rattle.table_codec.specs.Spelled.{state_text}
 use Rattle.table_codec.specs.Values.{IsEncodableState}
 use Rattle.table_codec.proofs.Whole.{all_again}
 

@@ -2,7 +2,7 @@
 use Rattle.std.proofs.Common.{◌≡◌, ◌+◌, ◌++◌, length, arith}
 use Rattle.std.proofs.lemmas.List.{length-append}
 use Rattle.store_state.specs.Tables.{Tables}
-use Rattle.table_codec.specs.Spelling.{lists_field, number_field, state_text}
+use Rattle.table_codec.specs.Spelled.{lists_field, number_field, state_text}
 
 pub length-state_text : (t : Tables) → length (state_text t) ≡ 24 + length (lists_field t)
 unfolding state_text

@@ -2,7 +2,7 @@
 use Rattle.std.proofs.Common.{◌≡◌, ℕ, ◌≤◌, List, ◌++◌, length, Ok, refl, ap, arith}
 use Rattle.std.specs.Prelude.{All, IfSome}
 use Rattle.small_types.specs.declared.limits.TheConstants.{APPLICATION_LIMIT, FILE_COUNT_LIMIT, LEASE_LIMIT, VIEW_LIMIT}
-use Rattle.small_types.specs.Reading.{◌>>=◌}
+use Rattle.small_types.specs.Outcome.{◌>>=◌}
 use Rattle.small_types.specs.Short.{IsTarget}
 use Rattle.identity.specs.Version.{IsVersion}
 use Rattle.machine.specs.declared.app.AppState.{AppState}
@@ -10,23 +10,23 @@ use Rattle.machine.specs.declared.lease.Lease.{Lease}
 use Rattle.store_state.specs.Tables.{Tables}
 use Rattle.record_fields.specs.Fields.{version_field}
 use Rattle.record_fields.specs.Parts.{list_at, option_at, target_at, truth_at}
-use Rattle.record_fields.specs.Reading.{version_at}
+use Rattle.record_fields.specs.Readers.{version_at}
 use Rattle.record_fields.specs.Reads.{ReadsField}
-use Rattle.record_fields.specs.Spelling.{list_field, option_field, target_field, truth_field}
+use Rattle.record_fields.specs.Spelled.{list_field, option_field, target_field, truth_field}
 use Rattle.record_fields.proofs.Forms.{truth_reads}
 use Rattle.record_fields.proofs.Lists.{list_reads, option_reads}
 use Rattle.record_fields.proofs.Structs.{key_reads, number64_reads, target_reads, version_reads}
 use Rattle.record_fields.proofs.Together.{first, last, same_values}
 use Rattle.record_codec.specs.declared.numbers.TheConstants.{COUNT_LIMIT}
 use Rattle.record_codec.specs.Records.{content_at, view_at}
-use Rattle.record_codec.specs.Spelling.{content_field, view_field}
+use Rattle.record_codec.specs.Spelled.{content_field, view_field}
 use Rattle.record_codec.specs.Values.{IsEncodableContent, IsEncodableView}
 use Rattle.record_codec.proofs.Records.{content_reads, view_reads}
 use Rattle.table_codec.specs.declared.app_field.AppRest.{AppRest}
-use Rattle.table_codec.specs.declared.table_reading.Lists.{Lists}
-use Rattle.table_codec.specs.Reading.{app_at, lease_at, lists_at, rest_at, tables_at, tables_with, whole_app, wide_at}
-use Rattle.table_codec.specs.Spelling.{app_field, lease_field, lists_field, number_field, rest_field, state_text}
-use Rattle.table_codec.specs.Values.{IsEncodableApp, IsEncodableLease, IsWide}
+use Rattle.table_codec.specs.declared.decoder.Lists.{Lists}
+use Rattle.table_codec.specs.Readers.{app_at, lease_at, lists_at, rest_at, tables_at, tables_with, whole_app, wide_at}
+use Rattle.table_codec.specs.Spelled.{app_field, lease_field, lists_field, number_field, rest_field, state_text}
+use Rattle.table_codec.specs.Values.{IsEncodableApp, IsEncodableLease, IsEncodableState, IsWide}
 
 -- ---- leases
 
@@ -123,23 +123,9 @@ lists_reads = same_values AreEncodableLists (
 abbrev lists_of : Tables → Lists
 lists_of t = record { leases = t.leases; views = t.views; apps = t.apps; contents = t.contents }
 
--- all of what an encoding asks but that contents hold as many bytes as their sizes
-pub record AreRead (t : Tables) : Type 0 where
-  pub boot : IsWide t.boot
-  pub next_view : IsWide t.next_view
-  pub next_lease : IsWide t.next_lease
-  pub few_leases : length t.leases ≤ LEASE_LIMIT
-  pub leases : All IsEncodableLease t.leases
-  pub few_views : length t.views ≤ VIEW_LIMIT
-  pub views : All (IsEncodableView COUNT_LIMIT) t.views
-  pub few_apps : length t.apps ≤ APPLICATION_LIMIT
-  pub apps : All IsEncodableApp t.apps
-  pub few_contents : length t.contents ≤ FILE_COUNT_LIMIT
-  pub contents : All IsEncodableContent t.contents
-
-pub tables_reads : ReadsField AreRead state_text tables_at
+pub tables_reads : ReadsField IsEncodableState state_text tables_at
 unfolding tables_at state_text lists_field
-tables_reads = same_values AreRead (
+tables_reads = same_values IsEncodableState (
     first {X = Tables} number64_reads (λ x. x.boot) (λ a0 x. IsWide x.next_view × (IsWide x.next_lease × (AreEncodableLists (lists_of x) × (x ≡ tables_with a0 x.next_view x.next_lease (lists_of x))))) (λ x. number_field x.next_view ++ (number_field x.next_lease ++ lists_text (lists_of x))) (λ a0 bytes place. wide_at bytes place >>= λ p1. wide_at bytes p1.1 >>= λ p2. lists_at bytes p2.1 >>= λ p3. Ok (tables_with a0 p1.0 p2.0 p3.0, p3.1)) (λ a0 x is. ap (λ (y : Tables). y.boot) is.1.1.1) (λ a0.
     first {X = Tables} number64_reads (λ x. x.next_view) (λ a1 x. IsWide x.next_lease × (AreEncodableLists (lists_of x) × (x ≡ tables_with a0 a1 x.next_lease (lists_of x)))) (λ x. number_field x.next_lease ++ lists_text (lists_of x)) (λ a1 bytes place. wide_at bytes place >>= λ p2. lists_at bytes p2.1 >>= λ p3. Ok (tables_with a0 a1 p2.0 p3.0, p3.1)) (λ a1 x is. ap (λ (y : Tables). y.next_view) is.1.1) (λ a1.
     first {X = Tables} number64_reads (λ x. x.next_lease) (λ a2 x. AreEncodableLists (lists_of x) × (x ≡ tables_with a0 a1 a2 (lists_of x))) (λ x. lists_text (lists_of x)) (λ a2 bytes place. lists_at bytes place >>= λ p3. Ok (tables_with a0 a1 a2 p3.0, p3.1)) (λ a2 x is. ap (λ (y : Tables). y.next_lease) is.1) (λ a2.

@@ -25,14 +25,15 @@ use Rattle.store_state.specs.declared.view.LocalFile.{LocalFile}
 use Rattle.store_state.specs.declared.view.View.{View}
 use Rattle.store_state.specs.Tables.{Tables}
 use Rattle.record_fields.specs.Fields.{key_field, text_field, version_field}
-use Rattle.record_fields.specs.Spelling.{application_field, deployment_field, digest_field, entry_field, identity_field, list_field, listed_field, option_field, rule_field, target_field, terms_field, truth_field}
+use Rattle.record_fields.specs.Spelled.{application_field, deployment_field, digest_field, entry_field, identity_field, list_field, listed_field, option_field, rule_field, target_field, terms_field, truth_field}
 use Rattle.record_fields.specs.Values.{AreDigests, IsEncodableApplication, IsEncodableDeployment, IsEncodableEntry}
 use Rattle.record_fields.proofs.Bounds.{digest_field_le, list_le, option_le, rule_le, version_le}
 use Rattle.record_fields.proofs.Long.{length-key_field, length-list_field, length-text_field, length-truth_field, length-version_field}
-use Rattle.record_codec.specs.Spelling.{content_field, local_field, view_field}
+use Rattle.record_codec.specs.Spelled.{block_field, content_field, local_field, view_field}
 use Rattle.record_codec.specs.Values.{IsEncodableContent, IsEncodableLocal}
+use Rattle.record_codec.proofs.Blocks.{length-blocks_field}
 use Rattle.table_codec.specs.Laws.{AreWithinWeights}
-use Rattle.table_codec.specs.Spelling.{app_field, lease_field, lists_field, number_field, rest_field, state_text}
+use Rattle.table_codec.specs.Spelled.{app_field, lease_field, lists_field, number_field, rest_field, state_text}
 use Rattle.table_codec.specs.Values.{HasFields, HaveFields, IsEncodableApp, IsEncodableLease, IsWide}
 use Rattle.table_codec.proofs.Fields.{have_fields}
 use Rattle.table_weight.specs.Weight.{content_weight, local_weight, spelled_cost, view_weight, weight_with}
@@ -180,12 +181,13 @@ local_within : (f : LocalFile) → IsEncodableLocal f
 unfolding local_field local_weight
 local_within f is =
     let s = to_be_bytes w64 f.length in
+    let b = list_field block_field f.held in
     omega (
       arith,
       length-text_field f.name,
-      length-text_field f.held,
-      length-append (text_field f.name) (s ++ text_field f.held),
-      length-append s (text_field f.held),
+      length-blocks_field f.held,
+      length-append (text_field f.name) (s ++ b),
+      length-append s b,
     )
 
 pub content_within : (c : Content) → IsEncodableContent c
@@ -194,11 +196,11 @@ unfolding content_field content_weight
 content_within c is =
     let s = to_be_bytes w64 c.size in
     let l = list_field digest_field c.list in
-    let b = text_field c.held in
+    let b = list_field block_field c.held in
     omega (
       arith,
       digests_within c.list is.list,
-      length-text_field c.held,
+      length-blocks_field c.held,
       length-append s (l ++ b),
       length-append l b,
     )
@@ -207,9 +209,11 @@ group_within : (group : List ℕ) → IsShort NAME_LIMIT group
     → length (text_field group) ≤ group_weight group
 group_within group is = omega (arith, length-text_field group)
 
-pub view_within : (v : View) → HasFields v → length (view_field v) ≤ view_weight spelled_cost v
+-- a view weighs more than is spelled of it
+pub view_spare : (v : View) → HasFields v
+    → length (view_field v) + 800 ≤ view_weight spelled_cost v
 unfolding view_field view_weight
-view_within v is =
+view_spare v is =
     let n = to_be_bytes w64 v.number in
     let d = deployment_field v.deployment in
     let a = application_field v.application in
@@ -229,6 +233,9 @@ view_within v is =
       length-append b (g ++ l),
       length-append g l,
     )
+
+pub view_within : (v : View) → HasFields v → length (view_field v) ≤ view_weight spelled_cost v
+view_within v is = omega (arith, view_spare v is)
 
 -- ---- applications and leases
 

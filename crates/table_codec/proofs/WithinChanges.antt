@@ -1,5 +1,5 @@
 -- The encoding of a change is hardly longer than the weight that it adds.
-use Rattle.std.proofs.Common.{◌≡◌, ◌+◌, ◌-◌, ◌≤◌, ℕ, Bool, true, false, cond, eqb, List, [], ◌∷◌, ◌++◌, All, IfSome, Option, Some, None, length, arith}
+use Rattle.std.proofs.Common.{◌≡◌, ◌+◌, ◌-◌, ◌*◌, ◌≤◌, ℕ, Bool, true, false, cond, eqb, List, [], ◌∷◌, ◌++◌, All, IfSome, Option, Some, None, length, arith}
 use Rattle.std.specs.Prelude.{sum_by}
 use Rattle.std.specs.Int.{to_be_bytes, w64}
 use Rattle.std.specs.declared.cmp.Ordering.{Ordering}
@@ -20,24 +20,25 @@ use Rattle.store_state.specs.declared.change.Change.TheVariants.{Boot, Require, 
 use Rattle.store_state.specs.declared.view.Content.{Content}
 use Rattle.store_state.specs.declared.view.LocalFile.{LocalFile}
 use Rattle.store_state.specs.declared.view.View.{View}
-use Rattle.store_state.specs.Change.{FitsGroup, FitsInstall, effect, grown}
+use Rattle.store_state.specs.Change.{effect, grown}
 use Rattle.store_state.specs.Contents.{IsMeasured}
+use Rattle.store_state.specs.Measured.{BringsMeasured, IsMeasuredLocal}
 use Rattle.store_state.specs.Rows.{with_row}
 use Rattle.store_state.specs.Tables.{Tables}
-use Rattle.store_state.proofs.Growing.{row_grows}
 use Rattle.record_fields.specs.Fields.{text_field}
-use Rattle.record_fields.specs.Spelling.{list_field, target_field}
+use Rattle.record_fields.specs.Spelled.{list_field, target_field}
 use Rattle.record_fields.proofs.Long.{length-text_field}
 use Rattle.record_fields.proofs.Sizes.{name_le}
 use Rattle.record_codec.specs.Codec.{change_text, group_text, install_text, put_text}
-use Rattle.record_codec.specs.Spelling.{content_field, local_field, view_field}
+use Rattle.record_codec.specs.Spelled.{block_field, content_field, local_field, view_field}
 use Rattle.record_codec.specs.Values.{IsEncodableContent, IsEncodableGroup, IsEncodableInstall, IsEncodableLocal}
+use Rattle.record_codec.proofs.Blocks.{length-blocks_field}
 use Rattle.record_codec.proofs.Bounds.{change_le}
 use Rattle.table_codec.specs.declared.laws.TheConstants.{CHANGE_LIMIT}
 use Rattle.table_codec.specs.Laws.{ChangesAreWithinWeights}
 use Rattle.table_codec.specs.Values.{IsEncodableApp, IsEncodableState}
 use Rattle.table_codec.proofs.Fields.{has_fields}
-use Rattle.table_codec.proofs.Within.{content_within, list_within, target_within, view_within}
+use Rattle.table_codec.proofs.Within.{content_within, list_within, target_within, view_spare}
 use Rattle.table_codec.proofs.WithinTables.{content_blocks, sums_within, view_blocks}
 use Rattle.table_weight.specs.Weight.{block_cost, content_weight, spelled_cost, tables_weight, view_weight, weight_with}
 
@@ -162,17 +163,17 @@ group_long number group contents =
     omega (arith, length-text_field group, length-append n (g ++ c), length-append g c)
 
 put_long : (number : ℕ) (file : LocalFile)
-    → length (change_text (Put number file)) ≡ 25 + length file.name + length file.held
+    → length (change_text (Put number file)) ≡ 25 + length file.name + 4 * length file.held
 unfolding change_text put_text local_field
 put_long number file =
     let n = to_be_bytes w64 number in
     let a = text_field file.name in
     let s = to_be_bytes w64 file.length in
-    let b = text_field file.held in
+    let b = list_field block_field file.held in
     omega (
       arith,
       length-text_field file.name,
-      length-text_field file.held,
+      length-blocks_field file.held,
       length-append n (a ++ (s ++ b)),
       length-append a (s ++ b),
       length-append s b,
@@ -181,19 +182,19 @@ put_long number file =
 -- ---- the three that may be long
 
 install_within : (t : Tables) (view : View) (contents : List Content) (provider : Target) (now : ℕ)
-    → IsEncodableState t → FitsInstall t view contents provider now
+    → IsEncodableState t → BringsMeasured (Install view contents provider now)
     → IsEncodableInstall view contents provider now
     → length (change_text (Install view contents provider now))
     ≤ CHANGE_LIMIT
     + (tables_weight (effect (Install view contents provider now) t) - tables_weight t)
 unfolding weight_with
-install_within t view contents provider now has fits is =
+install_within t view contents provider now has brings is =
     omega (
       arith,
       install_long view contents provider now,
-      view_within view (has_fields view is.view),
-      view_blocks view fits.row,
-      brought_within contents is.contents fits.brings.measured,
+      view_spare view (has_fields view is.view),
+      view_blocks view brings.1,
+      brought_within contents is.contents brings.0,
       target_within provider,
       replaced_in view.deployment.identity.key view.number view.deployment provider now t.apps
           has.apps,
@@ -203,51 +204,52 @@ install_within t view contents provider now has fits is =
     )
 
 group_within : (t : Tables) (number : ℕ) (group : List ℕ) (contents : List Content)
-    → FitsGroup t number group contents → IsEncodableGroup number group contents
+    → All IsMeasured contents → IsEncodableGroup number group contents
     → length (change_text (Group number group contents))
     ≤ CHANGE_LIMIT
     + (tables_weight (effect (Group number group contents) t) - tables_weight t)
 unfolding weight_with
-group_within t number group contents fits is =
+group_within t number group contents brings is =
     omega (
       arith,
       group_long number group contents,
       is.group.within,
-      brought_within contents is.contents (row_grows number group t contents fits).2.brings.measured,
+      brought_within contents is.contents brings,
       grown_in number group t.views,
       sum_by-append (content_weight block_cost) t.contents contents,
     )
 
-put_within : (number : ℕ) (file : LocalFile) → IsEncodableLocal file
-    → length file.held ≤ PIECE_LIMIT
+put_within : (number : ℕ) (file : LocalFile) → IsEncodableLocal file → IsMeasuredLocal file
+    → file.length ≤ PIECE_LIMIT
     → length (change_text (Put number file)) ≤ CHANGE_LIMIT
-put_within number file is short =
+put_within number file is brings short =
     omega (
       arith,
       put_long number file,
       name_le file.name is.name,
+      brings,
       short,
     )
 
 -- ---- every change
 
 pub changes_within : ChangesAreWithinWeights
-changes_within t (Boot boot) are has fits is short = omega (arith, change_le (Boot boot) is)
-changes_within t (Require key version) are has fits is short =
+changes_within t (Boot boot) are has fits is brings short = omega (arith, change_le (Boot boot) is)
+changes_within t (Require key version) are has fits is brings short =
     omega (arith, change_le (Require key version) is)
-changes_within t (Install view contents provider now) are has fits is short =
-    install_within t view contents provider now has fits is
-changes_within t (Heard key version minimum now) are has fits is short =
+changes_within t (Install view contents provider now) are has fits is brings short =
+    install_within t view contents provider now has brings is
+changes_within t (Heard key version minimum now) are has fits is brings short =
     omega (arith, change_le (Heard key version minimum now) is)
-changes_within t (Unheard key) are has fits is short = omega (arith, change_le (Unheard key) is)
-changes_within t (Skip place) are has fits is short = omega (arith, change_le (Skip place) is)
-changes_within t (Rollback place) are has fits is short = omega (arith, change_le (Rollback place) is)
-changes_within t (Launch place) are has fits is short = omega (arith, change_le (Launch place) is)
-changes_within t (Finish lease) are has fits is short = omega (arith, change_le (Finish lease) is)
-changes_within t (Group number group contents) are has fits is short =
-    group_within t number group contents fits is
-changes_within t (Put number file) are has fits is short =
-    omega (arith, put_within number file is.1 short)
-changes_within t (Remove number name) are has fits is short =
+changes_within t (Unheard key) are has fits is brings short = omega (arith, change_le (Unheard key) is)
+changes_within t (Skip place) are has fits is brings short = omega (arith, change_le (Skip place) is)
+changes_within t (Rollback place) are has fits is brings short = omega (arith, change_le (Rollback place) is)
+changes_within t (Launch place) are has fits is brings short = omega (arith, change_le (Launch place) is)
+changes_within t (Finish lease) are has fits is brings short = omega (arith, change_le (Finish lease) is)
+changes_within t (Group number group contents) are has fits is brings short =
+    group_within t number group contents brings is
+changes_within t (Put number file) are has fits is brings short =
+    omega (arith, put_within number file is.1 brings short)
+changes_within t (Remove number name) are has fits is brings short =
     omega (arith, change_le (Remove number name) is)
-changes_within t Clean are has fits is short = omega (arith, change_le Clean is)
+changes_within t Clean are has fits is brings short = omega (arith, change_le Clean is)

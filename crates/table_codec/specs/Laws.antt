@@ -5,10 +5,11 @@ use Rattle.store_state.specs.declared.change.Change.{Change}
 use Rattle.store_state.specs.declared.change.Change.TheVariants.{Put}
 use Rattle.store_state.specs.Change.{Fits, effect}
 use Rattle.store_state.specs.Kept.{AreTables}
+use Rattle.store_state.specs.Measured.{AreMeasured, BringsMeasured}
 use Rattle.store_state.specs.Tables.{Tables}
 use Rattle.record_codec.specs.Codec.{change_text, IsChange}
 use Rattle.table_codec.specs.declared.laws.TheConstants.{CHANGE_LIMIT}
-use Rattle.table_codec.specs.Spelling.{state_text}
+use Rattle.table_codec.specs.Spelled.{state_text}
 use Rattle.table_codec.specs.Values.{HaveFields, IsEncodableState}
 use Rattle.table_weight.specs.Weight.{spelled_cost, tables_weight, weight_with}
 
@@ -42,26 +43,26 @@ StayEncodable = (t : Tables) (change : Change) → AreTables t → IsEncodableSt
 -- ---- how long it is
 
 -- An encoding is at most as long as its tables weigh, where a file counts the bytes that are
--- spelled of it, but for their number, in place of its blocks.
+-- spelled of the numbers of its blocks, but for how many they are, in place of its blocks.
 abbrev pub AreWithinWeights : Type 0
 AreWithinWeights = (t : Tables) → IsEncodableState t
     → length (state_text t) ≤ weight_with spelled_cost t
 
--- Where tables have their fields, a file holds as many bytes as its size says, and its blocks weigh
--- no less: so their spelling is at most as long as they weigh.
+-- Where each file has as many blocks as its length needs, they weigh no less: so the spelling of
+-- tables that have their fields is at most as long as they weigh.
 abbrev pub AreWithinTableWeights : Type 0
-AreWithinTableWeights = (t : Tables) → AreTables t → HaveFields t
+AreWithinTableWeights = (t : Tables) → AreTables t → HaveFields t → AreMeasured t
     → length (state_text t) ≤ tables_weight t
 
 -- a data file that is put has at most the bytes that a line can bring
 abbrev pub IsShortPut : Change → Type 0
-IsShortPut (Put view file) = length file.held ≤ PIECE_LIMIT
+IsShortPut (Put view file) = file.length ≤ PIECE_LIMIT
 IsShortPut change = Unit {0}
 
--- The encoding of a change is longer by at most so much than the weight that it adds. A loss of
--- weight counts as none.
+-- The encoding of a change, of which each file has as many blocks as its length needs, is longer by
+-- at most so much than the weight that it adds. A loss of weight counts as none.
 abbrev pub ChangesAreWithinWeights : Type 0
 ChangesAreWithinWeights = (t : Tables) (change : Change) → AreTables t → IsEncodableState t
-    → Fits t change → IsChange change → IsShortPut change
+    → Fits t change → IsChange change → BringsMeasured change → IsShortPut change
     → length (change_text change)
     ≤ CHANGE_LIMIT + (tables_weight (effect change t) - tables_weight t)

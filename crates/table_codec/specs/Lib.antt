@@ -1,4 +1,4 @@
 pub mod Laws
-pub mod Reading
-pub mod Spelling
+pub mod Readers
+pub mod Spelled
 pub mod Values

@@ -8,7 +8,6 @@ use Rattle.identity.specs.Version.{IsVersion}
 use Rattle.machine.specs.declared.app.AppState.{AppState}
 use Rattle.machine.specs.declared.lease.Lease.{Lease}
 use Rattle.store_state.specs.declared.view.View.{View}
-use Rattle.store_state.specs.Contents.{IsMeasured}
 use Rattle.store_state.specs.Tables.{Tables}
 use Rattle.record_fields.specs.Values.{IsEncodableApplication, IsEncodableDeployment}
 use Rattle.record_codec.specs.declared.numbers.TheConstants.{COUNT_LIMIT}
@@ -35,7 +34,7 @@ pub record IsEncodableApp (app : AppState) : Type 0 where
   pub last_check : IfSome app.last_check IsWide
 
 -- No order is asked here, and no view needs to be there that is named. A view has as many groups
--- and data files as four bytes can count, and a content holds as many bytes as its size.
+-- and data files as four bytes can count, and a file as many blocks, whatever its length.
 pub record IsEncodableState (tables : Tables) : Type 0 where
   pub boot : IsWide tables.boot
   pub next_view : IsWide tables.next_view
@@ -48,7 +47,6 @@ pub record IsEncodableState (tables : Tables) : Type 0 where
   pub apps : All IsEncodableApp tables.apps
   pub few_contents : length tables.contents ≤ FILE_COUNT_LIMIT
   pub contents : All IsEncodableContent tables.contents
-  pub measured : All IsMeasured tables.contents
 
 -- ---- whatever lists count
 
@@ -61,8 +59,7 @@ pub record HasFields (view : View) : Type 0 where
   pub groups : All (IsShort NAME_LIMIT) view.groups
   pub locals : All IsEncodableLocal view.locals
 
--- the fields of tables do, however many of each they have, and contents hold as many bytes as their
--- sizes
+-- the fields of tables do, however many of each they have
 pub record HaveFields (tables : Tables) : Type 0 where
   pub boot : IsWide tables.boot
   pub next_view : IsWide tables.next_view
@@ -71,4 +68,3 @@ pub record HaveFields (tables : Tables) : Type 0 where
   pub views : All HasFields tables.views
   pub apps : All IsEncodableApp tables.apps
   pub contents : All IsEncodableContent tables.contents
-  pub measured : All IsMeasured tables.contents

@@ -1,9 +1,9 @@
 // Applications.
 ghost use Rattle.std.specs.Prelude.{◌≡◌, ◌+◌, ◌<◌, ◌≤◌, ◌^◌, length, Option, IfOk, IfErr};
 ghost use Rattle.record_fields.specs.Places.{WritesField};
-ghost use Rattle.record_fields.specs.Reading.{Gives, IsFaultWithin};
-ghost use Rattle.table_codec.specs.Reading.{rest_at, whole_app};
-ghost use Rattle.table_codec.specs.Spelling.{app_field, rest_field};
+ghost use Rattle.record_fields.specs.Readers.{Gives, IsFaultWithin};
+ghost use Rattle.table_codec.specs.Readers.{rest_at, whole_app};
+ghost use Rattle.table_codec.specs.Spelled.{app_field, rest_field};
 ghost use Rattle.table_codec.specs.Values.{IsEncodableApp};
 
 use crate::option_fields::{NumberField, TargetField, option_here};
@@ -48,7 +48,7 @@ impl Item for AppField {
     }
 }
 
-#[tactic(auto, using(record_fields::proofs::Long::lengths), unfolding(crate::specs::Spelling::rest_field))]
+#[tactic(auto, using(record_fields::proofs::Long::lengths), unfolding(crate::specs::Spelled::rest_field))]
 fn rest_length(app: &AppState) -> u64
     requires { length (rest_field app.now) < 2 ^ 63 }
     ensures { result ≡ length (rest_field app.now) }
@@ -63,7 +63,7 @@ fn rest_length(app: &AppState) -> u64
         + 1
 }
 
-#[tactic(auto, using(record_fields::proofs::Long::lengths), unfolding(crate::specs::Spelling::app_field))]
+#[tactic(auto, using(record_fields::proofs::Long::lengths), unfolding(crate::specs::Spelled::app_field))]
 fn app_length(app: &AppState) -> u64
     requires { length (app_field app.now) < 2 ^ 63 }
     ensures { result ≡ length (app_field app.now) }
@@ -72,7 +72,7 @@ fn app_length(app: &AppState) -> u64
 }
 
 // WritesField what comes behind the address at the place, and answers the place behind it.
-#[tactic(auto, using(record_fields::proofs::Long::lengths), unfolding(crate::specs::Spelling::rest_field))]
+#[tactic(auto, using(record_fields::proofs::Long::lengths), unfolding(crate::specs::Spelled::rest_field))]
 fn write_rest(out: &mut [u8], place: usize, app: &AppState) -> usize
     requires app { IsEncodableApp app.now }
     requires room { place + length (rest_field app.now) ≤ length out.old }
@@ -89,7 +89,7 @@ fn write_rest(out: &mut [u8], place: usize, app: &AppState) -> usize
 }
 
 // WritesField the application at the place, its fields in their order, and answers the place behind it.
-#[tactic(auto, using(record_fields::proofs::Long::lengths), unfolding(crate::specs::Spelling::app_field))]
+#[tactic(auto, using(record_fields::proofs::Long::lengths), unfolding(crate::specs::Spelled::app_field))]
 fn write_app(out: &mut [u8], place: usize, app: &AppState) -> usize
     requires app { IsEncodableApp app.now }
     requires room { place + length (app_field app.now) ≤ length out.old }
@@ -101,7 +101,7 @@ fn write_app(out: &mut [u8], place: usize, app: &AppState) -> usize
 }
 
 // What comes behind the address, at the place, and the place behind it.
-#[tactic(auto, unfolding(crate::specs::Reading::rest_at))]
+#[tactic(auto, unfolding(crate::specs::Readers::rest_at))]
 fn rest_here(alloc: Global, bytes: &[u8], place: usize) -> Result<(AppRest, usize), CodecFault>
     requires { place ≤ length bytes.now }
     ensures exact { Gives result (rest_at bytes.now place) }
@@ -150,7 +150,7 @@ fn whole_app(key: Key, provider: Option<Target>, rest: AppRest) -> AppState
 impl Readable for AppField {
     type Value = AppState;
 
-    ghost use Rattle.table_codec.specs.Reading.{app_at};
+    ghost use Rattle.table_codec.specs.Readers.{app_at};
 
     ghost field = { app_field };
 
@@ -158,7 +158,7 @@ impl Readable for AppField {
 
     ghost at = { app_at };
 
-    #[tactic(auto, unfolding(crate::specs::Reading::app_at))]
+    #[tactic(auto, unfolding(crate::specs::Readers::app_at))]
     fn read_here(
         alloc: Global,
         bytes: &[u8],

@@ -1,9 +1,14 @@
 // What holds of all encodings of tables, and of changes beside them.
+ghost use Rattle.std.specs.Prelude.{◌≡◌};
 ghost use Rattle.table_codec.specs.Laws.{AreEncodable, AreSpelledOnce, AreWithinTableWeights, AreWithinWeights, ChangesAreWithinWeights, FieldsStay, HadFields, StayEncodable};
 
-/// By how many bytes the encoding of a change may be longer than the weight that it adds: those of
-/// the longest data file that a line can put, and 4,096 for all else.
-pub const CHANGE_LIMIT: u64 = 34_096;
+/// By how many bytes the encoding of a change may be longer than the weight that it adds.
+pub const CHANGE_LIMIT: u64 = 4_096;
+
+/// The number of that limit.
+pub fn change_limit_is()
+    ensures { CHANGE_LIMIT ≡ 4_096 }
+{}
 
 /// A law: different tables have different encodings.
 pub fn tables_are_spelled_once()
@@ -25,18 +30,19 @@ pub fn changes_stay_encodable()
 {}
 
 /// A law: an encoding is at most as long as its tables weigh, where a file counts the bytes that
-/// are spelled of it in place of its blocks.
+/// are spelled of the numbers of its blocks in place of its blocks.
 pub fn encodings_are_within_weights()
     ensures { AreWithinWeights }
 {}
 
-/// A law: the spelling of tables whose fields have encodings is at most as long as they weigh.
+/// A law: the spelling of tables whose fields have encodings is at most as long as they weigh, where
+/// each file has as many blocks as its length needs.
 pub fn encodings_are_within_table_weights()
     ensures { AreWithinTableWeights }
 {}
 
 /// A law: the encoding of a change is longer by at most `CHANGE_LIMIT` bytes than the weight that it
-/// adds.
+/// adds, where each file that it brings has as many blocks as its length needs.
 pub fn changes_are_within_weights()
     ensures { ChangesAreWithinWeights }
 {}

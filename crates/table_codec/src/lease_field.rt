@@ -1,7 +1,7 @@
 // Leases.
 ghost use Rattle.std.specs.Prelude.{◌+◌, ◌≤◌, length};
 ghost use Rattle.record_fields.specs.Places.{WritesField};
-ghost use Rattle.table_codec.specs.Spelling.{lease_field};
+ghost use Rattle.table_codec.specs.Spelled.{lease_field};
 
 use machine::Lease;
 use record_fields::{CodecFault, Item, Readable, read_u64, write_u64};
@@ -10,11 +10,11 @@ use std::alloc::Global;
 /// How leases stand in lists.
 pub struct LeaseField;
 
-#[tactic(auto, unfolding(crate::specs::Spelling::lease_field))]
+#[tactic(auto, unfolding(crate::specs::Spelled::lease_field))]
 impl Item for LeaseField {
     type Value = Lease;
 
-    ghost use Rattle.table_codec.specs.Spelling.{lease_field};
+    ghost use Rattle.table_codec.specs.Spelled.{lease_field};
 
     ghost field = { lease_field };
 
@@ -30,7 +30,7 @@ impl Item for LeaseField {
 }
 
 // WritesField the lease at the place, its number and that of its view, and answers the place behind it.
-#[tactic(auto, unfolding(crate::specs::Spelling::lease_field))]
+#[tactic(auto, unfolding(crate::specs::Spelled::lease_field))]
 fn write_lease(out: &mut [u8], place: usize, lease: Lease) -> usize
     requires { place + length (lease_field lease) ≤ length out.old }
     ensures { WritesField out.old place (lease_field lease) out.new result }
@@ -42,8 +42,8 @@ fn write_lease(out: &mut [u8], place: usize, lease: Lease) -> usize
 impl Readable for LeaseField {
     type Value = Lease;
 
-    ghost use Rattle.table_codec.specs.Reading.{lease_at};
-    ghost use Rattle.table_codec.specs.Spelling.{lease_field};
+    ghost use Rattle.table_codec.specs.Readers.{lease_at};
+    ghost use Rattle.table_codec.specs.Spelled.{lease_field};
     ghost use Rattle.table_codec.specs.Values.{IsEncodableLease};
 
     ghost field = { lease_field };
@@ -52,7 +52,7 @@ impl Readable for LeaseField {
 
     ghost at = { lease_at };
 
-    #[tactic(auto, unfolding(crate::specs::Reading::lease_at))]
+    #[tactic(auto, unfolding(crate::specs::Readers::lease_at))]
     fn read_here(_: Global, bytes: &[u8], place: usize) -> Result<(Lease, usize), CodecFault> {
         let (number, next) = read_u64(bytes, place)?;
         let (view, next) = read_u64(bytes, next)?;

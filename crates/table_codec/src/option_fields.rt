@@ -1,6 +1,6 @@
 // Numbers and addresses that may be there or not.
 ghost use Rattle.std.specs.Prelude.{◌≤◌, length, true, IfOk, IfErr};
-ghost use Rattle.record_fields.specs.Reading.{Gives, IsFaultWithin};
+ghost use Rattle.record_fields.specs.Readers.{Gives, IsFaultWithin};
 ghost use Rattle.record_fields.specs.Parts.{option_at, option_of};
 
 use record_fields::{
@@ -16,7 +16,7 @@ pub struct NumberField;
 impl Item for NumberField {
     type Value = u64;
 
-    ghost use Rattle.table_codec.specs.Spelling.{number_field};
+    ghost use Rattle.table_codec.specs.Spelled.{number_field};
 
     ghost field = { number_field };
 
@@ -34,8 +34,8 @@ impl Item for NumberField {
 impl Readable for NumberField {
     type Value = u64;
 
-    ghost use Rattle.table_codec.specs.Reading.{wide_at};
-    ghost use Rattle.table_codec.specs.Spelling.{number_field};
+    ghost use Rattle.table_codec.specs.Readers.{wide_at};
+    ghost use Rattle.table_codec.specs.Spelled.{number_field};
     ghost use Rattle.table_codec.specs.Values.{IsWide};
 
     ghost field = { number_field };
@@ -58,7 +58,7 @@ impl Item for TargetField {
     type Value = Target;
 
     ghost use Rattle.small_types.specs.Short.{IsTarget};
-    ghost use Rattle.record_fields.specs.Spelling.{target_field};
+    ghost use Rattle.record_fields.specs.Spelled.{target_field};
 
     ghost field = { target_field };
 
@@ -78,7 +78,7 @@ impl Readable for TargetField {
 
     ghost use Rattle.small_types.specs.Short.{IsTarget};
     ghost use Rattle.record_fields.specs.Parts.{target_at};
-    ghost use Rattle.record_fields.specs.Spelling.{target_field};
+    ghost use Rattle.record_fields.specs.Spelled.{target_field};
 
     ghost field = { target_field };
 

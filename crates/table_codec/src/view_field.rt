@@ -1,6 +1,6 @@
 // Views.
 ghost use Rattle.record_codec.specs.declared.numbers.TheConstants.{COUNT_LIMIT};
-ghost use Rattle.record_codec.specs.Spelling.{view_field};
+ghost use Rattle.record_codec.specs.Spelled.{view_field};
 ghost use Rattle.record_codec.specs.Values.{IsEncodableView};
 
 use record_codec::{COUNT_LIMIT, read_view, view_length, write_view};

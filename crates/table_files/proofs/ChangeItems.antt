@@ -13,7 +13,7 @@ use Rattle.machine.specs.CheckRow.{heard_app}
 use Rattle.machine.specs.Entries.{with_entry}
 use Rattle.machine.specs.LaunchRow.{started_app}
 use Rattle.machine.specs.RollbackRow.{rolled_back_app}
-use Rattle.machine.proofs.Finding.{find_in as found_in}
+use Rattle.machine.proofs.FirstFound.{find_in as found_in}
 use Rattle.machine.proofs.Members.{all_in}
 use Rattle.store_state.specs.declared.change.Change.{Change}
 use Rattle.store_state.specs.declared.change.Change.TheVariants.{Boot, Require, Install, Heard, Unheard, Skip, Rollback, Launch, Finish, Group, Put, Remove, Clean}
@@ -27,7 +27,7 @@ use Rattle.store_state.specs.Locals.{local_at, local_named, with_local, without_
 use Rattle.store_state.specs.Rows.{current_at, current_version, row_at, version_at, with_app, with_row}
 use Rattle.store_state.specs.Tables.{Tables, bare_row}
 use Rattle.store_state.proofs.ByNumber.{Rise}
-use Rattle.store_state.proofs.Growing.{of_view, some_with}
+use Rattle.store_state.proofs.GrownTables.{of_view, some_with}
 use Rattle.store_state.proofs.Indexed.{pairs_of_map}
 use Rattle.table_files.specs.Freed.{brought, freed, held_for_one, rows_among, unneeded}
 use Rattle.table_files.specs.Held.{held_by, held_for_contents, held_for_locals, held_for_views}

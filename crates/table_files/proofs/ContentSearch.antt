@@ -18,7 +18,7 @@ use Rattle.machine.specs.InUse.{is_in_use}
 use Rattle.machine.specs.Shape.{BareView}
 use Rattle.machine.specs.Views.{ContentKey, content_key}
 use Rattle.machine.proofs.Members.{contains_in, in_contains}
-use Rattle.machine.proofs.Needing.{in_passes, passes_in}
+use Rattle.machine.proofs.OwnContents.{in_passes, passes_in}
 use Rattle.store_state.specs.declared.view.Content.{Content}
 use Rattle.store_state.specs.declared.view.View.{View}
 use Rattle.store_state.specs.ContentKeys.{content_key_cmp}
@@ -28,7 +28,7 @@ use Rattle.store_state.specs.Kept.{AreTables}
 use Rattle.store_state.specs.Tables.{Tables, bare_row, table_shape}
 use Rattle.store_state.proofs.KeyOrder.{content_key_total, one_key}
 use Rattle.store_state.proofs.Keyed.{key_of, of_key}
-use Rattle.store_state.proofs.Marking.{some_item}
+use Rattle.store_state.proofs.MarkedItems.{some_item}
 
 -- ---- one element that has the key
 

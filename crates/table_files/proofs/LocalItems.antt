@@ -11,7 +11,7 @@ use Rattle.std.proofs.lemmas.List.Sums.{sum_by-append}
 use Rattle.std.proofs.lemmas.Slice.Eq.{bytes_eq-Decides}
 use Rattle.identity.specs.Printed.{text_cmp}
 use Rattle.machine.specs.DataFiles.{with_named, with_named_at, without_named}
-use Rattle.machine.proofs.Entering.{order}
+use Rattle.machine.proofs.EntryOrder.{order}
 use Rattle.machine.proofs.Keys.{equal_texts}
 use Rattle.machine.proofs.Members.{pairs_head, pairs_tail}
 use Rattle.store_state.specs.declared.view.LocalFile.{LocalFile}

@@ -11,7 +11,7 @@ use Rattle.machine.proofs.Members.{pairs_head, pairs_tail}
 use Rattle.store_state.specs.declared.view.View.{View}
 use Rattle.store_state.specs.Rows.{row_at, with_row}
 use Rattle.store_state.proofs.ByNumber.{Rise}
-use Rattle.store_state.proofs.Growing.{of_view}
+use Rattle.store_state.proofs.GrownTables.{of_view}
 use Rattle.table_files.specs.Held.{held_for_locals, held_for_views}
 use Rattle.table_files.proofs.LocalItems.{total}
 

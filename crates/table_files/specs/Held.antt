@@ -1,4 +1,4 @@
--- What tables hold for the files that they name: in this form the bytes of the files.
+-- What tables hold for the files that they name: the numbers of their blocks.
 use Rattle.std.specs.Prelude.{ℕ, List, ◌++◌, flat_map}
 use Rattle.store_state.specs.declared.view.Content.{Content}
 use Rattle.store_state.specs.declared.view.LocalFile.{LocalFile}

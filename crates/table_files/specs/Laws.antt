@@ -1,11 +1,13 @@
 -- What is true of what tables hold, once they are changed.
-use Rattle.std.specs.Prelude.{◌≡◌, ◌+◌, ◌<◌, ◌==◌, ◌++◌, ℕ, List, All, count_by, length}
+use Rattle.std.specs.Prelude.{◌≡◌, ◌+◌, ◌<◌, ◌==◌, ◌++◌, ℕ, List, All, count_by, length, map}
 use Rattle.std.specs.List.Sorted.{IsPermutation}
 use Rattle.small_types.specs.Blocks.{AreApart}
+use Rattle.machine.specs.Blocks.{used_blocks}
 use Rattle.store_state.specs.declared.change.Change.{Change}
 use Rattle.store_state.specs.Change.{Fits, effect}
 use Rattle.store_state.specs.Kept.{AreTables}
-use Rattle.store_state.specs.Tables.{Tables}
+use Rattle.store_state.specs.Measured.{AreMeasured}
+use Rattle.store_state.specs.Tables.{Tables, bare_row}
 use Rattle.table_files.specs.Freed.{brought, freed}
 use Rattle.table_files.specs.Held.{held_by}
 
@@ -41,3 +43,8 @@ pub record KeepsItems (change : Change) (tables : Tables) : Type 0 where
 abbrev pub ChangesKeepItems : Type 0
 ChangesKeepItems = (tables : Tables) (change : Change) → AreTables tables → Fits tables change
     → KeepsItems change tables
+
+-- Tables hold as many blocks as their files take, where each file has as many as its length needs.
+abbrev pub HeldAreUsed : Type 0
+HeldAreUsed = (tables : Tables) → AreTables tables → AreMeasured tables
+    → length (held_by tables) ≡ used_blocks (map bare_row tables.views)

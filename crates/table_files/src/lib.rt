@@ -8,5 +8,5 @@ mod laws;
 mod needed_contents;
 
 pub use freed_items::{freed, lets_go};
-pub use held_items::{HeldItem, held};
-pub use laws::changes_keep_items;
+pub use held_items::{HeldItem, brought, held};
+pub use laws::{changes_keep_items, held_are_used};

@@ -14,7 +14,7 @@ use Rattle.table_log.specs.declared.fault.StepFault.{StepFault}
 use Rattle.table_log.specs.declared.fault.StepFault.TheVariants.{DiskFault, Memory}
 use Rattle.table_log.specs.MakesDurable.{MakesDurable, Stores, change_size, tables_size}
 use Rattle.table_log.specs.Pieces.{HasEntry, HasTables}
-use Rattle.table_log.proofs.Booking.{spends_bytes, spends_nothing}
+use Rattle.table_log.proofs.StepCosts.{spends_bytes, spends_nothing}
 use Rattle.table_log.proofs.Storage.{stores_nothing}
 
 no_memory : {T : Type 0} (result : Result T StepFault) → IfErr result (λ e. e ≡ DiskFault) → result ≡ Err Memory → ⊥

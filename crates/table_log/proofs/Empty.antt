@@ -6,9 +6,9 @@ use Rattle.journal.specs.declared.fault.LogFault.TheVariants.{DiskFault, Memory,
 use Rattle.journal.specs.Layout.{AreLimits}
 use Rattle.store_state.specs.Kept.{AreTables}
 use Rattle.store_state.specs.Tables.{Tables, empty}
-use Rattle.table_codec.specs.Spelling.{lists_field, state_text}
+use Rattle.table_codec.specs.Spelled.{lists_field, state_text}
 use Rattle.table_codec.specs.Values.{IsEncodableState}
-use Rattle.record_fields.specs.Spelling.{list_field}
+use Rattle.record_fields.specs.Spelled.{list_field}
 use Rattle.table_log.specs.Texts.{Spells}
 
 -- the empty tables have an encoding
@@ -25,7 +25,6 @@ empty_has = record {
   apps = All-nil _;
   few_contents = omega arith;
   contents = All-nil _;
-  measured = All-nil _;
 }
 
 -- and are tables

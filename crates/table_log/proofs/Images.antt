@@ -6,18 +6,20 @@ use Rattle.disks.specs.Moments.{LeavesOnly, Each, Untouched}
 use Rattle.disks.specs.Outside.{AgreesOutside, IsOldOutside}
 use Rattle.disks.proofs.MomentLemmas.{weaker}
 use Rattle.journal.specs.declared.log.Log.{Log}
-use Rattle.journal.specs.Layout.{blocks_start, IsHalvedJournal, NoJournal}
+use Rattle.journal.specs.Laws.{IsOldBefore}
+use Rattle.journal.specs.Layout.{IsHalvedJournal, NoJournal}
+use Rattle.small_types.specs.Blocks.{blocks_start}
 use Rattle.journal.specs.Log.{half_of}
-use Rattle.journal.proofs.Blocks.{each_journal, journal_outside, journal_stays, open_outside, still_open}
+use Rattle.journal.proofs.Blocks.{each_journal, journal_outside, journal_stays, open_before, open_outside, still_open}
 use Rattle.journal.proofs.Store.{unique}
 use Rattle.store_state.specs.Tables.{Tables, empty}
 use Rattle.table_codec.specs.Laws.{AreSpelledOnce}
-use Rattle.table_codec.specs.Spelling.{state_text}
+use Rattle.table_codec.specs.Spelled.{state_text}
 use Rattle.table_log.specs.Laws.{StaysAs}
 use Rattle.table_log.specs.ReadsAs.{IsOpenAs, ReadsAs, ReadsAsNone}
 use Rattle.table_log.specs.Texts.{LeadTo, Loads, Spells}
 use Rattle.table_log.proofs.Empty.{empty_spells}
-use Rattle.table_log.proofs.Loading.{loads_same}
+use Rattle.table_log.proofs.LoadedTables.{loads_same}
 
 -- a text spells one tables
 pub one_spelled : AreSpelledOnce → (text : List ℕ) (a b : Tables) → Spells a text → Spells b text → a ≡ b
@@ -91,3 +93,17 @@ module _ {D : Type 0} (on : Ghosts D) (log : Log) (room : Room) (tables : Tables
     };
     each = weaker on old new _ _ (λ image journal. reads_so log room tables image is.text is.changes is.half is.lead journal) (journal_stays on log room.blocks is.text is.changes old new place n late run is.opened);
   }
+
+  pub stays_front : (old new : D) (place : ℕ) → blocks_start (half_of log) ≤ place → LeavesOnly on old new (IsOldBefore place (on.left_at old (on.moment old))) → IsOpenAs on log room tables old → StaysAs on log room tables old new
+  stays_front old new place late run is =
+      let stays = open_before on log room.blocks is.text is.changes old new place late run is.opened in
+      record {
+        opened = record {
+          text = is.text;
+          changes = is.changes;
+          opened = stays.opened;
+          half = is.half;
+          lead = is.lead;
+        };
+        each = weaker on old new _ _ (λ image journal. reads_so log room tables image is.text is.changes is.half is.lead journal) stays.each;
+      }

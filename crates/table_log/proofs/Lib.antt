@@ -1,10 +1,10 @@
-pub mod Booking
 pub mod Durable
 pub mod Empty
+pub mod FoundTables
 pub mod Images
-pub mod Loading
+pub mod LoadedTables
 pub mod NewRooms
 pub mod Outside
-pub mod Recovering
 pub mod Sizes
+pub mod StepCosts
 pub mod Storage

@@ -12,7 +12,7 @@ new_limits blocks some few = record {
   some = some;
   most = omega (arith, few);
   least = omega arith;
-  greatest = omega (arith, few);
+  greatest = omega arith;
   steps = omega arith;
 }
 

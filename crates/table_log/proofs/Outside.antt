@@ -6,7 +6,7 @@ use Rattle.disks.specs.Moments.{LeavesOnly}
 use Rattle.disks.specs.Outside.{AgreesOutside, IsOldOutside}
 use Rattle.disks.proofs.MomentLemmas.{started, then_on, weaker}
 use Rattle.disks.proofs.OutsideLemmas.{agrees_same, agrees_then}
-use Rattle.journal.specs.Layout.{blocks_start}
+use Rattle.small_types.specs.Blocks.{blocks_start}
 use Rattle.table_log.specs.MakesDurable.{AgreesBehind, IsOldBehind}
 
 take_none : (n : ℕ) (b : List ℕ) → n ≡ 0 → take n b ≡ take 0 b

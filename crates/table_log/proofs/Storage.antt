@@ -9,7 +9,7 @@ use Rattle.disks.specs.Outside.{AgreesOutside, IsOldOutside}
 use Rattle.disks.proofs.MomentLemmas.{started, then_on, weaker}
 use Rattle.disks.proofs.OutsideLemmas.{agrees_same, agrees_then}
 use Rattle.journal.specs.declared.log.Log.{Log}
-use Rattle.journal.specs.Layout.{blocks_start}
+use Rattle.small_types.specs.Blocks.{blocks_start}
 use Rattle.journal.specs.Log.{IsEither, IsOpen, half_of}
 use Rattle.store_state.specs.declared.change.Change.{Change}
 use Rattle.store_state.specs.Change.{Fits, effect}
@@ -19,7 +19,7 @@ use Rattle.table_log.specs.MakesDurable.{AgreesBehind, IsOldBehind, Stores}
 use Rattle.table_log.specs.ReadsAs.{IsOpenAs, ReadsAs, ReadsAsEither}
 use Rattle.table_log.specs.Texts.{Encodes, LeadTo, Spells}
 use Rattle.table_log.proofs.Images.{reads_each, reads_so}
-use Rattle.table_log.proofs.Loading.{loads-push}
+use Rattle.table_log.proofs.LoadedTables.{loads-push}
 use Rattle.table_log.proofs.Outside.{agrees_behind, behind_start, behind_then, old_behind}
 
 -- texts that lead to tables, and the entry of a change that fits these behind them

@@ -5,10 +5,12 @@ use Rattle.disks.specs.declared.disk.Disk.{Ghosts}
 use Rattle.disks.specs.Moments.{LeavesOnly, Each, Untouched}
 use Rattle.disks.specs.Outside.{AgreesOutside, IsOldOutside}
 use Rattle.journal.specs.declared.log.Log.{Log}
-use Rattle.journal.specs.Layout.{blocks_start, AreLimits, IsHalvedJournal, NoJournal}
+use Rattle.journal.specs.Laws.{IsOldBefore}
+use Rattle.journal.specs.Layout.{AreLimits, IsHalvedJournal, NoJournal}
+use Rattle.small_types.specs.Blocks.{blocks_start}
 use Rattle.journal.specs.Log.{half_of}
 use Rattle.store_state.specs.Tables.{Tables, empty}
-use Rattle.table_codec.specs.Spelling.{state_text}
+use Rattle.table_codec.specs.Spelled.{state_text}
 use Rattle.table_log.specs.ReadsAs.{IsOpenAs, ReadsAs, ReadsAsNone}
 
 -- an image reads as one room and one tables at most
@@ -59,4 +61,11 @@ abbrev pub StaysAsBehind : {D : Type 0} → Ghosts D → Type 0
 StaysAsBehind {D} on = (log : Log) (room : Room) (tables : Tables) (old new : D) (place n : ℕ)
     → blocks_start (half_of log) ≤ place
     → LeavesOnly on old new (IsOldOutside place n (on.left_at old (on.moment old)))
+    → IsOpenAs on log room tables old → StaysAs on log room tables old new
+
+-- and while anything may be written behind a place that is not within the halves
+abbrev pub StaysAsFront : {D : Type 0} → Ghosts D → Type 0
+StaysAsFront {D} on = (log : Log) (room : Room) (tables : Tables) (old new : D) (place : ℕ)
+    → blocks_start (half_of log) ≤ place
+    → LeavesOnly on old new (IsOldBefore place (on.left_at old (on.moment old)))
     → IsOpenAs on log room tables old → StaysAs on log room tables old new

@@ -8,13 +8,13 @@ use Rattle.disks.specs.Outside.{AgreesOutside, IsOldOutside}
 use Rattle.disks.specs.Spends.{Spends}
 use Rattle.journal.specs.declared.log.Log.{Log}
 use Rattle.journal.specs.declared.piece.TheConstants.{AROUND, AROUND_TABLES, BEFORE}
-use Rattle.journal.specs.Layout.{blocks_start}
+use Rattle.small_types.specs.Blocks.{blocks_start}
 use Rattle.journal.specs.Log.{FitsHalf, half_of}
 use Rattle.record_codec.specs.Codec.{change_text}
 use Rattle.store_state.specs.declared.change.Change.{Change}
 use Rattle.store_state.specs.Change.{TakesMemory, effect}
 use Rattle.store_state.specs.Tables.{Tables}
-use Rattle.table_codec.specs.Spelling.{state_text}
+use Rattle.table_codec.specs.Spelled.{state_text}
 use Rattle.table_log.specs.declared.fault.StepFault.{StepFault}
 use Rattle.table_log.specs.declared.fault.StepFault.TheVariants.{Memory, DiskFault}
 use Rattle.table_log.specs.ReadsAs.{IsOpenAs, ReadsAsEither}

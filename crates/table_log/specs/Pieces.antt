@@ -6,7 +6,7 @@ use Rattle.journal.specs.Log.{FitsHalf, entry_in, tables_in}
 use Rattle.record_codec.specs.Codec.{change_text}
 use Rattle.store_state.specs.declared.change.Change.{Change}
 use Rattle.store_state.specs.Tables.{Tables}
-use Rattle.table_codec.specs.Spelling.{state_text}
+use Rattle.table_codec.specs.Spelled.{state_text}
 use Rattle.table_log.specs.declared.rooms.Rooms.{Rooms}
 use Rattle.table_log.specs.Texts.{Spells}
 

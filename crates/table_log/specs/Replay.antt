@@ -4,8 +4,8 @@ use Rattle.store_state.specs.declared.change.Change.{Change}
 use Rattle.store_state.specs.declared.state.StateFault.{StateFault}
 use Rattle.store_state.specs.Change.{Fits, effect}
 use Rattle.store_state.specs.Tables.{Tables}
-use Rattle.table_log.specs.declared.fault.RecoverFault.{RecoverFault}
-use Rattle.table_log.specs.declared.fault.RecoverFault.TheVariants.{NotTables, DiskFault, Memory}
+use Rattle.table_log.specs.declared.fault.OpenFault.{OpenFault}
+use Rattle.table_log.specs.declared.fault.OpenFault.TheVariants.{NotTables, DiskFault, Memory}
 use Rattle.table_log.specs.Texts.{Encodes, LeadTo, Loads, Spells}
 
 -- the text is the encoding of a change which fits the old tables and leads to the new ones
@@ -50,7 +50,7 @@ unfoldable pub SpellsNone : List ℕ → Type 0
 SpellsNone text = (tables : Tables) → Spells tables text → ⊥
 
 -- the tables that the text spells, or that it spells none
-abbrev pub IsBase : List ℕ → Result Tables RecoverFault → Type 0
+abbrev pub IsBase : List ℕ → Result Tables OpenFault → Type 0
 IsBase text (Ok tables) = Spells tables text
 IsBase text (Err NotTables) = SpellsNone text
 IsBase text (Err Memory) = Unit {0}
@@ -61,7 +61,7 @@ unfoldable pub LeadNowhere : List ℕ → List (List ℕ) → Type 0
 LeadNowhere text changes = (tables : Tables) → LeadTo text changes tables → ⊥
 
 -- the tables to which they lead, or that there are none
-abbrev pub Settled : List ℕ → List (List ℕ) → Result Tables RecoverFault → Type 0
+abbrev pub Settled : List ℕ → List (List ℕ) → Result Tables OpenFault → Type 0
 Settled text changes (Ok tables) = LeadTo text changes tables
 Settled text changes (Err NotTables) = LeadNowhere text changes
 Settled text changes (Err Memory) = Unit {0}

@@ -5,7 +5,7 @@ use std::alloc::AllocError;
 
 /// Why no tables are read.
 #[derive(Clone, Copy, Debug, PartialEq, Eq)]
-pub enum RecoverFault {
+pub enum OpenFault {
     /// The disk's bytes are no tables in a journal.
     NotTables,
     /// The disk failed.

@@ -1,5 +1,5 @@
 // What holds of images and of an open log, with no code.
-ghost use Rattle.table_log.specs.Laws.{HasLimits, NewReads, NoneReads, ReadsAsOne, ReadsEach, ReadsOutside, StaysAsBehind, StaysAsRead};
+ghost use Rattle.table_log.specs.Laws.{HasLimits, NewReads, NoneReads, ReadsAsOne, ReadsEach, ReadsOutside, StaysAsBehind, StaysAsFront, StaysAsRead};
 
 use disks::Disk;
 use table_codec::tables_are_spelled_once;
@@ -26,4 +26,5 @@ pub fn a_log_stays_open_as_tables<D: Disk>()
     ensures each { ReadsEach D.Disk }
     ensures read { StaysAsRead D.Disk }
     ensures behind { StaysAsBehind D.Disk }
+    ensures front { StaysAsFront D.Disk }
 {}

@@ -4,17 +4,17 @@
 
 mod fault;
 mod laws;
-mod making;
+mod new_journal;
 mod piece;
 mod recovery;
 mod replay;
 mod rooms;
 mod step;
-mod storing;
+mod stored_pieces;
 
-pub use fault::{RecoverFault, StepFault};
+pub use fault::{OpenFault, StepFault};
 pub use laws::{a_log_stays_open_as_tables, an_image_reads_as_one, new_journals_read};
-pub use making::format;
-pub use recovery::{Opened, recover};
+pub use new_journal::format;
+pub use recovery::{OpenTables, recover};
 pub use rooms::Rooms;
 pub use step::make_durable;

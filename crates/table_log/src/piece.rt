@@ -3,7 +3,7 @@ ghost use Rattle.std.specs.Prelude.{◌≡◌, ◌+◌, ◌<◌, ◌≤◌, ◌^
 ghost use Rattle.journal.specs.Log.{entry_in, half_of, tables_in};
 ghost use Rattle.journal.specs.declared.piece.TheConstants.{AROUND, AROUND_TABLES};
 ghost use Rattle.record_codec.specs.Codec.{change_text, IsChange};
-ghost use Rattle.table_codec.specs.Spelling.{state_text};
+ghost use Rattle.table_codec.specs.Spelled.{state_text};
 ghost use Rattle.table_codec.specs.Values.{IsEncodableState};
 ghost use Rattle.table_log.specs.MakesDurable.{FitsNewHalf};
 ghost use Rattle.table_log.specs.Pieces.{ArePieces, HasEntry, HasTables};

@@ -3,7 +3,7 @@ ghost use Rattle.std.specs.Prelude.{IfOk};
 ghost use Rattle.table_codec.specs.Values.{HaveFields};
 ghost use Rattle.table_log.specs.Replay.{IsBase, IsMade, Replays, Settled, Tests, Tries};
 
-use crate::RecoverFault;
+use crate::OpenFault;
 use record_codec::decode_change;
 use record_fields::CodecFault;
 use small_types::Bytes;
@@ -63,22 +63,18 @@ fn replay(alloc: Global, state: &mut StoreState, changes: &[Bytes]) -> Result<bo
 }
 
 // The tables with that text.
-fn base_of(alloc: Global, text: &[u8]) -> Result<StoreState, RecoverFault>
+fn base_of(alloc: Global, text: &[u8]) -> Result<StoreState, OpenFault>
     ensures { IsBase text.now result }
 {
     match decode_state(alloc, text) {
         Ok(state) => Ok(state),
-        Err(CodecFault::Bad { .. }) => Err(RecoverFault::NotTables),
-        Err(CodecFault::Memory) => Err(RecoverFault::Memory),
+        Err(CodecFault::Bad { .. }) => Err(OpenFault::NotTables),
+        Err(CodecFault::Memory) => Err(OpenFault::Memory),
     }
 }
 
 /// The tables to which a half of this text and these changes leads.
-pub(crate) fn settle(
-    alloc: Global,
-    text: &[u8],
-    changes: &[Bytes],
-) -> Result<StoreState, RecoverFault>
+pub(crate) fn settle(alloc: Global, text: &[u8], changes: &[Bytes]) -> Result<StoreState, OpenFault>
     ensures leads { Settled text.now changes.now result }
     ensures fields { IfOk result HaveFields }
 {
@@ -92,11 +88,11 @@ pub(crate) fn settle(
         Ok(true) => Ok(state),
         Ok(false) => {
             drop(state);
-            Err(RecoverFault::NotTables)
+            Err(OpenFault::NotTables)
         }
         Err(StateFault::Memory) => {
             drop(state);
-            Err(RecoverFault::Memory)
+            Err(OpenFault::Memory)
         }
     }
 }

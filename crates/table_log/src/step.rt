@@ -7,7 +7,7 @@ ghost use Rattle.table_log.specs.MakesDurable.{FitsNewHalf, MakesDurable};
 ghost use Rattle.table_log.specs.Rooms.{HaveRooms};
 
 use crate::piece::write_pieces;
-use crate::storing::{append, turn};
+use crate::stored_pieces::{append, turn};
 use crate::{Rooms, StepFault};
 use disks::Disk;
 use journal::Log;

@@ -9,7 +9,7 @@ use Rattle.store_state.specs.Change.{grown}
 use Rattle.store_state.specs.Locals.{with_local}
 use Rattle.store_state.specs.Rows.{with_row}
 use Rattle.store_state.specs.Tables.{bare_local, bare_row}
-use Rattle.store_state.proofs.Putting.{named_shown}
+use Rattle.store_state.proofs.PutItems.{named_shown}
 
 -- where f is g without the bytes
 module _ (number : ℕ) (f : View → View) (g : BareView → BareView)

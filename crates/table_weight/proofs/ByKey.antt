@@ -12,7 +12,7 @@ use Rattle.machine.specs.Wanted.{is_held}
 use Rattle.machine.specs.Weight.{digests_weight}
 use Rattle.machine.specs.Weight.{content_weight as entry_weight}
 use Rattle.machine.proofs.Members.{In, all_in, in_all, in_either, in_left, in_map, in_right, map_in, pairs_head, pairs_map, pairs_tail, sum_map, sum_within}
-use Rattle.machine.proofs.Needing.{Apart, distinct_apart, distinct_in, each_stands, in_passes, is_same, passes_in, same_is}
+use Rattle.machine.proofs.OwnContents.{Apart, distinct_apart, distinct_in, each_stands, in_passes, is_same, passes_in, same_is}
 use Rattle.store_state.specs.declared.view.Content.{Content}
 use Rattle.store_state.specs.Contents.{AreContentsOf, content_of, is_content_of}
 use Rattle.store_state.specs.Contents.{held_key}

@@ -13,7 +13,7 @@ use Rattle.machine.specs.DataFiles.{bare_name, with_named, with_named_at}
 use Rattle.machine.specs.Shape.{BareData, BareView}
 use Rattle.machine.specs.Weight.{data_weight, group_weight}
 use Rattle.machine.specs.Weight.{view_weight as bare_weight}
-use Rattle.machine.proofs.Entering.{order}
+use Rattle.machine.proofs.EntryOrder.{order}
 use Rattle.machine.proofs.Members.{pairs_head, pairs_map, pairs_tail, sum_map}
 use Rattle.machine.proofs.NamedItems.{Rises, not_equal, other_name, own_name}
 use Rattle.machine.proofs.Keys.{equal_texts}

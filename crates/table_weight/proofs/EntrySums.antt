@@ -20,7 +20,7 @@ use Rattle.machine.specs.InstallRow.{with_provider}
 use Rattle.machine.specs.Minimums.{raised_app}
 use Rattle.machine.specs.RequireRow.{required}
 use Rattle.machine.specs.Weight.{app_weight, key_bytes, target_bytes}
-use Rattle.machine.proofs.Entering.{order}
+use Rattle.machine.proofs.EntryOrder.{order}
 
 module _ (key : Key) (f : AppState → AppState) where
   -- ---- a new key

@@ -14,14 +14,14 @@ use Rattle.machine.specs.Wanted.{wanted_beside}
 use Rattle.machine.specs.Weight.{counted}
 use Rattle.machine.specs.Weight.{content_weight as entry_weight}
 use Rattle.machine.proofs.Members.{In, all_in, in_contains, contains_in, in_all, in_map, sum_map}
-use Rattle.machine.proofs.Missing.{are_missing}
+use Rattle.machine.proofs.MissingFiles.{are_missing}
 use Rattle.machine.proofs.Ungrouped.{group_programs, group_ungrouped}
 use Rattle.store_state.specs.declared.view.View.{View}
 use Rattle.store_state.specs.Change.{grown}
 use Rattle.store_state.specs.Rows.{row_at, with_row}
 use Rattle.store_state.specs.Tables.{bare_row}
 use Rattle.store_state.proofs.ByNumber.{became, change}
-use Rattle.store_state.proofs.Growing.{each_grown, files_row, grown_either, grown_left, grown_right, of_view, row_files, view_number, view_there}
+use Rattle.store_state.proofs.GrownTables.{each_grown, files_row, grown_either, grown_left, grown_right, of_view, row_files, view_number, view_there}
 use Rattle.table_weight.specs.Releases.{program_weight, without_group}
 use Rattle.table_weight.proofs.BareRows.{bare_grown}
 use Rattle.table_weight.proofs.ByKey.{AreAll, Come, more_weigh}

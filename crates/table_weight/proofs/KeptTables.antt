@@ -19,10 +19,10 @@ use Rattle.machine.specs.RequireRow.{required}
 use Rattle.machine.specs.RollbackRow.{rolled_back_app}
 use Rattle.machine.specs.SkipRow.{skipped_app}
 use Rattle.machine.specs.Valid.{AreNumbers}
-use Rattle.machine.proofs.Entering.{length-with_known, order-with_entry}
-use Rattle.machine.proofs.Entering.{order as text_order}
-use Rattle.machine.proofs.Finding.{some_there, value_of}
-use Rattle.machine.proofs.Leasing.{numbers_more}
+use Rattle.machine.proofs.EntryOrder.{length-with_known, order-with_entry}
+use Rattle.machine.proofs.EntryOrder.{order as text_order}
+use Rattle.machine.proofs.FirstFound.{some_there, value_of}
+use Rattle.machine.proofs.LeaseLists.{numbers_more}
 use Rattle.store_state.specs.declared.change.Change.TheVariants.{Boot, Require, Install, Heard, Unheard, Skip, Rollback, Launch, Finish, Group, Put, Remove, Clean}
 use Rattle.store_state.specs.Change.{FitsLaunch, leased}
 use Rattle.store_state.specs.Dropped.{removable_in}
@@ -30,10 +30,10 @@ use Rattle.store_state.specs.Kept.{AreTables}
 use Rattle.store_state.specs.Locals.{local_name}
 use Rattle.store_state.specs.Rows.{current_at, current_version, version_at, with_app}
 use Rattle.store_state.specs.Tables.{Tables}
-use Rattle.store_state.proofs.Checking.{current_entry, own_entry}
+use Rattle.store_state.proofs.CheckedApps.{current_entry, own_entry}
 use Rattle.store_state.proofs.Edited.{edited_tables, left_row, put_row}
-use Rattle.store_state.proofs.Growing.{grown_tables, row_grows}
-use Rattle.store_state.proofs.Holding.{few_raised, installed_tables, no_leases, with_apps, with_fewer, with_leases}
+use Rattle.store_state.proofs.GrownTables.{grown_tables, row_grows}
+use Rattle.store_state.proofs.ChangedTables.{few_raised, installed_tables, no_leases, with_apps, with_fewer, with_leases}
 use Rattle.store_state.proofs.Placed.{placed_entry}
 use Rattle.store_state.proofs.WithoutRows.{dropped_tables}
 use Rattle.machine.specs.DataFiles.{with_named, without_named}

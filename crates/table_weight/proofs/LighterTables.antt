@@ -17,8 +17,8 @@ use Rattle.machine.specs.RollbackRow.{rolled_back_app}
 use Rattle.machine.specs.SkipRow.{skipped_app}
 use Rattle.machine.specs.Weight.{app_weight}
 use Rattle.machine.proofs.AppWeights.{KeepsWeight}
-use Rattle.machine.proofs.Entering.{order as text_order}
-use Rattle.machine.proofs.Finding.{value_of}
+use Rattle.machine.proofs.EntryOrder.{order as text_order}
+use Rattle.machine.proofs.FirstFound.{value_of}
 use Rattle.store_state.specs.declared.change.Change.TheVariants.{Boot, Require, Install, Heard, Unheard, Skip, Rollback, Launch, Finish, Group, Put, Remove, Clean}
 use Rattle.store_state.specs.declared.view.LocalFile.{LocalFile}
 use Rattle.store_state.specs.declared.view.View.{View}
@@ -27,9 +27,9 @@ use Rattle.store_state.specs.Dropped.{dropped, is_among, is_needed, removable_in
 use Rattle.store_state.specs.Locals.{without_local}
 use Rattle.store_state.specs.Rows.{current_at, current_version, version_at, with_app, with_row}
 use Rattle.store_state.specs.Tables.{Tables, bare_row}
-use Rattle.store_state.proofs.Checking.{current_entry, own_entry}
+use Rattle.store_state.proofs.CheckedApps.{current_entry, own_entry}
 use Rattle.store_state.proofs.Placed.{placed_entry}
-use Rattle.store_state.proofs.Putting.{fewer_left}
+use Rattle.store_state.proofs.PutItems.{fewer_left}
 use Rattle.table_weight.specs.Laws.{LightenOthers}
 use Rattle.table_weight.specs.Weight.{block_cost, content_weight, local_weight, tables_weight, view_weight, weight_with}
 use Rattle.table_weight.proofs.EntrySums.{kept_sum, required_known}

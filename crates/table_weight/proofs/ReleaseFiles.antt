@@ -10,9 +10,9 @@ use Rattle.machine.specs.Shape.{BareView}
 use Rattle.machine.specs.Views.{is_required, standing_entries, stands_by}
 use Rattle.machine.specs.Wanted.{is_held, wanted, wanted_beside}
 use Rattle.machine.specs.Weight.{content_weight as entry_weight}
-use Rattle.machine.proofs.Mapping.{flat_map_in}
+use Rattle.machine.proofs.ChangedLists.{flat_map_in}
 use Rattle.machine.proofs.Members.{In, contains_in, filter_in, in_either, in_filter, in_flat_map, in_left, in_right}
-use Rattle.machine.proofs.Wanting.{are_wanted}
+use Rattle.machine.proofs.WantedFiles.{are_wanted}
 use Rattle.table_weight.specs.Releases.{program_weight}
 use Rattle.table_weight.proofs.ByKey.{AreAll, Come, more_weigh}
 

@@ -23,7 +23,7 @@ use Rattle.machine.specs.Wanted.{wanted, wanted_beside}
 use Rattle.machine.specs.Weight.{app_weight, counted, data_weight, weight_of}
 use Rattle.machine.specs.Weight.{content_weight as entry_weight}
 use Rattle.machine.specs.Weight.{view_weight as bare_weight}
-use Rattle.machine.proofs.Mapping.{same_lists}
+use Rattle.machine.proofs.ChangedLists.{same_lists}
 use Rattle.machine.proofs.Members.{sum_map}
 use Rattle.store_state.specs.declared.view.Content.{Content}
 use Rattle.store_state.specs.declared.view.View.{View}

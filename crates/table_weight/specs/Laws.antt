@@ -1,18 +1,16 @@
 -- What holds of all tables' weights.
-use Rattle.std.specs.Prelude.{◌≡◌, ◌≤◌, ℕ, List, [], ◌∷◌, ◌++◌, All, IsSome, Option, filter, map, option_map, sum_by}
+use Rattle.std.specs.Prelude.{◌≡◌, ◌≤◌, ℕ, List, [], ◌∷◌, ◌++◌, All, IsSome, filter, length, map, sum_by}
 use Rattle.small_types.specs.declared.room.Room.{Room}
 use Rattle.small_types.specs.declared.target.Target.{Target}
 use Rattle.identity.specs.declared.key.Key.{Key}
 use Rattle.identity.specs.declared.version.Version.{Version}
 use Rattle.machine.specs.BareViews.{new_bare, with_bare_at, with_bare_data, with_bare_group}
-use Rattle.machine.specs.Current.{data_of, listed_by}
 use Rattle.machine.specs.Entries.{entry_of, with_entry}
 use Rattle.machine.specs.InstallRow.{weight_installed, with_provider}
 use Rattle.machine.specs.Migrated.{Migrated}
 use Rattle.machine.specs.RequireRow.{required}
-use Rattle.machine.specs.Sound.{IsWhole}
-use Rattle.machine.specs.Views.{ListedFile}
-use Rattle.machine.specs.Views.{View as KeptView}
+use Rattle.machine.specs.Shape.{bare_data}
+use Rattle.machine.specs.Views.{DataFile, ListedFile}
 use Rattle.machine.specs.Weight.{data_weight, weight_of}
 use Rattle.store_state.specs.declared.change.Change.{Change}
 use Rattle.store_state.specs.declared.change.Change.TheVariants.{Boot, Require, Install, Heard, Unheard, Skip, Rollback, Launch, Finish, Group, Put, Remove, Clean}
@@ -21,8 +19,7 @@ use Rattle.store_state.specs.declared.view.LocalFile.{LocalFile}
 use Rattle.store_state.specs.declared.view.View.{View}
 use Rattle.store_state.specs.Change.{Fits, IsRow, effect}
 use Rattle.store_state.specs.Kept.{AreTables}
-use Rattle.store_state.specs.Rows.{current_row}
-use Rattle.store_state.specs.Shows.{shown_data, shown_view}
+use Rattle.store_state.specs.Rows.{current_row, row_files, row_locals}
 use Rattle.store_state.specs.Tables.{Tables, bare_local, bare_row, table_shape}
 use Rattle.table_weight.specs.Weight.{tables_weight}
 
@@ -91,21 +88,18 @@ WeighAsInstalled = (room : Room) (tables : Tables) (view : View) (contents : Lis
     ≡ weight_installed provider view.base view.deployment view.application
     (table_shape room tables)
 
--- the view that is current for the key, as an image shows it
-abbrev pub current_shown : Room → List ℕ → Tables → Key → Option KeptView
-current_shown room image tables key =
-    option_map (shown_view room image tables.contents) (current_row key tables)
-
--- They do where an image shows them as the data files that the release makes of those of the view
--- that is current, and of the ones that it deploys.
+-- They do where the release makes, of data files with the names and lengths of the old ones and of
+-- the files that it deploys, data files with the names and lengths of those of the view.
 abbrev pub MigratedDataWeigh : Type 0
-MigratedDataWeigh = (room : Room) (tables : Tables) (view : View) (image : List ℕ)
+MigratedDataWeigh = (room : Room) (tables : Tables) (view : View) (old new : List DataFile)
     (originals : List ListedFile) → AreTables tables → IsRow view
+    → map bare_data old
+    ≡ map bare_local (row_locals (current_row view.deployment.identity.key tables))
+    → map bare_data new ≡ map bare_local view.locals
     → map (λ file. file.entry) originals ≡ filter (λ entry. entry.local) view.application.files
-    → All IsWhole originals
-    → Migrated (data_of (current_shown room image tables view.deployment.identity.key))
-    (listed_by (current_shown room image tables view.deployment.identity.key))
-    view.application.files originals (map (shown_data room image) view.locals)
+    → All (λ file. length file.bytes ≡ file.entry.size) originals
+    → Migrated old (row_files (current_row view.deployment.identity.key tables))
+    view.application.files originals new
     → WeighsAsMigrated room tables view
 
 -- nothing comes that weighs: no new application, no view, no group and no data file

@@ -34,9 +34,9 @@ module _ (cost : ℕ → List ℕ → ℕ) where
 abbrev pub block_cost : ℕ → List ℕ → ℕ
 block_cost size held = BLOCK_WEIGHT * blocks_of size
 
--- a file counts what is spelled of its bytes, but for their number
+-- a file counts what is spelled of the numbers of its blocks, but for how many they are
 abbrev pub spelled_cost : ℕ → List ℕ → ℕ
-spelled_cost size held = length held
+spelled_cost size held = 4 * length held
 
 -- each file counts its blocks: so it is that tables are judged by
 abbrev pub tables_weight : Tables → ℕ

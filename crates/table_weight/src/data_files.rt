@@ -6,7 +6,7 @@ ghost use Rattle.store_state.specs.Change.{IsRow};
 ghost use Rattle.store_state.specs.Tables.{bare_row};
 ghost use Rattle.table_weight.specs.Weight.{block_cost, local_weight};
 
-use crate::summing::{Groups, Locals, Views, Weighs, sum_weights, weigh_data, weigh_release};
+use crate::weighs::{Groups, Locals, Views, Weighs, sum_weights, weigh_data, weigh_release};
 use small_types::Name;
 use store_state::{LocalFile, View};
 

@@ -7,8 +7,8 @@ ghost use Rattle.machine.specs.InstallRow.{with_provider};
 ghost use Rattle.machine.specs.RequireRow.{required};
 ghost use Rattle.machine.specs.Weight.{app_weight, key_bytes, target_bytes};
 
-use crate::counting::{count_key, count_target};
-use crate::summing::{Apps, sum_weights};
+use crate::counts::{count_key, count_target};
+use crate::weighs::{Apps, sum_weights};
 use identity::Key;
 use machine::{APP_WEIGHT, AppState};
 use small_types::Target;

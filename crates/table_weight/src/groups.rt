@@ -5,8 +5,8 @@ ghost use Rattle.machine.specs.Weight.{counted, view_weight};
 ghost use Rattle.store_state.specs.Tables.{bare_row};
 ghost use Rattle.table_weight.specs.Releases.{program_weight};
 
-use crate::counting::{weigh_blocks, weigh_digests};
-use crate::summing::{Groups, Views, Weighs};
+use crate::counts::{weigh_blocks, weigh_digests};
+use crate::weighs::{Groups, Views, Weighs};
 use machine::CONTENT_WEIGHT;
 use manifests::FileEntry;
 use small_types::Text;

@@ -2,7 +2,7 @@
 //! the journal has room for them.
 #![tactic(auto)]
 
-mod counting;
+mod counts;
 mod data_files;
 mod entries;
 mod fault;
@@ -10,8 +10,8 @@ mod groups;
 mod laws;
 mod moves;
 mod room;
-mod summing;
 mod tables;
+mod weighs;
 
 pub use fault::WeightFault;
 pub use laws::{

@@ -10,7 +10,7 @@ ghost use Rattle.data_migration.specs.Tables.{is_missing, stays_by};
 ghost use Rattle.table_weight.specs.Releases.{carried_weight, fresh_weight};
 
 use crate::WeightFault;
-use crate::summing::weigh_data;
+use crate::weighs::weigh_data;
 use data_migration::{deployed, kept_names, stays};
 use identity::Key;
 use manifests::FileEntry;

@@ -6,7 +6,7 @@ ghost use Rattle.machine.specs.Weight.{IsLight, IsTooHeavy, table_room, told_wei
 use machine::{CHANGE_ROOM, Reply};
 use small_types::Room;
 
-// How much the tables of a store of this room may weigh, where its journal has halves.
+// How much the tables of a store of this room may weigh, where its half is not 0.
 fn room_of_tables(room: Room) -> u64
     ensures value { result ≡ table_room room }
     ensures few { result < 2 ^ 64 - 1 }

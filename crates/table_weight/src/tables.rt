@@ -20,7 +20,7 @@ use crate::data_files::sum_put;
 use crate::entries::{sum_provided, sum_required};
 use crate::groups::{sum_grown, sum_programs};
 use crate::moves::weigh_moves;
-use crate::summing::{Apps, Contents, Views, sum_weights, weigh_release};
+use crate::weighs::{Apps, Contents, Views, sum_weights, weigh_release};
 use identity::Key;
 use machine::STATE_WEIGHT;
 use manifests::{Application, Deployment, FileEntry};

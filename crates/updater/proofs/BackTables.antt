@@ -13,12 +13,12 @@ use Rattle.machine.specs.Minimums.{minimum_of}
 use Rattle.machine.specs.Previous.{numbered_bare, previous_of, previous_version}
 use Rattle.machine.specs.RollbackRow.{IsPreviousBelow}
 use Rattle.machine.specs.Shape.{BareView}
-use Rattle.machine.proofs.Finding.{some_there}
+use Rattle.machine.proofs.FirstFound.{some_there}
 use Rattle.store_state.specs.declared.view.View.{View}
 use Rattle.store_state.specs.Change.{FitsRollback}
 use Rattle.store_state.specs.Rows.{current_row, current_row_at, previous_row, previous_row_at, row_at}
 use Rattle.store_state.specs.Tables.{Tables, bare_row, table_shape}
-use Rattle.updater.specs.GoingBack.{IsGoingBack}
+use Rattle.updater.specs.RollbackStep.{IsRollbackStep}
 
 module _ (key : Key) (tables : Tables) (row earlier : View) (place : ℕ)
     (current : Some row ≡ current_row key tables)
@@ -66,7 +66,7 @@ module _ (key : Key) (tables : Tables) (row earlier : View) (place : ℕ)
         (option_and_then (λ (app : AppState). app.previous) o)) placed ∙ sym previous);
   }
 
-  pub goes_back : IsGoingBack key tables
+  pub goes_back : IsRollbackStep key tables
       (record { app = place; version = earlier.deployment.identity.version })
   goes_back = record {
     passes = λ now room. (installed, (has_previous, (not_below room, tt)));

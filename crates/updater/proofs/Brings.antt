@@ -11,7 +11,7 @@ use Rattle.table_weight.specs.Laws.{BringsNothing}
 use Rattle.install_plan.specs.Checks.{IsOfCheck}
 use Rattle.install_plan.specs.GroupReady.{IsOfGroup}
 use Rattle.install_plan.specs.Ready.{HasFew}
-use Rattle.updater.specs.Putting.{file_of}
+use Rattle.updater.specs.PutStep.{file_of}
 
 -- nothing comes by what a check notes
 pub check_brings : (tables : Tables) (key : Key) (change : Change) → IsOfCheck key change → BringsNothing tables change
@@ -34,5 +34,6 @@ group_short group (Group view other contents) is = tt
 group_short group _ is = absurd is
 
 -- a file of the bytes of a line is short
-pub file_short : (name bytes : List ℕ) (view : ℕ) (file : LocalFile) → length bytes ≤ PIECE_LIMIT → file ≡ file_of name bytes → IsShortPut (Put view file)
-file_short name bytes view file few is = subst (λ (f : LocalFile). IsShortPut (Put view f)) (sym is) few
+pub file_short : (name bytes blocks : List ℕ) (view : ℕ) (file : LocalFile) → length bytes ≤ PIECE_LIMIT
+    → file ≡ file_of name (length bytes) blocks → IsShortPut (Put view file)
+file_short name bytes blocks view file few is = subst (λ (f : LocalFile). IsShortPut (Put view f)) (sym is) few

@@ -15,17 +15,17 @@ use Rattle.machine.specs.Store.{Session, Store}
 use Rattle.machine.specs.Valid.{Valid}
 use Rattle.machine.specs.Views.{View}
 use Rattle.machine.proofs.CleanedStores.{gone_count}
-use Rattle.machine.proofs.Stepping.{step_valid}
+use Rattle.machine.proofs.KeptSteps.{step_valid}
 use Rattle.store_state.specs.declared.change.Change.TheVariants as change
 use Rattle.store_state.specs.Shows.{Shows}
 use Rattle.store_state.specs.Tables.{Tables, table_shape}
-use Rattle.store_state.proofs.Cleaning.{cleans_shown}
-use Rattle.store_state.proofs.Showing.{shape_shown}
+use Rattle.store_state.proofs.CleanedTables.{cleans_shown}
+use Rattle.store_state.proofs.ShownTables.{shape_shown}
 use Rattle.links.specs.Links.{LinksState}
-use Rattle.install_plan.specs.LeadsIn.{LeadsIn}
-use Rattle.install_plan.proofs.NewFiles.{leads_over}
-use Rattle.updater.specs.MakesDurable.{LeadsBetween}
-use Rattle.updater.proofs.Commanding.{Does, LeavesStore, effect_answers}
+use Rattle.install_plan.specs.LeadsIn.{LeadsIn, no_bytes}
+use Rattle.updater.specs.KeepsChange.{LeadsBetween}
+use Rattle.updater.proofs.ChangedStores.{leads_none}
+use Rattle.updater.proofs.CommandEnds.{Does, LeavesStore, effect_answers}
 
 -- what a filter leaves of a list is all of it where it is as long
 filter_whole : {X : Type 0} (p : X → Bool) (xs : List X)
@@ -77,11 +77,12 @@ module _ (now : ℕ) (room : Room) (tables : Tables) (image : List ℕ) (before 
     served = tt;
   }
 
-  leads : LeadsBetween change.Clean tables old.store new.store
+  abbrev leads : LeadsBetween change.Clean tables image old.store new.store
   leads = record {
-    shows = subst (λ (n : Room). LeadsIn n change.Clean tables old.store new.store)
+    bytes = no_bytes;
+    shows = subst (λ (n : Room). LeadsIn n change.Clean tables image no_bytes new.store)
         (sym (ap (λ (s : Store). s.room) shows.is))
-        (leads_over image (λ first later had same there. cleans_shown room tables first later old.store had same));
+        (leads_none image (λ later same. cleans_shown room tables image later old.store shows same));
     valid = step_valid now old (Line command.Clean now (record { texts = [] }))
         (Some (says.Cleaned views)) new (tt, moment)
         (record {
@@ -93,12 +94,13 @@ module _ (now : ℕ) (room : Room) (tables : Tables) (image : List ℕ) (before 
         }) valid;
   }
 
-  pub cleaned_does : ¬ (views ≡ 0)
-      → Does now [] command.Clean before after change.Clean tables old (says.Cleaned views)
+  pub cleaned_does : {Left : List ℕ → Type 0} → ¬ (views ≡ 0)
+      → Does now [] command.Clean before after change.Clean tables image Left old (says.Cleaned views)
   cleaned_does some = record {
     new = new;
     step = step;
     leads = leads;
+    brings = λ later left. record { measured = tt; are = refl };
     other = λ same. some
         (let long = ap (λ (s : Store). length s.views) same in omega (arith, all, gone, long));
     served = tt;

@@ -1,10 +1,11 @@
 -- A put of a data file: the step that it is, and the change that it makes.
 use Rattle.std.proofs.Common.{◌≡◌, ◌≤◌, ◌∙◌, inl, inr, ℕ, Bool, true, false, cond, eqb, List, [], ◌∷◌, length, All, AllPairs, bytes_eq, Option, Some, None, refl, sym, ap, subst, arith}
-use Rattle.std.specs.Prelude.{option_map}
+use Rattle.std.specs.Prelude.{option_and_then, option_map}
 use Rattle.std.specs.declared.cmp.Ordering.{Ordering}
 use Rattle.std.specs.declared.cmp.Ordering.TheVariants.{Less, Equal, Greater}
 use Rattle.std.proofs.lemmas.Bool.{cond-false}
 use Rattle.std.proofs.lemmas.Cmp.{tied_itself}
+use Rattle.std.proofs.lemmas.List.Elements.{All-cons, All-nil}
 use Rattle.std.proofs.lemmas.Option.{none-some, same_Some}
 use Rattle.std.proofs.lemmas.Slice.Eq.{bytes_eq-Decides}
 use Rattle.small_types.specs.declared.room.Room.{Room}
@@ -24,32 +25,33 @@ use Rattle.machine.specs.Store.{Session, Store}
 use Rattle.machine.specs.Valid.{Valid}
 use Rattle.machine.specs.Views.{DataFile}
 use Rattle.machine.specs.Views.{View as KeptView}
-use Rattle.machine.proofs.Entering.{order}
-use Rattle.machine.proofs.Finding.{find_in}
+use Rattle.machine.proofs.EntryOrder.{order}
+use Rattle.machine.proofs.FirstFound.{find_in}
 use Rattle.machine.proofs.OneView.{only_one}
 use Rattle.machine.proofs.Keys.{equal_texts}
 use Rattle.machine.proofs.Leased.{leased_by, leased_valid, view_in}
 use Rattle.machine.proofs.Members.{In, all_in, pairs_head, pairs_tail}
-use Rattle.machine.proofs.Stepping.{step_valid}
+use Rattle.machine.proofs.KeptSteps.{step_valid}
 use Rattle.store_state.specs.declared.change.Change.TheVariants as change
 use Rattle.store_state.specs.declared.view.LocalFile.{LocalFile}
+use Rattle.store_state.specs.declared.view.View.{View}
+use Rattle.store_state.specs.Change.{effect}
 use Rattle.store_state.specs.Laws.{PutsShowTheFile}
-use Rattle.store_state.specs.Locals.{local_named}
+use Rattle.store_state.specs.Locals.{local_at, local_named}
 use Rattle.store_state.specs.Shows.{Shows, shown_data, shown_view}
 use Rattle.store_state.specs.Stored.{data_bytes}
 use Rattle.store_state.specs.Tables.{Tables}
-use Rattle.store_state.proofs.Showing.{shape_shown}
+use Rattle.store_state.proofs.ShownTables.{shape_shown}
 use Rattle.record_codec.specs.Values.{IsEncodableLocal}
 use Rattle.links.specs.Links.{LinksState}
-use Rattle.install_plan.specs.LeadsIn.{LeadsIn}
-use Rattle.install_plan.proofs.NewFiles.{leads_over}
-use Rattle.updater.specs.declared.putting.Putting.{Putting}
-use Rattle.updater.specs.MakesDurable.{LeadsBetween}
-use Rattle.updater.specs.Putting.{IsPutting, file_of}
-use Rattle.updater.proofs.Commanding.{Does, LeavesStore, effect_answers}
+use Rattle.install_plan.specs.LeadsIn.{HasNew, LeadsIn, NewBytes}
+use Rattle.updater.specs.KeepsChange.{LeadsBetween}
+use Rattle.updater.specs.PutStep.{IsPutStep, file_of}
+use Rattle.updater.proofs.CommandEnds.{Does, LeavesStore, effect_answers}
 use Rattle.updater.proofs.DataRemoved.{still_named}
-use Rattle.updater.proofs.LeasedData.{shown_named}
+use Rattle.updater.proofs.LeasedData.{is_row, shown_named}
 use Rattle.updater.proofs.ShownViews.{leased_shown}
+use Rattle.updater.proofs.SmallBlocks.{AreSmall}
 
 -- ---- a file that stands already
 
@@ -154,10 +156,11 @@ shown_bytes room image name bytes files (Some file) at is =
     ∙ ap (λ (b : List ℕ). Some (record { name = name; bytes = b })) own
 
 -- such a file has an encoding
-pub file_encodes : (name bytes : List ℕ) (file : LocalFile) → IsName name
-    → length bytes ≤ PIECE_LIMIT → file ≡ file_of name bytes → IsEncodableLocal file
-file_encodes name bytes file named few is =
-    subst IsEncodableLocal (sym is) (record { name = named; size = omega arith; bytes = omega arith })
+pub file_encodes : (name bytes blocks : List ℕ) (file : LocalFile) → IsName name
+    → length bytes ≤ PIECE_LIMIT → AreSmall blocks → file ≡ file_of name (length bytes) blocks
+    → IsEncodableLocal file
+file_encodes name bytes blocks file named few small is =
+    subst IsEncodableLocal (sym is) (record { name = named; size = omega (arith, few); few_blocks = small.few; blocks = small.all })
 
 -- ---- steps
 
@@ -165,8 +168,8 @@ module _ (now lease : ℕ) (room : Room) (name bytes : List ℕ) (tables : Table
     (before after : LinksState) (old : Session) (no_jobs : old.jobs ≡ []) (shows : Shows room tables image old.store)
     (valid : Valid old.store)
     (words : (lease ≤ NUMBER_LIMIT) × IsName name × (length bytes ≤ PIECE_LIMIT))
-    (moment : now ≤ NUMBER_LIMIT) (putting : Putting)
-    (of : IsPutting room image lease name bytes tables putting) where
+    (moment : now ≤ NUMBER_LIMIT) (number : ℕ)
+    (of : IsPutStep room lease name bytes tables number) where
   abbrev file : DataFile
   file = record { name = name; bytes = bytes }
 
@@ -185,17 +188,31 @@ module _ (now lease : ℕ) (room : Room) (name bytes : List ℕ) (tables : Table
       says.Put new of.passes
       (record { view = shown; leased = found; replied = refl; is = refl })
 
-  -- where the bytes stand already, the store stays
-  same_file : putting.stands ≡ true → with_data file shown ≡ shown
+  -- the file of the name in the view of the number is that of the row
+  in_row : local_at number name tables ≡ local_named name of.row.locals
+  in_row =
+      ap (λ (n : ℕ). local_at n name tables) of.view
+      ∙ ap (λ (o : Option View). option_and_then (λ (view : View). local_named name view.locals) o)
+      (is_row lease name room tables of.row of.leased)
+
+  -- the image has the bytes there already
+  abbrev Stands : List ℕ → Type 0
+  Stands seen = option_map (data_bytes room seen) (local_at number name tables) ≡ Some bytes
+
+  stands_in : Stands image → option_map (data_bytes room image) (local_named name of.row.locals) ≡ Some bytes
+  stands_in stands = ap (option_map (data_bytes room image)) (sym in_row) ∙ stands
+
+  -- so the store stays
+  same_file : Stands image → with_data file shown ≡ shown
   same_file stands =
       let view = leased_valid lease old.store shown valid.ordered found in
       ap (λ (files : List DataFile). record shown { data_files = files })
       (file_stays file shown.data_files view.data_order
       (shown_named room image name of.row.locals
       ∙ shown_bytes room image name bytes of.row.locals (local_named name of.row.locals) refl
-      (of.stands stands)))
+      (stands_in stands)))
 
-  same_views : putting.stands ≡ true
+  same_views : Stands image
       → with_view_at of.row.number (with_data file) old.store.views ≡ old.store.views
   same_views stands =
       let by = leased_by lease old.store shown found in
@@ -206,7 +223,7 @@ module _ (now lease : ℕ) (room : Room) (name bytes : List ℕ) (tables : Table
       (ap (λ (n : ℕ). view_at n old.store.views) known.1 ∙ by.2) there is in
       ap (with_data file) one ∙ same_file stands ∙ sym one)
 
-  pub put_rests : putting.stands ≡ true
+  pub put_rests : Stands image
       → LeavesStore now [] (command.Put lease name bytes) before after old says.Put
   put_rests stands = record {
     new = new;
@@ -215,23 +232,37 @@ module _ (now lease : ℕ) (room : Room) (name bytes : List ℕ) (tables : Table
     served = tt;
   }
 
-  module _ (made : LocalFile) (is : made ≡ file_of name bytes) (puts : PutsShowTheFile)
-      (there : PutsAreThere) where
-    shows_put : LeadsIn room (change.Put of.row.number (file_of name bytes)) tables old.store
-        new.store
-    shows_put = leads_over image (λ first later had same there.
-        puts room tables of.row.number (file_of name bytes) first later old.store had same
-        there.measured)
+  -- The file is put into these blocks. An image from before, with which the tables show the store too,
+  -- has other bytes there, or none.
+  module _ (blocks : List ℕ) (puts : PutsShowTheFile) (there : PutsAreThere) (first : List ℕ)
+      (shown_first : Shows room tables first old.store) (differs : Stands first → ⊥) where
+    abbrev made : LocalFile
+    made = file_of name (length bytes) blocks
 
-    leads : LeadsBetween (change.Put putting.view made) tables old.store new.store
+    abbrev comes : NewBytes
+    comes = record { contents = []; locals = bytes ∷ [] }
+
+    has_bytes : (later : List ℕ) → HasNew room (change.Put of.row.number made) comes later
+        → data_bytes room later made ≡ bytes
+    has_bytes later had =
+        let one : data_bytes room later made ∷ [] ≡ bytes ∷ [] = ap (λ (n : NewBytes). n.locals) had.are in cc
+
+    shows_put : LeadsIn room (change.Put of.row.number made) tables image comes new.store
+    shows_put = record {
+      shows = λ later same had.
+          subst (λ (b : List ℕ). Shows room (effect (change.Put of.row.number made) tables) later
+          (put_in of.row.number (record { name = name; bytes = b }) old.store)) (has_bytes later had)
+          (puts room tables of.row.number made image later old.store shows same had.measured);
+    }
+
+    abbrev leads : LeadsBetween (change.Put number made) tables image old.store new.store
     leads = record {
+      bytes = comes;
       shows = subst
-          (λ (n : Room). LeadsIn n (change.Put putting.view made) tables old.store new.store)
+          (λ (n : Room). LeadsIn n (change.Put number made) tables image comes new.store)
           (sym (ap (λ (s : Store). s.room) shows.is))
-          (subst (λ (f : LocalFile). LeadsIn room (change.Put putting.view f) tables old.store
-          new.store) (sym is)
-          (subst (λ (n : ℕ). LeadsIn room (change.Put n (file_of name bytes)) tables old.store
-          new.store) (sym of.view) shows_put));
+          (subst (λ (n : ℕ). LeadsIn room (change.Put n made) tables image comes new.store)
+          (sym of.view) shows_put);
       valid = step_valid now old (Line (command.Put lease name bytes) now (record { texts = [] }))
           (Some says.Put) new (words, moment)
           (record {
@@ -243,16 +274,29 @@ module _ (now lease : ℕ) (room : Room) (name bytes : List ℕ) (tables : Table
           }) valid;
     }
 
-    pub put_does : putting.stands ≡ false
-        → Does now [] (command.Put lease name bytes) before after (change.Put putting.view made)
-        tables old says.Put
-    put_does differs = record {
+    -- each image that has the bytes in these blocks has the file
+    has_new : (later : List ℕ) → data_bytes room later made ≡ bytes
+        → HasNew room (change.Put number made) comes later
+    has_new later is = record {
+      measured = All-cons (λ (f : LocalFile). length (data_bytes room later f) ≡ f.length) made []
+          (ap length is) (All-nil (λ (f : LocalFile). length (data_bytes room later f) ≡ f.length));
+      are = ap (λ (b : List ℕ). record { contents = []; locals = b ∷ [] }) is;
+    }
+
+    pub put_does : (Left : List ℕ → Type 0)
+        → ((later : List ℕ) → Left later → data_bytes room later made ≡ bytes)
+        → Does now [] (command.Put lease name bytes) before after (change.Put number made)
+        tables image Left old says.Put
+    put_does Left has = record {
       new = new;
       step = step;
       leads = leads;
-      other = λ same. of.other differs
-          (bytes_shown room image name bytes (local_named name of.row.locals)
-          (still_named shows lease name (Some file) of.row of.leased
+      brings = λ later left.
+          subst (λ (n : Room). HasNew n (change.Put number made) comes later)
+          (sym (ap (λ (s : Store). s.room) shows.is)) (has_new later (has later left));
+      other = λ same. differs (ap (option_map (data_bytes room first)) in_row
+          ∙ bytes_shown room first name bytes (local_named name of.row.locals)
+          (still_named shown_first lease name (Some file) of.row of.leased
           (there now [] old lease name bytes new valid step) same));
       served = tt;
     }

@@ -15,7 +15,7 @@ use Rattle.machine.specs.Store.{Session, Store, plain_room}
 use Rattle.machine.specs.Valid.{Valid}
 use Rattle.machine.specs.Views.{DataFile}
 use Rattle.machine.specs.Views.{View as KeptView}
-use Rattle.machine.proofs.Stepping.{step_valid}
+use Rattle.machine.proofs.KeptSteps.{step_valid}
 use Rattle.store_state.specs.declared.change.Change.TheVariants as change
 use Rattle.store_state.specs.declared.view.LocalFile.{LocalFile}
 use Rattle.store_state.specs.declared.view.View.{View}
@@ -25,13 +25,13 @@ use Rattle.store_state.specs.Locals.{local_at, local_named}
 use Rattle.store_state.specs.Rows.{leased_row}
 use Rattle.store_state.specs.Shows.{Shows, shown_data, shown_view}
 use Rattle.store_state.specs.Tables.{Tables}
-use Rattle.store_state.proofs.Showing.{shape_shown}
+use Rattle.store_state.proofs.ShownTables.{shape_shown}
 use Rattle.links.specs.Links.{LinksState}
-use Rattle.install_plan.specs.LeadsIn.{LeadsIn}
-use Rattle.install_plan.proofs.NewFiles.{leads_over}
+use Rattle.install_plan.specs.LeadsIn.{LeadsIn, no_bytes}
 use Rattle.updater.specs.DataFiles.{IsRemoval}
-use Rattle.updater.specs.MakesDurable.{LeadsBetween}
-use Rattle.updater.proofs.Commanding.{Does, effect_answers}
+use Rattle.updater.specs.KeepsChange.{LeadsBetween}
+use Rattle.updater.proofs.ChangedStores.{leads_none}
+use Rattle.updater.proofs.CommandEnds.{Does, effect_answers}
 use Rattle.updater.proofs.LeasedData.{is_row, local_passes, none_there, shown_named}
 use Rattle.updater.proofs.ShownViews.{leased_shown}
 
@@ -87,15 +87,16 @@ module _ (now lease : ℕ) (room : Room) (name : List ℕ) (tables : Tables) (im
         is = refl;
       })
 
-  leads : LeadsBetween (change.Remove number name) tables old.store new.store
+  abbrev leads : LeadsBetween (change.Remove number name) tables image old.store new.store
   leads = record {
+    bytes = no_bytes;
     shows = subst
-        (λ (n : Room). LeadsIn n (change.Remove number name) tables old.store new.store)
+        (λ (n : Room). LeadsIn n (change.Remove number name) tables image no_bytes new.store)
         (sym (ap (λ (s : Store). s.room) shows.is))
-        (subst (λ (n : ℕ). LeadsIn room (change.Remove n name) tables old.store new.store)
+        (subst (λ (n : ℕ). LeadsIn room (change.Remove n name) tables image no_bytes new.store)
         (sym of.numbered)
-        (leads_over image (λ first later had same there. rest room tables of.row.number name first later old.store
-        had same)));
+        (leads_none image (λ later same. rest room tables of.row.number name image later old.store
+        shows same)));
     valid = step_valid now old (Line (command.Remove lease name) now (record { texts = [] }))
         (Some says.Removed) new (words, moment)
         (record {
@@ -107,12 +108,13 @@ module _ (now lease : ℕ) (room : Room) (name : List ℕ) (tables : Tables) (im
         }) valid;
   }
 
-  pub removal_does : Does now [] (command.Remove lease name) before after
-      (change.Remove number name) tables old says.Removed
+  pub removal_does : {Left : List ℕ → Type 0} → Does now [] (command.Remove lease name) before after
+      (change.Remove number name) tables image Left old says.Removed
   removal_does = record {
     new = new;
     step = step;
     leads = leads;
+    brings = λ later left. record { measured = tt; are = refl };
     other = λ same. none_shown room image (local_named name of.row.locals) of.there
         (still_named shows lease name None of.row of.leased
         (gone now [] old lease name new valid step) same);

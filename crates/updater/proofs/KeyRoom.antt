@@ -23,7 +23,7 @@ use Rattle.store_state.specs.Tables.{Tables, bare_row, table_shape}
 use Rattle.table_weight.specs.Laws.{LightenOthers, WeighWithKey}
 use Rattle.table_weight.specs.Weight.{tables_weight}
 use Rattle.updater.specs.Shown.{IsKept}
-use Rattle.updater.proofs.Keeping.{lighter_room}
+use Rattle.updater.proofs.KeptChange.{lighter_room}
 use Rattle.updater.proofs.TableRoom.{Judges}
 
 module _ (key : Key) (room : Room) (tables : Tables) (version : Version) where

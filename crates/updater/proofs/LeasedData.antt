@@ -13,7 +13,7 @@ use Rattle.machine.specs.Rows.{PassesAll, Refuses}
 use Rattle.machine.specs.Shape.{BareData, BareView}
 use Rattle.machine.specs.Store.{Session}
 use Rattle.machine.specs.Views.{DataFile}
-use Rattle.machine.proofs.Finding.{find-map}
+use Rattle.machine.proofs.FirstFound.{find-map}
 use Rattle.store_state.specs.declared.view.LocalFile.{LocalFile}
 use Rattle.store_state.specs.declared.view.View.{View}
 use Rattle.store_state.specs.Locals.{local_named}
@@ -21,11 +21,11 @@ use Rattle.store_state.specs.Rows.{leased_row, row_at}
 use Rattle.store_state.specs.Shows.{Shows, shown_data, shown_view}
 use Rattle.store_state.specs.Stored.{data_bytes}
 use Rattle.store_state.specs.Tables.{Tables, bare_local, bare_row, table_shape}
-use Rattle.store_state.proofs.Showing.{shape_shown}
+use Rattle.store_state.proofs.ShownTables.{shape_shown}
 use Rattle.links.specs.Links.{LinksState}
 use Rattle.install_plan.proofs.LeasedRows.{IsLeased, lease_lives, row_is}
 use Rattle.updater.specs.DataFiles.{IsLocalOf}
-use Rattle.updater.proofs.Commanding.{LeavesStore, effect_answers}
+use Rattle.updater.proofs.CommandEnds.{LeavesStore, effect_answers}
 use Rattle.updater.proofs.ShownViews.{leased_bare_row, leased_shown}
 
 -- ---- by name

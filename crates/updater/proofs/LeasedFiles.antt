@@ -13,7 +13,7 @@ use Rattle.machine.specs.Rows.{PassesAll, Refuses}
 use Rattle.machine.specs.Shape.{BareView}
 use Rattle.machine.specs.Store.{Session}
 use Rattle.machine.specs.Views.{ListedFile, standing_entries}
-use Rattle.machine.proofs.Finding.{find-map}
+use Rattle.machine.proofs.FirstFound.{find-map}
 use Rattle.store_state.specs.declared.view.Content.{Content}
 use Rattle.store_state.specs.declared.view.View.{View}
 use Rattle.store_state.specs.Contents.{content_of}
@@ -24,10 +24,10 @@ use Rattle.store_state.specs.Shows.{Shows, bytes_in, shown_file, shown_view}
 use Rattle.store_state.specs.Stored.{content_bytes}
 use Rattle.store_state.specs.Tables.{Tables, bare_row, table_shape}
 use Rattle.store_state.proofs.ContentsNamed.{contents_named}
-use Rattle.store_state.proofs.Showing.{shape_shown}
+use Rattle.store_state.proofs.ShownTables.{shape_shown}
 use Rattle.links.specs.Links.{LinksState}
 use Rattle.updater.specs.Leased.{IsLeasedFile, KeepsView}
-use Rattle.updater.proofs.Commanding.{LeavesStore, effect_answers}
+use Rattle.updater.proofs.CommandEnds.{LeavesStore, effect_answers}
 use Rattle.updater.proofs.ShownViews.{leased_bare_row, leased_shown}
 
 file_shown : (room : Room) (image : List ℕ) (contents : List Content) (name : List ℕ)

@@ -16,9 +16,9 @@ use Rattle.machine.specs.ShowRow.{show_refusals, show_row}
 use Rattle.machine.specs.Store.{Session, Store, plain_room}
 use Rattle.store_state.specs.Shows.{Shows}
 use Rattle.store_state.specs.Tables.{Tables, table_shape}
-use Rattle.store_state.proofs.Showing.{shape_shown}
+use Rattle.store_state.proofs.ShownTables.{shape_shown}
 use Rattle.links.specs.Links.{LinksState}
-use Rattle.updater.proofs.Commanding.{LeavesStore, effect_answers}
+use Rattle.updater.proofs.CommandEnds.{LeavesStore, effect_answers}
 
 -- a key that has no entry
 pub not_shown : (key : Key) (room : Room) (tables : Tables) (old : Session)

@@ -20,8 +20,7 @@ use Rattle.store_state.specs.Tables.{Tables, bare_row}
 use Rattle.table_weight.specs.Laws.{WeighWithData}
 use Rattle.table_weight.specs.Weight.{tables_weight}
 use Rattle.install_plan.proofs.LeasedRows.{row_there}
-use Rattle.updater.specs.declared.putting.Putting.{Putting}
-use Rattle.updater.specs.Putting.{IsPutting, file_of}
+use Rattle.updater.specs.PutStep.{IsPutStep, file_of}
 use Rattle.updater.proofs.LeasedData.{bare, bare_none, is_leased, is_row}
 use Rattle.updater.proofs.PutRefused.{outside_bare, weight_with}
 
@@ -33,11 +32,11 @@ at_most_one : (b : Bool) → cond b 1 0 ≤ 1
 at_most_one true = omega arith
 at_most_one false = omega arith
 
-module _ (lease : ℕ) (room : Room) (image name bytes : List ℕ) (tables : Tables)
-    (are : AreTables tables) (named : IsName name) (putting : Putting)
-    (of : IsPutting room image lease name bytes tables putting) where
+module _ (lease : ℕ) (room : Room) (name bytes : List ℕ) (tables : Tables)
+    (are : AreTables tables) (named : IsName name) (number : ℕ)
+    (of : IsPutStep room lease name bytes tables number) (blocks : List ℕ) where
   abbrev made : LocalFile
-  made = file_of name bytes
+  made = file_of name (length bytes) blocks
 
   row : IsRow of.row
   row = all_in IsRow tables.views of.row are.rows
@@ -73,7 +72,6 @@ module _ (lease : ℕ) (room : Room) (image name bytes : List ℕ) (tables : Tab
     local = record {
       name = named;
       short = λ outside. by (λ long. of.passes.1.0 (inr long));
-      measured = refl;
     };
     few = few (local_named name of.row.locals) refl;
   }
@@ -85,9 +83,9 @@ module _ (lease : ℕ) (room : Room) (image name bytes : List ℕ) (tables : Tab
   fits = subst (λ (o : Option View). IsSomeAnd o (MayPut made))
       (sym (is_row lease name room tables of.row of.leased)) may
 
-  pub put_fits : (file : LocalFile) → file ≡ made → Fits tables (change.Put putting.view file)
+  pub put_fits : (file : LocalFile) → file ≡ made → Fits tables (change.Put number file)
   put_fits file is =
-      subst (λ (f : LocalFile). Fits tables (change.Put putting.view f)) (sym is)
+      subst (λ (f : LocalFile). Fits tables (change.Put number f)) (sym is)
       (subst (λ (n : ℕ). Fits tables (change.Put n made)) (sym of.view) fits)
 
   -- and the tables have room for it
@@ -100,8 +98,8 @@ module _ (lease : ℕ) (room : Room) (image name bytes : List ℕ) (tables : Tab
       (bare_row of.row, bare lease name room tables of.row of.leased, refl, heavy)))
 
   pub put_light : WeighWithData → (file : LocalFile) → file ≡ made
-      → IsLight room (tables_weight (effect (change.Put putting.view file) tables))
+      → IsLight room (tables_weight (effect (change.Put number file) tables))
   put_light weigh file is =
-      subst (λ (f : LocalFile). IsLight room (tables_weight (effect (change.Put putting.view f) tables))) (sym is)
+      subst (λ (f : LocalFile). IsLight room (tables_weight (effect (change.Put number f) tables))) (sym is)
       (subst (λ (n : ℕ). IsLight room (tables_weight (effect (change.Put n made) tables))) (sym of.view)
       (leased_light weigh fits))

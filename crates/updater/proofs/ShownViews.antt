@@ -13,7 +13,7 @@ use Rattle.machine.specs.Shape.{BareView}
 use Rattle.machine.specs.Store.{Store}
 use Rattle.machine.specs.Valid.{IsApp, Ordered}
 use Rattle.machine.specs.Views.{View as KeptView}
-use Rattle.machine.proofs.Finding.{find-map, then_value, value_of}
+use Rattle.machine.proofs.FirstFound.{find-map, then_value, value_of}
 use Rattle.machine.proofs.Leased.{entry_in, leased_kept, previous_kept}
 use Rattle.machine.proofs.Members.{all_in}
 use Rattle.store_state.specs.declared.view.Content.{Content}
@@ -22,9 +22,9 @@ use Rattle.store_state.specs.Rows.{leased_row, previous_row, row_at}
 use Rattle.store_state.specs.Shows.{Shows, shown_view}
 use Rattle.store_state.specs.Tables.{Tables, bare_row, table_shape}
 use Rattle.install_plan.proofs.Currents.{current_stands, map_there}
-use Rattle.updater.specs.GoingBack.{KeepsPrevious}
+use Rattle.updater.specs.RollbackStep.{KeepsPrevious}
 use Rattle.updater.specs.Leased.{KeepsView}
-use Rattle.updater.specs.Start.{KeepsCurrent}
+use Rattle.updater.specs.LaunchStep.{KeepsCurrent}
 
 -- ---- by number
 

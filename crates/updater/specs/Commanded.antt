@@ -13,7 +13,7 @@ use Rattle.fetcher.specs.Fetched.{KeptBut}
 use Rattle.install_plan.specs.Brought.{IsBrought}
 use Rattle.install_plan.specs.Downs.{CountsDowns}
 use Rattle.install_plan.specs.GroupAsked.{AreBrought, GroupServed, IsListedOfGroup}
-use Rattle.install_plan.specs.Hearing.{IsListedBy, Served}
+use Rattle.install_plan.specs.InstallHeard.{IsListedBy, InstallServed}
 use Rattle.install_plan.specs.Offers.{OfferServed}
 use Rattle.machine.specs.declared.command.Command.{Command}
 use Rattle.machine.specs.declared.command.Command.TheVariants.{At, Install, Check, Skip, Rollback, Launch, Group, Finish}
@@ -26,7 +26,7 @@ use Rattle.machine.specs.Store.{Session, Store}
 use Rattle.machine.specs.Views.{View}
 use Rattle.store_state.specs.Tables.{table_shape}
 use Rattle.updater.specs.Shown.{Updater}
-use Rattle.updater.specs.Costs.{Costs}
+use Rattle.updater.specs.Costs.{LeavesNoFiles, StepCosts}
 use Rattle.updater.specs.StandsFor.{StandsForEither}
 use Rattle.updater.specs.Updater.{Holds, room_of, tables_of}
 
@@ -63,7 +63,7 @@ MayLack _ = Unit {0}
 abbrev pub LinksServe :
     Command → List (List ℕ) → LinksState → LinksState → Session → Reply → Session → Type 0
 LinksServe (Install url) heard before after old reply new =
-    Served (shape_of old) url heard before after reply
+    InstallServed (shape_of old) url heard before after reply
     × ((view : View) → new.store.views ≡ old.store.views ++ view ∷ []
     → IsBrought old before after view)
 LinksServe (Check key) heard before after old reply new =
@@ -85,8 +85,10 @@ IsListedOf _ shape heard target list size = ⊥
 -- ---- what it did
 
 -- It answered: a step of the machine, whose session is held from now on. A stop at any moment of
--- the call leaves the store before it or that after it. Where the store stays as it was, no call
--- that changes the disk is made; else one is, at least. It writes at most what the step costs.
+-- the call leaves the store before it or that after it. Where the store stays as it was, no call that
+-- changes the disk is made, and nothing is written, unless the command is to bring files and one did not
+-- come, or there was no memory. Where the store is another one, a call is made, at least. It writes at
+-- most what the step costs.
 pub record Answered {D L : Type 0} (on : Ghosts D) (net : LinksGhosts L) (now : ℕ)
     (heard : List (List ℕ)) (command : Command) (disk_old : D) (links_old : L) (old : Session)
     (reply : Reply) (updater_new : Updater) (disk_new : D) (links_new : L) : Type 0 where
@@ -95,10 +97,11 @@ pub record Answered {D L : Type 0} (on : Ghosts D) (net : LinksGhosts L) (now : 
   pub step : Answers now heard old command reply new
   pub stored : Holds on updater_new disk_new new
   pub stop : LeavesOnly on disk_old disk_new (StandsForEither old.store new.store)
-  pub quiet : new.store ≡ old.store → Rests on disk_old disk_new
+  pub quiet : LeavesNoFiles command reply → new.store ≡ old.store → Rests on disk_old disk_new
   pub marked : new.store ≢ old.store → on.moment disk_old + 1 ≤ on.moment disk_new
   pub bytes : ℕ
-  pub costs : Costs old.store new.store bytes
+  pub spares : LeavesNoFiles command reply → new.store ≡ old.store → bytes ≡ 0
+  pub costs : StepCosts command heard (net.links links_old) (net.links links_new) old new bytes
   pub written : on.total disk_new ≤ on.total disk_old + bytes
   pub served : LinksServe command heard (net.links links_old) (net.links links_new) old reply new
 
@@ -113,7 +116,7 @@ pub record Faulted {D L : Type 0} (on : Ghosts D) (net : LinksGhosts L) (now : �
   pub step : Answers now heard old command reply new
   pub stop : LeavesOnly on disk_old disk_new (StandsForEither old.store new.store)
   pub bytes : ℕ
-  pub costs : Costs old.store new.store bytes
+  pub costs : StepCosts command heard (net.links links_old) (net.links links_new) old new bytes
   pub written : on.total disk_new ≤ on.total disk_old + bytes
   pub served : LinksServe command heard (net.links links_old) (net.links links_new) old reply new
 

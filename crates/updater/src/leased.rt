@@ -1,9 +1,8 @@
 // What is read of a leased view.
-ghost use Rattle.std.specs.Prelude.{◌≡◌, ℕ, List, [], Some, IfErr, IfOk, false};
+ghost use Rattle.std.specs.Prelude.{◌≡◌, ℕ, [], Some, IfErr, IfOk, false};
 ghost use Rattle.small_types.specs.declared.room.Room.{Room};
 ghost use Rattle.machine.specs.declared.command.Command.TheVariants as command;
 ghost use Rattle.machine.specs.Machine.{moment_after, refusals};
-ghost use Rattle.machine.specs.ReadRow.{part};
 ghost use Rattle.machine.specs.Rows.{Refuses};
 ghost use Rattle.machine.specs.Store.{Session};
 ghost use Rattle.store_state.specs.Tables.{table_shape};
@@ -11,8 +10,7 @@ ghost use Rattle.install_plan.specs.Checks.{is_missing};
 ghost use Rattle.updater.specs.Leased.{IsLeasedFile, KeepsView};
 
 use machine::Reply;
-use small_types::{Bytes, Name, rest_from};
-use std::alloc::{AllocError, Global};
+use small_types::Name;
 use store_state::{Content, StoreState};
 
 /// The content of the program file of that name that stands in the leased view, or the refusal that
@@ -38,18 +36,4 @@ pub(crate) fn leased_file<'a>(
         Some(content) => Ok(content),
         None => Err(Reply::NoFile),
     }
-}
-
-/// The bytes from a place on, at most so many, copied once.
-pub(crate) fn part_of(
-    alloc: Global,
-    bytes: &[u8],
-    from: u64,
-    count: u64,
-) -> Result<Bytes, AllocError>
-    ensures { IfOk result (λ made. made ≡ part from count bytes.now) }
-{
-    let rest = rest_from(bytes, bytes.len().min(from as usize));
-    let shown = rest.len().min(count as usize);
-    Bytes::from_slice(alloc, &rest[..shown])
 }

@@ -2,16 +2,18 @@
 #![tactic(auto)]
 
 mod data_files;
+mod durable;
 mod fault;
-mod going_back;
+mod launch_step;
 mod laws;
 mod leased;
-mod putting;
+mod opened;
+mod put_step;
 mod refusal;
 mod requirement;
+mod rollback_step;
 mod rows;
-mod skipping;
-mod start;
+mod skip_step;
 mod store_tables;
 mod updater;
 

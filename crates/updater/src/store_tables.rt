@@ -10,7 +10,7 @@ ghost use Rattle.updater.specs.StoreTables.{AreOfStore};
 use small_types::Room;
 use small_types::limits::BLOCK_LIMIT;
 use store_state::StoreState;
-use table_check::is_ordered;
+use table_check::{is_measured, is_ordered};
 use table_weight::{table_full, weight};
 
 // Whether tables that weigh so much have room.
@@ -36,9 +36,10 @@ fn have_room(state: &StoreState, room: Room) -> bool
 }
 
 /// Whether the tables of a journal of this room are those of a store: within its order and its
-/// limits, with room for its files and its tables. It takes no memory.
+/// limits, with room for its files and its tables, and as many blocks for each file as its length
+/// needs. It takes no memory.
 pub(crate) fn are_of_store(state: &StoreState, room: Room) -> bool
     ensures { IsTrue result ↔ AreOfStore room state.now }
 {
-    room.blocks <= BLOCK_LIMIT && have_room(state, room) && is_ordered(state)
+    room.blocks <= BLOCK_LIMIT && have_room(state, room) && is_ordered(state) && is_measured(state)
 }

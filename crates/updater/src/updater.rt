@@ -1,5 +1,7 @@
 // The store in memory and on the disk, and the commands on it.
-ghost use Rattle.std.specs.Prelude.{◌≡◌, ◌≤◌, ◌<◌, ◌^◌, ℕ, List, [], length, map};
+ghost use Rattle.std.specs.Prelude.{◌≡◌, ◌≤◌, ◌<◌, ◌^◌, ◌↔◌, ℕ, List, [], Contains, IfOk, IsErr, IsTrue, length, map};
+ghost use Rattle.disks.specs.Moments.{Untouched};
+ghost use Rattle.disks.specs.Spends.{Spends};
 ghost use Rattle.small_types.specs.declared.room.Room.{Room};
 ghost use Rattle.small_types.specs.declared.limits.TheConstants.{NUMBER_LIMIT, PIECE_LIMIT};
 ghost use Rattle.small_types.specs.Name.{IsName};
@@ -10,7 +12,7 @@ ghost use Rattle.machine.specs.Machine.{Hears, refusals};
 ghost use Rattle.machine.specs.Blocks.{used_blocks};
 ghost use Rattle.machine.specs.Rows.{PassesAll};
 ghost use Rattle.machine.specs.Shape.{Shape, bare_view};
-ghost use Rattle.machine.specs.Store.{Store};
+ghost use Rattle.machine.specs.Store.{Session, Store};
 ghost use Rattle.machine.specs.Valid.{Valid};
 ghost use Rattle.machine.specs.Weight.{IsLight};
 ghost use Rattle.machine.specs.Words.{IsCommand, IsGroup};
@@ -18,26 +20,31 @@ ghost use Rattle.record_codec.specs.Codec.{IsChange};
 ghost use Rattle.store_state.specs.declared.change.Change.TheVariants as change;
 ghost use Rattle.store_state.specs.Change.{Fits, effect};
 ghost use Rattle.store_state.specs.Shows.{Shows};
+ghost use Rattle.store_state.specs.Stored.{content_bytes};
 ghost use Rattle.store_state.specs.Tables.{table_shape};
+ghost use Rattle.table_files.specs.Freed.{brought};
 ghost use Rattle.updater.specs.Answer.{IsAnswer};
 ghost use Rattle.updater.specs.Commanded.{MayLack};
 ghost use Rattle.updater.specs.Requirement.{Raises};
 
 use crate::RecoverFault;
 use crate::data_files::{local_of, removal_of};
-use crate::going_back::going_back_of;
-use crate::leased::{leased_file, part_of};
-use crate::putting::{local_file, putting_of};
+use crate::durable::keep_files;
+use crate::launch_step::launch_step_of;
+use crate::leased::leased_file;
+use crate::opened::open_files;
+use crate::put_step::{put_file, put_step_of, stands_there};
 use crate::refusal::{finish_refusal, require_refusal};
 use crate::requirement::minimum_that_stays;
+use crate::rollback_step::rollback_step_of;
 use crate::rows::{list_rows, show_row};
-use crate::skipping::skipping_of;
-use crate::start::start_of;
-use crate::store_tables::are_of_store;
+use crate::skip_step::skip_step_of;
+use block_files::{PartFault, has_bytes, read_part};
 use cleaner::{CleanFault, removable};
 use disks::Disk;
+use file_store::FileStore;
 use identity::{Key, Version};
-use install_plan::{Prepared, prepare, prepare_check, prepare_group};
+use install_plan::{Prepared, PreparedFiles, prepare, prepare_check, prepare_group};
 use journal::Log;
 use links::Links;
 use machine::{Command, Heard, Reply, one_data_file_is_changed};
@@ -46,27 +53,29 @@ use small_types::{Bytes, CopyFault, Duplicate, List, Name, Room, Text};
 use std::alloc::{AllocError, Global};
 use std::marker::Model;
 use std::mem::replace;
-use store_state::{Change, LocalFile, StoreState, puts_show_the_file, removals_show_the_rest};
+use store_state::{Change, Content, StoreState, puts_show_the_file, removals_show_the_rest};
 use table_check::ordered_tables_show_ordered_stores;
-use table_codec::{
-    changes_are_within_weights, changes_stay_encodable, encodings_are_within_table_weights,
-    fields_stay_encodable,
-};
-use table_log::{Rooms, StepFault, an_image_reads_as_one, make_durable};
+use table_codec::changes_stay_encodable;
+use table_files::held_are_used;
+use table_log::{Rooms, StepFault, a_log_stays_open_as_tables, an_image_reads_as_one};
 use table_weight::{changed_tables_weigh, tables_weigh_as_shown};
 
-/// A store that is open: its log, its room and its tables. The tables have always room in a half of
-/// the log. The memory for what a change writes is taken when the store is opened.
+/// A store that is open: its log, its room, its tables, and which of its blocks are free: those that the
+/// tables do not hold. The tables have always room in a half of the log. The memory for what a change
+/// writes is taken when the store is opened.
 #[derive(Debug, Drop)]
 pub struct Updater {
     log: Log,
     room: Room,
     rooms: Rooms,
+    files: FileStore,
     state: StoreState,
 }
 
 impl Model for Updater {
+    ghost use Rattle.table_files.specs.Held.{held_by};
     ghost use Rattle.table_log.specs.Rooms.{HaveRooms};
+    ghost use Rattle.install_plan.specs.Blocks.{UsesBlocks};
     ghost use Rattle.updater.specs.Shown.{IsKept};
     ghost use Rattle.updater.specs.Shown as shown;
 
@@ -74,7 +83,8 @@ impl Model for Updater {
 
     ghost view = { λ u. record { log = u.log; room = u.room; state = u.state } };
 
-    ghost invariant = { λ u. IsKept u.log u.room u.state × HaveRooms u.room.half u.rooms };
+    ghost invariant = { λ u. IsKept u.log u.room u.state × HaveRooms u.room.half u.rooms
+        × UsesBlocks u.files u.room (held_by u.state) };
 }
 
 // How a command ends once its change was tried.
@@ -83,8 +93,14 @@ fn answer(kept: Result<(), StepFault>, reply: Reply) -> Result<Reply, Failed>
 {
     match kept {
         Ok(()) => Ok(reply),
-        Err(StepFault::Memory) => Ok(Reply::Memory),
-        Err(StepFault::DiskFault) => Err(Failed),
+        Err(StepFault::Memory) => {
+            drop(reply);
+            Ok(Reply::Memory)
+        }
+        Err(StepFault::DiskFault) => {
+            drop(reply);
+            Err(Failed)
+        }
     }
 }
 
@@ -103,10 +119,10 @@ fn most_texts(command: &Command) -> usize
 
 impl Updater {
     ghost use Rattle.updater.specs.Commanded.{Commanded, CommandedBehind};
-    ghost use Rattle.updater.specs.MakesDurable.{MakesDurable, MayKeep};
+    ghost use Rattle.updater.specs.KeepsChange.{KeepsChange, MayKeep};
     ghost use Rattle.updater.specs.Loaded.{Loaded};
     ghost use Rattle.updater.specs.Opened.{Opened};
-    ghost use Rattle.updater.specs.Updater.{room_of, tables_of};
+    ghost use Rattle.updater.specs.Updater.{Holds, room_of, tables_of};
     ghost use Rattle.table_weight.specs.Laws.{BringsNothing};
 
     /// Opens the store on the disk. Where the kept boot number differs from the given one, which is
@@ -240,64 +256,81 @@ impl Updater {
         &self.state
     }
 
+    /// Whether a content of its tables is just these bytes. It reads a block at a time, as far as they
+    /// are the same, and takes no memory. `Failed`: the disk failed.
+    pub fn has_content<D: Disk>(
+        &self,
+        disk: &mut D,
+        content: &Content,
+        bytes: &[u8],
+    ) -> Result<bool, Failed>
+        requires { Contains (tables_of self.now).contents content.now }
+        ensures same { D.tells disk.new → (session : Session)
+            → Holds D.Disk self.now disk.old session → IfOk result (λ same. IsTrue same
+            ↔ (content_bytes session.store.room (D.seen disk.old) content.now ≡ bytes.now)) }
+        ensures still { Untouched D.Disk disk.old disk.new }
+        ensures spends { Spends D.Disk 0 0 disk.old disk.new (IsErr result) }
+    {
+        has_bytes(&self.files, disk, &content.held, content.size, bytes)
+    }
+
     // Reads the store that the disk stands for.
     fn load<D: Disk>(alloc: Global, disk: &mut D) -> Result<Updater, RecoverFault>
         ensures { Loaded D.Disk disk.old result disk.new }
     {
         let opened = match table_log::recover(alloc, disk) {
             Ok(opened) => opened,
-            Err(table_log::RecoverFault::NotTables) => return Err(RecoverFault::NotAStore),
-            Err(table_log::RecoverFault::Memory) => return Err(RecoverFault::Memory),
-            Err(table_log::RecoverFault::DiskFault) => return Err(RecoverFault::DiskFault),
+            Err(table_log::OpenFault::NotTables) => return Err(RecoverFault::NotAStore),
+            Err(table_log::OpenFault::Memory) => return Err(RecoverFault::Memory),
+            Err(table_log::OpenFault::DiskFault) => return Err(RecoverFault::DiskFault),
         };
         an_image_reads_as_one();
+        a_log_stays_open_as_tables::<D>();
         ordered_tables_show_ordered_stores();
         tables_weigh_as_shown();
         changes_stay_encodable();
         opened.state.are_tables();
-        if !are_of_store(&opened.state, opened.room) {
-            drop(opened);
-            return Err(RecoverFault::NotAStore);
-        }
-        let rooms = match Rooms::new(alloc, opened.room.half) {
-            Ok(rooms) => rooms,
-            Err(AllocError) => {
+        let (files, rooms) = match open_files(alloc, disk, &opened.state, opened.room) {
+            Ok(parts) => parts,
+            Err(fault) => {
                 drop(opened);
-                return Err(RecoverFault::Memory);
+                return Err(fault);
             }
         };
-        let table_log::Opened { log, room, state } = opened;
+        let table_log::OpenTables { log, room, state } = opened;
         Ok(Updater {
             log,
             room,
             rooms,
+            files,
             state,
         })
     }
 
-    // Makes a change that fits durable, and makes it in the tables, which have room then. For want
-    // of memory it does nothing.
+    // Makes a change that fits durable, by which no file comes, and makes it in the tables, which have
+    // room then. What it lets go is free behind it. For want of memory it does nothing.
     fn keep<D: Disk>(
         &mut self,
         alloc: Global,
         disk: &mut D,
         change: Change,
     ) -> Result<(), StepFault>
-        requires { MayKeep self.old change }
-        ensures { MakesDurable D.Disk change self.old disk.old result self.new disk.new }
+        requires may { MayKeep self.old change }
+        requires none { brought change ≡ [] }
+        ensures { KeepsChange D.Disk change self.old disk.old result self.new disk.new }
     {
-        self.state.are_tables();
-        fields_stay_encodable();
-        changes_stay_encodable();
-        encodings_are_within_table_weights();
-        changes_are_within_weights();
-        make_durable(
+        let none = List::from_vec(Vec::new(alloc));
+        keep_files(
             &mut self.log,
             &mut self.rooms,
+            &mut self.files,
+            &mut self.state,
+            self.room,
             alloc,
             disk,
-            &mut self.state,
             change,
+            &none,
+            &none,
         )
     }
 
@@ -310,7 +343,7 @@ impl Updater {
     ) -> Result<(), StepFault>
         requires may { Fits (tables_of self.old) change × IsChange change }
         requires lighter { BringsNothing (tables_of self.old) change }
-        ensures { MakesDurable D.Disk change self.old disk.old result self.new disk.new }
+        ensures { KeepsChange D.Disk change self.old disk.old result self.new disk.new }
     {
         self.state.are_tables();
         changed_tables_weigh();
@@ -387,10 +420,31 @@ impl Updater {
         ensures { Commanded D.Disk L.Links now heard.new.texts (command.Install url.now) self.old
             disk.old links.old result self.new disk.new links.new }
     {
-        match prepare(alloc, &self.state, self.room, links, now, url, heard) {
-            Prepared::Change { change, reply } => answer(self.keep(alloc, disk, change), reply),
-            Prepared::Reply { reply } => Ok(reply),
-            Prepared::DiskFault => unreachable!(),
+        let state = &self.state;
+        let files = &mut self.files;
+        match prepare(alloc, state, self.room, files, disk, links, now, url, heard) {
+            PreparedFiles::Change {
+                change,
+                reply,
+                taken,
+                unused,
+            } => answer(
+                keep_files(
+                    &mut self.log,
+                    &mut self.rooms,
+                    &mut self.files,
+                    &mut self.state,
+                    self.room,
+                    alloc,
+                    disk,
+                    change,
+                    &taken,
+                    &unused,
+                ),
+                reply,
+            ),
+            PreparedFiles::Reply { reply } => Ok(reply),
+            PreparedFiles::DiskFault => Err(Failed),
         }
     }
 
@@ -417,7 +471,6 @@ impl Updater {
                 reply,
             } => answer(self.keep_lighter(alloc, disk, noted), reply),
             Prepared::Reply { reply } => Ok(reply),
-            Prepared::DiskFault => unreachable!(),
         }
     }
 
@@ -435,7 +488,7 @@ impl Updater {
         ensures { Commanded D.Disk L.Links now [] (command.Skip key.now)
             self.old disk.old _links.now result self.new disk.new _links.now }
     {
-        let skipping = match skipping_of(&self.state, key, now) {
+        let skipping = match skip_step_of(&self.state, key, now) {
             Ok(skipping) => skipping,
             Err(reply) => return Ok(reply),
         };
@@ -463,7 +516,7 @@ impl Updater {
         ensures { Commanded D.Disk L.Links now [] (command.Rollback key.now)
             self.old disk.old _links.now result self.new disk.new _links.now }
     {
-        let going = match going_back_of(&self.state, key) {
+        let going = match rollback_step_of(&self.state, key) {
             Ok(going) => going,
             Err(reply) => return Ok(reply),
         };
@@ -489,7 +542,7 @@ impl Updater {
         ensures { Commanded D.Disk L.Links now [] (command.Launch key.now)
             self.old disk.old _links.now result self.new disk.new _links.now }
     {
-        let start = match start_of(&self.state, key, now) {
+        let start = match launch_step_of(&self.state, key, now) {
             Ok(start) => start,
             Err(reply) => return Ok(reply),
         };
@@ -503,11 +556,11 @@ impl Updater {
         )
     }
 
-    // Reads bytes of a program file of the leased view. Neither the disk nor the links are asked.
+    // Reads bytes of a program file of the leased view. The links are not asked.
     fn read<D: Disk, L: Links>(
         &self,
         alloc: Global,
-        _disk: &D,
+        disk: &mut D,
         _links: &L,
         now: u64,
         lease: u64,
@@ -517,24 +570,25 @@ impl Updater {
     ) -> Result<Reply, Failed>
         requires { now ≤ NUMBER_LIMIT }
         ensures { Commanded D.Disk L.Links now [] (command.Read lease name.now from count)
-            self.now _disk.now _links.now result self.now _disk.now _links.now }
+            self.now disk.old _links.now result self.now disk.new _links.now }
     {
         let file = match leased_file(&self.state, lease, name) {
             Ok(file) => file,
             Err(reply) => return Ok(reply),
         };
-        let length = file.held.as_slice().len() as u64;
-        match part_of(alloc, file.held.as_slice(), from, count) {
+        let length = file.size;
+        match read_part(alloc, &self.files, disk, &file.held, length, from, count) {
             Ok(bytes) => Ok(Reply::Read { length, bytes }),
-            Err(AllocError) => Ok(Reply::Memory),
+            Err(PartFault::Memory) => Ok(Reply::Memory),
+            Err(PartFault::DiskFault) => Err(Failed),
         }
     }
 
-    // Reads bytes of a data file of the leased view. Neither the disk nor the links are asked.
+    // Reads bytes of a data file of the leased view. The links are not asked.
     fn read_local<D: Disk, L: Links>(
         &self,
         alloc: Global,
-        _disk: &D,
+        disk: &mut D,
         _links: &L,
         now: u64,
         lease: u64,
@@ -544,17 +598,17 @@ impl Updater {
     ) -> Result<Reply, Failed>
         requires { now ≤ NUMBER_LIMIT }
         ensures { Commanded D.Disk L.Links now [] (command.Local lease name.now from count)
-            self.now _disk.now _links.now result self.now _disk.now _links.now }
+            self.now disk.old _links.now result self.now disk.new _links.now }
     {
         let file = match local_of(&self.state, lease, name) {
             Ok(file) => file,
             Err(reply) => return Ok(reply),
         };
-        let held = file.held.as_slice();
-        let length = held.len() as u64;
-        match part_of(alloc, held, from, count) {
+        let length = file.length;
+        match read_part(alloc, &self.files, disk, &file.held, length, from, count) {
             Ok(bytes) => Ok(Reply::Read { length, bytes }),
-            Err(AllocError) => Ok(Reply::Memory),
+            Err(PartFault::Memory) => Ok(Reply::Memory),
+            Err(PartFault::DiskFault) => Err(Failed),
         }
     }
 
@@ -576,26 +630,40 @@ impl Updater {
         ensures { Commanded D.Disk L.Links now [] (command.Put lease name.now bytes.now)
             self.old disk.old _links.now result self.new disk.new _links.now }
     {
-        let putting = match putting_of(&self.state, self.room, lease, name, bytes) {
-            Ok(putting) => putting,
+        let view = match put_step_of(&self.state, self.room, lease, name, bytes) {
+            Ok(view) => view,
             Err(reply) => return Ok(reply),
         };
-        if putting.stands {
-            return Ok(Reply::Put);
+        match stands_there(&self.state, &self.files, disk, view, name, bytes) {
+            Ok(true) => return Ok(Reply::Put),
+            Ok(false) => {}
+            Err(Failed) => return Err(Failed),
         }
-        let file = match local_file(alloc, name, bytes) {
-            Ok(file) => file,
-            Err(CopyFault::Memory) => return Ok(Reply::Memory),
-        };
-        let change = Change::Put {
-            view: putting.view,
-            file,
-        };
         self.state.are_tables();
+        held_are_used();
         changed_tables_weigh();
         puts_show_the_file();
         one_data_file_is_changed();
-        answer(self.keep(alloc, disk, change), Reply::Put)
+        let (file, taken) = match put_file(alloc, &mut self.files, disk, name, bytes) {
+            Ok(made) => made,
+            Err(fault) => return answer(Err(fault), Reply::Put),
+        };
+        let none = List::from_vec(Vec::new(alloc));
+        answer(
+            keep_files(
+                &mut self.log,
+                &mut self.rooms,
+                &mut self.files,
+                &mut self.state,
+                self.room,
+                alloc,
+                disk,
+                Change::Put { view, file },
+                &taken,
+                &none,
+            ),
+            Reply::Put,
+        )
     }
 
     // Removes the data file of the leased view. The links are not asked.
@@ -645,13 +713,31 @@ impl Updater {
             disk.old links.old result self.new disk.new links.new }
     {
         self.state.are_tables();
-        match prepare_group(alloc, &self.state, self.room, links, lease, group) {
-            Prepared::Change {
-                change: brought,
+        let state = &self.state;
+        let files = &mut self.files;
+        match prepare_group(alloc, state, self.room, files, disk, links, lease, group) {
+            PreparedFiles::Change {
+                change: grows,
                 reply,
-            } => answer(self.keep(alloc, disk, brought), reply),
-            Prepared::Reply { reply } => Ok(reply),
-            Prepared::DiskFault => unreachable!(),
+                taken,
+                unused,
+            } => answer(
+                keep_files(
+                    &mut self.log,
+                    &mut self.rooms,
+                    &mut self.files,
+                    &mut self.state,
+                    self.room,
+                    alloc,
+                    disk,
+                    grows,
+                    &taken,
+                    &unused,
+                ),
+                reply,
+            ),
+            PreparedFiles::Reply { reply } => Ok(reply),
+            PreparedFiles::DiskFault => Err(Failed),
         }
     }
 

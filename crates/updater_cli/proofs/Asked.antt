@@ -1,5 +1,6 @@
 -- The words ask for one thing.
 use Rattle.std.proofs.Common.{◌≡◌, ℕ, Option, Some, sym, ◌∙◌, subst}
+use Rattle.small_types.specs.declared.room.Room.{Room}
 use Rattle.inspection.specs.declared.manifest.Kind.{Kind}
 use Rattle.publish_plan.specs.declared.options.Options.{Options}
 use Rattle.updater_cli.specs.declared.words.Request.{Request}
@@ -13,10 +14,10 @@ module _ (asked : Option Request) where
       let same_now : n ≡ now = cc (both) in
       subst (λ (m : ℕ). P boot m) same_now (subst (λ (m : ℕ). P m n) same_boot holds)
 
-  pub for_format : (P : ℕ → Type 0) (b : ℕ) → asked ≡ Some (Format b) → P b → (blocks : ℕ) → asked ≡ Some (Format blocks) → P blocks
-  for_format P b is holds blocks other =
-      let both : Some (Format b) ≡ Some (Format blocks) = sym is ∙ other in
-      let same : b ≡ blocks = cc (both) in
+  pub for_format : (P : Room → Type 0) (r : Room) → asked ≡ Some (Format r) → P r → (room : Room) → asked ≡ Some (Format room) → P room
+  for_format P r is holds room other =
+      let both : Some (Format r) ≡ Some (Format room) = sym is ∙ other in
+      let same : r ≡ room = cc (both) in
       subst P same holds
 
   pub for_inspect : (P : Kind → Type 0) (k : Kind) → asked ≡ Some (Inspect k) → P k → (kind : Kind) → asked ≡ Some (Inspect kind) → P kind

@@ -16,14 +16,14 @@ use Rattle.updater.specs.Costs.{Costs}
 use Rattle.updater.specs.StandsFor.{StandsFor, StandsForEither}
 use Rattle.updater.specs.Updater.{Holds}
 use Rattle.updater.specs.Moments.{LeavesSince, LeavesSinceOrNot}
-use Rattle.updater.proofs.Standing.{stored_stands}
+use Rattle.updater.proofs.HeldStore.{stored_stands}
 use Rattle.disks.specs.declared.disk.Disk.{Ghosts}
 use Rattle.links.specs.declared.links.Links.{Ghosts as LinksGhosts}
 use Rattle.links.specs.Links.{failures_of}
 use Rattle.fetcher.proofs.Sequence.{kept_same}
 use Rattle.updater_cli.specs.declared.course.Course.{Course}
-use Rattle.updater_cli.specs.Opening.{Survives, IsUnopened}
-use Rattle.updater_cli.specs.Report.{IsSettled, RunsTo, IsLineServed, StandsForPrefix, origin_over, report_of, marked_by}
+use Rattle.updater_cli.specs.OpensSession.{Survives, IsUnopened}
+use Rattle.updater_cli.specs.Report.{EventCosts, IsCounted, IsSettled, RunsTo, IsLineServed, StandsForPrefix, origin_over, report_of, marked_by}
 use Rattle.updater_cli.specs.Session.{Between, start_over}
 use Rattle.updater_cli.specs.Walk.{Walks}
 use Rattle.updater_cli.proofs.Runs.{step_settled, runs_push, counts_early, counts_late}
@@ -105,6 +105,17 @@ module _ {D L : Type 0} (on : Ghosts D) (net : LinksGhosts L) (links : L) (old n
         all_lines (origin_over now store) (session_over (booted boot store)) (l ∷ []) None (marked_by (l ∷ []) t) image run.steps (inl (omega (arith, counts_late l t (omega (arith, is_mark, end)))))
         (stored_stands on course.updater new (session_over (booted boot store)) stored image (subst (λ (m : ℕ). on.left_at new m image) end left))
 
+    costs_on : EventCosts l.event (net.links links) (net.links links) (session_over store) (session_over (booted boot store)) own
+    costs_on = rw is_event costs
+
+    counted_on : IsCounted l.event l.reply (net.links links) (net.links links) (session_over store) (session_over (booted boot store)) (on.moment old + 1) l.mark own
+    counted_on = record {
+      later = omega (arith, is_mark, marked);
+      same = λ none equal. absurd (differs (ap (λ (s : Store). s.boot) (sym equal)));
+      marked = λ not. omega (arith, is_mark, marked);
+      costs = costs_on;
+    }
+
     pub other : Between on net (start_over now old links store) course new links
     other = record {
       session = session_over (booted boot store);
@@ -116,7 +127,7 @@ module _ {D L : Type 0} (on : Ghosts D) (net : LinksGhosts L) (links : L) (old n
           rw lines (subst (λ (m : ℕ). Walks net (net.links links) (origin_over now store) (on.moment old + 1) links (l ∷ []) (session_over (booted boot store)) m (0 + own) links) is_mark
           (walk_push net (net.links links) (origin_over now store) (on.moment old + 1) links [] (session_over store) (session_over (booted boot store)) (on.moment old + 1) 0 own links links l (refl, refl, refl, refl)
           (line_holds net (net.links links) (origin_over now store) (on.moment old + 1) links links l (session_over (booted boot store)) own (kept_same (net.links links)) boots
-          (record { same = λ equal. absurd (differs (ap (λ (s : Store). s.boot) (sym equal))); marked = λ not. omega (arith, is_mark, marked); costs = costs })
+          counted_on
           (boot_served net links boot l.event l.reply (session_over store) (session_over (booted boot store)) is_event) is_failures)));
       written = omega (arith, within);
       marks = rw lines (omega (arith, is_mark), tt);

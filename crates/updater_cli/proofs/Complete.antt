@@ -14,7 +14,7 @@ use Rattle.updater_cli.specs.declared.status.Status.TheVariants.{Done, Words, So
 use Rattle.updater_cli.specs.Complete.{AnswersAll, Completes, IsUndisturbed}
 use Rattle.updater_cli.specs.Devices.{Asks, Devices, RisesWith}
 use Rattle.updater_cli.specs.Headline.{Headline, IsNotOpened, IsOpened, LeadsTo}
-use Rattle.updater_cli.specs.Opening.{BootsFirst}
+use Rattle.updater_cli.specs.OpensSession.{BootsFirst}
 use Rattle.updater_cli.specs.Quiet.{WalkFinds}
 use Rattle.updater_cli.specs.Report.{IsBegunServed, StandsSound, moment_behind, origin_over}
 use Rattle.updater_cli.specs.Status.{code_of}

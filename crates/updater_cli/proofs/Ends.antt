@@ -28,7 +28,7 @@ use Rattle.updater_cli.specs.Downs.{DownsAreCounted}
 use Rattle.updater_cli.specs.Headline.{after_boot, ReadsLines, BeginsOnFault, MadeCalls, HeadlineLines, HeadlineRun}
 use Rattle.updater_cli.specs.Lacks.{AreLacksFew}
 use Rattle.updater_cli.specs.Lines.{IsReady, Place, AreInputs, InputAnswered}
-use Rattle.updater_cli.specs.Opening.{BeginsAt, IsNoBoot, IsNoBootFirst, IsLineOrNone, BootsFirst, HasBootLine, IsOpeningEnd, begun_by}
+use Rattle.updater_cli.specs.OpensSession.{BeginsAt, IsNoBoot, IsNoBootFirst, IsLineOrNone, BootsFirst, HasBootLine, IsOpeningEnd, begun_by}
 use Rattle.updater_cli.specs.Report.{report_of, events_of, replies_of, moment_behind, CostsBegun, IsRunAt, AreRunFrom, KeepsMoments, MarksRise, FailuresRise, IsBegunServed, WritesReplies}
 use Rattle.updater_cli.specs.Status.{PartOutcome, code_of, end_status, IsSessionEnd}
 use Rattle.updater_cli.proofs.Begin.{boot_served, settled_first}
@@ -326,7 +326,7 @@ module _ {S K D L : Type 0} (source : SourceGhosts S) (on : Ghosts D) (net : Lin
 -- and its run
 pub unopened_run : {S K D L : Type 0} (to : SinkGhosts K) (on : Ghosts D) (net : LinksGhosts L) (boot now : ℕ) (s : S) (k : K) (l : L) (old new : D) (status : Status) → IsOpeningEnd status
     → (on.tells new → status ≡ NotAStore → StandsForNone (on.seen old)) → (status ≢ DiskFault → on.moment new ≤ on.moment old + 1) → (status ≢ DiskFault → on.seen new ≡ on.seen old)
-    → (on.tells new → (store : Store) → StandsFor (on.seen old) store → (more : ℕ) × CostsBegun now (session_over store) (begun_by boot status) more × (on.total new ≤ on.total old + more))
+    → (on.tells new → (store : Store) → StandsFor (on.seen old) store → (more : ℕ) × CostsBegun now (net.links l) (net.links l) (session_over store) (begun_by boot status) more × (on.total new ≤ on.total old + more))
     → HeadlineRun to on net now (code_of status) (devices_of s k old l) (devices_of s k new l) (report_of [] (begun_by boot status))
 unopened_run to on net boot now s k l old new status end no_store within reads costs = record {
   leads = λ told store stands. record {

@@ -11,8 +11,8 @@ use Rattle.updater_cli.specs.declared.status.Status.{Status}
 use Rattle.updater_cli.specs.declared.status.Status.TheVariants.{Done, Words, SourceFault, SinkFault, DiskFault, NotAStore, Memory, TooMuchInput}
 use Rattle.updater_cli.specs.Lines.{InputAnswered, KeepsSession, PieceAnswered, Place, RestAnswered, Trace, stage_of, outcome_code}
 use Rattle.updater_cli.specs.Status.{PartOutcome, code_of, IsLineEnd, IsSessionEnd}
-use Rattle.updater_cli.proofs.Asking.{keeps_stop, keeps_then, rises_none}
-use Rattle.updater_cli.proofs.Reading.{Answered, Read, read_on, rest_read, source_fault, stopped, too_much}
+use Rattle.updater_cli.proofs.DeviceCalls.{keeps_stop, keeps_then, rises_none}
+use Rattle.updater_cli.proofs.InputReads.{Answered, Read, read_on, rest_read, source_fault, stopped, too_much}
 
 two_three : ◌≢◌ {A = ℕ} 2 3
 two_three same = omega arith

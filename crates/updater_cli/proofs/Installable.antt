@@ -34,7 +34,7 @@ use Rattle.machine.specs.Shape.{Shape, shape_of}
 use Rattle.machine.specs.Store.{Session}
 use Rattle.machine.specs.Wanted.{install_need, wanted}
 use Rattle.machine.specs.Weight.{IsTooHeavy}
-use Rattle.machine.proofs.Choosing.{none_refuses}
+use Rattle.machine.proofs.FirstRefusal.{none_refuses}
 use Rattle.machine.proofs.InstallExact.{address_exact, deployment_exact, release_exact}
 use Rattle.machine.proofs.Lightness.{not_heavy}
 use Rattle.machine.proofs.Members.{all_in, in_contains}

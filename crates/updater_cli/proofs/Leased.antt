@@ -29,10 +29,10 @@ use Rattle.machine.proofs.Leased.{current_entry, leased_valid}
 use Rattle.machine.proofs.LeasesKept.{keeps_leased}
 use Rattle.machine.proofs.LeaseSteps.{launch_granted, launch_is, launch_reaches, lease_is_sound, read_is}
 use Rattle.machine.proofs.Members.{all_in}
-use Rattle.machine.proofs.Stepping.{run_leases}
+use Rattle.machine.proofs.KeptSteps.{run_leases}
 use Rattle.updater_cli.specs.Headline.{HeadlineLeased, HeadlineStop}
 use Rattle.updater_cli.specs.Lacks.{AreLacksFew, MayLineLack}
-use Rattle.updater_cli.specs.Opening.{IsUnopened}
+use Rattle.updater_cli.specs.OpensSession.{IsUnopened}
 use Rattle.updater_cli.specs.Report.{AreRunFrom, KeepsMoments, Origin, ReachesAfter, StandsForPrefix, answered, events_of, marked_by, moment_behind, origin_over, replies_of, report_of}
 use Rattle.updater_cli.specs.Views.{HandsOut, IsLineOf, IsRead, KeepsViews, LaunchesHold, LeadsThrough, IsLease, Reading, ShowOneFile, ShowsLeased, StandsWhole, ViewsHold}
 use Rattle.updater_cli.proofs.Lacks.{lacks_at}

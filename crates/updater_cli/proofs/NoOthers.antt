@@ -39,16 +39,16 @@ use Rattle.machine.specs.Views.{DataFile, ListedFile, View, content_key, key_of,
 use Rattle.machine.specs.Wanted.{is_held, wanted}
 use Rattle.machine.specs.Words.{IsEvent}
 use Rattle.machine.proofs.Contents.{content_decides}
-use Rattle.machine.proofs.Finding.{then_value}
+use Rattle.machine.proofs.FirstFound.{then_value}
 use Rattle.machine.proofs.GroupKept.{grouped_at}
 use Rattle.machine.proofs.Leased.{leased_by, view_in}
-use Rattle.machine.proofs.Mapping.{flat_map_in}
+use Rattle.machine.proofs.ChangedLists.{flat_map_in}
 use Rattle.machine.proofs.Members.{In, all_in, filter_in, in_contains, in_either, in_filter, in_flat_map, in_left, in_right, map_in}
 use Rattle.machine.proofs.NamedItems.{with_named_in}
 use Rattle.machine.proofs.Refusals.{kept_or_effect}
 use Rattle.machine.proofs.RowFacts.{Kept}
 use Rattle.machine.proofs.Shared.{each_alike}
-use Rattle.machine.proofs.Stepping.{run_sound}
+use Rattle.machine.proofs.KeptSteps.{run_sound}
 use Rattle.updater_cli.specs.NoOthers.{EventPutsNoOthers, NoOthersCome, PutsNoOthers, SitesHaveNoOthers}
 use Rattle.updater_cli.specs.Offered.{PublishInput}
 use Rattle.updater_cli.specs.Published.{AreNoOthers, KeepsBytes, KeepsNoOthers}

@@ -16,8 +16,8 @@ use Rattle.updater_cli.specs.declared.course.Course.{Course}
 use Rattle.updater_cli.specs.declared.status.Status.{Status}
 use Rattle.updater_cli.specs.declared.status.Status.TheVariants.{DiskFault, NotAStore, Memory}
 use Rattle.updater_cli.specs.Devices.{Asks}
-use Rattle.updater_cli.specs.Opening.{OpensSession}
-use Rattle.updater_cli.proofs.Asking.{asks_none, rises_none}
+use Rattle.updater_cli.specs.OpensSession.{OpensSession}
+use Rattle.updater_cli.proofs.DeviceCalls.{asks_none, rises_none}
 use Rattle.updater_cli.proofs.Begin.{same, other, survives_fault, survives_memory}
 
 -- the status of a refusal

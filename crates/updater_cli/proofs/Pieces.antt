@@ -16,7 +16,7 @@ use Rattle.updater_cli.specs.declared.status.Status.{Status}
 use Rattle.updater_cli.specs.declared.status.Status.TheVariants.{Done, Words, SourceFault, SinkFault, DiskFault, NotAStore, Memory, TooMuchInput}
 use Rattle.updater_cli.specs.Lines.{IsPending, IsReady, KeepsSession, LineAnswered, PieceAnswered, Place, Progress, RestAnswered, Stage, Stopped, Trace, stage_of, taken_of}
 use Rattle.updater_cli.specs.Status.{code_of, IsLineEnd}
-use Rattle.updater_cli.proofs.Asking.{keeps_none, keeps_stop, keeps_then}
+use Rattle.updater_cli.proofs.DeviceCalls.{keeps_none, keeps_stop, keeps_then}
 use Rattle.updater_cli.proofs.Traces.{pending_none, trace_none, progress_line, stopped_here, stopped_line, stopped_none, progress_none, progress_on, progress_part, stopped_on}
 
 six_three : ◌≢◌ {A = ℕ} 6 3

@@ -15,11 +15,11 @@ use Rattle.machine.specs.Machine.{Step, Run, moment_after}
 use Rattle.machine.specs.Store.{Session}
 use Rattle.updater.specs.Shown.{Updater}
 use Rattle.updater.specs.StandsFor.{StandsFor, StandsForEither}
-use Rattle.updater.proofs.Standing.{stored_stands}
+use Rattle.updater.proofs.HeldStore.{stored_stands}
 use Rattle.updater_cli.specs.declared.course.Course.{Course}
 use Rattle.updater_cli.specs.Lines.{Ran, Broke}
 use Rattle.updater_cli.specs.Report.{Origin, report_of, events_of, replies_of, marked_by, moment_behind, answered, ReachesAfter, RunsTo, IsLineServed, StandsForPrefix}
-use Rattle.updater_cli.specs.Session.{Start, Between, Ended}
+use Rattle.updater_cli.specs.Session.{SessionStart, Between, Ended}
 use Rattle.updater_cli.specs.Walk.{Walks}
 use Rattle.updater_cli.proofs.Runs.{runs_push, counts_early, counts_late, marked-push, marked_all, marked_later, marked_push, moment-append, answered_cut}
 use Rattle.updater_cli.proofs.Walks.{line_holds, walk_kept, walk_push}
@@ -72,7 +72,7 @@ answered_all : (status : ℕ) (lines : List ReportLine) → status ≢ 3 → ans
 answered_all status lines other = let no : (status == 3) ≡ false = grind (arith, nat_tests) in grind (arith, no)
 
 -- between two lines a session may end
-pub ended_at : {D L : Type 0} (on : Ghosts D) (net : LinksGhosts L) (start : Start D L) (status : ℕ) (course : Course) (disk : D) (links : L)
+pub ended_at : {D L : Type 0} (on : Ghosts D) (net : LinksGhosts L) (start : SessionStart D L) (status : ℕ) (course : Course) (disk : D) (links : L)
     → Between on net start course disk links → course.begun ≡ None → status ≢ 3 → on.left_at disk (on.moment disk) (on.seen disk)
     → Ended on net start status (report_of course.lines.items course.begun) disk links
 ended_at on net start status course disk links between none other seen_left =
@@ -95,7 +95,7 @@ ended_at on net start status course disk links between none other seen_left =
       reads = λ not_four. stored_stands on course.updater disk between.session between.stored (on.seen disk) seen_left;
     })
 
-module _ {D L : Type 0} (on : Ghosts D) (net : LinksGhosts L) (start : Start D L) (course : Course) (old new : D) (links_old links_new : L) (between : Between on net start course old links_old) where
+module _ {D L : Type 0} (on : Ghosts D) (net : LinksGhosts L) (start : SessionStart D L) (course : Course) (old new : D) (links_old links_new : L) (between : Between on net start course old links_old) where
   from : Origin
   from = start.from
 
@@ -162,7 +162,7 @@ module _ {D L : Type 0} (on : Ghosts D) (net : LinksGhosts L) (start : Start D L
         (walk_push net (net.links start.links) start.from (on.moment start.disk + 1) start.links course.lines.items between.session ran.new (on.moment old) between.bytes ran.bytes links_old links_new l between.walk
         (line_holds net (net.links start.links) (record { now = moment_behind start.from.now course.lines.items; session = between.session }) (on.moment old) links_old links_new l ran.new ran.bytes
         (walk_kept net (net.links start.links) start.from (on.moment start.disk + 1) start.links course.lines.items between.session (on.moment old) between.bytes links_old between.walk (kept_same (net.links start.links)))
-        step (rw is_mark ran.counted)
+        step (rw (is_mark, is_reply) ran.counted)
         (subst (λ (r : Option Reply). IsLineServed net l.event r links_old links_new between.session ran.new) (sym is_reply) ran.served) is_failures))
 
     written_on : on.total new ≤ on.total start.disk + (between.bytes + ran.bytes)

@@ -1,5 +1,6 @@
 -- What words whose first one is `publish` ask for.
 use Rattle.std.proofs.Common.{◌≡◌, ◌⊎◌, ℕ, List, Bool, true, false, drop, Option, Some, None, inl, inr, sym, ◌∙◌, ap, if◌then◌else◌}
+use Rattle.small_types.specs.declared.room.Room.{Room}
 use Rattle.inspection.specs.declared.manifest.Kind.{Kind}
 use Rattle.publish_plan.specs.declared.options.Options.{Options}
 use Rattle.publication.specs.Words.{options_of}
@@ -15,9 +16,9 @@ session : (o : Option Options) (boot now : ℕ) → publish_of o ≡ Some (Sessi
 session None boot now is = absurd (cc (is))
 session (Some options) boot now is = absurd (cc (is))
 
-format : (o : Option Options) (blocks : ℕ) → publish_of o ≡ Some (Format blocks) → ⊥
-format None blocks is = absurd (cc (is))
-format (Some options) blocks is = absurd (cc (is))
+format : (o : Option Options) (room : Room) → publish_of o ≡ Some (Format room) → ⊥
+format None room is = absurd (cc (is))
+format (Some options) room is = absurd (cc (is))
 
 inspect : (o : Option Options) (kind : Kind) → publish_of o ≡ Some (Inspect kind) → ⊥
 inspect None kind is = absurd (cc (is))
@@ -38,8 +39,8 @@ module _ (words : List (List ℕ)) (is : is_publish words ≡ true) where
   pub no_session : (boot now : ℕ) → request_of words ≡ Some (Session boot now) → ⊥
   no_session boot now asked = session (options_of (drop 1 words)) boot now (sym (by_options words is) ∙ asked)
 
-  pub no_format : (blocks : ℕ) → request_of words ≡ Some (Format blocks) → ⊥
-  no_format blocks asked = format (options_of (drop 1 words)) blocks (sym (by_options words is) ∙ asked)
+  pub no_format : (room : Room) → request_of words ≡ Some (Format room) → ⊥
+  no_format room asked = format (options_of (drop 1 words)) room (sym (by_options words is) ∙ asked)
 
   pub no_inspect : (kind : Kind) → request_of words ≡ Some (Inspect kind) → ⊥
   no_inspect kind asked = inspect (options_of (drop 1 words)) kind (sym (by_options words is) ∙ asked)
@@ -55,9 +56,9 @@ pub refused_session : (words : List (List ℕ)) → (request_of words ≡ None) 
 refused_session words (inl none) boot now asked = nothing (Session boot now) (sym none ∙ asked)
 refused_session words (inr untaken) boot now asked = no_session words untaken.0 boot now asked
 
-pub refused_format : (words : List (List ℕ)) → (request_of words ≡ None) ⊎ IsUntaken words → (blocks : ℕ) → request_of words ≡ Some (Format blocks) → ⊥
-refused_format words (inl none) blocks asked = nothing (Format blocks) (sym none ∙ asked)
-refused_format words (inr untaken) blocks asked = no_format words untaken.0 blocks asked
+pub refused_format : (words : List (List ℕ)) → (request_of words ≡ None) ⊎ IsUntaken words → (room : Room) → request_of words ≡ Some (Format room) → ⊥
+refused_format words (inl none) room asked = nothing (Format room) (sym none ∙ asked)
+refused_format words (inr untaken) room asked = no_format words untaken.0 room asked
 
 pub refused_inspect : (words : List (List ℕ)) → (request_of words ≡ None) ⊎ IsUntaken words → (kind : Kind) → request_of words ≡ Some (Inspect kind) → ⊥
 refused_inspect words (inl none) kind asked = nothing (Inspect kind) (sym none ∙ asked)

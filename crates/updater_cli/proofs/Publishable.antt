@@ -9,7 +9,7 @@ use Rattle.std.proofs.lemmas.List.Folds.{list_any-from_Any}
 use Rattle.outside.specs.Streams.{Rose}
 use Rattle.outside.specs.declared.sink.Sink.{Ghosts as SinkGhosts}
 use Rattle.small_types.specs.declared.limits.TheConstants.{FILE_COUNT_LIMIT, LOCAL_COUNT_LIMIT, MANIFEST_LIMIT, NAME_LIMIT}
-use Rattle.small_types.specs.Reading.{◌>>=◌}
+use Rattle.small_types.specs.Outcome.{◌>>=◌}
 use Rattle.folders.specs.declared.folder.Folder.{Ghosts as FolderGhosts}
 use Rattle.folders.specs.declared.folder.Held.{Held}
 use Rattle.identity.specs.declared.version.Version.{Version}
@@ -17,11 +17,11 @@ use Rattle.identity.specs.Version.{IsBelow, version_cmp}
 use Rattle.identity.proofs.VersionLemmas.{IsBelow-from_cmp}
 use Rattle.std.specs.Ordering.{is_lt}
 use Rattle.manifests.specs.Applications.{size_limit}
-use Rattle.machine.proofs.Finding.{find_none}
+use Rattle.machine.proofs.FirstFound.{find_none}
 use Rattle.publish_plan.specs.declared.fault.PlanFault.{PlanFault}
 use Rattle.publish_plan.specs.declared.options.Mark.{Mark}
 use Rattle.publish_plan.specs.declared.options.Options.{Options}
-use Rattle.publish_plan.specs.declared.options.Plan.{Plan}
+use Rattle.publish_plan.specs.declared.options.PublishPlan.{PublishPlan}
 use Rattle.publish_plan.specs.declared.options.PlannedFile.{PlannedFile}
 use Rattle.publish_plan.specs.Early.{above, early_of, overlap}
 use Rattle.publish_plan.specs.Marks.{bad_mark, is_among, is_good, is_marked}
@@ -34,8 +34,8 @@ use Rattle.publisher.specs.declared.published.Published.{Published}
 use Rattle.publisher.specs.Outcome.{Refuses}
 use Rattle.publisher.specs.Publication.{Outcome, bytes_in, deployment_manifest_of, entry_in, judged, limited, manifests_of, publish_of, read_entries, read_entry, release_of}
 use Rattle.publisher.specs.Published.{IsPublish}
-use Rattle.publication.specs.declared.publication.End.{End}
-use Rattle.publication.specs.declared.publication.End.TheVariants as ends
+use Rattle.publication.specs.declared.publication.PublishEnd.{PublishEnd}
+use Rattle.publication.specs.declared.publication.PublishEnd.TheVariants as ends
 use Rattle.publication.specs.Lines.{end_of_fault, end_of_publish}
 use Rattle.publication.specs.Publication.{EndsWith, PublishesOptions, status_of}
 use Rattle.updater_cli.specs.Publishable.{CanPublish, MayPublish, PublishesWhereItMay, app_text, inputs, listed_files, written_files}
@@ -133,7 +133,7 @@ module _ (o : Options) (names : List (List ℕ)) (held : List Held) (can : CanPu
         (le-ltb NAME_LIMIT (length (manifest_name o)) can.short)
         ∙ minimum_fits o.minimum can.minimum
 
-    abbrev planned_release : Plan
+    abbrev planned_release : PublishPlan
     planned_release = record {
       files = written_files o names;
       manifest = manifest_name o;
@@ -231,7 +231,7 @@ only_memory (FileTooLong file length) files refuses read write =
 only_memory (ManifestTooLong length) files refuses read write =
     err_is_not_ok files (ManifestTooLong length) refuses
 
-neither : {P : Type 0} (end : End) → (end ≡ ends.Done → ⊥) → (end ≡ ends.Memory → ⊥)
+neither : {P : Type 0} (end : PublishEnd) → (end ≡ ends.Done → ⊥) → (end ≡ ends.Memory → ⊥)
     → (end ≡ ends.Done) ⊎ (end ≡ ends.Memory) → P
 neither end first second (inl done) = absurd (first done)
 neither end first second (inr memory) = absurd (second memory)
@@ -249,12 +249,12 @@ module _ {F K : Type 0} (folder : FolderGhosts F) (to : SinkGhosts K) (o : Optio
 
   -- how such a publish ends before its line is written
   no_end : (result : Result Published PublishFault) → IfErr result (λ fault. fault ≡ Memory)
-      → (end : End) → end_of_publish result ≡ end → (end ≡ ends.Done) ⊎ (end ≡ ends.Memory)
+      → (end : PublishEnd) → end_of_publish result ≡ end → (end ≡ ends.Done) ⊎ (end ≡ ends.Memory)
   no_end (Ok done) only end is = inl (sym is)
   no_end (Err fault) only end is = inr (sym is ∙ ap end_of_fault only)
 
   ends_well : (sink_old sink : K) (result : Result Published PublishFault)
-      → IfErr result (λ fault. fault ≡ Memory) → (end : End)
+      → IfErr result (λ fault. fault ≡ Memory) → (end : PublishEnd)
       → EndsWith to.tells to.taken sink_old sink result end → (end ≡ ends.SinkFault → ⊥)
       → (status_of end ≡ status_of ends.Done) ⊎ (status_of end ≡ status_of ends.Memory)
   ends_well sink_old sink result only ends.Done ended never = inl refl

@@ -11,7 +11,7 @@ use Rattle.std.proofs.lemmas.Slice.Eq.{bytes_eq-Decides}
 use Rattle.small_types.specs.Name.{IsName}
 use Rattle.folders.specs.declared.folder.Held.{Held}
 use Rattle.folders.specs.Files.{IsNames, distinct, file_in, is_named, names_of}
-use Rattle.folders.proofs.Filing.{clash, distinct_first, distinct_rest, self_named}
+use Rattle.folders.proofs.PutFiles.{clash, distinct_first, distinct_rest, self_named}
 use Rattle.publish_plan.specs.Places.{behind, front_of, has_front, input_names, within}
 use Rattle.publish_plan.proofs.InputLemmas.{kept, left}
 use Rattle.publish_plan.proofs.PathLemmas.{behind_rest, name_behind, name_is_path}

@@ -48,10 +48,10 @@ use Rattle.machine.specs.Store.{Session, Store}
 use Rattle.machine.specs.Valid.{IsView}
 use Rattle.machine.specs.Views.{DataFile, ListedFile, View, key_of, standing_entries, stands_by}
 use Rattle.machine.specs.Words.{IsEvent}
-use Rattle.machine.proofs.Choosing.{AllGive, given_reply}
-use Rattle.machine.proofs.Finding.{find-last, find_in, find_none, some_there}
+use Rattle.machine.proofs.FirstRefusal.{AllGive, given_reply}
+use Rattle.machine.proofs.FirstFound.{find-last, find_in, find_none, some_there}
 use Rattle.machine.proofs.Leased.{file_in as listed_in, leased_by, leased_in, leased_valid, view_in}
-use Rattle.machine.proofs.Leasing.{lease_below}
+use Rattle.machine.proofs.LeaseLists.{lease_below}
 use Rattle.machine.proofs.Members.{In, all_in, contains_in, filter_in, in_all, in_contains, in_map}
 use Rattle.machine.proofs.Names.{aside_below}
 use Rattle.machine.proofs.ViewSteps.{view_below}

@@ -6,7 +6,7 @@ use Rattle.std.proofs.lemmas.List.Elements.{All-nil, All-cons, All-head, All-tai
 use Rattle.small_types.specs.declared.limits.TheConstants.{MANIFEST_LIMIT}
 use Rattle.small_types.specs.declared.target.Target.{Target}
 use Rattle.small_types.specs.Name.{IsName}
-use Rattle.small_types.specs.Reading.{◌>>=◌}
+use Rattle.small_types.specs.Outcome.{◌>>=◌}
 use Rattle.folders.specs.declared.folder.Held.{Held}
 use Rattle.folders.specs.Files.{distinct, file_in}
 use Rattle.addresses.specs.Address.{target_of_text}
@@ -20,7 +20,7 @@ use Rattle.manifests.specs.declared.facts.FileEntry.{FileEntry}
 use Rattle.manifests.specs.Applications.{application_of, size_limit}
 use Rattle.manifests.specs.Deployments.{deployment_of}
 use Rattle.manifests.specs.Facts.{AreApplicationFacts, AreDeploymentFacts}
-use Rattle.manifest_tree.specs.Writing.{counted}
+use Rattle.manifest_tree.specs.WrittenText.{counted}
 use Rattle.manifest_writer.specs.Applications.{application_text, application_tree}
 use Rattle.manifest_writer.specs.Deployments.{deployment_tree}
 use Rattle.manifest_writer.specs.Held.{IsHeldDeployment, IsHeldFile}
@@ -29,7 +29,7 @@ use Rattle.manifest_writer.proofs.ReadDeployments.{deployment_read}
 use Rattle.manifest_writer.proofs.Writable.{application_writable, deployment_writable}
 use Rattle.publish_plan.specs.declared.fault.PlanFault.{PlanFault}
 use Rattle.publish_plan.specs.declared.options.Options.{Options}
-use Rattle.publish_plan.specs.declared.options.Plan.{Plan}
+use Rattle.publish_plan.specs.declared.options.PublishPlan.{PublishPlan}
 use Rattle.publish_plan.specs.declared.options.PlannedFile.{PlannedFile}
 use Rattle.publish_plan.specs.Early.{early_of}
 use Rattle.publish_plan.specs.Facts.{AreFacts}
@@ -42,7 +42,7 @@ use Rattle.publisher.specs.declared.fault.PublishFault.TheVariants.{FileTooLong,
 use Rattle.publisher.specs.Entries.{AreEntries, IsEntry}
 use Rattle.publisher.specs.Publication.{Outcome, bytes_in, copy_in, deployment_manifest_of, entry_in, judged, limited, manifests_of, publish_of, published_files, read_entries, read_entry, release_of}
 use Rattle.publisher.specs.Publication as writes
-use Rattle.publisher.proofs.Entering.{entries_are}
+use Rattle.publisher.proofs.EntryReads.{entries_are}
 use Rattle.publisher.proofs.Known.{good}
 use Rattle.publisher.proofs.OptionFacts.{application_fits, deployment_fits, name_content}
 use Rattle.publisher.proofs.PlanFacts.{IsGoodPlan}
@@ -133,7 +133,7 @@ entries_ok held (f ∷ fs) entries read =
 
 pub record IsMade (p : PublishInput) (files : List Held) : Type 0 where
   pub early : early_of p.options ≡ None
-  pub plan : Plan
+  pub plan : PublishPlan
   pub planned_is : plan_of p.options p.names ≡ Ok plan
   pub facts : AreFacts p.options p.names plan
   pub fits : IsGoodPlan p.options p.names plan
@@ -148,7 +148,7 @@ pub record IsMade (p : PublishInput) (files : List Held) : Type 0 where
   pub differ : distinct files ≡ true
 
 module _ (p : PublishInput) (files : List Held) (w : WritesRelease p files) where
-  made_of : (plan : Plan) → early_of p.options ≡ None → plan_of p.options p.names ≡ Ok plan → release_of p.options p.input plan ≡ Ok files → IsMade p files
+  made_of : (plan : PublishPlan) → early_of p.options ≡ None → plan_of p.options p.names ≡ Ok plan → release_of p.options p.input plan ≡ Ok files → IsMade p files
   unfolding release_of manifests_of
   made_of plan early is made =
       let o = p.options in

@@ -18,7 +18,7 @@ use Rattle.machine.specs.Machine.{Answers, Run, Step, effect, moment_after, refu
 use Rattle.machine.specs.Rows.{Refusal, Refuses}
 use Rattle.machine.specs.Shape.{Shape, shape_of}
 use Rattle.machine.specs.Store.{Session, Store, booted}
-use Rattle.machine.proofs.Leasing.{lease_gone, lease_other, lease_stays}
+use Rattle.machine.proofs.LeaseLists.{lease_gone, lease_other, lease_stays}
 use Rattle.machine.proofs.ViewSteps.{step_numbers}
 use Rattle.updater_cli.proofs.PublishedUses.{KeepsUses, RunsKeepUses}
 

@@ -4,7 +4,7 @@ use Rattle.std.proofs.lemmas.List.{take-append-le, drop-append-le, take_all, dro
 use Rattle.std.proofs.lemmas.Str.{IsCharBoundary-at_seam, IsCharBoundary-from_take, IsUtf8-drop, IsUtf8-take}
 use Rattle.manifest_tree.specs.Grammar.{SpellsTree}
 use Rattle.manifest_tree.specs.Tree.{Tree}
-use Rattle.manifest_tree.specs.Writing.{declaration, element_text, is_writable, written}
+use Rattle.manifest_tree.specs.WrittenText.{declaration, element_text, is_writable, written}
 use Rattle.manifest_tree.proofs.Flat.{one_tree_read, spelled_read}
 use Rattle.manifest_tree.proofs.Written.{ascii_utf8, spells}
 use Rattle.manifest_parts.specs.Elements.{Read}

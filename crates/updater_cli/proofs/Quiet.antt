@@ -23,7 +23,7 @@ use Rattle.machine.specs.Store.{Session}
 use Rattle.machine.specs.Wanted.{wanted}
 use Rattle.machine.proofs.Members.{contains_in, in_right}
 use Rattle.install_plan.specs.GroupAsked.{AccountsGroup, GroupServed}
-use Rattle.install_plan.specs.Hearing.{Accounts, LacksTarget, Served}
+use Rattle.install_plan.specs.InstallHeard.{Accounts, LacksTarget, InstallServed}
 use Rattle.install_plan.specs.Offers.{AccountsOffer, OfferServed}
 use Rattle.install_plan.proofs.Told.{base_is, release_map, text_map}
 use Rattle.updater.specs.Commanded.{LinksServe}
@@ -68,7 +68,7 @@ module _ (before after : LinksState) (quiet : AreQuiet before after) where
       lacks
 
   install_finds : (shape : Shape) (url : List ℕ) (texts : List (List ℕ)) (reply : Reply)
-      → Served shape url texts before after reply
+      → InstallServed shape url texts before after reply
       → InstallFinds shape url texts before after reply
   install_finds shape url texts reply served = record {
     deployment = some_map (slice_get texts 0)

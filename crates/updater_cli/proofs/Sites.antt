@@ -12,7 +12,7 @@ use Rattle.identity.specs.declared.key.Key.{Key}
 use Rattle.install_plan.specs.Brought.{IsBrought, IsCarriedOrFetched, IsFileFrom, IsHeldOrCame}
 use Rattle.install_plan.specs.Given.{IsFromLeft, narrowed}
 use Rattle.install_plan.specs.GroupAsked.{AreBrought}
-use Rattle.install_plan.specs.Hearing.{Hearing, IsApplicationText, IsDeploymentText}
+use Rattle.install_plan.specs.InstallHeard.{InstallHeard, IsApplicationText, IsDeploymentText}
 use Rattle.install_plan.specs.Offers.{IsOfferText, OfferHearing}
 use Rattle.manifests.specs.declared.facts.FileEntry.{FileEntry}
 use Rattle.machine.specs.declared.command.Command.{Command}
@@ -42,7 +42,7 @@ module _ (first before after : LinksState) (kept : Kept first before) (tell : Al
       site_before first (narrowed before is.left) target bytes here tell (is.from.site (tell_after first (narrowed before is.left) here tell))
 
   -- what was heard
-  heard_of : (shape : Shape) (url : List ℕ) (texts : List (List ℕ)) → Hearing shape url texts before after → HeardOfSites first url texts
+  heard_of : (shape : Shape) (url : List ℕ) (texts : List (List ℕ)) → InstallHeard shape url texts before after → HeardOfSites first url texts
   heard_of shape url texts hearing = record {
     deployment = some_as (slice_get texts 0) (IsDeploymentText url before after) _
         (λ text is. (is.0, is.1, site_before first before is.0 text kept tell (is.2.site (tell_after first before kept tell)))) hearing.deployment;

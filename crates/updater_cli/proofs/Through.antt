@@ -13,7 +13,7 @@ use Rattle.machine.specs.Machine.{Answers, Run, Step, moment_after}
 use Rattle.machine.specs.Sound.{Sound}
 use Rattle.machine.specs.Store.{Session}
 use Rattle.machine.specs.Words.{IsEvent}
-use Rattle.machine.proofs.Stepping.{run_sound, step_sound}
+use Rattle.machine.proofs.KeptSteps.{run_sound, step_sound}
 use Rattle.updater_cli.specs.Report.{AreRunFrom, Begins, IsRunAt, KeepsMoments, Origin, ReachesAfter, events_of, moment_behind, replies_of}
 use Rattle.updater_cli.proofs.Runs.{run_push}
 

@@ -14,7 +14,7 @@ use Rattle.command_text.specs.Lines.{AreEvents, IsEvent, command_of, texts_of}
 use Rattle.command_text.specs.Input.{Cut, HasNoFeed, kept_of}
 use Rattle.command_text.proofs.InputLemmas.{events_append, texts_of-append, cut_feed}
 use Rattle.command_text.proofs.LongLines.{event_as, read_part, same_ended, same_last, some_kept}
-use Rattle.command_text.proofs.ReadingOn.{AreKeptAlike, events_alike, reads_on, stops_on}
+use Rattle.command_text.proofs.GoesOn.{AreKeptAlike, events_alike, reads_on, stops_on}
 use Rattle.install_plan.specs.Downs.{SaysDown}
 use Rattle.updater_cli.specs.declared.status.Status.TheVariants.{Done, Words, SourceFault, SinkFault, DiskFault, NotAStore, Memory, TooMuchInput}
 use Rattle.updater_cli.specs.Lacks.{MayLineLack}

@@ -27,7 +27,7 @@ module _ {L : Type 0} (net : LinksGhosts L) (first : LinksState) where
 
   -- what holds of a line
   pub line_holds : (from : Origin) (mark : ℕ) (before after : L) (l : ReportLine) (new : Session) (bytes : ℕ) → Kept first (net.links before)
-      → Step from.now from.session l.event l.reply new → IsCounted from.session new mark l.mark bytes → IsLineServed net l.event l.reply before after from.session new
+      → Step from.now from.session l.event l.reply new → IsCounted l.event l.reply (net.links before) (net.links after) from.session new mark l.mark bytes → IsLineServed net l.event l.reply before after from.session new
       → l.failures ≡ failures_of (net.links after) → LineHolds net first from mark before after l new bytes
   line_holds from mark before after l new bytes kept step counted served failures = record {
     step = step;

@@ -15,11 +15,11 @@ use Rattle.updater_cli.specs.declared.status.Status.TheVariants.{Done, Words, So
 use Rattle.updater_cli.specs.Devices.{Asks, RisesWith, devices_of}
 use Rattle.updater_cli.specs.Headline.{Headline, HeadlineStop, IsNothing, LeadsTo}
 use Rattle.updater_cli.specs.Lines.{InputAnswered, IsReady, Place}
-use Rattle.updater_cli.specs.Opening.{IsOpeningEnd, OpensSession, begun_by}
+use Rattle.updater_cli.specs.OpensSession.{IsOpeningEnd, OpensSession, begun_by}
 use Rattle.updater_cli.specs.Report.{StandsSound, origin_over, report_of}
-use Rattle.updater_cli.specs.Session.{Between, Ended, Start, start_over}
+use Rattle.updater_cli.specs.Session.{Between, Ended, SessionStart, start_over}
 use Rattle.updater_cli.specs.Status.{PartOutcome, code_of, end_status, IsSessionEnd}
-use Rattle.updater_cli.proofs.Asking.{asks_as, asks_then, rises_as}
+use Rattle.updater_cli.proofs.DeviceCalls.{asks_as, asks_then, rises_as}
 use Rattle.updater_cli.proofs.Ends.{opened_lines, opened_output, unopened_lines, unopened_run}
 use Rattle.updater_cli.proofs.Leased.{launches_hold, leased_holds, views_hold}
 use Rattle.updater_cli.proofs.Prefix.{ended_at}
@@ -71,7 +71,7 @@ module _ {S K D L : Type 0} (from : SourceGhosts S) (to : SinkGhosts K) (on : Gh
 -- ---- a session that was opened
 
 -- at the end, however it came
-ended_by : {D L : Type 0} (on : Ghosts D) (net : LinksGhosts L) (start : Start D L) (outcome : PartOutcome) (course : Course) (disk : D) (links : L) → on.left_at disk (on.moment disk) (on.seen disk) → OnOk outcome (IsReady course)
+ended_by : {D L : Type 0} (on : Ghosts D) (net : LinksGhosts L) (start : SessionStart D L) (outcome : PartOutcome) (course : Course) (disk : D) (links : L) → on.left_at disk (on.moment disk) (on.seen disk) → OnOk outcome (IsReady course)
     → MatchResult outcome (λ _. Between on net start course disk links) (λ status. Ended on net start (code_of status) (report_of course.lines.items course.begun) disk links)
     → Ended on net start (code_of (end_status outcome)) (report_of course.lines.items course.begun) disk links
 ended_by on net start (Ok done) course disk links seen_left ready between = ended_at on net start 0 course disk links between ready.begun zero_three seen_left

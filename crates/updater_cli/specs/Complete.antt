@@ -15,7 +15,7 @@ use Rattle.updater_cli.specs.declared.limits.TheConstants.{INPUT_LIMIT}
 use Rattle.updater_cli.specs.declared.status.Status.TheVariants.{Done, Memory}
 use Rattle.updater_cli.specs.Devices.{Devices}
 use Rattle.updater_cli.specs.Headline.{after_boot}
-use Rattle.updater_cli.specs.Opening.{BootsFirst}
+use Rattle.updater_cli.specs.OpensSession.{BootsFirst}
 use Rattle.updater_cli.specs.Quiet.{WalkFinds}
 use Rattle.updater_cli.specs.Report.{RunsTo, StandsSound, events_of, origin_over, replies_of}
 use Rattle.updater_cli.specs.Status.{code_of}

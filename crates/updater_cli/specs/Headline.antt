@@ -18,7 +18,7 @@ use Rattle.updater_cli.specs.declared.limits.TheConstants.{INPUT_LIMIT}
 use Rattle.updater_cli.specs.Devices.{Devices}
 use Rattle.updater_cli.specs.Downs.{DownsAreCounted}
 use Rattle.updater_cli.specs.Lacks.{AreLacksFew}
-use Rattle.updater_cli.specs.Opening.{BootsFirst, IsLineOrNone, IsUnopened, Survives}
+use Rattle.updater_cli.specs.OpensSession.{BootsFirst, IsLineOrNone, IsUnopened, Survives}
 use Rattle.updater_cli.specs.Report.{answered, marked_by, origin_over, events_of, moment_behind, CostsBegun, FailuresRise, IsBegunServed, IsSettled, KeepsMoments, MarksRise, StandsSound, WritesReplies}
 use Rattle.updater_cli.specs.Status.{code_of, IsBegun}
 use Rattle.updater_cli.specs.Views.{KeepsViews, LaunchesHold, ViewsHold}
@@ -116,7 +116,8 @@ MadeCalls status old new lines last =
 -- The report's lines are one walk from a new session over the store to this session, which is
 -- sound; each line holds what is said of it. Unless the disk failed, which is status 4, the reads
 -- then stand for its store. No more bytes are written than the changes of the lines take in the
--- journal, each with a checkpoint before it or none, and that of the event that was begun.
+-- journal, each with a checkpoint before it or none, than the files take that lines write in blocks,
+-- and than the event takes that was begun.
 pub record LeadsTo {S K D L : Type 0} (on : Ghosts D) (net : LinksGhosts L) (now status : ℕ)
     (old new : Devices S K D L) (report : Report) (store : Store) : Type 0 where
   pub session : Session
@@ -129,7 +130,8 @@ pub record LeadsTo {S K D L : Type 0} (on : Ghosts D) (net : LinksGhosts L) (now
   pub reads : status ≢ code_of DiskFault → StandsFor (on.seen new.disk) session.store
   pub calls : MadeCalls status (on.moment old.disk) (on.moment new.disk) report.lines last
   pub more : ℕ
-  pub begins : CostsBegun (moment_behind now report.lines) session report.begun more
+  pub begins : CostsBegun (moment_behind now report.lines) (net.links behind)
+      (net.links new.links) session report.begun more
   pub written : on.total new.disk ≤ on.total old.disk + bytes + more
   pub begun : IsBegunServed net (moment_behind now report.lines) session behind
       report.begun new.links

@@ -9,7 +9,7 @@ pub mod Lacks
 pub mod Lines
 pub mod NoOthers
 pub mod Offered
-pub mod Opening
+pub mod OpensSession
 pub mod Premises
 pub mod Publishable
 pub mod Published

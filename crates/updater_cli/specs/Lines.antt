@@ -20,7 +20,6 @@ use Rattle.command_text.specs.Lines.{AreEvents, IsEvent}
 use Rattle.install_plan.specs.Downs.{CountsDowns}
 use Rattle.updater.specs.Shown.{Updater}
 use Rattle.updater.specs.StandsFor.{StandsForEither}
-use Rattle.updater.specs.Costs.{Costs}
 use Rattle.updater.specs.Updater.{Holds}
 use Rattle.updater_cli.specs.declared.course.Course.{Course}
 use Rattle.updater_cli.specs.declared.limits.TheConstants.{INPUT_LIMIT}
@@ -28,8 +27,8 @@ use Rattle.updater_cli.specs.declared.status.Status.TheVariants.{Done, SourceFau
 use Rattle.updater_cli.specs.Devices.{RisesWith, Asks}
 use Rattle.updater_cli.specs.Downs.{DownsAreCounted}
 use Rattle.updater_cli.specs.Lacks.{AreLacksFew, MayLineLack}
-use Rattle.updater_cli.specs.Report.{events_of, report_of, moment_behind, IsRunAt, AreRunFrom, IsCounted, IsLineServed, IsSettled, MarksRise, FailuresRise, WritesReplies}
-use Rattle.updater_cli.specs.Session.{Start, Between, Ended}
+use Rattle.updater_cli.specs.Report.{events_of, report_of, moment_behind, EventCosts, IsRunAt, AreRunFrom, IsCounted, IsLineServed, IsSettled, MarksRise, FailuresRise, WritesReplies}
+use Rattle.updater_cli.specs.Session.{SessionStart, Between, Ended}
 use Rattle.updater_cli.specs.Status.{PartOutcome, code_of, end_status, IsBegun, IsLineEnd, IsSessionEnd}
 
 -- ---- running a line
@@ -43,7 +42,8 @@ pub record Ran {D L : Type 0} (on : Ghosts D) (net : LinksGhosts L) (now : ℕ) 
   pub stored : Holds on updater disk new
   pub stop : LeavesOnly on disk_old disk (StandsForEither old.store new.store)
   pub bytes : ℕ
-  pub counted : IsCounted old new (on.moment disk_old) (on.moment disk) bytes
+  pub counted : IsCounted event (Some reply) (net.links links_old) (net.links links) old new
+      (on.moment disk_old) (on.moment disk) bytes
   pub written : on.total disk ≤ on.total disk_old + bytes
   pub settled : IsSettled new
   pub served : IsLineServed net event (Some reply) links_old links old new
@@ -56,7 +56,7 @@ pub record Broke {D L : Type 0} (on : Ghosts D) (net : LinksGhosts L) (now : ℕ
   pub step : Step now old event (Some reply) new
   pub stop : LeavesOnly on disk_old disk (StandsForEither old.store new.store)
   pub bytes : ℕ
-  pub costs : Costs old.store new.store bytes
+  pub costs : EventCosts event (net.links links_old) (net.links links) old new bytes
   pub written : on.total disk ≤ on.total disk_old + bytes
   pub served : IsLineServed net event (Some reply) links_old links old new
 
@@ -176,7 +176,7 @@ outcome_code outcome = code_of (end_status outcome)
 -- with their own faults alone. The links and their sites stay.
 pub record KeepsSession {K D L : Type 0} (to : SinkGhosts K) (on : Ghosts D) (net : LinksGhosts L)
     (old : Place K D L) (result : PartOutcome) (new : Place K D L) : Type 0 where
-  pub machine : on.tells new.disk → (start : Start D L)
+  pub machine : on.tells new.disk → (start : SessionStart D L)
       → Between on net start old.course old.disk old.links
       → MatchResult result (λ _. Between on net start new.course new.disk new.links)
       (λ status. Ended on net start (code_of status)

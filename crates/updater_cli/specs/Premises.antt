@@ -19,7 +19,7 @@ use Rattle.publisher.specs.Published.{PublishesFiles}
 use Rattle.published_paths.specs.Reached.{Reaches}
 use Rattle.machine.specs.declared.reply.Reply.{Reply}
 use Rattle.machine.specs.Shape.{Shape}
-use Rattle.install_plan.specs.Hearing.{Served}
+use Rattle.install_plan.specs.InstallHeard.{InstallServed}
 use Rattle.updater_cli.specs.Offered.{HasFiles, IsFirstSite, PublishInput, Sites, WritesRelease}
 use Rattle.updater_cli.specs.Published.{HeardGiven}
 use Rattle.updater_cli.specs.Sites.{HeardOfSites}
@@ -51,7 +51,7 @@ ServedIsGiven before after = (p : PublishInput) (files folder : List Held) (shap
     → HasFiles folder files
     → IsFirstSite p url folder (sites_of before)
     → ((given : Target) → target_of_text url ≡ Ok given → Reaches given (deployment_name p.options))
-    → Served shape url texts before after reply → AreQuietTo 0 before after
+    → InstallServed shape url texts before after reply → AreQuietTo 0 before after
     → IsSome (slice_get texts 0) → IsSome (slice_get texts 1)
     → HeardGiven (sites_of before) url texts
 

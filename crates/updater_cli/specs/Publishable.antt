@@ -22,7 +22,7 @@ use Rattle.publisher.specs.declared.fault.PublishFault.TheVariants.{Memory}
 use Rattle.publisher.specs.declared.published.Published.{Published}
 use Rattle.publisher.specs.Publication.{application_of, bytes_in, deployment_manifest_of, entry_in}
 use Rattle.publisher.specs.Published.{IsPublish}
-use Rattle.publication.specs.declared.publication.End.TheVariants as ends
+use Rattle.publication.specs.declared.publication.PublishEnd.TheVariants as ends
 use Rattle.publication.specs.Publication.{status_of}
 use Rattle.updater_cli.specs.Requests.{PublishesBy}
 

@@ -19,7 +19,7 @@ use Rattle.machine.specs.Store.{Session, Store, session_over}
 use Rattle.machine.specs.Words.{IsCommand}
 use Rattle.command_text.specs.Lines.{texts_of}
 use Rattle.updater.specs.Commanded.{LeavesLinks, LinksServe}
-use Rattle.updater.specs.Costs.{Costs}
+use Rattle.updater.specs.Costs.{Costs, LeavesNoFiles, StepCosts}
 use Rattle.updater.specs.StandsFor.{StandsFor}
 use Rattle.updater_cli.specs.declared.status.Status.TheVariants.{SinkFault}
 use Rattle.updater_cli.specs.Status.{code_of}
@@ -102,19 +102,36 @@ pub record RunsTo (from : Origin) (lines : List ReportLine) (s : Session) : Type
   pub steps : Run from.now from.session (events_of lines) (replies_of lines) s
   pub settled : IsSettled s
 
--- A line that changes the store makes calls of the disk, and any other line none that changes the
--- disk. It may write so many bytes.
-pub record IsCounted (old new : Session) (from mark bytes : ℕ) : Type 0 where
-  pub same : new.store ≡ old.store → mark ≡ from
+-- behind a line with this reply no file is left in free blocks
+abbrev pub IsFileless : Event → Option Reply → Type 0
+IsFileless (Boot boot) reply = Unit {0}
+IsFileless (Line command at heard) reply = IfSome reply (LeavesNoFiles command)
+IsFileless (Unread fault) reply = Unit {0}
+
+-- what an event may write, from the links as they were before it to those behind it
+abbrev pub EventCosts : Event → LinksState → LinksState → Session → Session → ℕ → Type 0
+EventCosts (Boot boot) before after old new bytes = Costs old.store new.store bytes
+EventCosts (Line command at heard) before after old new bytes =
+    StepCosts command heard.texts before after old new bytes
+EventCosts (Unread fault) before after old new bytes = bytes ≡ 0
+
+-- A line that changes the store makes calls of the disk. Any other line makes none that changes the
+-- disk, and writes nothing, unless it was to bring files and one did not come, or there was no
+-- memory. It may write so many bytes.
+pub record IsCounted (event : Event) (reply : Option Reply) (before after : LinksState)
+    (old new : Session) (from mark bytes : ℕ) : Type 0 where
+  pub later : from ≤ mark
+  pub same : IsFileless event reply → new.store ≡ old.store → (mark ≡ from) × (bytes ≡ 0)
   pub marked : new.store ≢ old.store → from + 1 ≤ mark
-  pub costs : Costs old.store new.store bytes
+  pub costs : EventCosts event before after old new bytes
 
 -- what a step of the event that was begun may write: nothing where none was
-abbrev pub CostsBegun : ℕ → Session → Option Event → ℕ → Type 0
-CostsBegun now s None bytes = bytes ≡ 0
-CostsBegun now s (Some event) bytes =
+abbrev pub CostsBegun :
+    ℕ → LinksState → LinksState → Session → Option Event → ℕ → Type 0
+CostsBegun now before after s None bytes = bytes ≡ 0
+CostsBegun now before after s (Some event) bytes =
     (new : Session) × (reply : Option Reply) × Step now s event reply new
-    × Costs s.store new.store bytes
+    × EventCosts event before after s new bytes
 
 -- the lines, and then the event that was begun, may lead to s
 abbrev pub Begins : Origin → List ReportLine → Option Event → Session → Type 0

@@ -4,14 +4,14 @@ use Rattle.outside.specs.Streams.{Rose, TakesAtMost}
 use Rattle.outside.specs.declared.source.Source.{Ghosts as SourceGhosts}
 use Rattle.outside.specs.declared.sink.Sink.{Ghosts as SinkGhosts}
 use Rattle.folders.specs.declared.folder.Folder.{Ghosts as FolderGhosts}
-use Rattle.inspection.specs.declared.manifest.End.{End as InspectionEnd}
-use Rattle.inspection.specs.declared.manifest.End.TheVariants as inspected
+use Rattle.inspection.specs.declared.manifest.InspectionEnd.{InspectionEnd}
+use Rattle.inspection.specs.declared.manifest.InspectionEnd.TheVariants as inspected
 use Rattle.inspection.specs.declared.manifest.Kind.{Kind}
 use Rattle.inspection.specs.declared.manifest.TheConstants.{INSPECTED_LIMIT}
 use Rattle.inspection.specs.Inspection.{exit_status, Inspects}
 use Rattle.publish_plan.specs.declared.options.Options.{Options}
-use Rattle.publication.specs.declared.publication.End.{End}
-use Rattle.publication.specs.declared.publication.End.TheVariants as ends
+use Rattle.publication.specs.declared.publication.PublishEnd.{PublishEnd}
+use Rattle.publication.specs.declared.publication.PublishEnd.TheVariants as ends
 use Rattle.publication.specs.Publication.{PublishesOptions, status_of}
 
 -- What a manifest says was written, or why it is refused. The status is that of the end. No more of
@@ -39,7 +39,7 @@ pub record InspectsInput {S K : Type 0} (from : SourceGhosts S) (to : SinkGhosts
 -- folder failed, with 3 the folder or the sink.
 pub record PublishesBy {F K : Type 0} (folder : FolderGhosts F) (to : SinkGhosts K)
     (options : Options) (status : ℕ) (folder_old folder_new : F) (sink_old sink : K) : Type 0 where
-  pub end : End
+  pub end : PublishEnd
   pub code : status ≡ status_of end
   pub done : PublishesOptions folder to options folder_old folder_new sink_old sink end
       ⊎ ((end ≡ ends.Memory) × (folder_new ≡ folder_old) × (sink ≡ sink_old))

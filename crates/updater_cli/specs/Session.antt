@@ -14,20 +14,20 @@ use Rattle.updater_cli.specs.Walk.{Walks}
 
 -- what a session began with: its disk before the first call and its links, and the session over
 -- the store that stood there
-pub record Start (D L : Type 0) : Type 0 where
+pub record SessionStart (D L : Type 0) : Type 0 where
   pub disk : D
   pub links : L
   pub from : Origin
 
 -- a session that begins over a store
-abbrev pub start_over : {D L : Type 0} → ℕ → D → L → Store → Start D L
+abbrev pub start_over : {D L : Type 0} → ℕ → D → L → Store → SessionStart D L
 start_over now disk links store =
     record { disk = disk; links = links; from = origin_over now store }
 
 -- Between two lines. The lines so far lead to a session that the updater holds, and each was
 -- answered. From the first call on each image that a stop may leave stands for a prefix of them. No
 -- more bytes were written than they cost.
-pub record Between {D L : Type 0} (on : Ghosts D) (net : LinksGhosts L) (start : Start D L)
+pub record Between {D L : Type 0} (on : Ghosts D) (net : LinksGhosts L) (start : SessionStart D L)
     (course : Course) (disk : D) (links : L) : Type 0 where
   pub session : Session
   pub stored : Holds on course.updater disk session
@@ -49,7 +49,7 @@ pub record Between {D L : Type 0} (on : Ghosts D) (net : LinksGhosts L) (start :
 -- At the end. From the first call on each image stands for a prefix of the lines and of the event
 -- that was begun. Where the disk did not fail, which is status 4, reads stand for the session that
 -- the lines lead to. No more bytes were written than they and that event cost.
-pub record Ended {D L : Type 0} (on : Ghosts D) (net : LinksGhosts L) (start : Start D L)
+pub record Ended {D L : Type 0} (on : Ghosts D) (net : LinksGhosts L) (start : SessionStart D L)
     (status : ℕ) (report : Report) (disk : D) (links : L) : Type 0 where
   pub session : Session
   pub runs : RunsTo start.from report.lines session
@@ -60,7 +60,8 @@ pub record Ended {D L : Type 0} (on : Ghosts D) (net : LinksGhosts L) (start : S
       report.lines session last bytes behind
   pub calls : status ≢ code_of DiskFault → on.moment disk ≡ last
   pub more : ℕ
-  pub begins : CostsBegun (moment_behind start.from.now report.lines) session report.begun more
+  pub begins : CostsBegun (moment_behind start.from.now report.lines) (net.links behind)
+      (net.links links) session report.begun more
   pub written : on.total disk ≤ on.total start.disk + bytes + more
   pub begun : IsBegunServed net (moment_behind start.from.now report.lines) session behind
       report.begun links

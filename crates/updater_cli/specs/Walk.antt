@@ -10,13 +10,15 @@ use Rattle.updater_cli.specs.Report.{AreServed, IsCounted, IsLineServed, Origin,
 use Rattle.updater_cli.specs.Sites.{AreOfSites, IsLineOfSites}
 
 -- What holds of a line, from the session before it to the one after it. It is a step of the
--- machine. It makes calls of the disk where it changes the store, and may write so many bytes. The
--- links did what is said of it, and it shows how often they had failed by then. Where those with
--- which the session began tell, what it heard and brought is of their sites.
+-- machine. It makes calls of the disk where it changes the store, else none that changes the disk
+-- but where files may be left, and may write so many bytes. The links did what is said of it, and it
+-- shows how often they had failed by then. Where those with which the session began tell, what it
+-- heard and brought is of their sites.
 pub record LineHolds {L : Type 0} (net : LinksGhosts L) (first : LinksState) (from : Origin)
     (mark : ℕ) (before after : L) (l : ReportLine) (new : Session) (bytes : ℕ) : Type 0 where
   pub step : Step from.now from.session l.event l.reply new
-  pub counted : IsCounted from.session new mark l.mark bytes
+  pub counted : IsCounted l.event l.reply (net.links before) (net.links after) from.session new mark
+      l.mark bytes
   pub served : IsLineServed net l.event l.reply before after from.session new
   pub failures : l.failures ≡ failures_of (net.links after)
   pub sites : AllTell first → IsLineOfSites first l.event from.session new

@@ -1,9 +1,10 @@
 // The top call.
 ghost use Rattle.std.specs.Prelude.{◌≡◌, ◌≢◌, ◌⊎◌, ◌↔◌, ◌≤◌, ℕ, true, false, None, Some};
-ghost use Rattle.small_types.specs.declared.limits.TheConstants.{BLOCK_LIMIT};
+ghost use Rattle.small_types.specs.declared.room.Room.{Room};
 ghost use Rattle.outside.specs.Streams.{Rose};
+ghost use Rattle.journal.specs.Layout.{AreLimits};
 ghost use Rattle.inspection.specs.declared.manifest.Kind.{Kind};
-ghost use Rattle.publication.specs.declared.publication.End.TheVariants as ends;
+ghost use Rattle.publication.specs.declared.publication.PublishEnd.TheVariants as ends;
 ghost use Rattle.publication.specs.Publication.{status_of};
 ghost use Rattle.publish_plan.specs.declared.options.Options.{Options};
 ghost use Rattle.updater.specs.StandsFor.{StandsForNone};
@@ -31,16 +32,16 @@ use links::Links;
 use machine::Report;
 use outside::{Sink, Source};
 use publication::{WordFault, publish_options};
-use small_types::{Word, new_room};
+use small_types::{Room, Word};
 use std::alloc::Global;
 
-// A new store of so many blocks.
-fn format<D: Disk>(alloc: Global, disk: &mut D, blocks: u64) -> Status
-    requires { (1 ≤ blocks) × (blocks ≤ BLOCK_LIMIT) }
-    ensures makes { MakesStore D.Disk blocks (code_of result) disk.old disk.new }
+// A new store of this room.
+fn format<D: Disk>(alloc: Global, disk: &mut D, room: Room) -> Status
+    requires { AreLimits room.blocks room.half }
+    ensures makes { MakesStore D.Disk room (code_of result) disk.old disk.new }
     ensures asks { Asks D.Disk (result ≡ exit.DiskFault) disk.old disk.new }
 {
-    match table_log::format(alloc, disk, new_room(blocks)) {
+    match table_log::format(alloc, disk, room) {
         Ok(()) => Status::Done,
         Err(LogFault::Memory) => Status::Memory,
         Err(_) => Status::DiskFault,
@@ -49,8 +50,9 @@ fn format<D: Disk>(alloc: Global, disk: &mut D, blocks: u64) -> Status
 
 /// Does what the words ask for and answers the exit status.
 ///
-/// `format --blocks N` makes a new store of N blocks, 1 to 65,536, on the disk. Its journal has two
-/// halves, each of which has room for the bytes of all blocks and for 16,777,216 more.
+/// `format --blocks N` makes a new store of N blocks of 4,096 bytes, 1 to 1,048,576, on the disk. Its
+/// journal has two halves of 16,777,216 bytes, or of as many as `--half` says behind it: 1,048,576 to
+/// 67,108,864, in steps of 4,096.
 ///
 /// `session --boot N --now N` answers the lines of the source on the sink over the store on the
 /// disk; the numbers are at most 2^62, and `now` is in seconds. The lines are `at N`,
@@ -114,9 +116,9 @@ pub fn run<S: Source, K: Sink, D: Disk, F: Folder, L: Links>(
         (devices_of source.new sink.new disk.new links.new) report.new }
 
     // A new store stands, and a stop while it is made leaves what is said of it.
-    ensures format { (blocks : ℕ) → request_of words.now ≡ Some (asked.Format blocks)
-        → MakesStore D.Disk blocks result disk.old disk.new }
-    ensures format_others { (blocks : ℕ) → request_of words.now ≡ Some (asked.Format blocks)
+    ensures format { (room : Room) → request_of words.now ≡ Some (asked.Format room)
+        → MakesStore D.Disk room result disk.old disk.new }
+    ensures format_others { (room : Room) → request_of words.now ≡ Some (asked.Format room)
         → (source.new ≡ source.old) × (sink.new ≡ sink.old) × (report.new ≡ report.old) }
 
     // What a manifest says was written, or why it is refused.
@@ -200,7 +202,7 @@ pub fn run<S: Source, K: Sink, D: Disk, F: Folder, L: Links>(
     match read_words(alloc, words) {
         Err(WordFault::Unreadable) => Status::Words.code(),
         Err(WordFault::Memory) => Status::Memory.code(),
-        Ok(Request::Format { blocks }) => format(alloc, disk, blocks).code(),
+        Ok(Request::Format { room }) => format(alloc, disk, room).code(),
         Ok(Request::Session { boot, now }) => {
             session(alloc, boot, now, source, sink, disk, links, report).code()
         }

@@ -5,7 +5,7 @@ ghost use Rattle.updater.specs.StandsFor.{StandsForNone};
 ghost use Rattle.updater_cli.specs.declared.status.Status.TheVariants as exit;
 ghost use Rattle.updater_cli.specs.Devices.{Asks, RisesWith, devices_of};
 ghost use Rattle.updater_cli.specs.Headline.{Headline, IsNothing};
-ghost use Rattle.updater_cli.specs.Opening.{OpensSession, begun_by};
+ghost use Rattle.updater_cli.specs.OpensSession.{OpensSession, begun_by};
 ghost use Rattle.updater_cli.specs.Report.{report_of};
 ghost use Rattle.updater_cli.specs.Status.{code_of, end_status};
 

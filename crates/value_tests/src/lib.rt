@@ -4,6 +4,8 @@
 #[cfg(test)]
 mod addresses_tests;
 #[cfg(test)]
+mod audit_list_tests;
+#[cfg(test)]
 mod digest_list_tests;
 #[cfg(test)]
 mod identity_tests;

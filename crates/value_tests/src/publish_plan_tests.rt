@@ -2,7 +2,7 @@
 use identity::Version;
 use manifests::Rule;
 use publish_plan::{
-    Mark, MarkKind, Options, Plan, PlanFault, PlannedFile, check_options, codebase_of, plan,
+    Mark, MarkKind, Options, PlanFault, PlannedFile, PublishPlan, check_options, codebase_of, plan,
 };
 use small_types::{Limit, List, Name, Text};
 use std::alloc::{AllocError, Global};
@@ -142,7 +142,7 @@ fn push_file(said: &mut String, file: &PlannedFile) -> Result<(), AllocError> {
     said.push_str("\n")
 }
 
-fn said_of_plan(alloc: Global, plan: &Plan) -> Result<String, AllocError> {
+fn said_of_plan(alloc: Global, plan: &PublishPlan) -> Result<String, AllocError> {
     let mut said = String::new(alloc);
     for file in plan.files.as_slice() {
         push_file(&mut said, file)?;

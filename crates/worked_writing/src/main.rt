@@ -149,7 +149,7 @@ const APPLICATION: &str =
     r#"<assembly><assemblyIdentity name="demo.exe" version="1.0.0.0" type="win32"/>
   <entryPoint><commandLine file="bin/demo.exe"/></entryPoint>
   <file name="bin/demo.exe" size="3"><hash><DigestMethod Algorithm="http://www.w3.org/2000/09/xmldsig#sha256"/><DigestValue>ungWv48Bz+pBQUDeXa4iI7ADYaOWF3qctBD/YfIAFa0=</DigestValue></hash></file>
-  <file name="a/b\c.txt" size="67108864" optional="1" group="x/y"><hash><DigestMethod Algorithm="http://www.w3.org/2000/09/xmldsig#sha256"/><DigestValue>ungWv48Bz+pBQUDeXa4iI7ADYaOWF3qctBD/YfIAFa0=</DigestValue></hash></file>
+  <file name="a/b\c.txt" size="268435456" optional="1" group="x/y"><hash><DigestMethod Algorithm="http://www.w3.org/2000/09/xmldsig#sha256"/><DigestValue>ungWv48Bz+pBQUDeXa4iI7ADYaOWF3qctBD/YfIAFa0=</DigestValue></hash></file>
   <file name="local.db" size="0" writeableType="applicationData"><hash><DigestMethod Algorithm="http://www.w3.org/2000/09/xmldsig#sha1"/><DigestValue>qZk+NkcGgWq6PiVxeFDCbJzQ2J0=</DigestValue></hash></file>
 </assembly>"#;
 
@@ -233,8 +233,8 @@ fn print_files(rt: &HostRuntime, application: &Application) -> io::Result<()> {
         return bad();
     };
     for (local, size) in [
-        (false, 67_108_864),
-        (false, 67_108_865),
+        (false, 268_435_456),
+        (false, 268_435_457),
         (true, 1_048_576),
         (true, 1_048_577),
     ] {

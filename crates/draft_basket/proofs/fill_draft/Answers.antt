@@ -1,7 +1,7 @@
 use Rattle.std.proofs.Common.{◌≡◌, arith, rules}
 use Rattle.file_store.specs.Stores.{store_base}
 use Rattle.draft_basket.specs.Basket.{held_bytes}
-use Rattle.draft_basket.proofs.Holding.{held_from_taken}
+use Rattle.draft_basket.proofs.HeldBytes.{held_from_taken}
 use Rattle.draft_basket.proofs.fill_draft.Goals as goal
 
 pub returns-clause-held : goal.returns-clause-held

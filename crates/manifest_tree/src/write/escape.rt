@@ -1,13 +1,13 @@
 // Values and texts as they are written.
 ghost use Rattle.std.specs.Prelude.{◌≡◌, ◌+◌, ◌++◌, length, OnOk};
 ghost use Rattle.std.specs.Option.{option_copied};
-ghost use Rattle.manifest_tree.specs.Writing.{reference_for, escape, escaped, counted};
+ghost use Rattle.manifest_tree.specs.WrittenText.{reference_for, escape, escaped, counted};
 
 use small_types::Bytes;
 use std::alloc::AllocError;
 
 // The reference that stands for a byte that is not written as it is.
-#[tactic(auto, unfolding(crate::specs::Writing::reference_for))]
+#[tactic(auto, unfolding(crate::specs::WrittenText::reference_for))]
 fn reference_to(byte: u8) -> Option<&'static [u8]>
     ensures { option_copied result ≡ reference_for byte }
 {

@@ -1,7 +1,7 @@
 // How long a text is, counted before it is written.
 ghost use Rattle.std.specs.Prelude.{◌≡◌, ◌+◌, ◌∷◌, length};
 ghost use Rattle.manifest_tree.specs.Tree.{tree_of};
-ghost use Rattle.manifest_tree.specs.Writing.{escaped, attribute_text, attributes_text, start_text, end_text, element_text, counted};
+ghost use Rattle.manifest_tree.specs.WrittenText.{escaped, attribute_text, attributes_text, start_text, end_text, element_text, counted};
 
 use super::escape::count_escaped;
 use super::node::is_bare;

@@ -2,7 +2,7 @@
 ghost use Rattle.std.specs.Prelude.{◌≡◌, ◌++◌, ◌∷◌, [], map, OnOk};
 ghost use Rattle.std.specs.Str.{IsUtf8};
 ghost use Rattle.manifest_tree.specs.Tree.{trees, tree_of};
-ghost use Rattle.manifest_tree.specs.Writing.{attribute_text, attributes_text, escaped, start_text, end_text, is_bare as has_no_content, element_text};
+ghost use Rattle.manifest_tree.specs.WrittenText.{attribute_text, attributes_text, escaped, start_text, end_text, is_bare as has_no_content, element_text};
 
 use super::escape::push_escaped;
 use crate::node::{Attribute, Node};

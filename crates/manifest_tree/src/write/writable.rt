@@ -3,9 +3,9 @@ ghost use Rattle.std.specs.Prelude.{◌≡◌, ◌&&◌, [], List};
 ghost use Rattle.std.specs.List.{list_all};
 ghost use Rattle.manifest_tree.specs.declared.node.Node.{out-Node};
 ghost use Rattle.manifest_tree.specs.Lexis.{name_byte, is_among as has_among};
-ghost use Rattle.manifest_tree.specs.Reading.{names_of};
+ghost use Rattle.manifest_tree.specs.Spots.{names_of};
 ghost use Rattle.manifest_tree.specs.Tree.{tree_of};
-ghost use Rattle.manifest_tree.specs.Writing.{is_name as is_whole_name, is_content as is_all_content, is_attribute as is_new_attribute, are_attributes as are_new_attributes, is_element as is_element_at, is_writable as can_be_written};
+ghost use Rattle.manifest_tree.specs.WrittenText.{is_name as is_whole_name, is_content as is_all_content, is_attribute as is_new_attribute, are_attributes as are_new_attributes, is_element as is_element_at, is_writable as can_be_written};
 
 use crate::classes::{is_allowed, is_name as is_name_byte};
 use crate::node::{Attribute, Node};

@@ -3,7 +3,7 @@ use Rattle.machine.specs.InUse.{IsInUse}
 use Rattle.machine.specs.Store.{plain_room}
 use Rattle.store_state.specs.Dropped.{dropped}
 use Rattle.store_state.specs.Rows.{row_at}
-use Rattle.cleaner.proofs.Listing.{removable_kept, removable_unused}
+use Rattle.cleaner.proofs.NamedViews.{removable_kept, removable_unused}
 use Rattle.cleaner.proofs.unused_views.clean.Goals as goal
 
 pub drop_views-requires-clause-kept : goal.drop_views-requires-clause-kept

@@ -1,6 +1,6 @@
 use Rattle.std.proofs.Common.{◌∙◌, ap}
 use Rattle.store_state.specs.Tables.{Tables}
-use Rattle.cleaner.proofs.Listing.{free_is, free_numbers}
+use Rattle.cleaner.proofs.NamedViews.{free_is, free_numbers}
 use Rattle.cleaner.proofs.unused_views.removable.Goals as goal
 
 pub returns : goal.returns

@@ -1,4 +1,4 @@
-use Rattle.cleaner.proofs.Listing.{one_free, one_used}
+use Rattle.cleaner.proofs.NamedViews.{one_free, one_used}
 use Rattle.cleaner.proofs.unused_views.unused_among.Goals as goal
 use Rattle.cleaner.proofs.unused_views.unused_among.Goals.{then-not-is_among+in_ok-push, else-not-is_among}
 

@@ -4,7 +4,7 @@ use Rattle.machine.specs.declared.lease.Lease.{Lease}
 use Rattle.machine.specs.InUse.{is_in_use}
 use Rattle.store_state.specs.Tables.{Tables}
 use Rattle.cleaner.specs.Used.{named_numbers}
-use Rattle.cleaner.proofs.Listing.{used_any}
+use Rattle.cleaner.proofs.NamedViews.{used_any}
 use Rattle.cleaner.proofs.used_numbers.numbers_in_use.Goals as goal
 
 pub returns-clause-used : goal.returns-clause-used

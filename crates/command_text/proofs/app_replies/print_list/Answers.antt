@@ -1,8 +1,8 @@
 use Rattle.std.proofs.Common.{◌∷◌, ◌++◌, [], codes, decimal, length, refl}
 use Rattle.std.proofs.lemmas.Result.{err_from_is_err_and}
 use Rattle.command_text.specs.Applications.{list_text, rows_text}
-use Rattle.command_text.proofs.Joining.{list_parts}
-use Rattle.command_text.proofs.Writing.{cut_off, last_part, nothing_yet, one_more}
+use Rattle.command_text.proofs.JoinedTexts.{list_parts}
+use Rattle.command_text.proofs.Wrote.{cut_off, last_part, nothing_yet, one_more}
 use Rattle.command_text.proofs.app_replies.print_list.Goals as goal
 
 pub returns-in_err-print_pieces : goal.returns-in_err-print_pieces

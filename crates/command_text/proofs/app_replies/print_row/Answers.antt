@@ -1,7 +1,7 @@
 use Rattle.std.proofs.Common.{◌∷◌, ◌++◌, ◌∙◌, [], ap, List, ℕ, subst}
 use Rattle.identity.specs.Key.{key_text}
 use Rattle.command_text.specs.Pieces.{WritesText, piece_text}
-use Rattle.command_text.proofs.Joining.{parts_then}
+use Rattle.command_text.proofs.JoinedTexts.{parts_then}
 use Rattle.command_text.proofs.app_replies.print_row.Goals as goal
 
 pub returns : goal.returns

@@ -2,8 +2,8 @@ use Rattle.std.proofs.Common.{ap, arith, drop, refl}
 use Rattle.std.proofs.lemmas.Result.{err_from_is_err_and}
 use Rattle.std.proofs.lemmas.List.{drop_all}
 use Rattle.command_text.specs.Applications.{rows_text}
-use Rattle.command_text.proofs.Joining.{one_row}
-use Rattle.command_text.proofs.Writing.{all_written, cut_off, nothing_yet, one_more}
+use Rattle.command_text.proofs.JoinedTexts.{one_row}
+use Rattle.command_text.proofs.Wrote.{all_written, cut_off, nothing_yet, one_more}
 use Rattle.command_text.proofs.app_replies.print_rows.Goals as goal
 
 pub loop-row-init : goal.loop-row-init

@@ -1,6 +1,6 @@
 use Rattle.std.proofs.Common.{drop}
 use Rattle.command_text.specs.Applications.{rows_text}
-use Rattle.command_text.proofs.Writing.{Wrote}
+use Rattle.command_text.proofs.Wrote.{Wrote}
 use Rattle.command_text.proofs.app_replies.print_rows.Given as goal
 
 abbrev pub invariant-loop-row : goal.invariant-loop-row

@@ -1,7 +1,7 @@
 use Rattle.std.proofs.Common.{refl}
 use Rattle.std.proofs.lemmas.Result.{err_from_is_err_and}
-use Rattle.command_text.proofs.Showing.{key_shown, show_begun, state_shown, versions_shown}
-use Rattle.command_text.proofs.Writing.{cut_off, last_part}
+use Rattle.command_text.proofs.ShowParts.{key_shown, show_begun, state_shown, versions_shown}
+use Rattle.command_text.proofs.Wrote.{cut_off, last_part}
 use Rattle.command_text.proofs.app_replies.print_show.Goals as goal
 
 pub returns-in_err-print_key : goal.returns-in_err-print_key

@@ -1,6 +1,6 @@
 use Rattle.percent_encoding.specs.Iter.{encoded_text}
 use Rattle.percent_encoding.specs.Percent.{percent_encode}
-use Rattle.command_text.proofs.Writing.{Wrote}
+use Rattle.command_text.proofs.Wrote.{Wrote}
 use Rattle.command_text.proofs.escapes.print_escaped.Given as goal
 
 abbrev pub invariant-loop-piece : goal.invariant-loop-piece

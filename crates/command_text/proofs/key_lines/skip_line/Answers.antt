@@ -1,6 +1,6 @@
 use Rattle.std.proofs.Common.{Ok, refl}
 use Rattle.machine.specs.declared.command.Command.TheVariants.{Skip}
-use Rattle.command_text.proofs.Asking.{lacked, refused}
+use Rattle.command_text.proofs.Outcomes.{lacked, refused}
 use Rattle.command_text.proofs.key_lines.skip_line.Goals as goal
 
 pub returns-in-Err-clause-exact : goal.returns-in-Err-clause-exact

@@ -1,6 +1,6 @@
 use Rattle.std.proofs.Common.{arith}
 use Rattle.std.proofs.lemmas.Result.{err_from_is_err_and}
-use Rattle.command_text.proofs.Writing.{stopped}
+use Rattle.command_text.proofs.Wrote.{stopped}
 use Rattle.command_text.proofs.pieces.print_pieces.Goals as goal
 
 pub returns-in_err-print_piece : goal.returns-in_err-print_piece

@@ -2,8 +2,8 @@ use Rattle.std.proofs.Common.{◌∙◌, ap, sym}
 use Rattle.std.proofs.lemmas.Bool.{eqb-true}
 use Rattle.std.proofs.lemmas.Result.{err_from_is_err_and}
 use Rattle.hex.specs.Hex.{encode_lower}
-use Rattle.command_text.proofs.Joining.{hex_append, hex_over}
-use Rattle.command_text.proofs.Writing.{all_written, cut_off, one_more}
+use Rattle.command_text.proofs.JoinedTexts.{hex_append, hex_over}
+use Rattle.command_text.proofs.Wrote.{all_written, cut_off, one_more}
 use Rattle.command_text.proofs.raw.print_hex.Goals as goal
 
 pub returns-in_err-print_few : goal.returns-in_err-print_few

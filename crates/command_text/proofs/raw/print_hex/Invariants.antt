@@ -1,6 +1,6 @@
 use Rattle.std.proofs.Common.{length}
 use Rattle.hex.specs.Hex.{encode_lower}
-use Rattle.command_text.proofs.Writing.{Wrote}
+use Rattle.command_text.proofs.Wrote.{Wrote}
 use Rattle.command_text.proofs.raw.print_hex.Given as goal
 
 abbrev pub invariant-loop-rest : goal.invariant-loop-rest

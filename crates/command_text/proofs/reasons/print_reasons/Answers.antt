@@ -3,8 +3,8 @@ use Rattle.std.proofs.lemmas.Result.{err_from_is_err_and}
 use Rattle.std.proofs.lemmas.List.{drop_all}
 use Rattle.causes.specs.declared.cause.Cause.{Cause}
 use Rattle.command_text.specs.Lines.{reasons_text}
-use Rattle.command_text.proofs.Joining.{all_left, none_left, one_item, rest_text}
-use Rattle.command_text.proofs.Writing.{all_written, cut_off, nothing_yet, one_more}
+use Rattle.command_text.proofs.JoinedTexts.{all_left, none_left, one_item, rest_text}
+use Rattle.command_text.proofs.Wrote.{all_written, cut_off, nothing_yet, one_more}
 use Rattle.command_text.proofs.reasons.print_reasons.Goals as goal
 
 pub loop-cause-init : goal.loop-cause-init

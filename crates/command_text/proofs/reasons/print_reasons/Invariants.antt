@@ -1,7 +1,7 @@
 use Rattle.std.proofs.Common.{drop}
 use Rattle.command_text.specs.Lines.{reasons_text}
-use Rattle.command_text.proofs.Joining.{rest_text}
-use Rattle.command_text.proofs.Writing.{Wrote}
+use Rattle.command_text.proofs.JoinedTexts.{rest_text}
+use Rattle.command_text.proofs.Wrote.{Wrote}
 use Rattle.command_text.proofs.reasons.print_reasons.Given as goal
 
 abbrev pub invariant-loop-cause : goal.invariant-loop-cause

@@ -1,7 +1,7 @@
 use Rattle.std.proofs.Common.{◌∷◌, ◌++◌, ◌∙◌, [], ap, codes, List, ℕ, subst}
 use Rattle.identity.specs.Key.{key_text, part_text}
 use Rattle.command_text.specs.Pieces.{WritesText}
-use Rattle.command_text.proofs.Joining.{parts_then}
+use Rattle.command_text.proofs.JoinedTexts.{parts_then}
 use Rattle.command_text.proofs.refusals.print_identities.Goals as goal
 
 pub returns : goal.returns

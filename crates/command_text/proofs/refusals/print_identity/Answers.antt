@@ -1,6 +1,6 @@
 use Rattle.std.proofs.Common.{◌∷◌, ◌++◌, [], ap, codes, List, ℕ, subst}
 use Rattle.command_text.specs.Pieces.{WritesText}
-use Rattle.command_text.proofs.Joining.{parts_then}
+use Rattle.command_text.proofs.JoinedTexts.{parts_then}
 use Rattle.command_text.proofs.refusals.print_identity.Goals as goal
 
 pub returns : goal.returns

@@ -1,7 +1,7 @@
 use Rattle.std.proofs.Common.{List, ℕ, subst}
 use Rattle.identity.specs.Version.{version_text}
 use Rattle.command_text.specs.Pieces.{WritesText}
-use Rattle.command_text.proofs.Joining.{two_then}
+use Rattle.command_text.proofs.JoinedTexts.{two_then}
 use Rattle.command_text.proofs.refusals.print_versions.Goals as goal
 
 pub returns : goal.returns

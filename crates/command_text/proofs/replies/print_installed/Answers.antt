@@ -1,7 +1,7 @@
 use Rattle.std.proofs.Common.{◌∷◌, ◌++◌, [], ap, codes, decimal, List, ℕ, subst}
 use Rattle.identity.specs.Version.{version_text}
 use Rattle.command_text.specs.Pieces.{WritesText}
-use Rattle.command_text.proofs.Joining.{parts_then}
+use Rattle.command_text.proofs.JoinedTexts.{parts_then}
 use Rattle.command_text.proofs.replies.print_installed.Goals as goal
 
 pub returns : goal.returns

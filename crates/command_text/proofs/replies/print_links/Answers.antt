@@ -1,7 +1,7 @@
 use Rattle.std.proofs.Common.{◌∷◌, ◌++◌, [], refl}
 use Rattle.std.proofs.lemmas.Result.{err_from_is_err_and}
 use Rattle.command_text.specs.Lines.{lacking_text, links_text, reasons_text}
-use Rattle.command_text.proofs.Writing.{cut_off, last_part, nothing_yet, one_more}
+use Rattle.command_text.proofs.Wrote.{cut_off, last_part, nothing_yet, one_more}
 use Rattle.command_text.proofs.replies.print_links.Goals as goal
 
 pub returns-in_err-print_target : goal.returns-in_err-print_target

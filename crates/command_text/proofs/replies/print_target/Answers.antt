@@ -1,6 +1,6 @@
 use Rattle.std.proofs.Common.{◌∷◌, ◌++◌, [], ap, codes, List, ℕ, subst}
 use Rattle.command_text.specs.Pieces.{WritesText}
-use Rattle.command_text.proofs.Joining.{address_then}
+use Rattle.command_text.proofs.JoinedTexts.{address_then}
 use Rattle.command_text.proofs.replies.print_target.Goals as goal
 
 pub returns : goal.returns

@@ -1,5 +1,5 @@
 use Rattle.std.proofs.Common.{◌∙◌, sym}
-use Rattle.data_migration.proofs.Tabling.{added}
+use Rattle.data_migration.proofs.GrownTables.{added}
 use Rattle.data_migration.proofs.deployed_table.add.Goals as goal
 
 pub returns : goal.returns

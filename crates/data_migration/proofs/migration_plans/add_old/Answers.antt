@@ -1,5 +1,5 @@
 use Rattle.std.proofs.Common.{◌∙◌, sym}
-use Rattle.data_migration.proofs.Reading.{outside_from}
+use Rattle.data_migration.proofs.AsideNames.{outside_from}
 use Rattle.data_migration.proofs.migration_plans.add_old.Goals as goal
 
 pub carry-requires : goal.carry-requires

@@ -1,7 +1,7 @@
 use Rattle.store_state.specs.declared.view.LocalFile.{LocalFile}
 use Rattle.data_migration.specs.Plans.{carried}
 use Rattle.data_migration.specs.Tables.{stays_by}
-use Rattle.data_migration.proofs.Stepping.{flat_step}
+use Rattle.data_migration.proofs.ListLoops.{flat_step}
 use Rattle.data_migration.proofs.migration_plans.carry_all.Goals as goal
 
 pub loop-file-preserved : goal.loop-file-preserved

@@ -1,7 +1,7 @@
 use Rattle.std.proofs.Common.{◌∙◌, ap, sym, ℕ, List, true, cond, not, bytes_eq}
 use Rattle.manifests.specs.Applications.{is_below_pre}
 use Rattle.data_migration.specs.Tables.{has_name, stays_by}
-use Rattle.data_migration.proofs.Tabling.{kept_one, named}
+use Rattle.data_migration.proofs.GrownTables.{kept_one, named}
 use Rattle.data_migration.proofs.migration_plans.keep.Goals as goal
 
 pub returns : goal.returns

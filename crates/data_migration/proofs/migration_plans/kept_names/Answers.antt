@@ -1,7 +1,7 @@
 use Rattle.store_state.specs.declared.view.LocalFile.{LocalFile}
 use Rattle.data_migration.specs.Plans.{is_kept}
 use Rattle.data_migration.specs.Tables.{has_name, stays_by}
-use Rattle.data_migration.proofs.Stepping.{any_step}
+use Rattle.data_migration.proofs.ListLoops.{any_step}
 use Rattle.data_migration.proofs.migration_plans.kept_names.Goals as goal
 
 pub loop-file-preserved : goal.loop-file-preserved

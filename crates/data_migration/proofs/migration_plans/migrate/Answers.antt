@@ -1,7 +1,7 @@
 use Rattle.data_migration.proofs.Apart.{in_order}
-use Rattle.data_migration.proofs.Joining.{sorted_plans}
-use Rattle.data_migration.proofs.Making.{is_migration}
-use Rattle.data_migration.proofs.Planning.{names, sources}
+use Rattle.data_migration.proofs.TablePlans.{sorted_plans}
+use Rattle.data_migration.proofs.MadeFiles.{is_migration}
+use Rattle.data_migration.proofs.PlanNames.{names, sources}
 use Rattle.data_migration.proofs.migration_plans.migrate.Goals as goal
 
 pub returns-clause-migrated : goal.returns-clause-migrated
@@ -45,3 +45,11 @@ returns-clause-sources c =
     c.as_slice-2.result.now c.args.new_files.now c.as_slice-3.result.now
     c.in_ok-plans.plans.items c.sort_plans.new.plans.items c.as_slice.ensures
     c.as_slice-2.ensures c.as_slice-3.ensures c.in_ok-plans.ensures c.sort_plans.ensures.same))
+
+pub returns-clause-planned : goal.returns-clause-planned
+returns-clause-planned c =
+    rw c.from_vec.ensures
+    (sorted_plans c.args.old.now c.as_slice.result.now c.args.old_files.now
+    c.as_slice-2.result.now c.args.new_files.now c.as_slice-3.result.now
+    c.in_ok-plans.plans.items c.sort_plans.new.plans.items c.as_slice.ensures
+    c.as_slice-2.ensures c.as_slice-3.ensures c.in_ok-plans.ensures c.sort_plans.ensures.same)

@@ -1,4 +1,4 @@
-use Rattle.data_migration.proofs.Joining.{planned_is}
+use Rattle.data_migration.proofs.TablePlans.{planned_is}
 use Rattle.data_migration.proofs.migration_plans.plans_of.Goals as goal
 
 pub returns : goal.returns

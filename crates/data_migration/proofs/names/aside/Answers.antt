@@ -1,6 +1,6 @@
 use Rattle.std.proofs.Common.{◌∙◌, ap}
 use Rattle.machine.specs.Migrated.{aside}
-use Rattle.data_migration.proofs.Reading.{aside_is_read, read_aside}
+use Rattle.data_migration.proofs.AsideNames.{aside_is_read, read_aside}
 use Rattle.data_migration.proofs.names.aside.Goals as goal
 
 pub returns-in-Ok : goal.returns-in-Ok

@@ -1,5 +1,5 @@
 use Rattle.std.proofs.Common.{Ok, Err}
-use Rattle.demo.proofs.Answering.{alone, failed, replied}
+use Rattle.demo.proofs.RunLine.{alone, failed, replied}
 use Rattle.demo.proofs.lines.answer.Goals as goal
 
 pub returns-in-Ok : goal.returns-in-Ok

@@ -4,7 +4,7 @@ use Rattle.identity.specs.Key.{IsKey}
 use Rattle.machine.specs.declared.command.Command.TheVariants.{Launch}
 use Rattle.demo.specs.declared.fault.DemoFault.TheVariants.{Memory}
 use Rattle.demo.specs.Parts.{CommandReplies}
-use Rattle.demo.proofs.Touching.{untouched}
+use Rattle.demo.proofs.Touches.{untouched}
 use Rattle.demo.proofs.lines.ask_launch.Goals as goal
 
 pub answer_once-requires : goal.answer_once-requires

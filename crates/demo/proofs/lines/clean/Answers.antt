@@ -1,8 +1,8 @@
 use Rattle.std.proofs.Common.{refl}
 use Rattle.machine.specs.declared.command.Command.TheVariants.{Clean}
 use Rattle.machine.specs.declared.reply.Reply.TheVariants as says
-use Rattle.demo.proofs.Answering.{judged}
-use Rattle.demo.proofs.Touching.{fails, with_fault}
+use Rattle.demo.proofs.RunLine.{judged}
+use Rattle.demo.proofs.Touches.{fails, with_fault}
 use Rattle.demo.proofs.lines.clean.Goals as goal
 
 pub returns-in-Err : goal.returns-in-Err

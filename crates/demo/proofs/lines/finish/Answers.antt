@@ -1,8 +1,8 @@
 use Rattle.std.proofs.Common.{arith, refl}
 use Rattle.machine.specs.declared.command.Command.TheVariants.{Finish}
 use Rattle.machine.specs.declared.reply.Reply.TheVariants as says
-use Rattle.demo.proofs.Answering.{judged}
-use Rattle.demo.proofs.Touching.{fails, with_fault}
+use Rattle.demo.proofs.RunLine.{judged}
+use Rattle.demo.proofs.Touches.{fails, with_fault}
 use Rattle.demo.proofs.lines.finish.Goals as goal
 
 pub returns-in-Err : goal.returns-in-Err

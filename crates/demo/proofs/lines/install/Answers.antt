@@ -1,5 +1,5 @@
-use Rattle.demo.proofs.Answering.{installs}
-use Rattle.demo.proofs.Touching.{fails, with_fault, with_other}
+use Rattle.demo.proofs.RunLine.{installs}
+use Rattle.demo.proofs.Touches.{fails, with_fault, with_other}
 use Rattle.demo.proofs.lines.install.Goals as goal
 
 pub returns-in-Err-clause-goes : goal.returns-in-Err-clause-goes

@@ -5,9 +5,9 @@ use Rattle.identity.specs.declared.key.Key.{Key}
 use Rattle.identity.specs.Key.{IsKey}
 use Rattle.generated_release.specs.declared.release.GeneratedRelease.TheVariants.{One}
 use Rattle.generated_release.specs.Options.{demo_key, version_of}
-use Rattle.demo.proofs.Answering.{judged}
+use Rattle.demo.proofs.RunLine.{judged}
 use Rattle.demo.proofs.Keys.{demo_is_key}
-use Rattle.demo.proofs.Touching.{fails, with_fault}
+use Rattle.demo.proofs.Touches.{fails, with_fault}
 use Rattle.demo.proofs.lines.launch.Goals as goal
 
 pub ask_launch-requires : goal.ask_launch-requires

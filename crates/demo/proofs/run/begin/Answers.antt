@@ -1,4 +1,4 @@
-use Rattle.demo.proofs.Touching.{fails, untouched}
+use Rattle.demo.proofs.Touches.{fails, untouched}
 use Rattle.demo.proofs.run.begin.Goals as goal
 
 pub begin_at-requires : goal.begin_at-requires

@@ -1,6 +1,6 @@
 use Rattle.std.proofs.Common.{◌∙◌}
-use Rattle.demo.proofs.Composing.{begun}
-use Rattle.demo.proofs.Touching.{after, fails, with_fault}
+use Rattle.demo.proofs.RunParts.{begun}
+use Rattle.demo.proofs.Touches.{after, fails, with_fault}
 use Rattle.demo.proofs.run.begin_at.Goals as goal
 
 pub launch-requires : goal.launch-requires

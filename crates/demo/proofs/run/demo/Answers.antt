@@ -1,4 +1,4 @@
-use Rattle.demo.proofs.Touching.{after, with_fault}
+use Rattle.demo.proofs.Touches.{after, with_fault}
 use Rattle.demo.proofs.run.demo.Goals as goal
 
 pub returns-in-Ok : goal.returns-in-Ok

@@ -1,4 +1,4 @@
-use Rattle.demo.proofs.Touching.{fails, untouched}
+use Rattle.demo.proofs.Touches.{fails, untouched}
 use Rattle.demo.proofs.run.end.Goals as goal
 
 pub returns-in-Ok : goal.returns-in-Ok

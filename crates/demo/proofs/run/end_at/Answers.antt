@@ -1,5 +1,5 @@
-use Rattle.demo.proofs.Composing.{ended}
-use Rattle.demo.proofs.Touching.{after, fails, with_fault}
+use Rattle.demo.proofs.RunParts.{ended}
+use Rattle.demo.proofs.Touches.{after, fails, with_fault}
 use Rattle.demo.proofs.run.end_at.Goals as goal
 
 pub returns-in-Err : goal.returns-in-Err

@@ -1,5 +1,5 @@
-use Rattle.demo.proofs.Composing.{left}
-use Rattle.demo.proofs.Touching.{after, fails, with_fault}
+use Rattle.demo.proofs.RunParts.{left}
+use Rattle.demo.proofs.Touches.{after, fails, with_fault}
 use Rattle.demo.proofs.run.leave.Goals as goal
 
 pub returns-in-Err : goal.returns-in-Err

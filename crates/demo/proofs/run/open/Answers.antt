@@ -1,8 +1,8 @@
 use Rattle.std.proofs.Common.{Ok, Err, refl, ap, ◌∙◌, arith}
 use Rattle.demo.specs.declared.fault.DemoFault.TheVariants.{DiskFault, Memory}
 use Rattle.table_log.proofs.NewRooms.{made_limits}
-use Rattle.demo.proofs.Starting.{format_touches, reads_new}
-use Rattle.demo.proofs.Touching.{after}
+use Rattle.demo.proofs.NewStore.{format_touches, reads_new}
+use Rattle.demo.proofs.Touches.{after}
 use Rattle.demo.proofs.run.open.Goals as goal
 
 pub format-requires : goal.format-requires

@@ -1,7 +1,7 @@
 use Rattle.std.proofs.Common.{Err, subst}
 use Rattle.updater.specs.declared.fault.RecoverFault.{RecoverFault}
 use Rattle.updater.specs.Opened.{Opened}
-use Rattle.demo.proofs.Starting.{begins, breaks, lacks, reads_none}
+use Rattle.demo.proofs.NewStore.{begins, breaks, lacks, reads_none}
 use Rattle.demo.proofs.run.open_new.Goals as goal
 
 pub returns-in-Ok : goal.returns-in-Ok

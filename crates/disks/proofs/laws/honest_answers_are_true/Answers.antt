@@ -1,7 +1,7 @@
 use Rattle.disks.specs.declared.answer.Answer.TheVariants.{Measured, Gave}
 use Rattle.disks.specs.Answers.{seen_after}
 use Rattle.std.proofs.Common.{length, take}
-use Rattle.disks.proofs.Replaying.{was_honest, agreed, gives_true}
+use Rattle.disks.proofs.NextAnswer.{was_honest, agreed, gives_true}
 use Rattle.disks.proofs.laws.honest_answers_are_true.Goals as goal
 
 pub returns-clause-before : goal.returns-clause-before

@@ -1,7 +1,7 @@
 use Rattle.std.proofs.Common.{length, take, refl}
 use Rattle.disks.specs.declared.answer.Answer.TheVariants.{Measured, Gave, Changed}
 use Rattle.disks.specs.Answers.{seen_after}
-use Rattle.disks.proofs.Replaying.{stays_honest, gave_true}
+use Rattle.disks.proofs.NextAnswer.{stays_honest, gave_true}
 use Rattle.disks.proofs.laws.honest_answers_stay_honest.Goals as goal
 
 pub returns-clause-length : goal.returns-clause-length

@@ -1,4 +1,4 @@
-use Rattle.disks.proofs.Recording.{fits_at, replay_more, replay_over}
+use Rattle.disks.proofs.NextCall.{fits_at, replay_more, replay_over}
 use Rattle.disks.proofs.stop.replay.Goals as goal
 
 pub loop-call-preserved-then-call-moment : goal.loop-call-preserved-then-call-moment

@@ -1,5 +1,5 @@
 use Rattle.file_store.specs.Stores.{store_base}
-use Rattle.draft_basket.proofs.Holding.{past_none, whole_empty}
+use Rattle.draft_basket.proofs.HeldBytes.{past_none, whole_empty}
 use Rattle.draft_basket.proofs.DraftBasket.new.Goals as goal
 
 pub invariant_of-result : goal.invariant_of-result

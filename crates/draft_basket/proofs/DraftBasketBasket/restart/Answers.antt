@@ -1,8 +1,8 @@
 use Rattle.std.proofs.Common.{refl, arith}
 use Rattle.std.proofs.Math.Nat.{le_refl}
 use Rattle.file_store.specs.Stores.{draft_blocks, store_base}
-use Rattle.file_store.proofs.Writing.{only_start}
-use Rattle.draft_basket.proofs.Holding.{past_none, whole_empty}
+use Rattle.file_store.proofs.BlockWrites.{only_start}
+use Rattle.draft_basket.proofs.HeldBytes.{past_none, whole_empty}
 use Rattle.draft_basket.proofs.DraftBasketBasket.restart.Goals as goal
 
 pub invariant_of-self : goal.invariant_of-self

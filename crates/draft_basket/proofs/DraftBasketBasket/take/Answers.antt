@@ -1,7 +1,7 @@
 use Rattle.std.proofs.Common.{ap, refl, length}
 use Rattle.file_store.specs.Stores.{store_base}
-use Rattle.draft_basket.specs.Turning.{turned_same}
-use Rattle.draft_basket.proofs.Holding.{past_kept, taken_after, whole_after}
+use Rattle.draft_basket.specs.Turned.{turned_same}
+use Rattle.draft_basket.proofs.HeldBytes.{past_kept, taken_after, whole_after}
 use Rattle.draft_basket.proofs.DraftBasketBasket.take.Goals as goal
 
 pub invariant_of-self-2 : goal.invariant_of-self-2

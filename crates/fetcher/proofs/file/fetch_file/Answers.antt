@@ -5,8 +5,8 @@ use Rattle.causes.specs.declared.cause.Cause.{Cause}
 use Rattle.fetcher.specs.Causes.{IsFileCause}
 use Rattle.fetcher.specs.Fetched.{IsThis}
 use Rattle.fetcher.specs.Stopped.{DropsLiars}
-use Rattle.fetcher.proofs.Ending.{count_stays, file_kept, file_more, file_once, file_refused, file_served}
-use Rattle.fetcher.proofs.Handing.{handed_all, handed_last, handed_next, handed_none, not_same}
+use Rattle.fetcher.proofs.FetchEnds.{count_stays, file_kept, file_more, file_once, file_refused, file_served}
+use Rattle.fetcher.proofs.HandedBytes.{handed_all, handed_last, handed_next, handed_none, not_same}
 use Rattle.fetcher.proofs.InOrder.{Refused, all_stay, refused_none}
 use Rattle.fetcher.proofs.InTurn.{first_next, first_none, up_to, vain_all, vain_stop}
 use Rattle.fetcher.proofs.Liars.{but_all}

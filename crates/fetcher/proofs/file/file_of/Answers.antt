@@ -2,7 +2,7 @@ use Rattle.std.proofs.Common.{◌≡◌, ℕ, Ok, Err, refl, ◌∙◌, arith}
 use Rattle.links.specs.Link.{LinkState}
 use Rattle.links.specs.Links.{link_at}
 use Rattle.fetcher.proofs.Checked.{file_given, other_given, size_differs}
-use Rattle.fetcher.proofs.Handing.{handed_behind, handed_none}
+use Rattle.fetcher.proofs.HandedBytes.{handed_behind, handed_none}
 use Rattle.fetcher.proofs.Histories.{asked_alone, asked_pieces}
 use Rattle.fetcher.proofs.Shown.{file_fault, shown_bytes, shown_pour, shown_size}
 use Rattle.fetcher.proofs.file.file_of.Goals as goal

@@ -5,10 +5,10 @@ use Rattle.links.specs.declared.history.LinkCall.TheVariants.{Gave}
 use Rattle.links.specs.Asked.{StopAtEnd}
 use Rattle.links.specs.Link.{LinkState}
 use Rattle.links.specs.Links.{link_at}
-use Rattle.fetcher.proofs.Handing.{handed_rest, handed_then}
+use Rattle.fetcher.proofs.HandedBytes.{handed_rest, handed_then}
 use Rattle.fetcher.proofs.Histories.{AllGave, StopAtEmpty, empty_next, ends_next, gave_next, gave_some, most_next, most_took, took_all, took_gave}
-use Rattle.fetcher.proofs.Moving.{moves_then}
-use Rattle.fetcher.proofs.Pouring.{nothing_left, poured_all, poured_end, poured_more}
+use Rattle.fetcher.proofs.KeptLinks.{moves_then}
+use Rattle.fetcher.proofs.Poured.{nothing_left, poured_all, poured_end, poured_more}
 use Rattle.fetcher.proofs.file.pour.Goals as goal
 
 pub returns-then-n-eq0-clause-poured : goal.returns-then-n-eq0-clause-poured

@@ -4,7 +4,7 @@ use Rattle.links.specs.Basket.{Turns}
 use Rattle.links.specs.Links.{link_at}
 use Rattle.fetcher.specs.Stopped.{Moves}
 use Rattle.fetcher.proofs.Histories.{AllGave}
-use Rattle.fetcher.proofs.Pouring.{Poured}
+use Rattle.fetcher.proofs.Poured.{Poured}
 use Rattle.fetcher.proofs.file.pour.Given as goal
 
 abbrev pub invariant-loop-done : goal.invariant-loop-done

@@ -2,10 +2,10 @@ use Rattle.std.proofs.Common.{◌≡◌, ℕ, ◌+◌, ◌<◌, ◌≤◌, sym, 
 use Rattle.std.proofs.lemmas.Result.{err_from_is_err_and}
 use Rattle.links.specs.Links.{LinksState, sources_of}
 use Rattle.fetcher.specs.Causes.{IsTextCause}
-use Rattle.fetcher.proofs.Ending.{text_more, text_once, text_refused, text_served}
+use Rattle.fetcher.proofs.FetchEnds.{text_more, text_once, text_refused, text_served}
 use Rattle.fetcher.proofs.InOrder.{Refused, refused_none}
 use Rattle.fetcher.proofs.InTurn.{first_next, first_none, up_to, vain_all, vain_stop}
-use Rattle.fetcher.proofs.Moving.{stays_same}
+use Rattle.fetcher.proofs.KeptLinks.{stays_same}
 use Rattle.fetcher.specs.Once.{ShowsTextCause}
 use Rattle.fetcher.proofs.Shown.{shown_all, shown_more, shown_stop, text_kind}
 use Rattle.fetcher.proofs.text.fetch_text.Goals as goal

@@ -6,7 +6,7 @@ use Rattle.links.specs.Link.{LinkState}
 use Rattle.links.specs.Links.{link_at}
 use Rattle.fetcher.specs.Once.{Took}
 use Rattle.fetcher.proofs.Histories.{AllGave, gave_next, gave_some, most_next, most_took, piece_broke, piece_gave, took_all, took_end, took_gave}
-use Rattle.fetcher.proofs.Moving.{moves_then}
+use Rattle.fetcher.proofs.KeptLinks.{moves_then}
 use Rattle.fetcher.proofs.text.read_rest.Goals as goal
 
 pub returns-then-n-eq0-clause-bytes : goal.returns-then-n-eq0-clause-bytes

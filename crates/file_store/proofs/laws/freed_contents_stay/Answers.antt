@@ -1,5 +1,5 @@
-use Rattle.small_types.proofs.BlockStaying.{content_stays}
-use Rattle.file_store.proofs.Staying.{used_not_free}
+use Rattle.small_types.proofs.KeptBlocks.{content_stays}
+use Rattle.file_store.proofs.KeptContents.{used_not_free}
 use Rattle.file_store.proofs.laws.freed_contents_stay.Goals as goal
 
 pub returns : goal.returns

@@ -1,4 +1,4 @@
-use Rattle.file_store.proofs.Staying.{content_kept, fronts_kept}
+use Rattle.file_store.proofs.KeptContents.{content_kept, fronts_kept}
 use Rattle.file_store.proofs.laws.images_stay.Goals as goal
 
 pub returns-clause-contents : goal.returns-clause-contents

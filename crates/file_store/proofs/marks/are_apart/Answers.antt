@@ -1,8 +1,8 @@
 use Rattle.std.proofs.Common.{◌≡◌, ◌<◌, Bool, true, false, List, length, get_or, refl, sym, ◌∙◌, ap, subst, arith, All}
 use Rattle.std.proofs.lemmas.List.{length-set}
 use Rattle.small_types.specs.Blocks.{AreApart}
-use Rattle.file_store.proofs.Judging.{judged_apart, judged_below, judged_more}
-use Rattle.file_store.proofs.Marking.{marked_more, only_more}
+use Rattle.file_store.proofs.Judged.{judged_apart, judged_below, judged_more}
+use Rattle.file_store.proofs.MarkedBlocks.{marked_more, only_more}
 use Rattle.file_store.proofs.marks.are_apart.Goals as goal
 
 pub loop-block-preserved : goal.loop-block-preserved

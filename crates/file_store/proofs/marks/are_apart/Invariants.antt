@@ -1,5 +1,5 @@
 use Rattle.std.proofs.Common.{◌≡◌, ◌<◌, ℕ, true, false, length, take, get_or, Contains}
-use Rattle.file_store.proofs.Judging.{Judged}
+use Rattle.file_store.proofs.Judged.{Judged}
 use Rattle.file_store.proofs.marks.are_apart.Given as goal
 
 abbrev pub invariant-loop-block : goal.invariant-loop-block

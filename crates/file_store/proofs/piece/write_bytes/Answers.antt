@@ -4,8 +4,8 @@ use Rattle.std.proofs.lemmas.List.{take_all}
 use Rattle.outside.specs.declared.failed.Failed.{Failed}
 use Rattle.file_store.specs.Writes.{AddsPiece, touched}
 use Rattle.file_store.specs.Stretches.{AreNeighbours}
-use Rattle.file_store.proofs.Spending.{Calls, all_few, calls_more, calls_start, few, goes_more, goes_start, spent_ill, spent_well}
-use Rattle.file_store.proofs.Writing.{adds_none, adds_start, counts, only_start, slice_few, slice_long, step_adds, step_kept, step_only, total_more}
+use Rattle.file_store.proofs.WriteCalls.{Calls, all_few, calls_more, calls_start, few, goes_more, goes_start, spent_ill, spent_well}
+use Rattle.file_store.proofs.BlockWrites.{adds_none, adds_start, counts, only_start, slice_few, slice_long, step_adds, step_kept, step_only, total_more}
 use Rattle.file_store.proofs.piece.write_bytes.Goals as goal
 
 pub loop-done-init : goal.loop-done-init

@@ -1,7 +1,7 @@
 use Rattle.std.proofs.Common.{◌≡◌, ◌-◌, ◌<◌, ◌≤◌, ◌+◌, ◌/◌, length, take}
 use Rattle.file_store.specs.Writes.{AddsPiece, WritesOnly}
 use Rattle.file_store.specs.Stretches.{AreNeighbours}
-use Rattle.file_store.proofs.Spending.{Calls, Goes}
+use Rattle.file_store.proofs.WriteCalls.{Calls, Goes}
 use Rattle.file_store.proofs.piece.write_bytes.Given as goal
 
 abbrev pub invariant-loop-done : goal.invariant-loop-done

@@ -1,5 +1,5 @@
 use Rattle.folders.specs.declared.answer.FolderAnswer.TheVariants.{Listed, Gave, Measured}
-use Rattle.folders.proofs.Answering.{agreed, put_there, stay_apart, were_honest}
+use Rattle.folders.proofs.HonestAnswers.{agreed, put_there, stay_apart, were_honest}
 use Rattle.folders.proofs.laws.honest_folders_are_true.Goals as goal
 
 pub returns-clause-before : goal.returns-clause-before

@@ -1,4 +1,4 @@
-use Rattle.folders.proofs.Answering.{stay_honest}
+use Rattle.folders.proofs.HonestAnswers.{stay_honest}
 use Rattle.folders.proofs.laws.honest_folders_stay_honest.Goals as goal
 
 pub returns-clause-next : goal.returns-clause-next

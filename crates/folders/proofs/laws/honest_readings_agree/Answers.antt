@@ -2,7 +2,7 @@ use Rattle.std.proofs.Common.{◌∷◌, ◌++◌, ◌∙◌, subst}
 use Rattle.std.specs.Prelude.{Option}
 use Rattle.folders.specs.declared.answer.FolderAnswer.TheVariants.{Gave, Measured}
 use Rattle.folders.specs.Found.{HasLength}
-use Rattle.folders.proofs.Answering.{agreed, file_stays}
+use Rattle.folders.proofs.HonestAnswers.{agreed, file_stays}
 use Rattle.folders.proofs.laws.honest_readings_agree.Goals as goal
 
 pub returns-clause-bytes : goal.returns-clause-bytes

@@ -1,4 +1,4 @@
-use Rattle.folders.proofs.Sorting.{has_one_list}
+use Rattle.folders.proofs.SortedNames.{has_one_list}
 use Rattle.folders.proofs.laws.one_list_of_names.Goals as goal
 
 pub returns : goal.returns

@@ -2,7 +2,7 @@ use Rattle.std.proofs.Common.{◌≡◌, ◌∷◌, ◌++◌, [], List, not, sub
 use Rattle.std.specs.Prelude.{filter, true}
 use Rattle.folders.specs.declared.folder.Held.{Held}
 use Rattle.folders.specs.Files.{is_named, distinct}
-use Rattle.folders.proofs.Filing.{puts_new, distinct_new}
+use Rattle.folders.proofs.PutFiles.{puts_new, distinct_new}
 use Rattle.folders.proofs.mem_folder.replace_file.Goals as goal
 
 pub returns-clause-put : goal.returns-clause-put

@@ -1,6 +1,6 @@
 use Rattle.std.proofs.Common.{◌≡◌, ℕ, List, Result, Ok, sym, ◌∙◌}
 use Rattle.small_types.specs.declared.name.NameFault.{NameFault}
-use Rattle.small_types.proofs.Spelling.{read_again}
+use Rattle.small_types.proofs.Spelled.{read_again}
 use Rattle.publish_plan.proofs.PathLemmas.{never_bad}
 use Rattle.generated_release.proofs.files.name_of.Goals as goal
 

@@ -1,5 +1,5 @@
 use Rattle.std.proofs.Common.{◌≡◌, ◌⊎◌, inl, inr, sym, ◌∙◌, subst, List, ℕ}
-use Rattle.inspection.specs.declared.manifest.End.TheVariants as ends
+use Rattle.inspection.specs.declared.manifest.InspectionEnd.TheVariants as ends
 use Rattle.inspection.specs.Inspection.{Says}
 use Rattle.inspection.proofs.manifest.inspect.Goals as goal
 

@@ -1,4 +1,4 @@
-use Rattle.install_plan.proofs.Knowing.{known_by, never_checked, never_offered, never_then}
+use Rattle.install_plan.proofs.KnownNotes.{known_by, never_checked, never_offered, never_then}
 use Rattle.install_plan.proofs.check.is_known.Goals as goal
 
 pub returns-then-not-app : goal.returns-then-not-app

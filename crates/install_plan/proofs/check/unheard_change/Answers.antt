@@ -1,7 +1,7 @@
 use Rattle.std.proofs.Common.{◌∙◌, inr, refl, sym, ap}
 use Rattle.identity.specs.declared.key.Key.{Key}
 use Rattle.store_state.specs.declared.change.Change.TheVariants as change
-use Rattle.install_plan.proofs.Knowing.{checked_differs, checked_stays}
+use Rattle.install_plan.proofs.KnownNotes.{checked_differs, checked_stays}
 use Rattle.install_plan.proofs.check.unheard_change.Goals as goal
 
 pub returns-then-app : goal.returns-then-app

@@ -1,4 +1,4 @@
-use Rattle.install_plan.proofs.Ungrouping.{no_files}
+use Rattle.install_plan.proofs.UngroupedFiles.{no_files}
 use Rattle.install_plan.proofs.group.files_of.Goals as goal
 
 pub returns-in-Err-clause-refused : goal.returns-in-Err-clause-refused

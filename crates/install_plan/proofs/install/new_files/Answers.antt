@@ -1,42 +1,26 @@
-use Rattle.std.proofs.Common.{◌≡◌, ◌∙◌, List, ap, length, map, subst, sym, Option}
+use Rattle.std.proofs.Common.{◌≡◌, ◌∙◌, List, ap, length, map, refl, sym, arith}
 use Rattle.manifests.specs.declared.facts.FileEntry.{FileEntry}
-use Rattle.store_state.specs.Rows.{current_row}
-use Rattle.install_plan.specs.Carried.{row_locals}
-use Rattle.install_plan.specs.Changes.{AreShort, data_part, deployed_local, plan_contents, plan_locals, plan_originals, program_part}
+use Rattle.machine.specs.Wanted.{wanted}
+use Rattle.store_state.specs.Tables.{bare_row}
 use Rattle.install_plan.specs.declared.plan.WantedFile.{WantedFile}
-use Rattle.install_plan.proofs.Parting.{change_is, locals_made, places_are}
-use Rattle.install_plan.proofs.Sources.{taken_there}
+use Rattle.install_plan.specs.Changes.{listed_at}
+use Rattle.install_plan.proofs.NewBlocks.{all_blocks}
+use Rattle.install_plan.proofs.FetchedSplit.{places_are}
+use Rattle.install_plan.proofs.Sources.{as_many}
+use Rattle.install_plan.specs.InstallDrafts.{drafted_contents}
 use Rattle.install_plan.proofs.install.new_files.Goals as goal
 
-pub parts_of-requires : goal.parts_of-requires
-parts_of-requires c = record {
-  each = c.requires.contents.each ∙ sym (ap (λ (ws : List WantedFile). length ws) c.as_slice.ensures);
-}
-
-pub moved_locals-requires : goal.moved_locals-requires
-moved_locals-requires c =
+pub returns-in-Ok-place_data-clause-blocks : goal.returns-in-Ok-place_data-clause-blocks
+returns-in-Ok-place_data-clause-blocks c =
     let plan = c.args.plan.now in
-    let places = places_are plan.application.files c.as_slice-files.result.now plan.wanted c.as_slice.result.now c.as_slice-files.ensures c.as_slice.ensures in
-    record {
-      there = taken_there c.args.state.now plan c.args.contents c.requires.contents c.in-Ok-plans_of.plans c.as_slice-2.result.now c.old_locals-old.result.now c.as_slice-fetched.result.now
-          c.in-Ok-plans_of.ensures.plans c.old_locals-old.ensures
-          (c.as_slice-fetched.ensures.value ∙ c.in-Ok.ensures.locals ∙ ap (λ (os : List (Option FileEntry)). map deployed_local (data_part os c.args.contents)) places)
-          c.as_slice-2.ensures;
-    }
-
-pub returns-in-Ok-moved_locals-clause-made : goal.returns-in-Ok-moved_locals-clause-made
-returns-in-Ok-moved_locals-clause-made c = λ now.
-    let plan = c.args.plan.now in
-    let plans = c.in-Ok-plans_of.plans in
-    let places = places_are plan.application.files c.as_slice-files.result.now plan.wanted c.as_slice.result.now c.as_slice-files.ensures c.as_slice.ensures in
-    let locals : c.in-Ok-moved_locals.locals ≡ plan_locals c.args.state.now plan plans c.args.contents = locals_made (row_locals (current_row plan.deployment.identity.key c.args.state.now)) c.old_locals-old.result.now (plan_originals plan c.args.contents) c.as_slice-fetched.result.now
-    plans c.as_slice-2.result.now c.in-Ok-moved_locals.locals c.old_locals-old.ensures
-    (c.as_slice-fetched.ensures.value ∙ c.in-Ok.ensures.locals ∙ ap (λ (os : List (Option FileEntry)). map deployed_local (data_part os c.args.contents)) places)
-    c.as_slice-2.ensures c.in-Ok-moved_locals.ensures.made in
-    let programs : c.from_vec.result ≡ plan_contents plan c.args.contents = c.from_vec.ensures ∙ c.in-Ok.ensures.programs ∙ ap (λ (os : List (Option FileEntry)). program_part os c.args.contents) places in
-    record {
-      plans = plans;
-      are = c.in-Ok-plans_of.ensures.plans;
-      short = subst AreShort locals c.in-Ok-moved_locals.ensures.short;
-      is = change_is c.args.state.now plan plans c.args.contents now c.in-Ok-moved_locals.locals c.from_vec.result locals programs;
-    }
+    let entries = wanted (map bare_row c.args.state.now.views) plan.application in
+    let wanted_is : length c.as_slice-wanted.result.now ≡ length plan.wanted = ap (λ (ws : List WantedFile). length ws) c.as_slice-wanted.ensures in
+    let contents = drafted_contents plan c.args.drafts.now in
+    let counted : length entries ≡ length c.as_slice-wanted.result.now = sym (as_many c.args.state.now plan contents c.requires.contents) ∙ c.requires.contents.each ∙ sym wanted_is in
+    let all_is : length c.as_slice-all.result.now ≡ length c.args.drafts.now = ap length c.as_slice-all.ensures in
+    let each = c.requires.each in
+    all_blocks entries (listed_at c.as_slice-listed.result.now c.as_slice-wanted.result.now) (length c.as_slice-wanted.result.now) c.as_slice-all.result.now c.args.drafts.now _ c.in-Ok.contents c.from_vec.result c.in-Ok-parts_of.parts.programs.items
+    c.in-Ok-parts_of.parts.locals.items c.in-Ok-place_data.placed.locals c.in-Ok-place_data.placed.taken c.in-Ok-place_data.placed.unused
+    (places_are plan.application.files c.as_slice-listed.result.now plan.wanted c.as_slice-wanted.result.now c.as_slice-listed.ensures c.as_slice-wanted.ensures ∙ c.requires.contents.places)
+    counted (omega (arith, wanted_is, all_is, each)) c.in-Ok.ensures.contents c.in-Ok-parts_of.ensures.programs c.from_vec.ensures c.in-Ok-parts_of.ensures.locals
+    refl c.in-Ok-place_data.ensures.blocks c.in-Ok-place_data.ensures.taken c.as_slice-all.ensures

@@ -1,5 +1,5 @@
 use Rattle.std.proofs.Common.{◌∙◌, ap}
-use Rattle.install_plan.specs.Carried.{row_locals}
+use Rattle.store_state.specs.Rows.{row_locals}
 use Rattle.install_plan.proofs.install.old_locals.Goals as goal
 
 pub returns-in-Some : goal.returns-in-Some

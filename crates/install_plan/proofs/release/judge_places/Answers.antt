@@ -7,7 +7,7 @@ use Rattle.machine.specs.declared.reply.Reply.TheVariants as says
 use Rattle.machine.specs.Blocks.{blocks_of, standing_files}
 use Rattle.machine.specs.Wanted.{wanted_beside}
 use Rattle.store_state.specs.Tables.{bare_row, table_shape}
-use Rattle.install_plan.proofs.Fitting.{need_is}
+use Rattle.install_plan.proofs.NeededBlocks.{need_is}
 use Rattle.install_plan.proofs.Released.{by_files, by_identity, by_room, by_wants, released}
 use Rattle.install_plan.proofs.release.judge_places.Goals as goal
 

@@ -1,5 +1,5 @@
 use Rattle.std.proofs.Common.{◌∙◌}
-use Rattle.install_plan.proofs.Joining.{base_refused, has_some, joined_places, joined_refused}
+use Rattle.install_plan.proofs.BesideBase.{base_refused, has_some, joined_places, joined_refused}
 use Rattle.install_plan.proofs.wanted.wanted_files.Goals as goal
 
 pub returns-in-Err-clause-refused : goal.returns-in-Err-clause-refused

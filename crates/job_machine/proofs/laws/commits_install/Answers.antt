@@ -1,4 +1,4 @@
-use Rattle.job_machine.proofs.Committing.{committed, committed_files}
+use Rattle.job_machine.proofs.CommitInstalls.{committed, committed_files}
 use Rattle.job_machine.proofs.laws.commits_install.Goals as goal
 
 pub returns-clause-install : goal.returns-clause-install

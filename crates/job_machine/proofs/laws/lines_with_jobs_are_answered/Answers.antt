@@ -1,4 +1,4 @@
-use Rattle.job_machine.proofs.JobAnswering.{job_answered}
+use Rattle.job_machine.proofs.JobAnswers.{job_answered}
 use Rattle.job_machine.proofs.LinesBeside.{answered_beside}
 use Rattle.job_machine.proofs.laws.lines_with_jobs_are_answered.Goals as goal
 

@@ -1,4 +1,4 @@
-use Rattle.machine.proofs.Choosing.{one_refuses}
+use Rattle.machine.proofs.FirstRefusal.{one_refuses}
 use Rattle.job_machine.specs.Sessions.{job_refusals}
 use Rattle.job_machine.proofs.Exactness.{rows_exact}
 use Rattle.job_machine.proofs.laws.one_job_refusal_is_given.Goals as goal

@@ -2,7 +2,7 @@ use Rattle.std.proofs.Common.{◌∙◌, ap, length, [], ◌∷◌}
 use Rattle.small_types.specs.Bytes.{put}
 use Rattle.journal.specs.Format.{IsFilled}
 use Rattle.journal.proofs.NewJournal.{put_empty}
-use Rattle.journal.proofs.Making.{one_call, more_calls, fewer_left, fill_old, fill_first, fill_second}
+use Rattle.journal.proofs.SyncedCalls.{one_call, more_calls, fewer_left, fill_old, fill_first, fill_second}
 use Rattle.journal.proofs.format.fill.Goals as goal
 
 pub returns-in_err-write_at-2-clause-any_moment : goal.returns-in_err-write_at-2-clause-any_moment

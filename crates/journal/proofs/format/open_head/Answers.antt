@@ -1,7 +1,7 @@
 use Rattle.std.proofs.Common.{◌∙◌}
 use Rattle.journal.specs.Format.{IsNewOrNone}
 use Rattle.journal.proofs.NewJournal.{opened_head}
-use Rattle.journal.proofs.Making.{one_call, more_calls, fewer_left, head_old, head_new}
+use Rattle.journal.proofs.SyncedCalls.{one_call, more_calls, fewer_left, head_old, head_new}
 use Rattle.journal.proofs.format.open_head.Goals as goal
 
 pub returns-in_err-write_at-clause-any_moment : goal.returns-in_err-write_at-clause-any_moment

@@ -1,4 +1,4 @@
-use Rattle.journal.proofs.Blocks.{each_journal, still_open, open_outside, journal_stays, uses}
+use Rattle.journal.proofs.Blocks.{each_journal, still_open, open_before, open_outside, journal_stays, uses}
 use Rattle.journal.proofs.laws.an_open_log_stays_open.Goals as goal
 
 pub returns-clause-used : goal.returns-clause-used
@@ -15,3 +15,6 @@ returns-clause-behind g c = λ log blocks tables changes old new place n late ru
   opened = open_outside g.D.Disk log blocks tables changes old new place n late run is_open;
   each = journal_stays g.D.Disk log blocks tables changes old new place n late run is_open;
 }
+
+pub returns-clause-front : goal.returns-clause-front
+returns-clause-front g c = λ log blocks tables changes old new place late run is_open. open_before g.D.Disk log blocks tables changes old new place late run is_open

@@ -6,7 +6,7 @@ use Rattle.journal.specs.declared.read.Step.{Step}
 use Rattle.journal.specs.declared.read.Step.TheVariants.{Change, Broken}
 use Rattle.journal.specs.Layout.{part_at, entry_of, AreSmall}
 use Rattle.journal.specs.Steps.{AreFirstOf, IsStepAt, IsStepWithin}
-use Rattle.journal.proofs.EntryReading.{entries_more, entries_broken}
+use Rattle.journal.proofs.EntryReads.{entries_more, entries_broken}
 use Rattle.journal.proofs.read.read_changes.Goals as goal
 
 pub entries-preserved : goal.entries-preserved

@@ -2,9 +2,9 @@ use Rattle.std.proofs.Common.{◌≡◌, ◌≢◌, get_or, ◌⊎◌, ◌≤◌
 use Rattle.std.proofs.lemmas.Grind.{common_steps}
 use Rattle.journal.specs.Layout.{part_at}
 use Rattle.journal.specs.Steps.{AreFirstOf}
-use Rattle.journal.proofs.Reading.{short_part}
+use Rattle.journal.proofs.PartReads.{short_part}
 use Rattle.journal.proofs.Halves.{cut_short}
-use Rattle.journal.proofs.EntryReading.{entry_step, cut_step, end_step, broken_step, last_step_is}
+use Rattle.journal.proofs.EntryReads.{entry_step, cut_step, end_step, broken_step, last_step_is}
 use Rattle.journal.proofs.read.read_entry.Goals as goal
 
 pub returns-in_default-clause-step : goal.returns-in_default-clause-step

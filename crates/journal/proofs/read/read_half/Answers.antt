@@ -1,8 +1,8 @@
 use Rattle.std.proofs.Common.{◌≡◌, ◌+◌, arith, refl, sym, ap, subst, ℕ, List, length, drop}
 use Rattle.journal.specs.Layout.{part_at}
 use Rattle.journal.specs.Steps.{AreFirstOf, TablesAt, AtGate, NoEntries}
-use Rattle.journal.proofs.Reading.{short_part}
-use Rattle.journal.proofs.EntryReading.{found_half, no_half}
+use Rattle.journal.proofs.PartReads.{short_part}
+use Rattle.journal.proofs.EntryReads.{found_half, no_half}
 use Rattle.journal.proofs.read.read_half.Goals as goal
 
 pub returns-in_default-clause-none : goal.returns-in_default-clause-none

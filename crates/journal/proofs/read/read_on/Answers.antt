@@ -1,7 +1,7 @@
 use Rattle.std.proofs.Common.{◌≡◌, ◌≤◌, ◌<◌, ◌+◌, ◌-◌, ◌++◌, inr, ℕ, length, drop, ap, ◌∙◌, arith, length-take}
 use Rattle.std.proofs.lemmas.Grind.{common_steps}
 use Rattle.disks.proofs.MomentLemmas.{untouched_more}
-use Rattle.journal.proofs.Reading.{read_more, read_none, grown_long}
+use Rattle.journal.proofs.PartReads.{read_more, read_none, grown_long}
 use Rattle.journal.proofs.read.read_on.Goals as goal
 
 pub loop-bytes-preserved : goal.loop-bytes-preserved

@@ -1,5 +1,5 @@
 use Rattle.journal.specs.Layout.{part_at}
-use Rattle.journal.proofs.Reading.{read_whole, short_part, first_none}
+use Rattle.journal.proofs.PartReads.{read_whole, short_part, first_none}
 use Rattle.journal.proofs.read.read_part.Goals as goal
 
 pub returns-clause-bytes : goal.returns-clause-bytes

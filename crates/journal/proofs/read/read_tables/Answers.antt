@@ -2,7 +2,7 @@ use Rattle.std.proofs.Common.{◌≡◌, ◌⊎◌, ◌≤◌, ◌<◌, ◌+◌,
 use Rattle.std.proofs.lemmas.Grind.{common_steps}
 use Rattle.journal.specs.Layout.{part_at, long_bytes}
 use Rattle.journal.specs.Steps.{AreFirstOf}
-use Rattle.journal.proofs.Reading.{first_none, short_part}
+use Rattle.journal.proofs.PartReads.{first_none, short_part}
 use Rattle.journal.proofs.Halves.{tables_at, no_tables_short, no_tables_long, cut_short}
 use Rattle.journal.proofs.read.read_tables.Goals as goal
 

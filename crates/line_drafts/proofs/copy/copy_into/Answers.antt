@@ -1,5 +1,5 @@
 use Rattle.file_store.specs.Stores.{draft_blocks, store_base}
-use Rattle.file_store.proofs.Writing.{only_start}
+use Rattle.file_store.proofs.BlockWrites.{only_start}
 use Rattle.line_drafts.proofs.copy.copy_into.Goals as goal
 
 pub returns-in-Err-clause-only : goal.returns-in-Err-clause-only

@@ -1,4 +1,4 @@
-use Rattle.machine.proofs.Checking.{made_counts, one_effect, shows_held}
+use Rattle.machine.proofs.DueChecks.{made_counts, one_effect, shows_held}
 use Rattle.machine.proofs.check_laws.checks_count.Goals as goal
 
 pub returns-clause-show : goal.returns-clause-show

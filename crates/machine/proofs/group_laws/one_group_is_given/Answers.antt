@@ -1,5 +1,5 @@
 use Rattle.machine.proofs.GroupStands.{group_answered, group_one}
-use Rattle.machine.proofs.Weaving.{one_order}
+use Rattle.machine.proofs.Woven.{one_order}
 use Rattle.machine.proofs.group_laws.one_group_is_given.Goals as goal
 
 pub returns-clause-reply : goal.returns-clause-reply

@@ -1,4 +1,4 @@
-use Rattle.machine.proofs.Migrating.{migration, one_migration}
+use Rattle.machine.proofs.OneMigration.{migration, one_migration}
 use Rattle.machine.proofs.install_laws.migrations_are_one.Goals as goal
 
 pub returns-clause-one : goal.returns-clause-one

@@ -1,4 +1,4 @@
-use Rattle.machine.proofs.Wanting.{are_wanted}
+use Rattle.machine.proofs.WantedFiles.{are_wanted}
 use Rattle.machine.proofs.install_laws.wanted_files_suffice.Goals as goal
 
 pub returns : goal.returns

@@ -1,4 +1,4 @@
-use Rattle.machine.proofs.Counting.{distinct_are_kept, distinct_differ, distinct_have_all, rounded_up}
+use Rattle.machine.proofs.DistinctFiles.{distinct_are_kept, distinct_differ, distinct_have_all, rounded_up}
 use Rattle.machine.proofs.laws.blocks_are_counted.Goals as goal
 
 pub returns-clause-contents : goal.returns-clause-contents

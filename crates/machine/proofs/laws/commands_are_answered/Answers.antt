@@ -1,4 +1,4 @@
-use Rattle.machine.proofs.Answering.{answered, stepped}
+use Rattle.machine.proofs.Answered.{answered, stepped}
 use Rattle.machine.proofs.laws.commands_are_answered.Goals as goal
 
 pub returns-clause-commands : goal.returns-clause-commands

@@ -1,4 +1,4 @@
-use Rattle.machine.proofs.Entering.{order-with_entry}
+use Rattle.machine.proofs.EntryOrder.{order-with_entry}
 use Rattle.machine.proofs.laws.entries_stay_in_order.Goals as goal
 
 pub returns : goal.returns

@@ -1,4 +1,4 @@
-use Rattle.machine.proofs.Raising.{minimum_shown}
+use Rattle.machine.proofs.RaisedMinimums.{minimum_shown}
 use Rattle.machine.proofs.laws.minimums_are_shown.Goals as goal
 
 pub returns : goal.returns

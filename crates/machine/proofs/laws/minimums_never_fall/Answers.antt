@@ -1,4 +1,4 @@
-use Rattle.machine.proofs.Rising.{run_holds}
+use Rattle.machine.proofs.HeldMinimums.{run_holds}
 use Rattle.machine.proofs.laws.minimums_never_fall.Goals as goal
 
 pub returns : goal.returns

@@ -1,4 +1,4 @@
-use Rattle.machine.proofs.Setting.{at_sets, moment_few, others_leave}
+use Rattle.machine.proofs.SetMoments.{at_sets, moment_few, others_leave}
 use Rattle.machine.proofs.laws.moments_are_set.Goals as goal
 
 pub returns-clause-set : goal.returns-clause-set

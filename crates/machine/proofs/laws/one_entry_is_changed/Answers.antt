@@ -1,4 +1,4 @@
-use Rattle.machine.proofs.Entering.{entry_of-other, entry_of-with_entry}
+use Rattle.machine.proofs.EntryOrder.{entry_of-other, entry_of-with_entry}
 use Rattle.machine.proofs.laws.one_entry_is_changed.Goals as goal
 
 pub returns-clause-made : goal.returns-clause-made

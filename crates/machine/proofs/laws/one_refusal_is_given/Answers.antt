@@ -1,5 +1,5 @@
 use Rattle.machine.specs.Machine.{refusals}
-use Rattle.machine.proofs.Choosing.{none_refuses, one_refuses}
+use Rattle.machine.proofs.FirstRefusal.{none_refuses, one_refuses}
 use Rattle.machine.proofs.InstallExact.{address_exact, deployment_exact, release_exact}
 use Rattle.machine.proofs.CheckFacts.{check_exact}
 use Rattle.machine.proofs.FinishFacts.{finish_exact}

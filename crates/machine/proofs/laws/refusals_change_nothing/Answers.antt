@@ -1,7 +1,7 @@
 use Rattle.std.proofs.Common.{refl}
 use Rattle.machine.specs.Machine.{refusals}
 use Rattle.machine.proofs.CheckFacts.{check_refused}
-use Rattle.machine.proofs.Choosing.{unchanged_at}
+use Rattle.machine.proofs.FirstRefusal.{unchanged_at}
 use Rattle.machine.proofs.GroupFacts.{group_unchanged}
 use Rattle.machine.proofs.InstallFacts.{install_unchanged}
 use Rattle.machine.proofs.LaunchFacts.{launch_unchanged}

@@ -1,7 +1,7 @@
 use Rattle.std.proofs.Common.{inl, inr}
 use Rattle.machine.specs.Machine.{refusals}
 use Rattle.machine.specs.Shape.{shape_of}
-use Rattle.machine.proofs.Choosing.{first_refused, refused_at}
+use Rattle.machine.proofs.FirstRefusal.{first_refused, refused_at}
 use Rattle.machine.proofs.laws.refusals_come_in_order.Goals as goal
 
 pub returns-clause-answer : goal.returns-clause-answer

@@ -1,5 +1,5 @@
 use Rattle.machine.proofs.Example.{store, used}
-use Rattle.machine.proofs.Keeping.{empty_sound}
+use Rattle.machine.proofs.KeptStores.{empty_sound}
 use Rattle.machine.proofs.Lightness.{least_light}
 use Rattle.machine.proofs.laws.some_stores_are_sound.Goals as goal
 

@@ -1,4 +1,4 @@
-use Rattle.machine.proofs.Stepping.{step_room, step_boot}
+use Rattle.machine.proofs.KeptSteps.{step_room, step_boot}
 use Rattle.machine.proofs.laws.steps_keep_numbers.Goals as goal
 
 pub returns-clause-room : goal.returns-clause-room

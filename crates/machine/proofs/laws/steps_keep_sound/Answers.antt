@@ -1,4 +1,4 @@
-use Rattle.machine.proofs.Stepping.{run_sound, step_sound}
+use Rattle.machine.proofs.KeptSteps.{run_sound, step_sound}
 use Rattle.machine.proofs.laws.steps_keep_sound.Goals as goal
 
 pub returns-clause-steps : goal.returns-clause-steps

@@ -1,5 +1,5 @@
 use Rattle.machine.proofs.LeasesKept.{keeps_leased}
-use Rattle.machine.proofs.Stepping.{run_leases}
+use Rattle.machine.proofs.KeptSteps.{run_leases}
 use Rattle.machine.proofs.lease_laws.leased_views_stay.Goals as goal
 
 pub returns-clause-new : goal.returns-clause-new

@@ -1,4 +1,4 @@
-use Rattle.machine.proofs.Listing.{list_granted, list_is}
+use Rattle.machine.proofs.ShownApps.{list_granted, list_is}
 use Rattle.machine.proofs.life_laws.lists_show_current.Goals as goal
 
 pub returns-clause-rows : goal.returns-clause-rows

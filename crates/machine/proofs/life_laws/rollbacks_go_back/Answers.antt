@@ -1,4 +1,4 @@
-use Rattle.machine.proofs.GoingBack.{excluded_not_due, rollback_granted, rollback_is, rollback_single}
+use Rattle.machine.proofs.RolledBack.{excluded_not_due, rollback_granted, rollback_is, rollback_single}
 use Rattle.machine.proofs.life_laws.rollbacks_go_back.Goals as goal
 
 pub returns-clause-back : goal.returns-clause-back

@@ -1,4 +1,4 @@
-use Rattle.machine.proofs.Listing.{show_granted, show_is}
+use Rattle.machine.proofs.ShownApps.{show_granted, show_is}
 use Rattle.machine.proofs.life_laws.shows_are_of_entries.Goals as goal
 
 pub returns-clause-row : goal.returns-clause-row

@@ -1,4 +1,4 @@
-use Rattle.machine.proofs.Cleaning.{clean_granted, clean_is, removable_unused}
+use Rattle.machine.proofs.CleanedViews.{clean_granted, clean_is, removable_unused}
 use Rattle.machine.proofs.life_laws.used_views_stay.Goals as goal
 
 pub returns-clause-kept : goal.returns-clause-kept

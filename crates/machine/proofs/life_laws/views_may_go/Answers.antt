@@ -1,4 +1,4 @@
-use Rattle.machine.proofs.Leaving.{may_go}
+use Rattle.machine.proofs.LeftView.{may_go}
 use Rattle.machine.proofs.life_laws.views_may_go.Goals as goal
 
 pub returns : goal.returns

@@ -1,4 +1,4 @@
-use Rattle.machine.proofs.Weighing.{groups_weigh, installs_weigh, puts_weigh, requires_weigh}
+use Rattle.machine.proofs.NewWeights.{groups_weigh, installs_weigh, puts_weigh, requires_weigh}
 use Rattle.machine.proofs.weight_laws.new_tables_are_weighed.Goals as goal
 
 pub returns-clause-require : goal.returns-clause-require

@@ -3,7 +3,7 @@ use Rattle.std.specs.Prelude.{codes, decimal}
 use Rattle.std.specs.List.{flat_map}
 use Rattle.identity.specs.Key.{word_text}
 use Rattle.manifest_text.specs.Lines as spec
-use Rattle.manifest_text.proofs.Lengthening.{then, known}
+use Rattle.manifest_text.proofs.LongerTexts.{then, known}
 use Rattle.manifest_text.proofs.facts.write_deployment.Goals as goal
 
 pub returns : goal.returns

@@ -1,6 +1,6 @@
 use Rattle.std.specs.Prelude.{codes}
 use Rattle.manifest_text.specs.Lines as spec
-use Rattle.manifest_text.proofs.Lengthening.{known}
+use Rattle.manifest_text.proofs.LongerTexts.{known}
 use Rattle.manifest_text.proofs.refusal.write_refusal.Goals as goal
 
 pub returns : goal.returns

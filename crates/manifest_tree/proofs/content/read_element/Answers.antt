@@ -1,7 +1,7 @@
 use Rattle.std.proofs.Common.{◌∙◌, ◌∷◌, ◌<◌, ap, sym, refl, Err, length, arith}
 use Rattle.std.proofs.lemmas.Result.{err_from_is_err_and}
 use Rattle.manifest_tree.specs.Pieces.{open_tree, below_of, tag_spot}
-use Rattle.manifest_tree.specs.Reading.{here, placed, finished}
+use Rattle.manifest_tree.specs.Spots.{here, placed, finished}
 use Rattle.manifest_tree.proofs.Steps.{text_stops, only_memory, reads_join, stops_by_after, leads_err, none_left, ok_same, to_spot, opens_long, markup_cut, end_goes, end_fails, markup_lost, start_goes, start_deep}
 use Rattle.manifest_tree.proofs.content.read_element.Goals as goal
 

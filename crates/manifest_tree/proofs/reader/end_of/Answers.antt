@@ -1,6 +1,6 @@
 use Rattle.std.proofs.Common.{◌∙◌, ap, sym, Err}
 use Rattle.std.proofs.lemmas.Result.{err_from_is_err_and}
-use Rattle.manifest_tree.specs.Reading.{here}
+use Rattle.manifest_tree.specs.Spots.{here}
 use Rattle.manifest_tree.proofs.Steps.{leads_err, reads_then, aside_some, aside_none, behind_white, behind_lost, behind_aside, behind_fails, behind_other}
 use Rattle.manifest_tree.proofs.reader.end_of.Goals as goal
 

@@ -1,5 +1,5 @@
 use Rattle.std.proofs.Common.{length}
-use Rattle.manifest_tree.specs.Reading.{Reads, behind}
+use Rattle.manifest_tree.specs.Spots.{Reads, behind}
 use Rattle.manifest_tree.specs.Tree.{Tree}
 use Rattle.manifest_tree.proofs.reader.end_of.Given as goal
 

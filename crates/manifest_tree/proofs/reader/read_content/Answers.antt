@@ -1,6 +1,6 @@
 use Rattle.std.proofs.Common.{◌∙◌, ap, sym, Err, arith}
 use Rattle.std.proofs.lemmas.Result.{err_from_is_err_and}
-use Rattle.manifest_tree.specs.Reading.{here}
+use Rattle.manifest_tree.specs.Spots.{here}
 use Rattle.manifest_tree.specs.Pieces.{spot_of}
 use Rattle.manifest_tree.proofs.Steps.{leads_err, reads_join, stops_by_after, to_spot}
 use Rattle.manifest_tree.proofs.reader.read_content.Goals as goal

@@ -1,5 +1,5 @@
 use Rattle.std.proofs.Common.{◌≤◌, length}
-use Rattle.manifest_tree.specs.Reading.{Reads}
+use Rattle.manifest_tree.specs.Spots.{Reads}
 use Rattle.manifest_tree.specs.Pieces.{spot_of}
 use Rattle.manifest_tree.proofs.reader.read_content.Given as goal
 

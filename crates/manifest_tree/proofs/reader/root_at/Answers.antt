@@ -1,6 +1,6 @@
 use Rattle.std.proofs.Common.{◌∙◌, ap, sym, Err, arith}
 use Rattle.std.proofs.lemmas.Result.{err_from_is_err_and}
-use Rattle.manifest_tree.specs.Reading.{here}
+use Rattle.manifest_tree.specs.Spots.{here}
 use Rattle.manifest_tree.proofs.Steps.{leads_err, reads_then, none_left, aside_some, aside_none, some_shorter, before_white, before_lost, before_cut, before_apart, before_fails, before_root, before_unnamed}
 use Rattle.manifest_tree.proofs.reader.root_at.Goals as goal
 

@@ -1,5 +1,5 @@
 use Rattle.std.proofs.Common.{◌≤◌, length}
-use Rattle.manifest_tree.specs.Reading.{Reads, before}
+use Rattle.manifest_tree.specs.Spots.{Reads, before}
 use Rattle.manifest_tree.proofs.reader.root_at.Given as goal
 
 abbrev pub invariant-loop-first : goal.invariant-loop-first

@@ -5,7 +5,7 @@ use Rattle.manifest_tree.proofs.Flat.{spelled_read, one_tree_read, read_stops}
 use Rattle.manifest_tree.proofs.Nested.{read_spells}
 use Rattle.manifest_tree.proofs.Texts.{texts_are}
 use Rattle.manifest_tree.specs.Outcome.{StopsBy}
-use Rattle.manifest_tree.specs.Reading.{start}
+use Rattle.manifest_tree.specs.Spots.{start}
 use Rattle.manifest_tree.proofs.reader.tree_in.Goals as goal
 
 pub returns-in-Ok-clause-spelled : goal.returns-in-Ok-clause-spelled

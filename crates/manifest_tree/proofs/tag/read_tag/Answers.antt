@@ -1,7 +1,7 @@
 use Rattle.std.proofs.Common.{sym, subst, ◌∙◌, ap, Err, arith, ◌∷◌, [], ◌++◌}
 use Rattle.std.proofs.lemmas.Result.{err_from_is_err_and}
 use Rattle.std.specs.Str.{IsUtf8}
-use Rattle.manifest_tree.specs.Reading.{here}
+use Rattle.manifest_tree.specs.Spots.{here}
 use Rattle.manifest_tree.specs.Lexis.{name_byte, past, name_at}
 use Rattle.manifest_tree.proofs.Steps.{text_stops, memory_stops, reads_join, stops_by_after, leads_err, ok_is, tag_begun, tag_fails, tag_opens, tag_closes, tag_attribute, tag_pushed}
 use Rattle.manifest_tree.specs.Pieces.{HasLate}

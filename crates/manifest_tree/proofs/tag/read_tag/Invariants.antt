@@ -1,6 +1,6 @@
 use Rattle.std.proofs.Common.{◌≤◌, List, [], length}
 use Rattle.manifest_tree.specs.Lexis.{name_byte, past, name_at}
-use Rattle.manifest_tree.specs.Reading.{OpenTree, Reads, in_tag}
+use Rattle.manifest_tree.specs.Spots.{OpenTree, Reads, in_tag}
 use Rattle.manifest_tree.specs.Pieces.{HasLate}
 use Rattle.manifest_tree.proofs.tag.read_tag.Given as goal
 

@@ -1,6 +1,6 @@
 use Rattle.std.proofs.Common.{Err, ap, ◌∙◌, arith}
 use Rattle.std.proofs.lemmas.Result.{err_from_is_err_and}
-use Rattle.manifest_tree.specs.Reading.{with_text}
+use Rattle.manifest_tree.specs.Spots.{with_text}
 use Rattle.manifest_tree.specs.Pieces.{piece_of}
 use Rattle.manifest_tree.proofs.Steps.{leads_err, ok_is, none_left, data_none, data_more, data_fails, data_cut}
 use Rattle.manifest_tree.proofs.Spans.{text_run}

@@ -1,5 +1,5 @@
 use Rattle.std.proofs.Common.{◌≤◌, List, length}
-use Rattle.manifest_tree.specs.Reading.{OpenTree, Reads, inside, with_text}
+use Rattle.manifest_tree.specs.Spots.{OpenTree, Reads, inside, with_text}
 use Rattle.manifest_tree.proofs.units.read_data.Given as goal
 
 abbrev pub invariant-loop-first : goal.invariant-loop-first

@@ -1,6 +1,6 @@
 use Rattle.std.proofs.Common.{◌≤◌, ℕ, List, [], length}
 use Rattle.manifest_tree.specs.declared.node.Attribute.{Attribute}
-use Rattle.manifest_tree.specs.Reading.{OpenTree, Reads, in_value}
+use Rattle.manifest_tree.specs.Spots.{OpenTree, Reads, in_value}
 use Rattle.manifest_tree.proofs.units.read_value.Given as goal
 
 abbrev pub invariant-loop-first : goal.invariant-loop-first

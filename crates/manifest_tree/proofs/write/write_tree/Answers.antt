@@ -1,7 +1,7 @@
 use Rattle.std.proofs.Common.{◌≡◌, ◌<◌, ◌≤◌, ℕ, List, length, sym, ap, subst, ◌∙◌, arith}
 use Rattle.manifest_tree.specs.Grammar.{SpellsTree}
 use Rattle.manifest_tree.specs.Tree.{tree_of}
-use Rattle.manifest_tree.specs.Writing.{counted, written}
+use Rattle.manifest_tree.specs.WrittenText.{counted, written}
 use Rattle.manifest_tree.proofs.Pushes.{counted_least, counted_within}
 use Rattle.manifest_tree.proofs.Written.{length-written, spells}
 use Rattle.manifest_tree.proofs.write.write_tree.Goals as goal

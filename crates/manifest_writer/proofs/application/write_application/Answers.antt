@@ -1,6 +1,6 @@
 use Rattle.std.proofs.Common.{ap, ◌∙◌, List, subst}
 use Rattle.std.specs.Prelude.{All}
-use Rattle.manifest_tree.specs.Writing.{is_element}
+use Rattle.manifest_tree.specs.WrittenText.{is_element}
 use Rattle.manifests.specs.declared.facts.FileEntry.{FileEntry}
 use Rattle.manifest_writer.specs.Held.{IsHeldFile}
 use Rattle.manifests.specs.Applications.{application_of}

@@ -1,5 +1,5 @@
 use Rattle.std.proofs.Common.{ap, ◌∙◌}
-use Rattle.manifest_tree.specs.Writing.{is_element}
+use Rattle.manifest_tree.specs.WrittenText.{is_element}
 use Rattle.manifests.specs.Deployments.{deployment_of}
 use Rattle.manifest_tree.specs.Tree.{tree_of}
 use Rattle.manifest_writer.proofs.ReadDeployments.{deployment_read}

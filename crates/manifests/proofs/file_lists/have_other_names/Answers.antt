@@ -2,7 +2,7 @@ use Rattle.std.proofs.Common.{◌≡◌, true, false, List, take, refl, sym, ap,
 use Rattle.std.specs.BTreeSet.{contains_text}
 use Rattle.manifests.specs.declared.facts.FileEntry.{FileEntry}
 use Rattle.manifests.specs.Applications.{is_taken}
-use Rattle.manifests.proofs.Differing.{next_is, differ_next, same_name, differ_all}
+use Rattle.manifests.proofs.TakenNames.{next_is, differ_next, same_name, differ_all}
 use Rattle.manifests.proofs.KnownFiles.{names_more}
 use Rattle.manifests.proofs.file_lists.have_other_names.Goals as goal
 

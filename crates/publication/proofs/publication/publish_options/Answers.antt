@@ -1,4 +1,4 @@
-use Rattle.publication.proofs.Ending.{folder_quiet, read_rose, write_rose}
+use Rattle.publication.proofs.EndCounts.{folder_quiet, read_rose, write_rose}
 use Rattle.publication.proofs.publication.publish_options.Goals as goal
 
 pub returns-clause-done : goal.returns-clause-done

@@ -1,6 +1,6 @@
 use Rattle.std.proofs.Common.{◌≡◌, ℕ, List, Result, Ok, sym, ◌∙◌}
 use Rattle.small_types.specs.declared.name.NameFault.{NameFault}
-use Rattle.small_types.proofs.Spelling.{read_again}
+use Rattle.small_types.proofs.Spelled.{read_again}
 use Rattle.publish_plan.proofs.PathLemmas.{never_bad}
 use Rattle.publish_plan.proofs.places.name_from.Goals as goal
 

@@ -1,4 +1,4 @@
-use Rattle.publisher.proofs.Counting.{counted_after}
+use Rattle.publisher.proofs.FaultCounts.{counted_after}
 use Rattle.publisher.proofs.TwoReadings.{copied, never_other}
 use Rattle.publisher.proofs.copies.copy_file.Goals as goal
 

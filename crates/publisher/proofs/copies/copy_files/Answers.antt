@@ -2,8 +2,8 @@ use Rattle.std.proofs.Common.{◌≡◌, ◌<◌, ◌≤◌, length, arith, ap, 
 use Rattle.publisher.specs.Faults.{IsDevice}
 use Rattle.publisher.specs.Publication.{bytes_in, entry_in, entry_of}
 use Rattle.publisher.specs.Readings.{ReadsChange}
-use Rattle.publisher.proofs.Entering.{entries_long, entry_at, entry_is}
-use Rattle.publisher.proofs.Giving.{err_handed_on}
+use Rattle.publisher.proofs.EntryReads.{entries_long, entry_at, entry_is}
+use Rattle.publisher.proofs.Outcomes.{err_handed_on}
 use Rattle.publisher.proofs.NewNames.{still_new}
 use Rattle.publisher.proofs.SecondReads.{bytes_kept, copy_more}
 use Rattle.publisher.proofs.TwoReadings.{puts_more, shows_change}

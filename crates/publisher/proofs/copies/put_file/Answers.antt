@@ -1,4 +1,4 @@
-use Rattle.publisher.proofs.Counting.{putting_counted, writing_is}
+use Rattle.publisher.proofs.FaultCounts.{putting_counted, writing_is}
 use Rattle.publisher.proofs.copies.put_file.Goals as goal
 
 pub returns-in-Err-clause-writing : goal.returns-in-Err-clause-writing

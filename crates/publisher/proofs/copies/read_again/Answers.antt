@@ -1,5 +1,5 @@
 use Rattle.publisher.specs.Readings.{ShowsOther}
-use Rattle.publisher.proofs.Giving.{err_handed_on}
+use Rattle.publisher.proofs.Outcomes.{err_handed_on}
 use Rattle.publisher.proofs.TwoReadings.{change_other, reading_other, reads_as}
 use Rattle.publisher.proofs.copies.read_again.Goals as goal
 

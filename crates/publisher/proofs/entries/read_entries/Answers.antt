@@ -1,11 +1,11 @@
 use Rattle.std.proofs.Common.{◌≡◌, ◌+◌, ◌<◌, ◌≤◌, List, [], ◌∷◌, ◌++◌, Ok, length, drop, take, arith, ap, sym, subst, ◌∙◌}
-use Rattle.small_types.specs.Reading.{◌>>=◌}
+use Rattle.small_types.specs.Outcome.{◌>>=◌}
 use Rattle.folders.specs.declared.folder.Held.{Held}
 use Rattle.manifests.specs.declared.facts.FileEntry.{FileEntry}
 use Rattle.publisher.specs.Entries.{AreEntries}
 use Rattle.publisher.specs.Readings.{ReadsEach}
 use Rattle.publisher.specs.Publication.{read_entries, read_entry}
-use Rattle.publisher.proofs.Entering.{AreBehind, behind, behind_all, behind_more, entries_more}
+use Rattle.publisher.proofs.EntryReads.{AreBehind, behind, behind_all, behind_more, entries_more}
 use Rattle.publisher.proofs.TwoReadings.{reads_all, reads_more}
 use Rattle.publisher.proofs.entries.read_entries.Goals as goal
 

@@ -1,8 +1,8 @@
 use Rattle.std.proofs.Common.{◌≡◌, ◌≤◌, drop, take}
-use Rattle.small_types.specs.Reading.{◌>>=◌}
+use Rattle.small_types.specs.Outcome.{◌>>=◌}
 use Rattle.publisher.specs.Publication.{read_entries}
 use Rattle.publisher.specs.Readings.{ReadsEach}
-use Rattle.publisher.proofs.Entering.{behind, AreBehind}
+use Rattle.publisher.proofs.EntryReads.{behind, AreBehind}
 use Rattle.publisher.proofs.entries.read_entries.Given as goal
 
 abbrev pub invariant-loop-file : goal.invariant-loop-file

@@ -2,8 +2,8 @@ use Rattle.std.proofs.Common.{◌≡◌, ℕ, ◌≤◌, List, length, Err, ap, 
 use Rattle.manifests.specs.Applications.{size_limit}
 use Rattle.publisher.specs.declared.fault.PublishFault.TheVariants.{FileTooLong}
 use Rattle.publisher.specs.Publication.{bytes_in, entry_of, read_entry}
-use Rattle.publisher.proofs.Entering.{read_long, read_short}
-use Rattle.publisher.proofs.Giving.{gives_last, last_ok}
+use Rattle.publisher.proofs.EntryReads.{read_long, read_short}
+use Rattle.publisher.proofs.Outcomes.{gives_last, last_ok}
 use Rattle.publisher.proofs.TwoReadings.{entry_read_so}
 use Rattle.publisher.proofs.entries.read_entry.Goals as goal
 

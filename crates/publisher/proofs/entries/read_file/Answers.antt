@@ -1,6 +1,6 @@
 use Rattle.std.proofs.Common.{ap, sym, ◌∙◌}
 use Rattle.publisher.specs.Readings.{given_bytes}
-use Rattle.publisher.proofs.Counting.{reading_counted, reading_is}
+use Rattle.publisher.proofs.FaultCounts.{reading_counted, reading_is}
 use Rattle.publisher.proofs.TwoReadings.{read_given}
 use Rattle.publisher.proofs.entries.read_file.Goals as goal
 

@@ -7,7 +7,7 @@ use Rattle.std.specs.Ordering.{nat_cmp}
 use Rattle.std.specs.Str.{bytes_eq}
 use Rattle.std.proofs.lemmas.List.Filters.{dedup_is}
 use Rattle.std.proofs.lemmas.List.Kept.{IsStrictlySortedBy-dedup}
-use Rattle.folders.proofs.Sorting.{all_kept}
+use Rattle.folders.proofs.SortedNames.{all_kept}
 use Rattle.publisher.proofs.names.in_order.Goals as goal
 
 pub returns-clause-ascending : goal.returns-clause-ascending

@@ -1,7 +1,7 @@
 use Rattle.std.proofs.Common.{◌∷◌, []}
 use Rattle.folders.specs.declared.answer.FolderAnswer.TheVariants.{Listed}
-use Rattle.folders.proofs.Sorting.{names_in_order}
-use Rattle.publisher.proofs.Counting.{reading_counted, reading_is}
+use Rattle.folders.proofs.SortedNames.{names_in_order}
+use Rattle.publisher.proofs.FaultCounts.{reading_counted, reading_is}
 use Rattle.publisher.proofs.TwoReadings.{answers_more}
 use Rattle.publisher.proofs.names.list_names.Goals as goal
 

@@ -1,10 +1,10 @@
 use Rattle.std.proofs.Common.{◌≡◌, List, sym, subst}
 use Rattle.folders.specs.declared.folder.Held.{Held}
 use Rattle.folders.specs.Files.{IsNames}
-use Rattle.folders.proofs.Sorting.{one_list}
-use Rattle.publisher.proofs.Counting.{counted_after}
+use Rattle.folders.proofs.SortedNames.{one_list}
+use Rattle.publisher.proofs.FaultCounts.{counted_after}
 use Rattle.publisher.specs.Readings.{ReadsChange}
-use Rattle.publisher.proofs.Giving.{err_handed_on, err_then}
+use Rattle.publisher.proofs.Outcomes.{err_handed_on, err_then}
 use Rattle.publisher.proofs.Promises.{listed_so, unlisted}
 use Rattle.publisher.proofs.TwoReadings.{listing_reads, reads_since}
 use Rattle.publisher.proofs.published.publish_fit.Goals as goal

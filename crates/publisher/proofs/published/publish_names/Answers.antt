@@ -8,8 +8,8 @@ use Rattle.publisher.specs.Outcome.{Fails, LeavesInput}
 use Rattle.publisher.specs.Publication.{copy_in, publish_of, read_entries}
 use Rattle.publisher.specs.Puts.{PutsSome}
 use Rattle.publisher.specs.Readings.{ReadsChange, ReadsEach}
-use Rattle.publisher.proofs.Counting.{counted_still, manifest_quiet, plan_quiet}
-use Rattle.publisher.proofs.Giving.{err_handed_on}
+use Rattle.publisher.proofs.FaultCounts.{counted_still, manifest_quiet, plan_quiet}
+use Rattle.publisher.proofs.Outcomes.{err_handed_on}
 use Rattle.publisher.proofs.Known as publish
 use Rattle.publisher.proofs.PlanRefusals.{plan_late}
 use Rattle.publisher.proofs.Promises.{stopped, untouched}

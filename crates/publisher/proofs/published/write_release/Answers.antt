@@ -7,8 +7,8 @@ use Rattle.publisher.specs.Faults.{IsWriting}
 use Rattle.publisher.specs.Publication.{copy_in, published_files}
 use Rattle.publisher.specs.Puts.{AreNew, PutsEach, PutsSome}
 use Rattle.publisher.specs.Readings.{IsSourced, ReadsChange, ReadsEach}
-use Rattle.publisher.proofs.Counting.{counted_after}
-use Rattle.publisher.proofs.Giving.{err_handed_on, err_then, never_reading, on_err, on_error, then_ok, then_err}
+use Rattle.publisher.proofs.FaultCounts.{counted_after}
+use Rattle.publisher.proofs.Outcomes.{err_handed_on, err_then, never_reading, on_err, on_error, then_ok, then_err}
 use Rattle.publisher.proofs.NewNames.{files_new, manifest_new}
 use Rattle.publisher.proofs.SecondReads.{part_without_manifests, part_without_deployment, all_of_release}
 use Rattle.publisher.proofs.TwoReadings.{writing_reads}

@@ -3,7 +3,7 @@ use Rattle.identity.specs.declared.key.Key.{Key}
 use Rattle.manifests.specs.declared.facts.FileEntry.{FileEntry}
 use Rattle.publisher.specs.Outcome.{Fails}
 use Rattle.publisher.specs.Publication.{deployment_key, deployment_manifest_of, limited}
-use Rattle.publisher.proofs.Giving.{handed_on}
+use Rattle.publisher.proofs.Outcomes.{handed_on}
 use Rattle.publisher.proofs.ManifestSteps.{application_fails, deployment_fails, both_made}
 use Rattle.publisher.proofs.release.manifests_of.Goals as goal
 

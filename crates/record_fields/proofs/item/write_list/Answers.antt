@@ -1,5 +1,5 @@
 use Rattle.std.proofs.Common.{arith}
-use Rattle.record_fields.specs.Spelling.{list_field}
+use Rattle.record_fields.specs.Spelled.{list_field}
 use Rattle.record_fields.proofs.Long.{length-list_field}
 use Rattle.record_fields.proofs.Written.{then}
 use Rattle.record_fields.proofs.item.write_list.Goals as goal

@@ -1,5 +1,5 @@
 use Rattle.small_types.proofs.BlockContents.{content_from_stands, stands_from_content}
-use Rattle.small_types.proofs.BlockStaying.{bytes_content, one_content}
+use Rattle.small_types.proofs.KeptBlocks.{bytes_content, one_content}
 use Rattle.small_types.proofs.laws.contents_are_bytes.Goals as goal
 
 pub returns-clause-one : goal.returns-clause-one

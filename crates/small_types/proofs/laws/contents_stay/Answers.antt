@@ -1,4 +1,4 @@
-use Rattle.small_types.proofs.BlockStaying.{content_stays, content_stays_behind, front_stays}
+use Rattle.small_types.proofs.KeptBlocks.{content_stays, content_stays_behind, front_stays}
 use Rattle.small_types.proofs.laws.contents_stay.Goals as goal
 
 pub returns-clause-others : goal.returns-clause-others

@@ -1,4 +1,4 @@
-use Rattle.small_types.proofs.Spelling.{first_whole, first_cut}
+use Rattle.small_types.proofs.Spelled.{first_whole, first_cut}
 use Rattle.small_types.proofs.name.first_part.Goals as goal
 
 pub returns-in-Some : goal.returns-in-Some

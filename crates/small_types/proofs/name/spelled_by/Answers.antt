@@ -1,5 +1,5 @@
 use Rattle.std.proofs.Common.{◌∙◌, sym}
-use Rattle.small_types.proofs.Spelling.{not_fit, not_text, name_from}
+use Rattle.small_types.proofs.Spelled.{not_fit, not_text, name_from}
 use Rattle.small_types.proofs.name.spelled_by.Goals as goal
 
 pub returns-then-not-is_fit : goal.returns-then-not-is_fit

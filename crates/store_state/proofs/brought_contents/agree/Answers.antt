@@ -1,6 +1,6 @@
 use Rattle.std.proofs.Common.{map}
 use Rattle.store_state.specs.Contents.{held_key}
-use Rattle.store_state.proofs.Passing.{agree_is}
+use Rattle.store_state.proofs.TestLoops.{agree_is}
 use Rattle.store_state.proofs.brought_contents.agree.Goals as goal
 
 pub returns : goal.returns

@@ -1,7 +1,7 @@
 use Rattle.std.proofs.Common.{◌⊎◌, Contains, arith, map, refl}
 use Rattle.machine.specs.Views.{ContentKey}
 use Rattle.store_state.specs.Contents.{held_key}
-use Rattle.store_state.proofs.Passing.{all_ended, all_more, all_refuted}
+use Rattle.store_state.proofs.TestLoops.{all_ended, all_more, all_refuted}
 use Rattle.store_state.proofs.brought_contents.is_each.Goals as goal
 
 pub returns-then-not-is_held_or_brought : goal.returns-then-not-is_held_or_brought

@@ -1,6 +1,6 @@
 use Rattle.std.proofs.Common.{Contains, arith, refl}
 use Rattle.machine.specs.Views.{ContentKey}
-use Rattle.store_state.proofs.Passing.{all_ended, all_more, all_refuted}
+use Rattle.store_state.proofs.TestLoops.{all_ended, all_more, all_refuted}
 use Rattle.store_state.proofs.brought_contents.is_only.Goals as goal
 
 pub returns-then-not-is_among : goal.returns-then-not-is_among

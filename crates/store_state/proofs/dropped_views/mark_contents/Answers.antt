@@ -5,8 +5,8 @@ use Rattle.machine.specs.Blocks.{standing_files}
 use Rattle.manifests.specs.declared.facts.FileEntry.{FileEntry}
 use Rattle.store_state.specs.Dropped.{is_needed}
 use Rattle.store_state.specs.Tables.{bare_row}
-use Rattle.store_state.proofs.Holding.{standing_push}
-use Rattle.store_state.proofs.Marking.{all_alike}
+use Rattle.store_state.proofs.ChangedTables.{standing_push}
+use Rattle.store_state.proofs.MarkedItems.{all_alike}
 use Rattle.store_state.proofs.dropped_views.mark_contents.Goals as goal
 
 pub loop-view-init : goal.loop-view-init

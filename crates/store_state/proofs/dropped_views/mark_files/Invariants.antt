@@ -2,7 +2,7 @@ use Rattle.std.proofs.Common.{◌≡◌, ◌++◌, List, length, map, take}
 use Rattle.std.specs.Prelude.{filter}
 use Rattle.manifests.specs.declared.facts.FileEntry.{FileEntry}
 use Rattle.store_state.specs.Dropped.{is_needed}
-use Rattle.store_state.proofs.Naming.{is_standing}
+use Rattle.store_state.proofs.NamedFiles.{is_standing}
 use Rattle.store_state.proofs.dropped_views.mark_files.Given as goal
 
 abbrev pub invariant-loop-entry : goal.invariant-loop-entry

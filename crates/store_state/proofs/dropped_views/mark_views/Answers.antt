@@ -2,7 +2,7 @@ use Rattle.std.proofs.Common.{◌∙◌, List, ℕ, ap, length, map, not, sym, t
 use Rattle.std.proofs.lemmas.List.{length-map, take_more}
 use Rattle.store_state.specs.declared.view.View.{View}
 use Rattle.store_state.specs.Dropped.{is_among}
-use Rattle.store_state.proofs.Marking.{all_alike}
+use Rattle.store_state.proofs.MarkedItems.{all_alike}
 use Rattle.store_state.proofs.dropped_views.mark_views.Goals as goal
 
 pub loop-number-init : goal.loop-number-init

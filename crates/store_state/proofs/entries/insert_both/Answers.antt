@@ -1,4 +1,4 @@
-use Rattle.store_state.proofs.Searching.{removed}
+use Rattle.store_state.proofs.KeySearch.{removed}
 use Rattle.store_state.proofs.entries.insert_both.Goals as goal
 
 -- the key that was put in is taken out again

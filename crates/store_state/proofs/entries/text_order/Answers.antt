@@ -2,7 +2,7 @@ use Rattle.std.proofs.Common.{ℕ, List, sym, ap, ◌∙◌}
 use Rattle.std.specs.Ordering.{ordering_reverse}
 use Rattle.identity.specs.Key.{key_text}
 use Rattle.identity.specs.Printed.{text_cmp}
-use Rattle.machine.proofs.Entering.{order}
+use Rattle.machine.proofs.EntryOrder.{order}
 use Rattle.store_state.proofs.entries.text_order.Goals as goal
 
 -- the one order is the other, turned round

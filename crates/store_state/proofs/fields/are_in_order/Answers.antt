@@ -3,7 +3,7 @@ use Rattle.std.specs.Ordering.{on}
 use Rattle.std.specs.declared.cmp.Ordering.TheVariants.{Less}
 use Rattle.std.proofs.lemmas.Cmp.{on_total}
 use Rattle.identity.specs.Printed.{text_cmp}
-use Rattle.machine.proofs.Entering.{order}
+use Rattle.machine.proofs.EntryOrder.{order}
 use Rattle.store_state.specs.declared.view.LocalFile.{LocalFile}
 use Rattle.store_state.proofs.Orders.{pairs_refuted, pairs_rise}
 use Rattle.store_state.proofs.fields.are_in_order.Goals as goal

@@ -1,7 +1,7 @@
 use Rattle.std.proofs.Common.{◌∙◌, List, ap, length, sym}
 use Rattle.store_state.specs.declared.view.Content.{Content}
 use Rattle.store_state.specs.declared.view.View.{View}
-use Rattle.store_state.proofs.Holding.{cut_back, made_apps, read_last}
+use Rattle.store_state.proofs.ChangedTables.{cut_back, made_apps, read_last}
 use Rattle.store_state.proofs.install_change.add_installed.Goals as goal
 
 -- the view that is read is the one that was added

@@ -1,4 +1,4 @@
-use Rattle.store_state.proofs.Showing.{shows_booted}
+use Rattle.store_state.proofs.ShownTables.{shows_booted}
 use Rattle.store_state.proofs.laws.boots_show_the_store.Goals as goal
 
 pub returns : goal.returns

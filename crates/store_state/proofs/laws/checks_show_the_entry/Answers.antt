@@ -1,4 +1,4 @@
-use Rattle.store_state.proofs.Checking.{shows_heard, shows_unheard}
+use Rattle.store_state.proofs.CheckedApps.{shows_heard, shows_unheard}
 use Rattle.store_state.proofs.laws.checks_show_the_entry.Goals as goal
 
 pub returns-clause-heard : goal.returns-clause-heard

@@ -1,7 +1,7 @@
 use Rattle.std.proofs.Common.{ℕ, All, subst, sym}
 use Rattle.machine.specs.InUse.{IsInUse}
 use Rattle.machine.specs.Store.{Store}
-use Rattle.store_state.proofs.Cleaning.{drops_shown}
+use Rattle.store_state.proofs.CleanedTables.{drops_shown}
 use Rattle.store_state.proofs.Drops.{left_ordered, left_valid}
 use Rattle.store_state.proofs.laws.drops_show_the_rest.Goals as goal
 

@@ -1,4 +1,4 @@
-use Rattle.store_state.proofs.Showing.{shows_empty}
+use Rattle.store_state.proofs.ShownTables.{shows_empty}
 use Rattle.store_state.proofs.laws.empty_tables_are_shown.Goals as goal
 
 pub returns : goal.returns

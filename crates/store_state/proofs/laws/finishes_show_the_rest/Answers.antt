@@ -1,4 +1,4 @@
-use Rattle.store_state.proofs.Showing.{shows_finished}
+use Rattle.store_state.proofs.ShownTables.{shows_finished}
 use Rattle.store_state.proofs.laws.finishes_show_the_rest.Goals as goal
 
 pub returns : goal.returns

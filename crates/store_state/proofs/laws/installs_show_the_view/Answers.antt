@@ -1,4 +1,4 @@
-use Rattle.store_state.proofs.Showing.{shows_installed}
+use Rattle.store_state.proofs.ShownTables.{shows_installed}
 use Rattle.store_state.proofs.laws.installs_show_the_view.Goals as goal
 
 pub returns : goal.returns

@@ -1,4 +1,4 @@
-use Rattle.store_state.proofs.Showing.{one_shown}
+use Rattle.store_state.proofs.ShownTables.{one_shown}
 use Rattle.store_state.proofs.laws.one_store_is_shown.Goals as goal
 
 pub returns : goal.returns

@@ -1,4 +1,4 @@
-use Rattle.store_state.proofs.Showing.{shows_required}
+use Rattle.store_state.proofs.ShownTables.{shows_required}
 use Rattle.store_state.proofs.laws.requires_show_the_entry.Goals as goal
 
 pub returns : goal.returns

@@ -1,4 +1,4 @@
-use Rattle.store_state.proofs.Showing.{shape_shown}
+use Rattle.store_state.proofs.ShownTables.{shape_shown}
 use Rattle.store_state.proofs.laws.shapes_are_shown.Goals as goal
 
 pub returns : goal.returns

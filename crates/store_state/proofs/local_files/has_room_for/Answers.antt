@@ -1,5 +1,5 @@
 use Rattle.std.proofs.Common.{◌∙◌, refl, sym}
-use Rattle.store_state.proofs.Putting.{below_limit, count_more, count_there, within_limit, within_more}
+use Rattle.store_state.proofs.PutItems.{below_limit, count_more, count_there, within_limit, within_more}
 use Rattle.store_state.proofs.local_files.has_room_for.Goals as goal
 
 -- one of its name stands there

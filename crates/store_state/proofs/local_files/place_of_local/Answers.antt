@@ -1,6 +1,6 @@
 use Rattle.std.proofs.Common.{◌∙◌, sym}
 use Rattle.store_state.specs.Locals.{is_not_before}
-use Rattle.store_state.proofs.Putting.{none_before}
+use Rattle.store_state.proofs.PutItems.{none_before}
 use Rattle.store_state.proofs.local_files.place_of_local.Goals as goal
 
 -- each is before the name

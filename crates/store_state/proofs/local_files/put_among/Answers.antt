@@ -1,4 +1,4 @@
-use Rattle.store_state.proofs.Putting.{insert_there, set_there}
+use Rattle.store_state.proofs.PutItems.{insert_there, set_there}
 use Rattle.store_state.proofs.local_files.put_among.Goals as goal
 
 pub returns-then-stands_at-clause-ok : goal.returns-then-stands_at-clause-ok

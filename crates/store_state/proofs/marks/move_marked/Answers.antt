@@ -1,5 +1,5 @@
 use Rattle.std.proofs.Common.{◌∙◌, ◌+◌, ap, arith, length, sym}
-use Rattle.store_state.proofs.Marking.{all_moved, moved_and_left, one_moved, one_passed, still_long}
+use Rattle.store_state.proofs.MarkedItems.{all_moved, moved_and_left, one_moved, one_passed, still_long}
 use Rattle.store_state.proofs.marks.move_marked.Goals as goal
 use Rattle.store_state.proofs.marks.move_marked.Goals.{then-marks-place, else-marks-place}
 

@@ -1,6 +1,6 @@
 use Rattle.std.proofs.Common.{◌≡◌, ◌≤◌, length}
 use Rattle.store_state.specs.Marks.{kept_by}
-use Rattle.store_state.proofs.Marking.{moved_and_left}
+use Rattle.store_state.proofs.MarkedItems.{moved_and_left}
 use Rattle.store_state.proofs.marks.move_marked.Given as goal
 
 abbrev pub invariant-loop-place : goal.invariant-loop-place

@@ -1,4 +1,4 @@
-use Rattle.store_state.proofs.Naming.{is_named, not_named, nowhere_named}
+use Rattle.store_state.proofs.NamedFiles.{is_named, not_named, nowhere_named}
 use Rattle.store_state.proofs.names.find_name.Goals as goal
 
 pub returns-in-None : goal.returns-in-None

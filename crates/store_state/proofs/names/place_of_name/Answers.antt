@@ -2,9 +2,9 @@ use Rattle.std.proofs.Common.{arith}
 use Rattle.std.proofs.lemmas.List.{length-map}
 use Rattle.identity.specs.Printed.{text_cmp}
 use Rattle.manifests.specs.declared.facts.FileEntry.{FileEntry}
-use Rattle.machine.proofs.Entering.{order}
+use Rattle.machine.proofs.EntryOrder.{order}
 use Rattle.store_state.specs.Named.{names_of}
-use Rattle.store_state.proofs.Naming.{one_text}
+use Rattle.store_state.proofs.NamedFiles.{one_text}
 use Rattle.store_state.proofs.Places.{stands_at, stands_nowhere, stands_within}
 use Rattle.store_state.proofs.names.place_of_name.Goals as goal
 

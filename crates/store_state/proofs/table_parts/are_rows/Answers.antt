@@ -1,6 +1,6 @@
 use Rattle.std.proofs.Common.{arith, refl}
 use Rattle.store_state.specs.Change.{IsRow}
-use Rattle.store_state.proofs.Passing.{all_ended, all_more, all_refuted}
+use Rattle.store_state.proofs.TestLoops.{all_ended, all_more, all_refuted}
 use Rattle.store_state.proofs.table_parts.are_rows.Goals as goal
 
 pub returns-then-not-is_one : goal.returns-then-not-is_one

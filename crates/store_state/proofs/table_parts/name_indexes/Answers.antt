@@ -3,7 +3,7 @@ use Rattle.std.proofs.lemmas.List.{take_more}
 use Rattle.manifests.specs.declared.facts.FileEntry.{FileEntry}
 use Rattle.store_state.specs.declared.view.View.{View}
 use Rattle.store_state.specs.Named.{IsNameIndex}
-use Rattle.store_state.proofs.Naming.{one_index_more, same_indexes}
+use Rattle.store_state.proofs.NamedFiles.{one_index_more, same_indexes}
 use Rattle.store_state.proofs.table_parts.name_indexes.Goals as goal
 
 pub loop-view-preserved : goal.loop-view-preserved

@@ -1,7 +1,7 @@
 use Rattle.std.proofs.Common.{◌≡◌, List, ℕ, arith, refl}
 use Rattle.std.specs.declared.cmp.Ordering.TheVariants.{Less}
 use Rattle.identity.specs.Printed.{text_cmp}
-use Rattle.machine.proofs.Entering.{order}
+use Rattle.machine.proofs.EntryOrder.{order}
 use Rattle.store_state.proofs.Orders.{pairs_refuted, pairs_rise}
 use Rattle.store_state.proofs.table_parts.texts_rise.Goals as goal
 

@@ -8,5 +8,5 @@ returns-clause-exact c =
 
 pub returns-clause-shown : goal.returns-clause-shown
 returns-clause-shown c =
-    λ room tables image are ordered some few measured. ordered_shown room image tables are ordered
-    some few measured
+    λ room tables image are ordered some few whole measured. ordered_shown room image tables are
+    ordered some few whole measured

@@ -1,6 +1,6 @@
 use Rattle.std.proofs.Common.{arith, refl}
 use Rattle.small_types.specs.Short.{IsShort}
-use Rattle.store_state.proofs.Passing.{all_ended, all_more, all_refuted}
+use Rattle.store_state.proofs.TestLoops.{all_ended, all_more, all_refuted}
 use Rattle.table_check.proofs.parts.are_short.Goals as goal
 
 pub returns-then-not-is_short : goal.returns-then-not-is_short

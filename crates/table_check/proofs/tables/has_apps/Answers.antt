@@ -1,7 +1,7 @@
 use Rattle.std.proofs.Common.{◌∙◌, ap}
 use Rattle.store_state.specs.Tables.{Tables}
 use Rattle.table_check.specs.OrderedTables.{IsAppOf}
-use Rattle.table_check.proofs.Telling.{told_of}
+use Rattle.table_check.proofs.EqualLists.{told_of}
 use Rattle.table_check.proofs.tables.has_apps.Goals as goal
 
 pub returns : goal.returns

@@ -1,6 +1,6 @@
 use Rattle.small_types.specs.declared.limits.TheConstants.{NAME_LIMIT}
 use Rattle.machine.specs.Fields.{IsShort}
-use Rattle.table_check.proofs.Telling.{told_of}
+use Rattle.table_check.proofs.EqualLists.{told_of}
 use Rattle.table_check.proofs.tables.is_installed_row.Goals as goal
 
 pub returns-then-is_installed : goal.returns-then-is_installed

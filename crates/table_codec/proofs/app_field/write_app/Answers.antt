@@ -1,5 +1,5 @@
 use Rattle.record_fields.proofs.Written.{then}
-use Rattle.table_codec.specs.Spelling.{app_field}
+use Rattle.table_codec.specs.Spelled.{app_field}
 use Rattle.table_codec.proofs.app_field.write_app.Goals as goal
 
 pub returns : goal.returns

@@ -1,5 +1,5 @@
 use Rattle.record_fields.proofs.Written.{then}
-use Rattle.table_codec.specs.Spelling.{rest_field}
+use Rattle.table_codec.specs.Spelled.{rest_field}
 use Rattle.table_codec.proofs.app_field.write_rest.Goals as goal
 
 pub returns : goal.returns

@@ -1,5 +1,5 @@
 use Rattle.record_fields.proofs.Written.{then}
-use Rattle.table_codec.specs.Spelling.{lease_field}
+use Rattle.table_codec.specs.Spelled.{lease_field}
 use Rattle.table_codec.proofs.lease_field.write_lease.Goals as goal
 
 pub returns : goal.returns

@@ -3,7 +3,7 @@ use Rattle.store_state.specs.declared.view.LocalFile.{LocalFile}
 use Rattle.store_state.specs.declared.view.View.{View}
 use Rattle.store_state.specs.Dropped.{is_among}
 use Rattle.table_files.specs.Held.{held_for_locals, held_for_views}
-use Rattle.table_files.proofs.Filtering.{passed_over, taken}
+use Rattle.table_files.proofs.FilteredLoops.{passed_over, taken}
 use Rattle.table_files.proofs.freed_items.add_gone.Goals as goal
 use Rattle.table_files.proofs.freed_items.add_gone.Goals.{then-is_among+in_ok-add_locals, else-is_among}
 

@@ -1,6 +1,6 @@
 use Rattle.std.proofs.Common.{◌≡◌, ◌++◌, drop, map}
 use Rattle.std.specs.Prelude.{filter}
-use Rattle.store_state.proofs.Naming.{is_standing}
+use Rattle.store_state.proofs.NamedFiles.{is_standing}
 use Rattle.table_files.proofs.needed_contents.add_standing.Given as goal
 
 abbrev pub invariant-loop-entry : goal.invariant-loop-entry

@@ -5,7 +5,7 @@ use Rattle.machine.specs.Views.{standing_entries}
 use Rattle.store_state.specs.declared.view.View.{View}
 use Rattle.store_state.specs.Dropped.{is_among}
 use Rattle.store_state.specs.Tables.{bare_row}
-use Rattle.table_files.proofs.Filtering.{passed_over, taken}
+use Rattle.table_files.proofs.FilteredLoops.{passed_over, taken}
 use Rattle.table_files.proofs.needed_contents.left_files.Goals as goal
 use Rattle.table_files.proofs.needed_contents.left_files.Goals.{then-not-is_among+in_ok-add_standing, else-not-is_among}
 

@@ -2,7 +2,7 @@ use Rattle.std.proofs.Common.{◌≡◌, ◌+◌, List, ℕ, length, ap, arith, 
 use Rattle.journal.specs.declared.piece.TheConstants.{AROUND}
 use Rattle.record_codec.specs.Codec.{change_text}
 use Rattle.table_log.specs.Pieces.{HasEntry}
-use Rattle.table_log.proofs.Loading.{some_text}
+use Rattle.table_log.proofs.LoadedTables.{some_text}
 use Rattle.table_log.proofs.Sizes.{whole_piece}
 use Rattle.table_log.proofs.piece.entry_into.Goals as goal
 

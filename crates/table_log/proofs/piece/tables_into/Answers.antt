@@ -1,7 +1,7 @@
 use Rattle.std.proofs.Common.{◌≡◌, ◌+◌, List, ℕ, length, ap, arith, subst, sym}
 use Rattle.journal.specs.declared.piece.TheConstants.{AROUND_TABLES}
 use Rattle.store_state.specs.Kept.{AreTables}
-use Rattle.table_codec.specs.Spelling.{state_text}
+use Rattle.table_codec.specs.Spelled.{state_text}
 use Rattle.table_log.specs.Pieces.{HasTables}
 use Rattle.table_log.proofs.Sizes.{whole_piece}
 use Rattle.table_log.proofs.piece.tables_into.Goals as goal

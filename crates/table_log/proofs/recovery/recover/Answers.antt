@@ -3,10 +3,10 @@ use Rattle.small_types.specs.declared.room.Room.{Room}
 use Rattle.disks.proofs.Books.{spends_as}
 use Rattle.journal.specs.declared.fault.LogFault.TheVariants as log
 use Rattle.journal.specs.declared.log.Recovered.{Recovered}
-use Rattle.table_log.specs.declared.fault.RecoverFault.TheVariants.{NotTables}
+use Rattle.table_log.specs.declared.fault.OpenFault.TheVariants.{NotTables}
 use Rattle.table_log.specs.Replay.{Settled}
 use Rattle.table_log.proofs.Images.{none_reads}
-use Rattle.table_log.proofs.Recovering.{unfound, unsettled}
+use Rattle.table_log.proofs.FoundTables.{unfound, unsettled}
 use Rattle.table_log.proofs.recovery.recover.Goals as goal
 
 -- the room that a journal was found to have

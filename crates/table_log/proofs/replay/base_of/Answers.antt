@@ -1,5 +1,5 @@
 use Rattle.std.proofs.Common.{Err, ap, ◌∙◌}
-use Rattle.table_log.proofs.Recovering.{none_spelled, spelled}
+use Rattle.table_log.proofs.FoundTables.{none_spelled, spelled}
 use Rattle.table_log.proofs.replay.base_of.Goals as goal
 
 pub returns-in-Ok : goal.returns-in-Ok

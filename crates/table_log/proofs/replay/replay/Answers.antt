@@ -1,4 +1,4 @@
-use Rattle.table_log.proofs.Loading.{leads_first, leads_more, leads_nowhere, leads_through, made_if, none_if}
+use Rattle.table_log.proofs.LoadedTables.{leads_first, leads_more, leads_nowhere, leads_through, made_if, none_if}
 use Rattle.table_log.proofs.replay.replay.Goals as goal
 
 pub loop-change-init : goal.loop-change-init

@@ -1,4 +1,4 @@
-use Rattle.table_log.proofs.Loading.{LeadsOn}
+use Rattle.table_log.proofs.LoadedTables.{LeadsOn}
 use Rattle.table_log.proofs.replay.replay.Given as goal
 
 abbrev pub invariant-loop-change : goal.invariant-loop-change

@@ -1,5 +1,5 @@
 use Rattle.std.proofs.Common.{Err, ap, ◌∙◌}
-use Rattle.table_log.proofs.Loading.{none_read, tried}
+use Rattle.table_log.proofs.LoadedTables.{none_read, tried}
 use Rattle.table_log.proofs.replay.replay_one.Goals as goal
 
 pub returns-in-Ok : goal.returns-in-Ok

@@ -1,5 +1,5 @@
-use Rattle.table_log.proofs.Loading.{loads_fields}
-use Rattle.table_log.proofs.Recovering.{nowhere_loaded, settled_base}
+use Rattle.table_log.proofs.LoadedTables.{loads_fields}
+use Rattle.table_log.proofs.FoundTables.{nowhere_loaded, settled_base}
 use Rattle.table_log.proofs.replay.settle.Goals as goal
 
 pub returns-in-Err-clause-leads : goal.returns-in-Err-clause-leads

@@ -1,4 +1,4 @@
-use Rattle.updater.proofs.Standing.{one_stands}
+use Rattle.updater.proofs.HeldStore.{one_stands}
 use Rattle.updater.proofs.laws.one_image_one_store.Goals as goal
 
 pub returns : goal.returns

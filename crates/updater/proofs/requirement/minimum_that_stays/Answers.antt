@@ -1,6 +1,6 @@
 use Rattle.std.proofs.Common.{◌≡◌, Some, None, sym, ◌∙◌, rules}
 use Rattle.machine.specs.Entries.{entry_of}
-use Rattle.updater.proofs.Requiring.{new_raises, known_bare_raises, known_raises, known_stays}
+use Rattle.updater.proofs.RequireChange.{new_raises, known_bare_raises, known_raises, known_stays}
 use Rattle.updater.proofs.requirement.minimum_that_stays.Goals as goal
 
 pub returns-in_default-clause-none : goal.returns-in_default-clause-none

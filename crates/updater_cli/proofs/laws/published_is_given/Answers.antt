@@ -1,6 +1,6 @@
 use Rattle.machine.proofs.DataSteps.{data_is, kept_data_stays}
 use Rattle.machine.proofs.LeaseSteps.{read_is}
-use Rattle.machine.proofs.Stepping.{run_sound}
+use Rattle.machine.proofs.KeptSteps.{run_sound}
 use Rattle.machine.proofs.ViewSteps.{run_numbers}
 use Rattle.updater_cli.proofs.PublishedLaw.{published_given}
 use Rattle.updater_cli.proofs.laws.published_is_given.Goals as goal

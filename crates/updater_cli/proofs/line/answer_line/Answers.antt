@@ -2,7 +2,7 @@ use Rattle.std.proofs.Common.{rules, ◌≡◌, [], ◌∷◌, ◌++◌, Some, r
 use Rattle.outside.specs.Streams.{Appends, AppendsPart, Rose}
 use Rattle.machine.specs.declared.report.ReportLine.{ReportLine}
 use Rattle.command_text.specs.Lines.{reply_text}
-use Rattle.updater_cli.proofs.Answering.{no_room, broken, written, cut}
+use Rattle.updater_cli.proofs.AnsweredLine.{no_room, broken, written, cut}
 use Rattle.updater_cli.proofs.line.answer_line.Goals as goal
 
 pub returns-in-Err : goal.returns-in-Err

@@ -1,4 +1,4 @@
-use Rattle.updater_cli.proofs.Running.{answered, faulted, unread}
+use Rattle.updater_cli.proofs.RunLine.{answered, faulted, unread}
 use Rattle.updater_cli.proofs.line.run_line.Goals as goal
 
 pub returns-in-Err : goal.returns-in-Err

@@ -1,8 +1,8 @@
 use Rattle.std.proofs.Common.{arith, ◌<◌, ◌≤◌, ◌∙◌, ◌-◌, length, take, Ok, refl, sym, ap, subst, length-take}
 use Rattle.updater_cli.specs.Lines.{IsPending, place_of}
-use Rattle.updater_cli.proofs.Asking.{keeps_none, keeps_then}
+use Rattle.updater_cli.proofs.DeviceCalls.{keeps_none, keeps_then}
 use Rattle.updater_cli.proofs.Inputs.{source_failed, too_much_given, rest_answered, piece_stopped, piece_read}
-use Rattle.updater_cli.proofs.Reading.{read_none}
+use Rattle.updater_cli.proofs.InputReads.{read_none}
 use Rattle.updater_cli.proofs.Traces.{pending_none}
 use Rattle.updater_cli.proofs.session.answer_all.Goals as goal
 

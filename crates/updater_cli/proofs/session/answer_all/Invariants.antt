@@ -1,6 +1,6 @@
 use Rattle.std.proofs.Common.{◌≡◌, Ok}
 use Rattle.updater_cli.specs.Lines.{IsPending, KeepsSession, place_of, stage_of}
-use Rattle.updater_cli.proofs.Reading.{Read}
+use Rattle.updater_cli.proofs.InputReads.{Read}
 use Rattle.updater_cli.proofs.session.answer_all.Given as goal
 
 abbrev pub invariant-loop-room : goal.invariant-loop-room

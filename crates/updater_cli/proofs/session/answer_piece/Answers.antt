@@ -1,5 +1,5 @@
 use Rattle.updater_cli.specs.Lines.{place_of, stage_of}
-use Rattle.updater_cli.proofs.Asking.{keeps_none, keeps_then}
+use Rattle.updater_cli.proofs.DeviceCalls.{keeps_none, keeps_then}
 use Rattle.updater_cli.proofs.Pieces.{feed_found, piece_begun, piece_ends, piece_kept, piece_on, piece_refused}
 use Rattle.updater_cli.proofs.session.answer_piece.Goals as goal
 

@@ -12,7 +12,7 @@ use Rattle.updater_cli.specs.Words.{request_of}
 use Rattle.updater_cli.proofs.Asked.{for_session, for_format, for_inspect, for_publish, for_demo}
 use Rattle.updater_cli.proofs.Complete.{answers_all}
 use Rattle.updater_cli.proofs.PublishWords.{no_session, no_format, no_inspect, no_demo, no_others, refused_session, refused_format, refused_inspect, refused_demo, refused_others}
-use Rattle.updater_cli.proofs.Publishing.{publishes, publishes_nothing}
+use Rattle.updater_cli.proofs.PublishEnds.{publishes, publishes_nothing}
 use Rattle.updater_cli.proofs.top.run.Goals as goal
 
 -- five is the code of no other status
@@ -47,7 +47,7 @@ returns-in-Ok-Session-clause-complete g c =
 
 pub returns-in-Ok-Format-clause-format : goal.returns-in-Ok-Format-clause-format
 returns-in-Ok-Format-clause-format g c =
-    for_format (request_of c.args.words.now) (λ blocks. MakesStore g.D.Disk blocks c.code-in-Ok-Format.result c.args.disk.now c.format.new.disk)
+    for_format (request_of c.args.words.now) (λ room. MakesStore g.D.Disk room c.code-in-Ok-Format.result c.args.disk.now c.format.new.disk)
     _ (c.in-Ok-Format.ensures.request ∙ ap Some c.in-Ok-Format.field-0-is) (rw c.code-in-Ok-Format.ensures c.format.ensures.makes)
 
 pub returns-in-Ok-Inspect-clause-inspect : goal.returns-in-Ok-Inspect-clause-inspect
@@ -84,7 +84,7 @@ pub returns-in-Err-Unreadable-clause-complete : goal.returns-in-Err-Unreadable-c
 returns-in-Err-Unreadable-clause-complete g c = λ boot now asked. absurd (refused_session c.args.words.now (c.in-Err-Unreadable.ensures.none (ap Err c.in-Err-Unreadable.field-0-is)) boot now asked)
 
 pub returns-in-Err-Unreadable-clause-format : goal.returns-in-Err-Unreadable-clause-format
-returns-in-Err-Unreadable-clause-format g c = λ blocks asked. absurd (refused_format c.args.words.now (c.in-Err-Unreadable.ensures.none (ap Err c.in-Err-Unreadable.field-0-is)) blocks asked)
+returns-in-Err-Unreadable-clause-format g c = λ room asked. absurd (refused_format c.args.words.now (c.in-Err-Unreadable.ensures.none (ap Err c.in-Err-Unreadable.field-0-is)) room asked)
 
 pub returns-in-Err-Unreadable-clause-inspect : goal.returns-in-Err-Unreadable-clause-inspect
 returns-in-Err-Unreadable-clause-inspect g c = λ kind asked. absurd (refused_inspect c.args.words.now (c.in-Err-Unreadable.ensures.none (ap Err c.in-Err-Unreadable.field-0-is)) kind asked)
@@ -114,7 +114,7 @@ pub returns-in-Err-Memory-clause-complete : goal.returns-in-Err-Memory-clause-co
 returns-in-Err-Memory-clause-complete g c = λ boot now asked. absurd (no_session c.args.words.now (c.in-Err-Memory.ensures.memory (ap Err c.in-Err-Memory.field-0-is)) boot now asked)
 
 pub returns-in-Err-Memory-clause-format : goal.returns-in-Err-Memory-clause-format
-returns-in-Err-Memory-clause-format g c = λ blocks asked. absurd (no_format c.args.words.now (c.in-Err-Memory.ensures.memory (ap Err c.in-Err-Memory.field-0-is)) blocks asked)
+returns-in-Err-Memory-clause-format g c = λ room asked. absurd (no_format c.args.words.now (c.in-Err-Memory.ensures.memory (ap Err c.in-Err-Memory.field-0-is)) room asked)
 
 pub returns-in-Err-Memory-clause-inspect : goal.returns-in-Err-Memory-clause-inspect
 returns-in-Err-Memory-clause-inspect g c = λ kind asked. absurd (no_inspect c.args.words.now (c.in-Err-Memory.ensures.memory (ap Err c.in-Err-Memory.field-0-is)) kind asked)

@@ -1,7 +1,7 @@
 use Rattle.std.proofs.Common.{◌∙◌, Err, refl, sym, ap}
 use Rattle.updater_cli.specs.declared.status.Status.TheVariants.{Words, SourceFault, SinkFault}
 use Rattle.updater_cli.specs.Lines.{place_of}
-use Rattle.updater_cli.proofs.Asking.{rises_none}
+use Rattle.updater_cli.proofs.DeviceCalls.{rises_none}
 use Rattle.updater_cli.proofs.Whole.{opening_ends, never_opening, unopened_headline, unopened_nothing, unopened_reads, unopened_asks, never_unopened, never_words, opened_reads, opened_writes, opened_asks, opened_headline}
 use Rattle.updater_cli.proofs.whole_session.session.Goals as goal
 

@@ -1,7 +1,7 @@
 use Rattle.std.proofs.Common.{refl, ◌∙◌}
 use Rattle.std.specs.Prelude.{not}
 use Rattle.disks.specs.declared.call.Move.TheVariants.{Cut}
-use Rattle.disks.proofs.Recording.{record_grown, cut_failed, cut_done}
+use Rattle.disks.proofs.NextCall.{record_grown, cut_failed, cut_done}
 use Rattle.disks.proofs.history.History.cut.Goals as goal
 
 pub invariant_of-self-then-fails : goal.invariant_of-self-then-fails

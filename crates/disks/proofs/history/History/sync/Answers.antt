@@ -1,7 +1,7 @@
 use Rattle.std.proofs.Common.{refl}
 use Rattle.std.specs.Prelude.{not}
 use Rattle.disks.specs.declared.call.Move.TheVariants.{Sync}
-use Rattle.disks.proofs.Recording.{record_grown}
+use Rattle.disks.proofs.NextCall.{record_grown}
 use Rattle.disks.proofs.history.History.sync.Goals as goal
 
 pub invariant_of-self-2 : goal.invariant_of-self-2

@@ -1,7 +1,7 @@
 use Rattle.std.proofs.Common.{◌≡◌, ℕ, List, true, false, ap, sym, refl, ◌∙◌, arith}
 use Rattle.small_types.specs.Bytes.{put}
 use Rattle.disks.specs.declared.call.Move.TheVariants.{Write}
-use Rattle.disks.proofs.Recording.{record_grown, write_fits}
+use Rattle.disks.proofs.NextCall.{record_grown, write_fits}
 use Rattle.disks.proofs.history.History.write.Goals as goal
 
 pub invariant_of-self-then-fails : goal.invariant_of-self-then-fails

@@ -1,6 +1,6 @@
 use Rattle.disks.specs.History.{first_of}
 use Rattle.disks.specs.MemDisk.{disk_bytes}
-use Rattle.disks.proofs.Recording.{picked_is_left}
+use Rattle.disks.proofs.NextCall.{picked_is_left}
 use Rattle.disks.proofs.mem_disk.MemDisk.stop.Goals as goal
 
 pub returns-clause-image : goal.returns-clause-image

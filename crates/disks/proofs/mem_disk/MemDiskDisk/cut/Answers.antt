@@ -3,7 +3,7 @@ use Rattle.disks.specs.declared.call.Call.{Call}
 use Rattle.disks.specs.declared.call.Move.TheVariants.{Cut}
 use Rattle.disks.specs.History.{first_of}
 use Rattle.disks.specs.ReadsLeft.{cut_same}
-use Rattle.disks.proofs.Recording.{all_new, stop_done, stop_failed, elapses}
+use Rattle.disks.proofs.NextCall.{all_new, stop_done, stop_failed, elapses}
 use Rattle.disks.proofs.mem_disk.MemDiskDisk.cut.Goals as goal
 
 pub invariant_of-self-in-Ok : goal.invariant_of-self-in-Ok

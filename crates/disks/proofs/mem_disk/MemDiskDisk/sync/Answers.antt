@@ -3,7 +3,7 @@ use Rattle.disks.specs.declared.call.Call.{Call}
 use Rattle.disks.specs.declared.call.Move.TheVariants.{Sync}
 use Rattle.disks.specs.History.{first_of}
 use Rattle.disks.specs.ReadsLeft.{reads_are_left}
-use Rattle.disks.proofs.Recording.{Now, all_new, stop_done, stop_failed, elapses}
+use Rattle.disks.proofs.NextCall.{Now, all_new, stop_done, stop_failed, elapses}
 use Rattle.disks.proofs.mem_disk.MemDiskDisk.sync.Goals as goal
 
 pub invariant_of-self-in-Ok : goal.invariant_of-self-in-Ok

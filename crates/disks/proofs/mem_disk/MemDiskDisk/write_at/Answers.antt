@@ -4,7 +4,7 @@ use Rattle.disks.specs.declared.call.Move.TheVariants.{Write}
 use Rattle.disks.specs.Disk.{Torn}
 use Rattle.disks.specs.History.{first_of}
 use Rattle.disks.specs.ReadsLeft.{torn_put, torn_same}
-use Rattle.disks.proofs.Recording.{all_new, stop_done, stop_failed, elapses}
+use Rattle.disks.proofs.NextCall.{all_new, stop_done, stop_failed, elapses}
 use Rattle.disks.proofs.mem_disk.MemDiskDisk.write_at.Goals as goal
 
 pub invariant_of-self-in-Ok : goal.invariant_of-self-in-Ok

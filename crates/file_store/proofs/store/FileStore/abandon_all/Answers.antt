@@ -1,5 +1,5 @@
 use Rattle.std.proofs.Common.{◌∙◌}
-use Rattle.file_store.proofs.Giving.{free_then, last_used, others_used, range_then}
+use Rattle.file_store.proofs.GivenUp.{free_then, last_used, others_used, range_then}
 use Rattle.file_store.proofs.store.FileStore.abandon_all.Goals as goal
 
 pub abandon-requires : goal.abandon-requires

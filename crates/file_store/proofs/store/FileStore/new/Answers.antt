@@ -1,7 +1,7 @@
 use Rattle.std.proofs.Common.{◌≡◌, ◌+◌, ◌<◌, ℕ, List, ◌++◌, length, reverse, All, arith, sym, ◌∙◌, ap, subst}
 use Rattle.small_types.specs.Blocks.{AreApart}
 use Rattle.file_store.specs.Marks.{unmarked_from}
-use Rattle.file_store.proofs.Marking.{free_apart, free_below, free_count, free_others}
+use Rattle.file_store.proofs.MarkedBlocks.{free_apart, free_below, free_count, free_others}
 use Rattle.file_store.proofs.store.FileStore.new.Goals as goal
 
 pub invariant_of-result : goal.invariant_of-result

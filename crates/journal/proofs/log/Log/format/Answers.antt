@@ -1,7 +1,7 @@
 use Rattle.std.proofs.Common.{◌≡◌, ◌≤◌, ◌+◌, ◌∙◌, length, arith, ap, rules, List, ℕ, [], ◌∷◌}
 use Rattle.small_types.specs.Bytes.{put}
 use Rattle.journal.proofs.NewJournal.{length-front}
-use Rattle.journal.proofs.Making.{written, formats_filled, formats_opened}
+use Rattle.journal.proofs.SyncedCalls.{written, formats_filled, formats_opened}
 use Rattle.journal.proofs.log.Log.format.Goals as goal
 
 pub returns-in_err-fill-clause-any_moment : goal.returns-in_err-fill-clause-any_moment

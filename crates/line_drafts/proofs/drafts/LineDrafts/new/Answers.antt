@@ -1,4 +1,4 @@
-use Rattle.line_drafts.proofs.Keeping.{nothing_used}
+use Rattle.line_drafts.proofs.KeptDrafts.{nothing_used}
 use Rattle.line_drafts.proofs.drafts.LineDrafts.new.Goals as goal
 
 pub returns-clause-used : goal.returns-clause-used

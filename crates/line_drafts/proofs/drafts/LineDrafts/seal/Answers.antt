@@ -6,7 +6,7 @@ use Rattle.file_store.specs.Stores.{AreUsed, blocks_of_all, draft_blocks, store_
 use Rattle.file_store.specs.declared.draft.Draft.{Draft}
 use Rattle.line_drafts.specs.Held.{AreContents, AreWhole}
 use Rattle.line_drafts.proofs.Ends.{nothing_spent}
-use Rattle.line_drafts.proofs.Sealing.{none_stand, sealed_stand}
+use Rattle.line_drafts.proofs.Sealed.{none_stand, sealed_stand}
 use Rattle.line_drafts.proofs.drafts.LineDrafts.seal.Goals as goal
 
 pub returns-then-is_empty-clause-contents : goal.returns-then-is_empty-clause-contents

@@ -1,5 +1,5 @@
 use Rattle.std.proofs.Common.{◌+◌, ◌≤◌, ap, length, subst, sym, ◌∙◌, ℕ}
-use Rattle.manifest_tree.specs.Writing.{counted, escape, escaped}
+use Rattle.manifest_tree.specs.WrittenText.{counted, escape, escaped}
 use Rattle.manifest_tree.proofs.Pushes.{count_end, count_item, counted_fits, greatest}
 use Rattle.manifest_tree.proofs.write.escape.count_escaped.Goals as goal
 

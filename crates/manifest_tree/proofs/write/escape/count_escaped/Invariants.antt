@@ -1,5 +1,5 @@
 use Rattle.std.proofs.Common.{◌≡◌, ◌+◌, ◌≤◌, length, drop}
-use Rattle.manifest_tree.specs.Writing.{counted, escaped}
+use Rattle.manifest_tree.specs.WrittenText.{counted, escaped}
 use Rattle.manifest_tree.proofs.Pushes.{greatest}
 use Rattle.manifest_tree.proofs.write.escape.count_escaped.Given as goal
 

@@ -1,5 +1,5 @@
 use Rattle.std.proofs.Common.{◌++◌}
-use Rattle.manifest_tree.specs.Writing.{escape, escaped}
+use Rattle.manifest_tree.specs.WrittenText.{escape, escaped}
 use Rattle.manifest_tree.proofs.Pushes.{push_item, push_end}
 use Rattle.manifest_tree.proofs.write.escape.push_escaped.Goals as goal
 

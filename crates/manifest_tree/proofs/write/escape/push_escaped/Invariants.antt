@@ -1,5 +1,5 @@
 use Rattle.std.proofs.Common.{◌≡◌, ◌++◌, drop}
-use Rattle.manifest_tree.specs.Writing.{escaped}
+use Rattle.manifest_tree.specs.WrittenText.{escaped}
 use Rattle.manifest_tree.proofs.write.escape.push_escaped.Given as goal
 
 abbrev pub invariant-loop-byte : goal.invariant-loop-byte

@@ -5,7 +5,7 @@ use Rattle.manifest_tree.specs.declared.node.Attribute.{Attribute}
 use Rattle.manifest_tree.specs.declared.node.Node.{Node}
 use Rattle.manifest_tree.specs.declared.node.Node.TheViews.{out-Node}
 use Rattle.manifest_tree.specs.Tree.{trees, tree_of}
-use Rattle.manifest_tree.specs.Writing.{counted, escaped, start_text, end_text, is_bare}
+use Rattle.manifest_tree.specs.WrittenText.{counted, escaped, start_text, end_text, is_bare}
 use Rattle.manifest_tree.proofs.Pushes.{node_text, node_bare, node_full, length_two, length_four, count_end, count_item, counted_fits, counted_then, greatest}
 use Rattle.manifest_tree.proofs.write.measure.+count_element.Goals as goal
 

@@ -1,6 +1,6 @@
 use Rattle.std.proofs.Common.{◌≡◌, ◌+◌, ◌≤◌, length, drop}
 use Rattle.std.specs.List.{flat_map}
-use Rattle.manifest_tree.specs.Writing.{counted}
+use Rattle.manifest_tree.specs.WrittenText.{counted}
 use Rattle.manifest_tree.proofs.Pushes.{greatest, node_text}
 use Rattle.manifest_tree.proofs.write.measure.+count_element.Given as goal
 

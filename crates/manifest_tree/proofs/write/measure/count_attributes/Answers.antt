@@ -1,6 +1,6 @@
 use Rattle.std.proofs.Common.{◌+◌, ◌≤◌, ap, length, subst, sym, ◌∙◌, ℕ}
 use Rattle.manifest_tree.specs.declared.node.Attribute.{Attribute}
-use Rattle.manifest_tree.specs.Writing.{attribute_text, attributes_text, counted}
+use Rattle.manifest_tree.specs.WrittenText.{attribute_text, attributes_text, counted}
 use Rattle.manifest_tree.proofs.Pushes.{count_end, count_item, counted_fits, greatest}
 use Rattle.manifest_tree.proofs.write.measure.count_attributes.Goals as goal
 

@@ -1,5 +1,5 @@
 use Rattle.std.proofs.Common.{◌≡◌, ◌+◌, ◌≤◌, length, drop}
-use Rattle.manifest_tree.specs.Writing.{attributes_text, counted}
+use Rattle.manifest_tree.specs.WrittenText.{attributes_text, counted}
 use Rattle.manifest_tree.proofs.Pushes.{greatest}
 use Rattle.manifest_tree.proofs.write.measure.count_attributes.Given as goal
 

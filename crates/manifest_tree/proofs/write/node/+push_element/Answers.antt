@@ -6,7 +6,7 @@ use Rattle.std.proofs.lemmas.Result.{on_ok_weaker}
 use Rattle.manifest_tree.specs.declared.node.Node.{Node}
 use Rattle.manifest_tree.specs.declared.node.Attribute.{Attribute}
 use Rattle.manifest_tree.specs.declared.node.Node.TheViews.{out-Node}
-use Rattle.manifest_tree.specs.Writing.{escaped, start_text, end_text, is_bare}
+use Rattle.manifest_tree.specs.WrittenText.{escaped, start_text, end_text, is_bare}
 use Rattle.manifest_tree.specs.Tree.{trees, tree_of}
 use Rattle.manifest_tree.proofs.Written.{bare_utf8}
 use Rattle.manifest_tree.proofs.Pushes.{node_text, node_bare, node_full, pushed_two, pushed_four, utf8_four, push_item, push_end, utf8_item, utf8_end, on_ok}

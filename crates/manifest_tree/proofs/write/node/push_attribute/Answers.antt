@@ -1,6 +1,6 @@
 use Rattle.std.proofs.Common.{subst}
 use Rattle.std.specs.Str.{IsUtf8}
-use Rattle.manifest_tree.specs.Writing.{attribute_text}
+use Rattle.manifest_tree.specs.WrittenText.{attribute_text}
 use Rattle.manifest_tree.proofs.Written.{attribute_utf8}
 use Rattle.manifest_tree.proofs.Pushes.{on_ok}
 use Rattle.manifest_tree.proofs.write.node.push_attribute.Goals as goal

@@ -1,7 +1,7 @@
 use Rattle.std.proofs.Common.{◌++◌, ◌∙◌, ap, subst}
 use Rattle.std.specs.Str.{IsUtf8}
 use Rattle.manifest_tree.specs.declared.node.Attribute.{Attribute}
-use Rattle.manifest_tree.specs.Writing.{attribute_text, attributes_text}
+use Rattle.manifest_tree.specs.WrittenText.{attribute_text, attributes_text}
 use Rattle.manifest_tree.proofs.Pushes.{push_item, utf8_item}
 use Rattle.manifest_tree.proofs.write.node.push_attributes.Goals as goal
 

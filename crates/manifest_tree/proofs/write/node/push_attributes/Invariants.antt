@@ -1,6 +1,6 @@
 use Rattle.std.proofs.Common.{◌≡◌, ◌++◌, drop}
 use Rattle.std.specs.Str.{IsUtf8}
-use Rattle.manifest_tree.specs.Writing.{attributes_text}
+use Rattle.manifest_tree.specs.WrittenText.{attributes_text}
 use Rattle.manifest_tree.proofs.write.node.push_attributes.Given as goal
 
 abbrev pub invariant-loop-attribute : goal.invariant-loop-attribute

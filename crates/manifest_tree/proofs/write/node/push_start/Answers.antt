@@ -1,7 +1,7 @@
 use Rattle.std.proofs.Common.{subst}
 use Rattle.std.specs.Str.{IsUtf8}
 use Rattle.std.proofs.lemmas.Result.{on_ok_weaker}
-use Rattle.manifest_tree.specs.Writing.{attributes_text}
+use Rattle.manifest_tree.specs.WrittenText.{attributes_text}
 use Rattle.manifest_tree.proofs.Written.{start_utf8}
 use Rattle.manifest_tree.proofs.write.node.push_start.Goals as goal
 

@@ -1,6 +1,6 @@
 use Rattle.std.proofs.Common.{subst, ◌∷◌}
 use Rattle.std.specs.Str.{IsUtf8}
-use Rattle.manifest_tree.specs.Writing.{escaped}
+use Rattle.manifest_tree.specs.WrittenText.{escaped}
 use Rattle.manifest_tree.proofs.Written.{text_utf8}
 use Rattle.manifest_tree.proofs.Pushes.{on_ok}
 use Rattle.manifest_tree.proofs.write.node.push_text.Goals as goal

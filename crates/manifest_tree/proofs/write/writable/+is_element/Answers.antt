@@ -1,6 +1,6 @@
 use Rattle.std.proofs.Common.{suc, sym, ap, ◌∙◌, add-one, arith}
 use Rattle.manifest_tree.specs.Tree.{tree_of}
-use Rattle.manifest_tree.specs.Writing.{is_element}
+use Rattle.manifest_tree.specs.WrittenText.{is_element}
 use Rattle.manifest_tree.proofs.Writables.{by_children, by_child, no_more}
 use Rattle.manifest_tree.proofs.write.writable.+is_element.Goals as goal
 

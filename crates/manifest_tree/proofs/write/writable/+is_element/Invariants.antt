@@ -1,7 +1,7 @@
 use Rattle.std.proofs.Common.{◌≡◌, suc, drop}
 use Rattle.std.specs.Prelude.{map}
 use Rattle.manifest_tree.specs.Tree.{trees, tree_of}
-use Rattle.manifest_tree.specs.Writing.{are_elements}
+use Rattle.manifest_tree.specs.WrittenText.{are_elements}
 use Rattle.manifest_tree.proofs.write.writable.+is_element.Given as goal
 
 abbrev pub invariant-loop-child : goal.invariant-loop-child

@@ -1,6 +1,6 @@
 use Rattle.std.proofs.Common.{◌≡◌, [], take, drop}
-use Rattle.manifest_tree.specs.Reading.{names_of}
-use Rattle.manifest_tree.specs.Writing.{are_attributes}
+use Rattle.manifest_tree.specs.Spots.{names_of}
+use Rattle.manifest_tree.specs.WrittenText.{are_attributes}
 use Rattle.manifest_tree.proofs.write.writable.are_attributes.Given as goal
 
 abbrev pub invariant-loop-index : goal.invariant-loop-index

@@ -1,7 +1,7 @@
 use Rattle.std.proofs.Common.{inl, rules}
 use Rattle.disks.specs.declared.call.Move.TheVariants.{Cut}
-use Rattle.outside_real.proofs.Calling.{called}
-use Rattle.outside_real.proofs.Telling.{where_ok, noted_last, cut_told}
+use Rattle.outside_real.proofs.ToldCall.{called}
+use Rattle.outside_real.proofs.DiskTells.{where_ok, noted_last, cut_told}
 use Rattle.outside_real.proofs.file_disk.FileDiskDisk.cut.Goals as goal
 
 pub returns-clause-seen : goal.returns-clause-seen

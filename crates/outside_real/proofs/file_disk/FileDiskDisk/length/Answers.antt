@@ -1,8 +1,8 @@
 use Rattle.std.proofs.Common.{rules, ◌≡◌, length, sym, subst}
 use Rattle.std.specs.Prelude.{IfOk, Result}
 use Rattle.disks.specs.Answers.{seen_after}
-use Rattle.outside_real.proofs.Calling.{called, quiet_passes}
-use Rattle.outside_real.proofs.Telling.{length_quiet, length_true}
+use Rattle.outside_real.proofs.ToldCall.{called, quiet_passes}
+use Rattle.outside_real.proofs.DiskTells.{length_quiet, length_true}
 use Rattle.outside_real.proofs.file_disk.FileDiskDisk.length.Goals as goal
 
 pub returns-clause-bytes : goal.returns-clause-bytes

@@ -2,8 +2,8 @@ use Rattle.std.proofs.Common.{rules, sym, subst}
 use Rattle.std.specs.Prelude.{IfOk, Result}
 use Rattle.disks.specs.Answers.{seen_after}
 use Rattle.disks.specs.Disk.{Gives}
-use Rattle.outside_real.proofs.Calling.{called, quiet_passes}
-use Rattle.outside_real.proofs.Telling.{read_quiet, read_true}
+use Rattle.outside_real.proofs.ToldCall.{called, quiet_passes}
+use Rattle.outside_real.proofs.DiskTells.{read_quiet, read_true}
 use Rattle.outside_real.proofs.file_disk.FileDiskDisk.read.Goals as goal
 
 pub returns-clause-bytes : goal.returns-clause-bytes

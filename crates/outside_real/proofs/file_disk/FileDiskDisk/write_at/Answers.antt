@@ -1,7 +1,7 @@
 use Rattle.std.proofs.Common.{inl, rules}
 use Rattle.disks.specs.declared.call.Move.TheVariants.{Write}
-use Rattle.outside_real.proofs.Calling.{called}
-use Rattle.outside_real.proofs.Telling.{where_ok, noted_last, write_told}
+use Rattle.outside_real.proofs.ToldCall.{called}
+use Rattle.outside_real.proofs.DiskTells.{where_ok, noted_last, write_told}
 use Rattle.outside_real.proofs.file_disk.FileDiskDisk.write_at.Goals as goal
 
 pub returns-clause-seen : goal.returns-clause-seen

@@ -1,7 +1,7 @@
 use Rattle.std.proofs.Common.{◌∙◌, List, ℕ, sym, subst}
 use Rattle.std.specs.Prelude.{IfOk}
 use Rattle.folders.specs.Found.{IsUnread, IsWithin}
-use Rattle.outside_real.proofs.Recalling.{handed_on}
+use Rattle.outside_real.proofs.FolderTells.{handed_on}
 use Rattle.outside_real.proofs.real_folder.RealFolder.read.Goals as goal
 
 pub returns-clause-within : goal.returns-clause-within

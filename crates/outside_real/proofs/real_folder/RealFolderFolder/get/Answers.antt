@@ -3,7 +3,7 @@ use Rattle.std.specs.Prelude.{IfOk, Result}
 use Rattle.folders.specs.Answers.{files_after}
 use Rattle.folders.specs.Files.{file_in}
 use Rattle.folders.specs.Told.{told_file}
-use Rattle.outside_real.proofs.Recalling.{file_looks, file_true, noted_on}
+use Rattle.outside_real.proofs.FolderTells.{file_looks, file_true, noted_on}
 use Rattle.outside_real.proofs.real_folder.RealFolderFolder.get.Goals as goal
 
 pub returns-clause-found : goal.returns-clause-found

@@ -3,7 +3,7 @@ use Rattle.std.specs.Prelude.{IfOk, None, Result, Some, if◌then◌else◌}
 use Rattle.folders.specs.Answers.{files_after}
 use Rattle.folders.specs.Files.{file_in}
 use Rattle.folders.specs.Told.{told_into}
-use Rattle.outside_real.proofs.Recalling.{into_looks, into_true, noted_on}
+use Rattle.outside_real.proofs.FolderTells.{into_looks, into_true, noted_on}
 use Rattle.outside_real.proofs.real_folder.RealFolderFolder.get_into.Goals as goal
 
 pub returns-clause-found : goal.returns-clause-found

@@ -4,7 +4,7 @@ use Rattle.folders.specs.Answers.{files_after}
 use Rattle.folders.specs.Files.{file_in}
 use Rattle.folders.specs.Found.{Finds}
 use Rattle.folders.specs.Told.{told_within}
-use Rattle.outside_real.proofs.Recalling.{noted_on, within_looks, within_true}
+use Rattle.outside_real.proofs.FolderTells.{noted_on, within_looks, within_true}
 use Rattle.outside_real.proofs.real_folder.RealFolderFolder.get_within.Goals as goal
 
 pub returns-clause-found : goal.returns-clause-found

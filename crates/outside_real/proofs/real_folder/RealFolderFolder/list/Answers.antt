@@ -2,7 +2,7 @@ use Rattle.std.proofs.Common.{sym, subst}
 use Rattle.std.specs.Prelude.{IfOk, Result}
 use Rattle.folders.specs.Answers.{files_after}
 use Rattle.folders.specs.Files.{IsNames}
-use Rattle.outside_real.proofs.Recalling.{list_looks, list_true}
+use Rattle.outside_real.proofs.FolderTells.{list_looks, list_true}
 use Rattle.outside_real.proofs.real_folder.RealFolderFolder.list.Goals as goal
 
 pub returns-clause-names : goal.returns-clause-names

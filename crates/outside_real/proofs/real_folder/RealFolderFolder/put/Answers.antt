@@ -2,7 +2,7 @@ use Rattle.std.proofs.Common.{◌≡◌, sym, subst}
 use Rattle.std.specs.Prelude.{OnErr, OnOk, Result}
 use Rattle.folders.specs.Answers.{files_after}
 use Rattle.folders.specs.Files.{Puts}
-use Rattle.outside_real.proofs.Recalling.{put_done, put_failed, put_told}
+use Rattle.outside_real.proofs.FolderTells.{put_done, put_failed, put_told}
 use Rattle.outside_real.proofs.real_folder.RealFolderFolder.put.Goals as goal
 
 pub returns-clause-put : goal.returns-clause-put

@@ -1,4 +1,4 @@
-use Rattle.outside_real.proofs.Telling.{sink_takes, sink_keeps}
+use Rattle.outside_real.proofs.DiskTells.{sink_takes, sink_keeps}
 use Rattle.outside_real.proofs.std_sink.StdSinkSink.write.Goals as goal
 
 pub returns-clause-bytes : goal.returns-clause-bytes

@@ -1,4 +1,4 @@
-use Rattle.outside_real.proofs.Telling.{count_on, goes_on}
+use Rattle.outside_real.proofs.DiskTells.{count_on, goes_on}
 use Rattle.outside_real.proofs.told.Told.count.Goals as goal
 
 pub invariant_of-self : goal.invariant_of-self

@@ -1,4 +1,4 @@
-use Rattle.outside_real.proofs.Telling.{length_quiet, quiet_on}
+use Rattle.outside_real.proofs.DiskTells.{length_quiet, quiet_on}
 use Rattle.outside_real.proofs.told.Told.length.Goals as goal
 
 pub invariant_of-self : goal.invariant_of-self

@@ -1,4 +1,4 @@
-use Rattle.outside_real.proofs.Telling.{read_quiet, quiet_on}
+use Rattle.outside_real.proofs.DiskTells.{read_quiet, quiet_on}
 use Rattle.outside_real.proofs.told.Told.read.Goals as goal
 
 pub invariant_of-self : goal.invariant_of-self

@@ -1,6 +1,6 @@
 use Rattle.std.proofs.Common.{arith}
 use Rattle.disks.specs.declared.call.Move.TheVariants.{Sync}
-use Rattle.outside_real.proofs.Telling.{note_on}
+use Rattle.outside_real.proofs.DiskTells.{note_on}
 use Rattle.outside_real.proofs.told.Told.sync.Goals as goal
 
 pub invariant_of-self : goal.invariant_of-self

@@ -1,4 +1,4 @@
-use Rattle.small_types.proofs.Putting.{put_grown}
+use Rattle.small_types.proofs.PutBytes.{put_grown}
 use Rattle.small_types.proofs.bytes.Bytes.put.Goals as goal
 
 pub returns-clause-ok : goal.returns-clause-ok

@@ -1,6 +1,6 @@
 use Rattle.std.proofs.Common.{◌≡◌, sym, subst}
 use Rattle.small_types.specs.Name.{IsName}
-use Rattle.small_types.proofs.Spelling.{unread, no_long_name, read_again}
+use Rattle.small_types.proofs.Spelled.{unread, no_long_name, read_again}
 use Rattle.small_types.proofs.name.Name.read.Goals as goal
 
 pub returns-then-bytes-gt-NAME_LIMIT-clause-exact : goal.returns-then-bytes-gt-NAME_LIMIT-clause-exact

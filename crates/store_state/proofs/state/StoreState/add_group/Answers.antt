@@ -1,4 +1,4 @@
-use Rattle.store_state.proofs.Growing.{group_is, indexes_are, tables_are}
+use Rattle.store_state.proofs.GrownTables.{group_is, indexes_are, tables_are}
 use Rattle.store_state.proofs.Indexed.{placed_more, placed_still}
 use Rattle.store_state.proofs.state.StoreState.add_group.Goals as goal
 

@@ -4,7 +4,7 @@ use Rattle.machine.specs.Entries.{entry_of}
 use Rattle.store_state.specs.Tables.{Tables}
 use Rattle.identity.specs.Key.{key_text}
 use Rattle.machine.proofs.Places.{searched_keys, found}
-use Rattle.store_state.proofs.Searching.{absent_at}
+use Rattle.store_state.proofs.KeySearch.{absent_at}
 use Rattle.store_state.proofs.state.StoreState.entry.Goals as goal
 
 -- the key's entry stands at the place

@@ -1,5 +1,5 @@
 use Rattle.std.proofs.Common.{◌∙◌, sym}
-use Rattle.store_state.proofs.Checking.{current_entry, heard_at, version_read}
+use Rattle.store_state.proofs.CheckedApps.{current_entry, heard_at, version_read}
 use Rattle.store_state.proofs.state.StoreState.hear.Goals as goal
 
 pub note_key-requires : goal.note_key-requires

@@ -3,9 +3,9 @@ use Rattle.manifests.specs.declared.facts.FileEntry.{FileEntry}
 use Rattle.store_state.specs.Change.{FitsInstall}
 use Rattle.store_state.specs.Named.{IsNameIndex}
 use Rattle.store_state.specs.Tables.{Tables}
-use Rattle.store_state.proofs.Holding.{made_tables}
+use Rattle.store_state.proofs.ChangedTables.{made_tables}
 use Rattle.store_state.proofs.Indexed.{placed_more, placed_still, same_places}
-use Rattle.store_state.proofs.Naming.{one_index_more, same_indexes}
+use Rattle.store_state.proofs.NamedFiles.{one_index_more, same_indexes}
 use Rattle.store_state.proofs.state.StoreState.install.Goals as goal
 
 -- the index is still in order

@@ -15,7 +15,6 @@ returns c = λ entries same. (
     (sym c.as_slice-2.ensures.value)
     (subst (λ (keys : List ContentKey). IsIndex keys c.sort_keys-2.new.keys.items)
     c.in_ok-brought.ensures c.sort_keys-2.ensures) in
-    let measured = c.are_measured.ensures.0 c.if-not-are_measured.false in
     brings_is c.args.self.now.contents c.args.contents.now entries c.as_slice.result.now
-    c.as_slice-2.result.now stand news c.agree.result measured c.agree.ensures
+    c.as_slice-2.result.now stand news c.agree.result c.agree.ensures
     )

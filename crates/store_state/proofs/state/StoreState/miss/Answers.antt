@@ -1,4 +1,4 @@
-use Rattle.store_state.proofs.Checking.{current_entry}
+use Rattle.store_state.proofs.CheckedApps.{current_entry}
 use Rattle.store_state.proofs.state.StoreState.miss.Goals as goal
 
 pub note_key-requires : goal.note_key-requires

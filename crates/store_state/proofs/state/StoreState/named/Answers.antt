@@ -1,7 +1,7 @@
 use Rattle.std.proofs.Common.{◌≡◌, ◌∙◌, ◌<◌, ℕ, AllPairs, List, None, Some, ap, get_or, length, map, subst, sym}
 use Rattle.store_state.specs.declared.view.View.{View}
 use Rattle.store_state.specs.Tables.{Tables}
-use Rattle.store_state.proofs.Naming.{index_read, row_of}
+use Rattle.store_state.proofs.NamedFiles.{index_read, row_of}
 use Rattle.store_state.proofs.Numbered.{no_number, number_at_place}
 use Rattle.store_state.proofs.state.StoreState.named.Goals as goal
 

@@ -4,8 +4,8 @@ use Rattle.machine.specs.declared.app.AppState.{AppState}
 use Rattle.store_state.specs.Notes.{noted}
 use Rattle.store_state.specs.Rows.{with_app}
 use Rattle.store_state.specs.Tables.{Tables}
-use Rattle.store_state.proofs.Checking.{noted_keys}
-use Rattle.store_state.proofs.Holding.{with_apps}
+use Rattle.store_state.proofs.CheckedApps.{noted_keys}
+use Rattle.store_state.proofs.ChangedTables.{with_apps}
 use Rattle.store_state.proofs.Placed.{changed_is, changed_long, changed_order, changed_texts}
 use Rattle.store_state.proofs.state.StoreState.note.Goals as goal
 

@@ -1,7 +1,7 @@
 use Rattle.std.proofs.Common.{◌∙◌, List, ap}
 use Rattle.machine.specs.declared.app.AppState.{AppState}
 use Rattle.store_state.specs.Notes.{noted}
-use Rattle.store_state.proofs.Checking.{place_is}
+use Rattle.store_state.proofs.CheckedApps.{place_is}
 use Rattle.store_state.proofs.state.StoreState.note_key.Goals as goal
 
 -- the place is that of the key

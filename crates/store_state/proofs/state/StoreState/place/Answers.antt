@@ -3,7 +3,7 @@ use Rattle.std.specs.Prelude.{IfNone, IfSome, slice_get}
 use Rattle.std.specs.Result.{result_ok}
 use Rattle.machine.specs.Entries.{entry_of}
 use Rattle.store_state.specs.Tables.{Tables}
-use Rattle.store_state.proofs.Searching.{place_found, place_none}
+use Rattle.store_state.proofs.KeySearch.{place_found, place_none}
 use Rattle.store_state.proofs.state.StoreState.place.Goals as goal
 
 -- the search ends at the key's entry

@@ -1,4 +1,4 @@
-use Rattle.store_state.proofs.Holding.{with_fewer}
+use Rattle.store_state.proofs.ChangedTables.{with_fewer}
 use Rattle.store_state.proofs.state.StoreState.remove_lease.Goals as goal
 
 -- the leases that are left are in order

@@ -6,8 +6,8 @@ use Rattle.machine.specs.declared.app.AppState.{AppState}
 use Rattle.machine.specs.Entries.{entry_of}
 use Rattle.machine.specs.RequireRow.{required}
 use Rattle.store_state.specs.Tables.{Tables}
-use Rattle.store_state.proofs.Holding.{few_raised, with_apps}
-use Rattle.store_state.proofs.Searching.{absent_at}
+use Rattle.store_state.proofs.ChangedTables.{few_raised, with_apps}
+use Rattle.store_state.proofs.KeySearch.{absent_at}
 use Rattle.store_state.proofs.Required.{raised_place, inserted_place}
 use Rattle.store_state.proofs.state.StoreState.require.Goals as goal
 

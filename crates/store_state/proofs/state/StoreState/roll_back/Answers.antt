@@ -1,5 +1,5 @@
 use Rattle.std.proofs.Common.{◌∙◌}
-use Rattle.store_state.proofs.RollingBack.{back_at, row_within, version_read_at}
+use Rattle.store_state.proofs.RolledBack.{back_at, row_within, version_read_at}
 use Rattle.store_state.proofs.state.StoreState.roll_back.Goals as goal
 
 pub note-requires : goal.note-requires

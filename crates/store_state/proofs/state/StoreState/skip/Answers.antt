@@ -1,4 +1,4 @@
-use Rattle.store_state.proofs.Checking.{place_within}
+use Rattle.store_state.proofs.CheckedApps.{place_within}
 use Rattle.store_state.proofs.state.StoreState.skip.Goals as goal
 
 pub note-requires : goal.note-requires

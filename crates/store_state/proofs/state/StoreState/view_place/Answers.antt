@@ -3,7 +3,7 @@ use Rattle.std.specs.Prelude.{IfNone, IfSome, slice_get}
 use Rattle.std.specs.Result.{result_ok}
 use Rattle.store_state.specs.Rows.{row_at}
 use Rattle.store_state.specs.Tables.{Tables}
-use Rattle.store_state.proofs.Growing.{row_none, row_place}
+use Rattle.store_state.proofs.GrownTables.{row_none, row_place}
 use Rattle.store_state.proofs.state.StoreState.view_place.Goals as goal
 
 -- the search ends at the view

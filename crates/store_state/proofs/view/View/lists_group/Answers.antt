@@ -1,4 +1,4 @@
-use Rattle.store_state.proofs.Growing.{listed_is}
+use Rattle.store_state.proofs.GrownTables.{listed_is}
 use Rattle.store_state.proofs.view.View.lists_group.Goals as goal
 
 pub returns : goal.returns

@@ -1,5 +1,5 @@
 use Rattle.std.proofs.Common.{◌<◌, [], arith, rules}
-use Rattle.updater.proofs.Applying.{memory_at_once}
+use Rattle.updater.proofs.HeardBehind.{memory_at_once}
 use Rattle.updater.proofs.updater.Updater.apply.Goals as goal
 
 pub returns-in-Err : goal.returns-in-Err

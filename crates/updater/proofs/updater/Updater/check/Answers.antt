@@ -1,7 +1,7 @@
 use Rattle.std.proofs.Common.{subst}
 use Rattle.updater.proofs.Brings.{check_brings}
-use Rattle.updater.proofs.Checking.{check_kept, check_over}
-use Rattle.updater.proofs.Encoding.{check_encodes}
+use Rattle.updater.proofs.CheckEnds.{check_kept, check_over}
+use Rattle.updater.proofs.EncodedChanges.{check_encodes}
 use Rattle.updater.proofs.Seen.{kept_as, rested_as, seen}
 use Rattle.updater.specs.Shown.{Updater}
 use Rattle.store_state.specs.Change.{Fits}

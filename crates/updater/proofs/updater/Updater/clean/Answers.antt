@@ -4,7 +4,7 @@ use Rattle.machine.specs.declared.reply.Reply.TheVariants as says
 use Rattle.store_state.specs.declared.change.Change.TheVariants as change
 use Rattle.install_plan.proofs.Downs.{counts_none}
 use Rattle.updater.proofs.Cleanings.{cleaned_does, cleaned_rests}
-use Rattle.updater.proofs.Commanding.{kept, memory_missed, rested, unlinked}
+use Rattle.updater.proofs.CommandEnds.{kept, memory_missed, rested, unlinked}
 use Rattle.updater.proofs.Seen.{kept_as, rested_as, seen}
 use Rattle.updater.proofs.updater.Updater.clean.Goals as goal
 

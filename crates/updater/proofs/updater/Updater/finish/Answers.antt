@@ -4,8 +4,8 @@ use Rattle.machine.specs.declared.command.Command.TheVariants as command
 use Rattle.machine.specs.declared.reply.Reply.TheVariants as says
 use Rattle.store_state.specs.declared.change.Change.TheVariants as change
 use Rattle.install_plan.proofs.Downs.{counts_none}
-use Rattle.updater.proofs.Commanding.{kept, refused, unlinked}
-use Rattle.updater.proofs.Finishing.{finished_does, finished_fits}
+use Rattle.updater.proofs.CommandEnds.{kept, refused, unlinked, takes_none}
+use Rattle.updater.proofs.FinishChange.{finished_does, finished_fits}
 use Rattle.updater.proofs.Seen.{kept_as, rested_as, seen}
 use Rattle.updater.specs.Shown.{Updater}
 use Rattle.store_state.specs.Change.{Fits}
@@ -43,5 +43,5 @@ returns g c =
     (λ old s. finished_does c.args.now c.args.lease u.room u.state
     _ _ _ old s.jobs s.shows s.valid c.requires.words c.requires.moment
     (c.in_default.ensures.none refl c.args.now u.room))
-    (λ takes. absurd takes)
+    (λ takes. takes_none takes)
     c.keep_lighter.new.self c.keep_lighter.new.disk c.keep_lighter.result c.answer.result keeps c.answer.ensures)

@@ -1,37 +1,34 @@
-use Rattle.std.proofs.Common.{ℕ, subst, sym}
-use Rattle.table_log.specs.Rooms.{HaveRooms}
-use Rattle.updater.specs.MakesDurable.{MakesDurable, MayKeep}
+use Rattle.std.proofs.Common.{◌∙◌, ◌++◌, ℕ, List, subst, sym}
+use Rattle.std.specs.List.Sorted.{IsPermutation}
+use Rattle.std.proofs.lemmas.List.Sorted.{IsPermutation-refl}
+use Rattle.table_files.specs.Held.{held_by}
+use Rattle.updater.specs.KeepsChange.{KeepsChange, MayKeep}
 use Rattle.updater.specs.Shown.{Updater}
-use Rattle.updater.proofs.Keeping.{kept_after, kept_by, new_half_fits}
+use Rattle.updater.proofs.BlockUse.{uses_none}
 use Rattle.updater.proofs.updater.Updater.keep.Goals as goal
 
-pub make_durable-requires : goal.make_durable-requires
-make_durable-requires g c =
-    let inside = c.self.inside in
-    let may = subst (λ (u : Updater). MayKeep u c.args.change) (sym c.self.view_is) c.requires in
-    record {
-      fits = may.fits;
-      change = may.has;
-      tables = c.self.invariant.0.encodable;
-      room = new_half_fits inside.log inside.room inside.state c.args.change c.self.invariant.0 c.are_tables.ensures may
-          c.fields_stay_encodable.ensures.had c.encodings_are_within_table_weights.ensures c.changes_are_within_weights.ensures;
-      rooms = subst (λ (n : ℕ). HaveRooms n inside.rooms) (sym c.self.invariant.0.half) c.self.invariant.1;
-    }
+pub keep_files-requires-clause-kept : goal.keep_files-requires-clause-kept
+keep_files-requires-clause-kept g c = c.self.invariant.0
+
+pub keep_files-requires-clause-rooms : goal.keep_files-requires-clause-rooms
+keep_files-requires-clause-rooms g c = c.self.invariant.1
+
+pub keep_files-requires-clause-may : goal.keep_files-requires-clause-may
+keep_files-requires-clause-may g c = subst (λ (u : Updater). MayKeep u c.args.change) (sym c.self.view_is) c.requires.may
+
+pub keep_files-requires-clause-blocks : goal.keep_files-requires-clause-blocks
+keep_files-requires-clause-blocks g c =
+    uses_none c.self.inside.files c.self.inside.room (held_by c.self.inside.state) c.from_vec-none.result (c.from_vec-none.ensures ∙ c.new.ensures.items) c.self.invariant.2
+
+pub keep_files-requires-clause-same : goal.keep_files-requires-clause-same
+keep_files-requires-clause-same g c =
+    subst (λ (l : List ℕ). IsPermutation c.from_vec-none.result (l ++ c.from_vec-none.result)) (sym c.requires.none) (IsPermutation-refl c.from_vec-none.result)
 
 pub invariant_of-self : goal.invariant_of-self
-invariant_of-self g c =
-    let inside = c.self.inside in
-    let may = subst (λ (u : Updater). MayKeep u c.args.change) (sym c.self.view_is) c.requires in (
-      kept_after inside.log inside.room inside.state c.args.change c.self.invariant.0 c.are_tables.ensures may
-          g.D.Disk c.changes_stay_encodable.ensures.stay c.args.disk.now c.make_durable.result c.make_durable.new.log c.make_durable.new.state c.make_durable.new.disk c.make_durable.ensures.makes,
-      subst (λ (n : ℕ). HaveRooms n c.make_durable.new.rooms) c.self.invariant.0.half c.make_durable.ensures.rooms,
-    )
+invariant_of-self g c = (c.keep_files.ensures.kept, c.keep_files.ensures.rooms, c.keep_files.ensures.blocks)
 
 pub returns : goal.returns
 returns g c =
-    let inside = c.self.inside in
-    let may = subst (λ (u : Updater). MayKeep u c.args.change) (sym c.self.view_is) c.requires in
-    subst (λ (u : Updater). MakesDurable g.D.Disk c.args.change u c.args.disk.now c.make_durable.result (record { log = c.make_durable.new.log; room = inside.room; state = c.make_durable.new.state }) c.make_durable.new.disk) c.self.view_is
-    (kept_by g.D.Disk inside.log inside.room inside.state c.args.disk.now c.args.change may.fits may.has
-    (c.encodings_are_within_table_weights.ensures inside.state c.are_tables.ensures (c.fields_stay_encodable.ensures.had inside.state c.self.invariant.0.encodable))
-    (g.met.D.Disk.seen_left c.args.disk.now) c.make_durable.result c.make_durable.new.log c.make_durable.new.state c.make_durable.new.disk c.make_durable.ensures.makes)
+    subst (λ (u : Updater). KeepsChange g.D.Disk c.args.change u c.args.disk.now c.keep_files.result
+    (record { log = c.keep_files.new.log; room = c.self.inside.room; state = c.keep_files.new.state }) c.keep_files.new.disk)
+    c.self.view_is c.keep_files.ensures.makes

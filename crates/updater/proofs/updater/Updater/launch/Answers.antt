@@ -4,8 +4,8 @@ use Rattle.machine.specs.declared.command.Command.TheVariants as command
 use Rattle.machine.specs.declared.reply.Reply.TheVariants as says
 use Rattle.store_state.specs.declared.change.Change.TheVariants as change
 use Rattle.install_plan.proofs.Downs.{counts_none}
-use Rattle.updater.proofs.Commanding.{kept, refused, unlinked}
-use Rattle.updater.proofs.Launching.{launched_does}
+use Rattle.updater.proofs.CommandEnds.{kept, refused, unlinked, takes_none}
+use Rattle.updater.proofs.LaunchChange.{launched_does}
 use Rattle.updater.proofs.ShownViews.{keeps_current}
 use Rattle.updater.proofs.Seen.{kept_as, rested_as, seen}
 use Rattle.updater.proofs.updater.Updater.launch.Goals as goal
@@ -37,5 +37,5 @@ returns g c =
     (λ old s. launched_does c.args.now c.args.key.now u.room u.state
     _ _ _ old s.jobs s.shows s.valid c.requires.words c.requires.moment
     c.in-Ok.start c.in-Ok.ensures.start)
-    (λ takes. absurd takes)
+    (λ takes. takes_none takes)
     c.keep_lighter.new.self c.keep_lighter.new.disk c.keep_lighter.result c.answer.result keeps c.answer.ensures)

@@ -2,7 +2,7 @@ use Rattle.std.proofs.Common.{[], refl}
 use Rattle.machine.specs.declared.command.Command.TheVariants as command
 use Rattle.machine.specs.declared.reply.Reply.TheVariants as says
 use Rattle.install_plan.proofs.Downs.{counts_none}
-use Rattle.updater.proofs.Commanding.{memory_missed, rested, unlinked}
+use Rattle.updater.proofs.CommandEnds.{memory_missed, rested, unlinked}
 use Rattle.updater.proofs.Lists.{listed_rests}
 use Rattle.updater.proofs.Seen.{rested_as, seen}
 use Rattle.updater.proofs.updater.Updater.list.Goals as goal

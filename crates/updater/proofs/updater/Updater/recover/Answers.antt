@@ -1,7 +1,7 @@
 use Rattle.std.proofs.Common.{Err, sym, ap, ◌∙◌}
 use Rattle.updater.specs.declared.updater.Updater.TheInside.{Inside}
 use Rattle.updater.specs.Shown.{Updater}
-use Rattle.updater.proofs.Opening as opening
+use Rattle.updater.proofs.OpeningEnds as opening
 use Rattle.updater.proofs.updater.Updater.recover.Goals as goal
 
 pub returns-in-Err : goal.returns-in-Err

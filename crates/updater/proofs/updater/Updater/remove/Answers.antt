@@ -6,7 +6,7 @@ use Rattle.small_types.specs.Name.{IsName}
 use Rattle.store_state.specs.declared.change.Change.TheVariants as change
 use Rattle.store_state.specs.Change.{Fits}
 use Rattle.install_plan.proofs.Downs.{counts_none}
-use Rattle.updater.proofs.Commanding.{Does, kept, memory_missed, refused, unlinked}
+use Rattle.updater.proofs.CommandEnds.{Does, kept, left_on, memory_missed, refused, unlinked}
 use Rattle.updater.proofs.DataRemoved.{removal_does, removal_fits}
 use Rattle.updater.proofs.ShownViews.{keeps_view}
 use Rattle.updater.proofs.Seen.{kept_as, rested_as, seen}
@@ -59,8 +59,8 @@ returns g c =
     (counts_none refl) (λ e. tt)
     (λ old s. subst
     (λ (name : List ℕ). Does c.args.now [] command (g.L.Links.links c.args._links.now)
-    (g.L.Links.links c.args._links.now) (change.Remove c.in-Ok.view name) u.state old
-    says.Removed) (sym c.in-Ok-copy.ensures)
+    (g.L.Links.links c.args._links.now) (change.Remove c.in-Ok.view name) u.state
+    (g.D.Disk.seen c.args.disk.now) (left_on g.D.Disk c.args.disk.now) old says.Removed) (sym c.in-Ok-copy.ensures)
     (removal_does c.args.now c.args.lease u.room c.args.name.now
     u.state _ _ _ old s.jobs s.shows s.valid c.requires.words c.requires.moment
     c.in-Ok.view c.in-Ok.ensures.removal c.removals_show_the_rest.ensures

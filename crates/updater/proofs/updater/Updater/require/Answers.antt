@@ -3,8 +3,8 @@ use Rattle.small_types.specs.declared.limits.TheConstants.{NUMBER_LIMIT}
 use Rattle.machine.specs.declared.command.Command.TheVariants as command
 use Rattle.machine.specs.declared.reply.Reply.TheVariants as says
 use Rattle.install_plan.proofs.Downs.{counts_none}
-use Rattle.updater.proofs.Commanding.{refused, rested, unlinked}
-use Rattle.updater.proofs.Requiring.{required_rests}
+use Rattle.updater.proofs.CommandEnds.{refused, rested, unlinked}
+use Rattle.updater.proofs.RequireChange.{required_rests}
 use Rattle.updater.proofs.Seen.{rested_as, seen}
 use Rattle.updater.specs.Shown.{Updater}
 use Rattle.machine.specs.Machine.{refusals}

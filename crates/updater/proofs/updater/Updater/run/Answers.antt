@@ -1,4 +1,4 @@
-use Rattle.updater.proofs.Commanding.{moment_told}
+use Rattle.updater.proofs.CommandEnds.{moment_told}
 use Rattle.updater.proofs.updater.Updater.run.Goals as goal
 
 pub returns-in-At : goal.returns-in-At

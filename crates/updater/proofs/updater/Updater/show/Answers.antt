@@ -3,7 +3,7 @@ use Rattle.machine.specs.declared.command.Command.TheVariants as command
 use Rattle.machine.specs.declared.reply.Reply.TheVariants as says
 use Rattle.machine.specs.Entries.{entry_of}
 use Rattle.install_plan.proofs.Downs.{counts_none}
-use Rattle.updater.proofs.Commanding.{memory_missed, refused, rested, unlinked}
+use Rattle.updater.proofs.CommandEnds.{memory_missed, refused, rested, unlinked}
 use Rattle.updater.proofs.Lists.{not_shown, shown_rests}
 use Rattle.updater.proofs.Seen.{rested_as, seen}
 use Rattle.updater.proofs.updater.Updater.show.Goals as goal

@@ -4,9 +4,9 @@ use Rattle.machine.specs.declared.command.Command.TheVariants as command
 use Rattle.machine.specs.declared.reply.Reply.TheVariants as says
 use Rattle.store_state.specs.declared.change.Change.TheVariants as change
 use Rattle.install_plan.proofs.Downs.{counts_none}
-use Rattle.updater.proofs.Commanding.{kept, refused, rested, unlinked}
+use Rattle.updater.proofs.CommandEnds.{kept, refused, rested, unlinked, takes_none}
 use Rattle.updater.proofs.ShownViews.{keeps_current}
-use Rattle.updater.proofs.Declining.{skipped_does, skipped_rests}
+use Rattle.updater.proofs.SkipChange.{skipped_does, skipped_rests}
 use Rattle.updater.proofs.Seen.{kept_as, rested_as, seen}
 use Rattle.updater.proofs.updater.Updater.skip.Goals as goal
 
@@ -51,5 +51,5 @@ returns g c =
     (λ old s. skipped_does c.args.now c.args.key.now u.room u.state
     _ _ _ old s.jobs s.shows s.valid c.requires.words c.requires.moment
     c.in-Ok.skipping c.in-Ok.ensures.skipping c.if-skipping.false)
-    (λ takes. absurd takes)
+    (λ takes. takes_none takes)
     c.keep_lighter.new.self c.keep_lighter.new.disk c.keep_lighter.result c.answer.result keeps c.answer.ensures)

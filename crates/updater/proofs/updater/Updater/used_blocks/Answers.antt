@@ -2,7 +2,7 @@ use Rattle.std.proofs.Common.{◌≡◌, ◌^◌, ◌-◌, min, map, subst}
 use Rattle.machine.specs.Blocks.{used_blocks}
 use Rattle.store_state.specs.Tables.{bare_row}
 use Rattle.updater.specs.Shown.{Updater}
-use Rattle.updater.proofs.Changing.{used_shown}
+use Rattle.updater.proofs.ChangedStores.{used_shown}
 use Rattle.updater.proofs.updater.Updater.used_blocks.Goals as goal
 
 pub returns : goal.returns

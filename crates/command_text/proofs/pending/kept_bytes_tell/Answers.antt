@@ -1,5 +1,0 @@
-use Rattle.command_text.proofs.LongLines.{kept_tell}
-use Rattle.command_text.proofs.pending.kept_bytes_tell.Goals as goal
-
-pub returns : goal.returns
-returns c = kept_tell

@@ -1,0 +1,10 @@
+pub mod Keys
+pub mod Kept
+pub mod Slots
+pub mod Balance
+pub mod NewJobs
+pub mod Jobs
+pub mod Moves
+pub mod HandOver
+pub mod Laws
+pub mod WholeFiles

@@ -1,9 +1,0 @@
-use Rattle.record_fields.proofs.Written.{then}
-use Rattle.record_codec.specs.Codec.{remove_text}
-use Rattle.record_codec.proofs.change_writing.write_remove.Goals as goal
-
-pub returns : goal.returns
-unfolding remove_text
-returns c =
-    then c.write_u8-next.ensures
-    (then c.write_u64-next.ensures c.write_name.ensures)

@@ -1,5 +1,0 @@
-use Rattle.record_codec.proofs.Records.{local_reads}
-use Rattle.record_codec.proofs.view_reading.LocalFieldReadable.reads_as_spelled.Goals as goal
-
-pub returns : goal.returns
-returns c = local_reads

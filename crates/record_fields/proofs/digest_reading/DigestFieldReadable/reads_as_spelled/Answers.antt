@@ -1,5 +1,0 @@
-use Rattle.record_fields.proofs.Digests.{digest_reads}
-use Rattle.record_fields.proofs.digest_reading.DigestFieldReadable.reads_as_spelled.Goals as goal
-
-pub returns : goal.returns
-returns c = digest_reads

@@ -1,5 +1,0 @@
-use Rattle.record_fields.proofs.Structs.{part_text_reads}
-use Rattle.record_fields.proofs.list_reading.TextFieldReadable.reads_as_spelled.Goals as goal
-
-pub returns : goal.returns
-returns c = part_text_reads

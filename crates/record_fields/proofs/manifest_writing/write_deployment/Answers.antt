@@ -1,7 +1,0 @@
-use Rattle.record_fields.specs.Spelling.{deployment_field}
-use Rattle.record_fields.proofs.Written.{then}
-use Rattle.record_fields.proofs.manifest_writing.write_deployment.Goals as goal
-
-pub returns : goal.returns
-unfolding deployment_field
-returns c = then c.write_terms-next.ensures c.write_listed.ensures

@@ -1,7 +1,0 @@
-use Rattle.record_fields.specs.Spelling.{target_field}
-use Rattle.record_fields.proofs.Written.{then}
-use Rattle.record_fields.proofs.part_writing.write_target.Goals as goal
-
-pub returns : goal.returns
-unfolding target_field
-returns c = then c.write_text-next.ensures (then c.write_u16-next.ensures c.write_text.ensures)

@@ -1,0 +1,10 @@
+pub mod DemoAddresses
+pub mod DemoManifests
+pub mod DemoSession
+pub mod Digests
+pub mod LongTrees
+pub mod Offering
+pub mod Passing
+pub mod Telling
+pub mod Utf8Trees
+pub mod WrittenUtf8

@@ -1,0 +1,4 @@
+pub mod Answered
+pub mod Installable
+pub mod TwoReleases
+pub mod Written
