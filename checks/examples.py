@@ -9,7 +9,7 @@ at night. Sixteen programs share one session by the broker, while sessions and t
 applications and their data files are moved into a new store: from one of the program that OLD_CLICKSTORE of the environment names,
 an older one, and from one of the same program where it names none.
 """
-import fcntl, os, random, re, shutil, signal, socket, subprocess, sys, threading, time
+import contextlib, fcntl, os, random, re, shutil, signal, socket, subprocess, sys, threading, time
 
 from programs import CLIENT, HOST, KEY, PIECE, TOP, chance, command, finish, holds, seed, serve, servers, stop, work
 
@@ -475,7 +475,9 @@ def kills_session():
     """Kills the session that began last, unless it has just ended."""
     process = sessions_begun()[-1][0]
     if not is_over(process):
-        os.kill(process, signal.SIGKILL)
+        # It may end between the look and the kill.
+        with contextlib.suppress(ProcessLookupError):
+            os.kill(process, signal.SIGKILL)
 
 
 def users(seconds, noted):
