@@ -69,7 +69,8 @@ digest_cause algorithm (Some listed) (Some found) = Some (Digest algorithm liste
 abbrev pub values_cause : Option Algorithm → List ℕ → List ℕ → Option Difference
 values_cause None listed found = None
 values_cause (Some algorithm) listed found =
-    digest_cause algorithm (bytes_of (size_of algorithm) listed) (bytes_of (size_of algorithm) found)
+    digest_cause algorithm (bytes_of (size_of algorithm) listed)
+    (bytes_of (size_of algorithm) found)
 
 -- the parts behind `size`
 abbrev pub size_parts : List (List ℕ) → Option Difference

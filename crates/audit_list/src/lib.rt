@@ -20,5 +20,5 @@ pub use fault::AuditTextFault;
 pub use laws::bytes_are_refused_at_one_line;
 pub use line::AuditLine;
 pub use list::AuditList;
-pub use reader::{AUDIT_TEXT_LIMIT, read_audit, read_limited_audit};
+pub use reader::{AUDIT_TEXT_LIMIT, audit_numbers_are, read_audit, read_limited_audit};
 pub use verdict::Verdict;

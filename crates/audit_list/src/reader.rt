@@ -14,6 +14,11 @@ use std::alloc::Global;
 /// The most bytes that `read_limited_audit` reads a list from.
 pub const AUDIT_TEXT_LIMIT: usize = 4_194_304;
 
+/// The most bytes that a list is read from.
+pub fn audit_numbers_are()
+    ensures { AUDIT_TEXT_LIMIT ≡ 4_194_304 }
+{}
+
 // Adds a line.
 fn keep(lines: &mut Vec<AuditLine>, line: AuditLine) -> Result<(), AuditTextFault>
     ensures kept { OnOk result (lines.new.items ≡ lines.old.items ++ line ∷ []) }

@@ -1,5 +1,5 @@
 // Tests of which views a clean takes.
-use crate::store_state_tests::make;
+use crate::store_state_tests::try_make;
 use cleaner::{CleanFault, clean, removable};
 use leases::{end, grant};
 use record_codec::decode_change;
@@ -59,7 +59,7 @@ fn install(alloc: Global, state: &mut StoreState, name: u8, view: u8) -> Result<
                 provider,
                 now,
             };
-            make(alloc, state, change)
+            try_make(alloc, state, change)
         }
         _ => Ok(false),
     }
@@ -69,7 +69,7 @@ fn install(alloc: Global, state: &mut StoreState, name: u8, view: u8) -> Result<
 fn is_done(alloc: Global, state: &mut StoreState, act: Act) -> Result<bool, Fail> {
     match act {
         Install(name, view) => install(alloc, state, name, view),
-        Rollback(app) => make(alloc, state, Change::Rollback { app }),
+        Rollback(app) => try_make(alloc, state, Change::Rollback { app }),
         Launch(view) => Ok(grant(state, view).is_ok()),
         Finish(lease) => Ok(end(state, lease).is_ok()),
     }

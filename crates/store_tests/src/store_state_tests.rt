@@ -14,7 +14,7 @@ fn version(a: u16, b: u16) -> Version {
 }
 
 // Makes the change, where it fits.
-pub(crate) fn make(alloc: Global, state: &mut StoreState, change: Change) -> Result<bool, Fail>
+pub(crate) fn try_make(alloc: Global, state: &mut StoreState, change: Change) -> Result<bool, Fail>
     requires { IsPlain change }
 {
     match state.fits(alloc, &change) {
@@ -40,7 +40,7 @@ fn require(
     version: Version,
 ) -> Result<bool, Fail> {
     let key = Key::read(alloc, word.as_bytes())?;
-    make(alloc, state, Change::Require { key, version })
+    try_make(alloc, state, Change::Require { key, version })
 }
 
 fn minimum(alloc: Global, state: &StoreState, word: &str) -> Result<Option<Version>, Fail> {
@@ -140,7 +140,7 @@ fn a_minimum_only_rises(rt: HostRuntime) -> Result<(), Fail> {
 
 fn take_boot_numbers(rt: &impl Abort, alloc: Global, state: &mut StoreState) -> Result<(), Fail> {
     for (boot, fits) in [(NUMBER_LIMIT, true), (4_611_686_018_427_387_905, false)] {
-        let made = make(alloc, state, Change::Boot { boot })?;
+        let made = try_make(alloc, state, Change::Boot { boot })?;
         assert!(rt;
             made == fits && state.boot == 4_611_686_018_427_387_904,
             "{boot}"
