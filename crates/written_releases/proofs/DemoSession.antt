@@ -42,8 +42,8 @@ use Rattle.written_releases.specs.TwoReleases.{application, check_line, demo_key
 use Rattle.written_releases.specs.Written.{IsWrittenDeployment}
 use Rattle.written_releases.proofs.DemoAddresses.{base, base_joined, file, file_joined, given, url_read}
 use Rattle.written_releases.proofs.DemoManifests.{file_of, is_key, one, single, whole, written_deployment, written_release}
-use Rattle.written_releases.proofs.Offering.{after_check, check_step}
-use Rattle.written_releases.proofs.Passing.{after, install_step}
+use Rattle.written_releases.proofs.AnsweredCheck.{after_check, check_step}
+use Rattle.written_releases.proofs.AnsweredInstall.{after, install_step}
 
 -- ---- addresses
 

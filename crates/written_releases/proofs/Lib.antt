@@ -1,10 +1,10 @@
+pub mod AnsweredCheck
+pub mod AnsweredInstall
 pub mod DemoAddresses
 pub mod DemoManifests
 pub mod DemoSession
 pub mod Digests
 pub mod LongTrees
-pub mod Offering
-pub mod Passing
-pub mod Telling
 pub mod Utf8Trees
+pub mod WrittenTexts
 pub mod WrittenUtf8

@@ -20,7 +20,7 @@ use Rattle.machine.specs.Store.{Session}
 use Rattle.machine.specs.Valid.{Ordered}
 use Rattle.machine.specs.Views.{ListedFile}
 use Rattle.written_releases.specs.Installable.{IsInstallable}
-use Rattle.written_releases.specs.Written.{IsWrittenApplication, IsWrittenDeployment, IsWrittenRelease, Release, texts_of}
+use Rattle.written_releases.specs.Written.{IsWrittenApplication, IsWrittenDeployment, IsWrittenRelease, NamedRelease, texts_of}
 
 -- ---- texts
 
@@ -41,7 +41,7 @@ WrittenApplicationsTell = (a : Application) → IsWrittenApplication a
 -- be installed, and there are whole files of it, a line that installs it hears its texts and is
 -- answered with its key, its version and the number of the next view.
 abbrev pub InstallsAreAnswered : Type 0
-InstallsAreAnswered = (now : ℕ) (url : List ℕ) (old : Session) (r : Release)
+InstallsAreAnswered = (now : ℕ) (url : List ℕ) (old : Session) (r : NamedRelease)
     (files originals : List ListedFile) → Ordered old.store → IsWrittenRelease r
     → IsInstallable url (shape_of old) r.deployment r.application
     → AreFetched old.store r.application files originals

@@ -22,7 +22,7 @@ use Rattle.machine.specs.Machine.{Run}
 use Rattle.machine.specs.Sound.{Sound}
 use Rattle.machine.specs.Store.{Session, empty, session_over}
 use Rattle.written_releases.specs.declared.example.TheConstants.{BLOCKS, FIRST, SECOND, THIRD}
-use Rattle.written_releases.specs.Written.{Release, texts_of}
+use Rattle.written_releases.specs.Written.{NamedRelease, texts_of}
 
 -- ---- the releases, one for each number
 
@@ -79,7 +79,7 @@ deployment number = record {
   app_list = digest_of (application_text (application number)) ∷ [];
 }
 
-abbrev pub release : ℕ → Release
+abbrev pub release : ℕ → NamedRelease
 release number = record {
   deployment = deployment number;
   application = application number;

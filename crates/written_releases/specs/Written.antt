@@ -11,14 +11,14 @@ use Rattle.manifest_writer.specs.Held.{IsHeldDigest}
 use Rattle.machine.specs.Fields.{IsApplication, IsDeployment}
 
 -- a release: what its two manifests say, whose it is, and what it is called
-pub record Release : Type 0 where
+pub record NamedRelease : Type 0 where
   pub deployment : Deployment
   pub application : Application
   pub publisher : List ℕ
   pub product : List ℕ
 
 -- their texts, as an install hears them
-abbrev pub texts_of : Release → List (List ℕ)
+abbrev pub texts_of : NamedRelease → List (List ℕ)
 texts_of r = deployment_text r.deployment r.publisher r.product ∷ application_text r.application
     ∷ []
 
@@ -42,7 +42,7 @@ pub record IsWrittenApplication (a : Application) : Type 0 where
   pub short : length (application_text a) ≤ MANIFEST_LIMIT
 
 -- both are so, and the deployment lists the text of the application, its key and its version
-pub record IsWrittenRelease (r : Release) : Type 0 where
+pub record IsWrittenRelease (r : NamedRelease) : Type 0 where
   pub deployment_is : IsWrittenDeployment r.deployment r.publisher r.product
   pub application_is : IsWrittenApplication r.application
   pub listed : Matches r.deployment.app_list r.deployment.app_size (application_text r.application)

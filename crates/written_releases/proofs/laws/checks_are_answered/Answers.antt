@@ -1,4 +1,4 @@
-use Rattle.written_releases.proofs.Offering.{check_answered}
+use Rattle.written_releases.proofs.AnsweredCheck.{check_answered}
 use Rattle.written_releases.proofs.laws.checks_are_answered.Goals as goal
 
 pub returns : goal.returns

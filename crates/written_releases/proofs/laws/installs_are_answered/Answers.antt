@@ -1,4 +1,4 @@
-use Rattle.written_releases.proofs.Passing.{install_answered}
+use Rattle.written_releases.proofs.AnsweredInstall.{install_answered}
 use Rattle.written_releases.proofs.laws.installs_are_answered.Goals as goal
 
 pub returns : goal.returns

@@ -1,4 +1,4 @@
-use Rattle.written_releases.proofs.Telling.{application_tells, deployment_tells}
+use Rattle.written_releases.proofs.WrittenTexts.{application_tells, deployment_tells}
 use Rattle.written_releases.proofs.laws.written_texts_tell.Goals as goal
 
 pub returns-clause-deployments : goal.returns-clause-deployments

@@ -23,8 +23,8 @@ use Rattle.machine.specs.Store.{Session}
 use Rattle.machine.proofs.FirstFound.{some_there, then_value, map_value}
 use Rattle.machine.proofs.InstallExact.{some_is_not_none, text_one}
 use Rattle.written_releases.specs.Written.{IsWrittenDeployment}
-use Rattle.written_releases.proofs.Passing.{none_refused}
-use Rattle.written_releases.proofs.Telling.{deployment_tells}
+use Rattle.written_releases.proofs.AnsweredInstall.{none_refused}
+use Rattle.written_releases.proofs.WrittenTexts.{deployment_tells}
 
 -- a version is current where a view is
 version_of_view : (key : Key) (shape : Shape) (have : Version) → current_version key shape ≡ Some have → (number : ℕ) × (current_of key shape.apps ≡ Some number)

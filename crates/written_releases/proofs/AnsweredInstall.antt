@@ -48,8 +48,8 @@ use Rattle.machine.proofs.Members.{all_in, in_contains}
 use Rattle.machine.proofs.OneMigration.{migration}
 use Rattle.machine.proofs.Told.{tells_one}
 use Rattle.written_releases.specs.Installable.{IsInstallable}
-use Rattle.written_releases.specs.Written.{IsWrittenRelease, Release, texts_of}
-use Rattle.written_releases.proofs.Telling.{application_tells, deployment_tells}
+use Rattle.written_releases.specs.Written.{IsWrittenRelease, NamedRelease, texts_of}
+use Rattle.written_releases.proofs.WrittenTexts.{application_tells, deployment_tells}
 
 -- ---- a text that tells something is not refused
 
@@ -118,7 +118,7 @@ not_unlike d a key version (Mismatch difference) refuses other = refuses
 not_unlike d a key version (IdentityDiffers listed found) refuses other = refuses.other (refuses.listed_is ∙ sym key ∙ sym refuses.found_is)
 not_unlike d a key version (VersionDiffers listed found) refuses other = refuses.other (refuses.listed_is ∙ sym version ∙ sym refuses.found_is)
 
-module _ (r : Release) (is : IsWrittenRelease r) where
+module _ (r : NamedRelease) (is : IsWrittenRelease r) where
   abbrev d : Deployment
   d = r.deployment
 
@@ -287,7 +287,7 @@ module _ (r : Release) (is : IsWrittenRelease r) where
 
 -- ---- the line
 
-module _ (r : Release) (is : IsWrittenRelease r) (url : List ℕ) (old : Session) (may : IsInstallable url (shape_of old) r.deployment r.application) (now : ℕ)
+module _ (r : NamedRelease) (is : IsWrittenRelease r) (url : List ℕ) (old : Session) (may : IsInstallable url (shape_of old) r.deployment r.application) (now : ℕ)
     (files originals : List ListedFile) (fetched : AreFetched old.store r.application files originals) (data_files : List DataFile)
     (migrated : Migrated (data_of (current_view r.deployment.identity.key old.store)) (listed_by (current_view r.deployment.identity.key old.store)) r.application.files originals data_files)
   where
@@ -340,7 +340,7 @@ module _ (store : Store) (was : Ordered store) where
 
 -- ---- the law
 
-pub install_answered : (now : ℕ) (url : List ℕ) (old : Session) (r : Release) (files originals : List ListedFile) → Ordered old.store → IsWrittenRelease r
+pub install_answered : (now : ℕ) (url : List ℕ) (old : Session) (r : NamedRelease) (files originals : List ListedFile) → Ordered old.store → IsWrittenRelease r
     → IsInstallable url (shape_of old) r.deployment r.application → AreFetched old.store r.application files originals
     → (new : Session) × Step now old (Line (Install url) now (record { texts = texts_of r })) (Some (says.Installed r.deployment.identity.key r.deployment.identity.version old.store.next_view)) new
 install_answered now url old r files originals ordered is may fetched =
