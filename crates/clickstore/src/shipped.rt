@@ -47,8 +47,7 @@ pub(crate) fn run_over_file<S: Start, L: Links>(
 
     // And a launch hands out the current view, which is one whole release and not below a minimum;
     // reads on its lease show parts of the same bytes; a launch where nothing is due and a lease is
-    // free is answered with one, or finds no memory; and what a stop leaves has the leased views,
-    // whole and unchanged.
+    // free is answered with one; and what a stop leaves has the leased views, whole and unchanged.
     ensures headline_views { (boot now : ℕ) → request_of words.now ≡ Some (asked.Session boot now)
         → DiskIsHonest S.Start disk.new
         → HeadlineViews ⟦<FileDisk<HostRuntime, S> as Disk>⟧ now disk.old report.new }

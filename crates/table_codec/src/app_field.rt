@@ -88,7 +88,7 @@ fn write_rest(out: &mut [u8], place: usize, app: &AppState) -> usize
     write_truth(out, next, app.checked)
 }
 
-// WritesField the application at the place, its fields in their order, and answers the place behind it.
+// Writes the application at the place, its fields in their order, and answers the place behind it.
 #[tactic(auto, using(record_fields::proofs::Long::lengths), unfolding(crate::specs::Spelled::app_field))]
 fn write_app(out: &mut [u8], place: usize, app: &AppState) -> usize
     requires app { IsEncodableApp app.now }

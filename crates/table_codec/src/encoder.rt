@@ -30,7 +30,7 @@ pub fn encoded_length_of_state(state: &StoreState) -> u64
     24 + lists_length(state)
 }
 
-// WritesField the leases, the views, the applications and the contents at the place, and answers the
+// Writes the leases, the views, the applications and the contents at the place, and answers the
 // place behind them.
 #[tactic(auto, using(record_fields::proofs::Long::lengths), unfolding(crate::specs::Spelled::lists_field))]
 fn write_lists(out: &mut [u8], place: usize, state: &StoreState) -> usize
@@ -44,7 +44,7 @@ fn write_lists(out: &mut [u8], place: usize, state: &StoreState) -> usize
     write_list::<ContentField>(out, next, state.contents.as_slice())
 }
 
-/// WritesField the encoding of the tables to the front of the buffer, leaves the rest, and answers how
+/// Writes the encoding of the tables to the front of the buffer, leaves the rest, and answers how
 /// many bytes it has. It takes no memory.
 #[tactic(auto, using(record_fields::proofs::Long::lengths), unfolding(crate::specs::Spelled::state_text))]
 pub fn encode_state(state: &StoreState, out: &mut [u8]) -> usize

@@ -29,7 +29,7 @@ impl Item for LeaseField {
     }
 }
 
-// WritesField the lease at the place, its number and that of its view, and answers the place behind it.
+// Writes the lease at the place, its number and that of its view, and answers the place behind it.
 #[tactic(auto, unfolding(crate::specs::Spelled::lease_field))]
 fn write_lease(out: &mut [u8], place: usize, lease: Lease) -> usize
     requires { place + length (lease_field lease) ≤ length out.old }

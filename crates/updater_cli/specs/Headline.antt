@@ -87,7 +87,7 @@ pub record IsOpened {S K D L : Type 0} (on : Ghosts D) (boot status : ℕ)
 -- The report's lines are those of the input, one event after another, each at the moment that the
 -- session has by then. Their marks never fall, nor do their numbers of failures, which lie between
 -- those of the links before and after. Where a reply says of a link that it failed, the number of
--- failures rose with the line. The links and their sites stay.
+-- failures rose with the line. Every site stays, and no count of failures falls.
 pub record HeadlineLines {S K D L : Type 0} (source : SourceGhosts S) (on : Ghosts D)
     (net : LinksGhosts L) (boot now status : ℕ) (old new : Devices S K D L)
     (report : Report) : Type 0 where

@@ -175,7 +175,7 @@ ServesLine (Line command at heard) reply before after old new =
     IfSome reply (λ answer. LinksServe command heard.texts before after old answer new)
 ServesLine (Unread fault) reply before after old new = Unit {0}
 
--- what the links did for a line; they and their sites stay
+-- what the links did for a line: every site stays, and no count falls
 pub record IsLineServed {L : Type 0} (net : LinksGhosts L) (event : Event) (reply : Option Reply)
     (before after : L) (old new : Session) : Type 0 where
   pub kept : Kept (net.links before) (net.links after)
