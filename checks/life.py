@@ -402,6 +402,8 @@ def full_disk():
     status, said, why = limited(f"{work}/full.store", ["demo", "7"], "", 100000)
     holds(f"a generated run on a full disk: {status} {said!r} {why!r}",
           (status, said, why) == (4, "", f"clickstore: {work}/full.store: File too large\n"))
+    stands = run(f"{work}/full.store", SESSION, "list\n")
+    holds(f"what a generated run left without room for a store: {stands}", stands[0] == 5)
     full = f"{work}/full"
     os.mkdir(full)
     if subprocess.run(["mount", "-t", "tmpfs", "-o", "size=1m", "tmpfs", full], stderr=subprocess.DEVNULL).returncode:
@@ -411,6 +413,8 @@ def full_disk():
         got = run(f"{full}/store", ["demo", "7"])
         holds(f"a generated run on a full file system: {got}",
               got == (4, "", f"clickstore: {full}/store: No space left on device\n"))
+        stands = run(f"{full}/store", SESSION, "list\n")
+        holds(f"what a generated run left on a full file system: {stands}", stands == (0, "ok list 0\n", ""))
     finally:
         subprocess.run(["umount", full])
 
