@@ -152,11 +152,12 @@ def requests(_release):
 
 # Seconds that a machine that has much to do may add to a wait.
 SLACK = 5
-LARGE_FILE = 64 << 20
+LARGE_FILE, SMALL_FILE = 64 << 20, b"small" * 2000
 # What a client sends, and how many bytes of its answer it takes each second.
 SLOW = {"sends nothing": (b"", 0), "sends a part of its request": (b"GET /large HTTP/1.1\r\n", 0),
         "takes nothing": (b"GET /large HTTP/1.1\r\nHost: x\r\n\r\n", 0),
-        "takes a little each second": (b"GET /large HTTP/1.1\r\nHost: x\r\n\r\n", 2000)}
+        "takes a little each second": (b"GET /large HTTP/1.1\r\nHost: x\r\n\r\n", 2000),
+        "takes nothing of a small file": (b"GET /small HTTP/1.1\r\nHost: x\r\n\r\n", 0)}
 
 
 class Slow(threading.Thread):
@@ -199,15 +200,17 @@ class Slow(threading.Thread):
                 pass
 
     def limit(self):
-        """The seconds that it may hold the next one up: by `docs/http.md`, 10 without a whole request, and else 20 and one more for each
-        65,536 bytes that the system has taken for it, which it has received in the end."""
+        """The seconds that it may hold the next one up: by `docs/http.md`, none for a small file, 10 without a whole request, and else
+        20 and one more for each 65,536 bytes that the system has taken for it, which it has received in the end."""
+        if b"/small" in self.text:
+            return 0
         return 20 + self.taken / 65536 if self.text.endswith(b"\r\n\r\n") else 10
 
 
 def slow_clients():
     folder = f"{work}/slow"
     wrote(f"{folder}/large", bytes(LARGE_FILE))
-    wrote(f"{folder}/small", b"small")
+    wrote(f"{folder}/small", SMALL_FILE)
     clients = [Slow(name, int(serve("clickhost", folder)[0].rpartition(":")[2])) for name in SLOW]
     for client in clients:
         client.start()
@@ -218,7 +221,7 @@ def slow_end(clients):
     for client in clients:
         client.join()
         holds(f"the next one behind a client that {client.what} is served: {client.answer[-100:]}",
-              client.answer == head_of("small", b"small") + b"small")
+              client.answer == head_of("small", SMALL_FILE) + SMALL_FILE)
         holds(f"a client that {client.what} held the next one up for {client.held:.1f} seconds, and {client.taken} bytes were sent to it",
               client.held < client.limit() + SLACK and client.taken < LARGE_FILE)
         print(f"a client that {client.what} held the next one up for {client.held:.0f} seconds; {client.taken} bytes were sent to it",
