@@ -8,12 +8,13 @@ calls, which is refused. Where the device is
   - the standard input, with status 2, and the standard output, with status 3,
   - FOLDER or a host, the line is answered, as one that found nothing there, or as if nothing had happened where the other has it,
 and one line on the standard error says which device and why, or none where the status is 0. After each the store opens, and is
-that of the lines that were answered, or of one more. So it is with `format`, `inspect` and `publish`, of which a failing folder
-leaves the deployment manifest as it was; and with `clickhost`, which serves the next connection.
+that of the lines that were answered, or of one more, also where a line makes a checkpoint. So it is with `format`, `inspect` and
+`publish`, of which a failing folder leaves the deployment manifest as it was; and with `clickhost`, which serves the next connection.
 """
 import errno, os, re, shutil, signal, socket, subprocess, sys, time
 
-from programs import (CLIENT, HOST, KEY, SESSION, chance, command, empty, finish, holds, run, serve, session, stop, work)
+from programs import (CLIENT, HOST, KEY, SESSION, chance, command, copied, empty, finish, holds, run, serve, session, stop, work)
+from stops import LEAST, Halves, can_trace, fill, turn
 
 # The calls that are made of files, streams and connections. Memory is not among them, nor is the end of a file's use.
 CALLS = """openat flock fsync fdatasync fadvise64 statx newfstatat fstat lseek pread64 pwrite64 ftruncate read write writev
@@ -62,11 +63,6 @@ class Call:
 def ran(words, given=b""):
     done = subprocess.run(words, input=given, stdout=subprocess.PIPE, stderr=subprocess.PIPE, timeout=120)
     return done.returncode, done.stdout.decode(), done.stderr.decode()
-
-
-def can_trace():
-    """Whether there is a strace that runs here."""
-    return shutil.which("strace") and ran(["strace", "-qq", "-o", "/dev/null", "true"])[0] == 0
 
 
 def calls_in(log):
@@ -161,28 +157,30 @@ def given(lines):
     return "".join(f"{line}\n" for line in lines)
 
 
-def new_store(store):
+def new_store(store, base=EMPTY):
+    """A copy of the store, or an empty one, alone in its folder."""
     shutil.rmtree(os.path.dirname(store), ignore_errors=True)
     os.makedirs(os.path.dirname(store))
     if not os.path.exists(EMPTY):
         command(EMPTY, ["format", "--blocks", "1000"])
-    shutil.copyfile(EMPTY, store)
+    shutil.copyfile(base, store)
 
 
 class Course:
-    """What the lines answer where nothing fails, over FOLDER, and what the looks then say of the store, behind each of them."""
+    """What the lines answer where nothing fails, over a store and FOLDER, and what the looks then say of the store, behind each of
+    them."""
 
-    def __init__(self, lines, folder=AT_HAND, looks=LOOKS):
-        self.lines, self.folder, self.looks = lines, folder, looks
+    def __init__(self, lines, folder=AT_HAND, looks=LOOKS, base=EMPTY):
+        self.lines, self.folder, self.looks, self.base = lines, folder, looks, base
         seen = [self.run(lines[:count]) for count in range(len(lines) + 1)]
         self.answers, self.stood = seen[-1][0], [stood for _, stood in seen]
         self.others = {}
         holds(f"an answer to each line: {self.answers}", len(self.answers) == len(lines))
 
     def run(self, lines):
-        """What the lines answer in a new store, and what is seen of it then."""
+        """What the lines answer in such a store, and what is seen of it then."""
         store = f"{work}/course/store"
-        new_store(store)
+        new_store(store, self.base)
         answers = command(store, SESSION, given(lines), folder=self.folder).splitlines()
         return answers, session(store, self.looks)
 
@@ -215,16 +213,16 @@ def is_down(call, course, said):
         answers, stood = course.without(place)
         answers = answers[:place] + [whole[place]] + answers[place:]
     holds(f"{call}: the answers: {whole}", whole == answers)
-    found = session(STORE, LOOKS)
+    found = session(STORE, course.looks)
     holds(f"{call}: what stands then: {found}", found == stood)
     return place is not None
 
 
-def sessions(course):
+def sessions(name, course):
     words, lines = [CLIENT, STORE, AT_HAND] + SESSION, given(course.lines).encode()
-    new_store(STORE)
+    new_store(STORE, course.base)
     whole, calls = traced(words, lines)
-    holds(f"a session under strace: {whole}", whole == (0, given(course.answers), ""))
+    holds(f"{name} under strace: {whole}", whole == (0, given(course.answers), ""))
     count, found = {}, 0
     for call in calls:
         device, status, why = device_of(call)
@@ -233,7 +231,7 @@ def sessions(course):
         count[device] = count.get(device, 0) + 1
         # What a host sends comes in more pieces or fewer, and each piece of a file is written by itself, so a run may end before.
         for _ in range(20):
-            new_store(STORE)
+            new_store(STORE, course.base)
             got, said, told = ran(refusing(call) + words, lines)
             if was_refused():
                 break
@@ -247,10 +245,30 @@ def sessions(course):
         else:
             found += is_down(call, course, said)
         if device == "link" and call.name in WAITS:
-            new_store(STORE)
+            new_store(STORE, course.base)
             got = ran(refusing(call.interrupted()) + words, lines)
             holds(f"{call.interrupted()}: {got}", got == whole)
-    print(f"a session: {count}, of which {found} were told as down", flush=True)
+    print(f"{name}: {count}, of which {found} were told as down", flush=True)
+
+
+def checkpoints():
+    """A session whose first line finds a full half: a checkpoint comes before its change, where the other half is shut and where it
+    is open."""
+    shut, both = f"{work}/shut.store", f"{work}/both.store"
+    command(shut, ["format", "--blocks", "1000", "--half", str(LEAST)])
+    got = command(shut, SESSION, given(["install http://127.0.0.1:1/one/demo.application", f"launch {KEY}"]), folder=AT_HAND)
+    holds(f"a store whose half will be full: {got}", got == f"ok installed {KEY} 1.0.0.0 1\nok lease 1 1.0.0.0 -\n")
+    turn(shut)
+    session(copied(shut, both), ["put 1 notes.db 6f6e65"])
+    holds("both halves are open", Halves(both).are_both_open)
+    fill(both, 0)
+    lines = ["put 1 notes.db 74776f", f"launch {KEY}", "remove 1 notes.db"]
+    for how, base in (("shut", shut), ("open", both)):
+        name = f"a session with a checkpoint, the other half being {how}"
+        begin, course = Halves(base).begin, Course(lines, base=base)
+        holds(f"{name}: {course.answers}", course.answers == ["ok put", "ok lease 2 1.0.0.0 -", "ok removed"])
+        holds(f"{name}: it comes", Halves(f"{work}/course/store").begin != begin)
+        sessions(name, course)
 
 
 def unread(course):
@@ -510,8 +528,9 @@ def main():
     publish(site, "two", "2.0.0.0", SECOND, MARKS + ["group:help:help.txt"])
     host, server = serve("clickhost", site)
     course = Course(lines_with(host))
-    sessions(course)
+    sessions("a session", course)
     unread(course)
+    checkpoints()
     stop(server)
     formats(course)
     inspections(f"{site}/two/demo.application")
