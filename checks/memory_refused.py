@@ -2,10 +2,10 @@
 
 usage: checks/memory_refused [STEP]     tries one allocation of so many, or each
 
-Two sessions, an `inspect`, a publish and a host are run once for each allocation that is tried, which is refused by a library that
-stands before the C library's own. A line may then be answered `no memory`, and changes nothing; or the run ends with status 6, and its
-answers and the store are those of the first lines. No other answer and no other status comes in place of want of memory. Of the many
-allocations of a `demo` some forty are refused.
+Two sessions, a `format`, an `inspect`, a publish and a host are run once for each allocation that is tried, which is refused by a
+library that stands before the C library's own. A line may then be answered `no memory`, and changes nothing; or the run ends with
+status 6, and its answers and the store are those of the first lines. No other answer and no other status comes in place of want of
+memory. Of the many allocations of a `demo` some forty are refused.
 """
 import os, shutil, subprocess, sys
 
@@ -144,6 +144,32 @@ def data_files():
     sessions("a session with data files", course)
 
 
+def formats(course):
+    """A `format` that finds no memory leaves the old store, an empty one or none."""
+    words, count = [CLIENT, STORE, empty, "format", "--blocks", "1000"], {}
+    old = course.run(course.lines[:3])[1]
+    shutil.copyfile(f"{work}/course/store", f"{work}/old")
+
+    def begin():
+        new_store(STORE)
+        shutil.copyfile(f"{work}/old", STORE)
+    begin()
+    whole = allocations(words)
+    for number in tried(whole):
+        begin()
+        got = refusing(number, words)
+        holds(f"format, allocation {number}: {got}", got in ((0, "", ""), (6, "", "clickstore: no memory\n")))
+        status, said, why = run(STORE, SESSION, given(course.looks))
+        found = said.splitlines()
+        is_none = status == 5 and why.startswith(f"clickstore: {STORE}: no store")
+        holds(f"format, allocation {number}: what stands then: {status}, {found}",
+              (status, found, why) == (0, course.stood[0], "") or
+              got[0] == 6 and (is_none or (status, found, why) == (0, old, "")))
+        count[got[0]] = count.get(got[0], 0) + 1
+    holds(f"format: some allocations are missed: {count}", 6 in count)
+    print(f"format: {whole} allocations; statuses {count}", flush=True)
+
+
 def inspections(manifest):
     words, text = [CLIENT, f"{work}/none", empty, "inspect", "deployment"], open(manifest, "rb").read()
     right, count = refusing(0, words, text), {}
@@ -232,7 +258,9 @@ def main():
     publish(AT_HAND, "one", "1.0.0.0", FIRST, MARKS)
     publish(site, "two", "2.0.0.0", SECOND, MARKS + ["group:help:help.txt"])
     host, server = serve("clickhost", site)
-    sessions("a session", Course(lines_with(host)))
+    course = Course(lines_with(host))
+    sessions("a session", course)
+    formats(course)
     stop(server)
     data_files()
     inspections(f"{site}/two/demo.application")
