@@ -4,12 +4,12 @@ ghost use Rattle.file_store.specs.Stores.{AreUsed, SameRange, free_of};
 ghost use Rattle.jobs.specs.Keys.{key_by};
 ghost use Rattle.jobs.specs.Slots.{draft_of, is_for, is_used, held_blocks, less, lent, freed_by, handed};
 
-use crate::FileKey;
-use crate::file_key::is_key;
+use crate::content_key::is_key;
 use digest_list::Digest;
 use file_store::{Draft, FileStore};
 use small_types::List;
 use std::mem;
+use store_state::ContentKey;
 
 /// The blocks of a file that some job needs.
 #[derive(Drop, Debug)]
@@ -27,7 +27,7 @@ pub enum Held {
 /// A file that jobs need: one content for all of them, or one data file of one of them.
 #[derive(Drop, Debug)]
 pub struct Slot {
-    pub key: FileKey,
+    pub key: ContentKey,
     pub local: bool,
     /// How many entries of jobs need it. A slot with none is free.
     pub users: usize,

@@ -2,14 +2,13 @@
 #![tactic(auto)]
 
 mod beside;
+mod content_key;
 mod fault;
-mod file_key;
 mod held;
 mod slots;
 mod table;
 
 pub use beside::{blocks_are_counted, blocks_may_move, whole_files_stay};
 pub use fault::JobFault;
-pub use file_key::FileKey;
 pub use held::{Held, Slot};
 pub use table::{Fetch, Job, JobTable};

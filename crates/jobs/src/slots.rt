@@ -15,7 +15,7 @@ ghost use Rattle.jobs.specs.declared.held.Held.TheVariants.{Away, Nothing};
 ghost use Rattle.jobs.specs.Slots.{HasSize, KeepFiles, KeepNeeded, KeepUsed, handed, IsFit, is_for, is_fresh, is_used, draft_of, has_blocks, held_blocks, lent, less, slot_at, with_held};
 ghost use Rattle.jobs.specs.Balance.{Balanced, IsBalanced, KeepsBalance, needed_as, times};
 
-use crate::file_key::key_of;
+use crate::content_key::key_of;
 use crate::held::release;
 use crate::{Held, Slot};
 use digest_list::Digest;

@@ -16,7 +16,7 @@ use Rattle.identity.specs.Printed.{text_cmp}
 use Rattle.digest_list.specs.declared.digest.Digest.{Digest}
 use Rattle.digest_list.specs.Algorithm.{name_of}
 use Rattle.manifests.specs.declared.facts.FileEntry.{FileEntry}
-use Rattle.machine.specs.Views.{ContentKey, same_content, same_digest}
+use Rattle.machine.specs.Views.{ContentKey, same_digest, same_key}
 use Rattle.machine.proofs.Contents.{content_decides}
 use Rattle.machine.proofs.EntryOrder.{order}
 use Rattle.machine.proofs.Members.{pairs_weaker}
@@ -36,12 +36,7 @@ digest_ties a b =
     ∙ ap (λ (t : Bool). is_eq (text_cmp (name_of a.algorithm) (name_of b.algorithm)) && t) (sym (is_eq-slice_cmp a.value b.value))
     ∙ tied_then (text_cmp (name_of a.algorithm) (name_of b.algorithm)) (text_cmp a.value b.value)
 
--- a file of that content
-as_file : ContentKey → FileEntry
-as_file key = record { name = []; size = key.size; list = key.list; group = None; local = false }
-
-key_ties : (a b : ContentKey) → same_content (as_file a) (as_file b) ≡ eq_by_cmp content_key_cmp a b
-unfolding as_file
+pub key_ties : (a b : ContentKey) → same_key a b ≡ eq_by_cmp content_key_cmp a b
 key_ties a b =
     ap (λ (t : Bool). t && pointwise same_digest a.list b.list) (size_ties a.size b.size)
     ∙ ap (λ (t : Bool). is_eq (nat_cmp a.size b.size) && t) (lists_ties digest_cmp digest_ties a.list b.list)
@@ -49,6 +44,10 @@ key_ties a b =
   where
     size_ties : (m n : ℕ) → (m == n) ≡ is_eq (nat_cmp m n)
     size_ties m n = unsigned_ties m n
+
+-- a file of that content
+as_file : ContentKey → FileEntry
+as_file key = record { name = []; size = key.size; list = key.list; group = None; local = false }
 
 pub one_key : (a b : ContentKey) → content_key_cmp a b ≡ Equal → a ≡ b
 unfolding as_file

@@ -17,11 +17,12 @@ use std::alloc::Global;
 use std::cmp::Ordering;
 use std::marker::Model;
 
-// The size and the digests of a content.
+/// The size and the digests of a content, by which it is known. Contracts see it as its content
+/// key.
 #[derive(Drop, Debug)]
-pub(crate) struct ContentKey {
-    pub(crate) size: u64,
-    pub(crate) list: DigestList,
+pub struct ContentKey {
+    pub size: u64,
+    pub list: DigestList,
 }
 
 impl Model for ContentKey {
@@ -70,8 +71,8 @@ fn parts_order(size: u64, list: &[Digest], other: u64, digests: &[Digest]) -> Or
     }
 }
 
-// How a content key compares with a size and digests.
-pub(crate) fn key_order(key: &ContentKey, size: u64, list: &[Digest]) -> Ordering
+/// How a content key compares with a size and digests.
+pub fn key_order(key: &ContentKey, size: u64, list: &[Digest]) -> Ordering
     ensures { result ≡ content_key_cmp key.now (record { size = size; list = list.now }) }
 {
     parts_order(key.size, key.list.as_slice(), size, list)

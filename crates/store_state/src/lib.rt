@@ -28,6 +28,7 @@ mod view;
 mod views;
 
 pub use change::Change;
+pub use content_key::{ContentKey, key_order};
 pub use laws::{
     boots_show_the_store, checks_show_the_entry, cleans_show_the_rest, drops_show_the_rest,
     each_change_shows_an_ordered_store, empty_tables_are_shown, files_are_their_contents,
