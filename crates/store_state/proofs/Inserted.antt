@@ -4,7 +4,7 @@ use Rattle.std.specs.Prelude.{slice_get}
 use Rattle.std.specs.Cmp.{IsTotalOrder}
 use Rattle.std.specs.Cmp.Lexicographic.{options_total}
 use Rattle.std.specs.List.{insert, range_with_len}
-use Rattle.std.specs.List.Sorted.{IsBinarySearchResult, IsNonDecreasingBy, IsPermutation}
+use Rattle.std.specs.List.Sorted.{IsBinarySearchResult, IsNonDecreasingBy}
 use Rattle.std.specs.Option.{option_cmp}
 use Rattle.std.specs.Ordering.{is_lt, ordering_index, ordering_reverse}
 use Rattle.std.specs.declared.cmp.Ordering.{Ordering}
@@ -12,9 +12,8 @@ use Rattle.std.specs.declared.cmp.Ordering.TheVariants.{Less, Equal}
 use Rattle.std.proofs.lemmas.Bool.{cases_lt}
 use Rattle.std.proofs.lemmas.List.Edits.{get_or-insert_above, get_or-insert_at, get_or-insert_below, length-insert}
 use Rattle.std.proofs.lemmas.List.FromFn.{get_or-range_with_len, length-range_with_len}
-use Rattle.std.proofs.lemmas.List.Sorted.{All-permutation, IsPermutation-append_left, IsPermutation-insert, IsPermutation-to_front, IsPermutation-trans, searchable_from_sorted}
+use Rattle.std.proofs.lemmas.List.Sorted.{All-permutation, searchable_from_sorted}
 use Rattle.store_state.specs.Places.{ArePlaces, AreSorted}
-use Rattle.store_state.proofs.Places.{range_push}
 
 -- ---- one place more
 
@@ -114,27 +113,6 @@ module _ {K : Type 0} (R : K → K → Ordering) (total : IsTotalOrder R) (keys 
       (λ k d next. ap is_lt (turned (get_or index k d) place Less
       (parts.0 k d (omega arith) (omega arith))))
       (λ d less. ap is_lt (parts.1 slot d (omega arith) less))
-
--- ---- places one by one
-
--- the place goes to the end before it goes to its slot
-pub slot_same : (index : List ℕ) (slot place : ℕ)
-    → IsPermutation (index ++ place ∷ []) (insert index slot place)
-slot_same index slot place =
-    IsPermutation-trans (index ++ place ∷ []) (place ∷ index) (insert index slot place)
-    (IsPermutation-to_front index place) (IsPermutation-insert index slot place)
-
--- one more place is added
-pub next_same : (all index more : List ℕ) (place end : ℕ) → place < end
-    → IsPermutation all (index ++ range_with_len place (end - place))
-    → IsPermutation (index ++ place ∷ []) more
-    → IsPermutation all (more ++ range_with_len (place + 1) (end - (place + 1)))
-next_same all index more place end less same one =
-    let rest = range_with_len (place + 1) (end - (place + 1)) in
-    IsPermutation-trans all ((index ++ place ∷ []) ++ rest) (more ++ rest)
-    (subst (λ (places : List ℕ). IsPermutation all places)
-    (sym (range_push index (index ++ range_with_len place (end - place)) place end less refl)) same)
-    (IsPermutation-append_left rest (index ++ place ∷ []) more one)
 
 -- ---- more keys
 

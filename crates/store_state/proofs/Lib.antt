@@ -20,6 +20,7 @@ pub mod LocalsOrdered
 pub mod LocalsShown
 pub mod MarkedItems
 pub mod MeasuredTables
+pub mod Merged
 pub mod NamedFiles
 pub mod Numbered
 pub mod Orders

@@ -1,5 +1,5 @@
 // Content keys, by which contents are known, and the indexes in which contents are found.
-ghost use Rattle.std.specs.Prelude.{◌≡◌, ◌↔◌, ◌+◌, ◌-◌, ◌<◌, ◌≤◌, ◌++◌, [], ◌∷◌, length, map, slice_get, vec_capacity, vec_len, Contains, Some, IfOk, IfSome, IsTrue};
+ghost use Rattle.std.specs.Prelude.{◌≡◌, ◌↔◌, ◌+◌, ◌-◌, ◌<◌, ◌≤◌, ◌++◌, drop, length, map, slice_get, take, vec_capacity, vec_len, Contains, Some, IfOk, IfSome, IsTrue};
 ghost use Rattle.std.specs.Cmp.Lexicographic.{slice_cmp};
 ghost use Rattle.std.specs.List.{insert, range_with_len};
 ghost use Rattle.std.specs.List.Sorted.{IsBinarySearchResult, IsPermutation, IsSearchInRange, IsSorted};
@@ -155,9 +155,10 @@ fn contents_order(contents: &[Content], a: usize, b: usize) -> Ordering
 }
 
 // The places in the order of the contents there.
-fn sort_contents(contents: &[Content], places: &mut Vec<usize>)
-    ensures sorted { AreSorted content_key_cmp (map held_key contents.now) places.new.items }
-    ensures same { IsPermutation places.old.items places.new.items }
+fn sort_contents(contents: &[Content], places: &mut [usize])
+    ensures sorted { AreSorted content_key_cmp (map held_key contents.now) places.new }
+    ensures same { IsPermutation places.old places.new }
+    ensures len { length places.new ≡ length places.old }
 {
     places.sort_unstable_by(|a, b| contents_order(contents, *a, *b));
 }
@@ -185,20 +186,60 @@ fn slot_of(contents: &[Content], index: &[usize], place: usize) -> usize
     }
 }
 
-// Adds the place of one content to the index, which has room.
-fn add_place(contents: &[Content], index: &mut Vec<usize>, place: usize)
-    requires sorted { AreSorted content_key_cmp (map held_key contents.now) index.old.items }
-    requires room { vec_len index.old < vec_capacity index.old }
-    ensures sorted { AreSorted content_key_cmp (map held_key contents.now) index.new.items }
-    ensures same { IsPermutation (index.old.items ++ place ∷ []) index.new.items }
-    ensures len { vec_len index.new ≡ vec_len index.old + 1 }
-    ensures capacity { vec_capacity index.old ≤ vec_capacity index.new }
+// Brings the last new place to its slot among the places that are held. The new ones stand behind
+// those, up to an end, and what is behind the end is merged. The held ones from the slot on go
+// behind the new ones. Answers how many stay in front of them.
+fn bring_last(contents: &[Content], places: &mut [usize], held: usize, end: usize) -> usize
+    requires some { held < end }
+    requires within { end ≤ length places.old }
+    requires first { AreSorted content_key_cmp (map held_key contents.now)
+        (take held places.old ++ drop end places.old) }
+    requires last { AreSorted content_key_cmp (map held_key contents.now) (drop held places.old) }
+    ensures fewer { result ≤ held }
+    ensures first { AreSorted content_key_cmp (map held_key contents.now)
+        (take result places.new ++ drop (result + (end - held - 1)) places.new) }
+    ensures last { AreSorted content_key_cmp (map held_key contents.now)
+        (drop result places.new) }
+    ensures same { IsPermutation places.old places.new }
+    ensures len { length places.new ≡ length places.old }
 {
-    let slot = slot_of(contents, index.as_slice(), place);
-    let _added = index.insert(slot, place);
+    let place = places[end - 1];
+    let slot = slot_of(contents, &places[..held], place);
+    places[slot..end].rotate_left(held - slot);
+    slot
 }
 
-// Adds the places of the contents behind the first ones to the index, each where it goes.
+// Merges the new places, which stand behind those that are held, with those. Each that is held
+// moves once at most.
+fn merge_places(contents: &[Content], places: &mut [usize], held: usize)
+    requires within { held ≤ length places.old }
+    requires first { AreSorted content_key_cmp (map held_key contents.now)
+        (take held places.old) }
+    requires last { AreSorted content_key_cmp (map held_key contents.now) (drop held places.old) }
+    ensures sorted { AreSorted content_key_cmp (map held_key contents.now) places.new }
+    ensures same { IsPermutation places.old places.new }
+{
+    let added = places.len() - held;
+    let mut left = held;
+    for done in 0..added {
+        left = bring_last(contents, places, left, left + (added - done));
+    }
+}
+
+// Sorts the new places, which stand behind those that are held, and merges them with those.
+fn sort_behind(contents: &[Content], places: &mut [usize], held: usize)
+    requires within { held ≤ length places.old }
+    requires first { AreSorted content_key_cmp (map held_key contents.now)
+        (take held places.old) }
+    ensures sorted { AreSorted content_key_cmp (map held_key contents.now) places.new }
+    ensures same { IsPermutation places.old places.new }
+{
+    sort_contents(contents, &mut places[held..]);
+    merge_places(contents, places, held);
+}
+
+// Adds the places of the contents behind the first ones to the index, and merges them with those
+// that it has.
 fn insert_places(contents: &[Content], index: &mut Vec<usize>, held: usize)
     requires order { held ≤ length contents.now }
     requires room { vec_len index.old + (length contents.now - held) ≤ vec_capacity index.old }
@@ -207,9 +248,9 @@ fn insert_places(contents: &[Content], index: &mut Vec<usize>, held: usize)
     ensures same { IsPermutation (index.old.items
         ++ range_with_len held (length contents.now - held)) index.new.items }
 {
-    for place in held..contents.len() {
-        add_place(contents, index, place);
-    }
+    let count = index.len();
+    push_numbers(index, held, contents.len());
+    sort_behind(contents, index.as_mut_slice(), count);
 }
 
 // Adds the places of the contents behind the first ones to the index, and sorts it.
@@ -221,11 +262,11 @@ fn sort_places(contents: &[Content], index: &mut Vec<usize>, held: usize)
         ++ range_with_len held (length contents.now - held)) index.new.items }
 {
     push_numbers(index, held, contents.len());
-    sort_contents(contents, index);
+    sort_contents(contents, index.as_mut_slice());
 }
 
 // Adds the places of the contents behind the first ones to their index, which has room. Where they
-// are few, each goes to where it belongs, and the index is not sorted anew.
+// are few, they alone are sorted, and the index is not sorted anew.
 pub(crate) fn add_places(contents: &[Content], index: &mut Vec<usize>, held: usize)
     requires order { held ≤ length contents.now }
     requires room { vec_len index.old + (length contents.now - held) ≤ vec_capacity index.old }
