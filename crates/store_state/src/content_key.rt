@@ -4,6 +4,7 @@ ghost use Rattle.std.specs.Cmp.Lexicographic.{slice_cmp};
 ghost use Rattle.std.specs.List.{insert, range_with_len};
 ghost use Rattle.std.specs.List.Sorted.{IsBinarySearchResult, IsPermutation, IsSearchInRange, IsSorted};
 ghost use Rattle.std.specs.Option.{option_cmp};
+ghost use Rattle.identity.specs.Printed.{text_cmp};
 ghost use Rattle.store_state.specs.ContentKeys.{IsIndex, content_key_cmp, digest_cmp};
 ghost use Rattle.store_state.specs.Contents.{held_key};
 ghost use Rattle.store_state.specs.Places.{ArePlaces, AreSorted, IsPlaceOf};
@@ -36,10 +37,23 @@ impl Model for ContentKey {
 // Places are few where they are at most this part of those in the index.
 const FEW: usize = 16;
 
+// How values compare. Those of known digests differ in their first bytes, but for one pair of 256.
+fn values_order(a: &[u8], b: &[u8]) -> Ordering
+    ensures { result ≡ text_cmp a.now b.now }
+{
+    if a.is_empty() || b.is_empty() || a[0] == b[0] {
+        return a.cmp(b);
+    }
+    a[0].cmp(&b[0])
+}
+
 // How digests compare: by their algorithms, then by their values.
 fn digest_order(a: &Digest, b: &Digest) -> Ordering
     ensures { result ≡ digest_cmp a.now b.now }
 {
+    if a.algorithm == b.algorithm {
+        return values_order(a.value.as_slice(), b.value.as_slice());
+    }
     match a.algorithm.name().cmp(b.algorithm.name()) {
         Ordering::Equal => a.value.as_slice().cmp(b.value.as_slice()),
         order => order,
