@@ -293,22 +293,10 @@ pub record IsAnswered (now : ℕ) (heard : List (List ℕ)) (old : Session) (com
 -- An install or a check heard no manifest. A group comes to a sound store, since it takes over the
 -- files of kept views.
 abbrev pub IsAnswerable : Command → List (List ℕ) → Store → Type 0
-IsAnswerable (At next) heard store = Unit {0}
-IsAnswerable (Require key version) heard store = Unit {0}
 IsAnswerable (Install url) heard store = heard ≡ []
 IsAnswerable (Check key) heard store = heard ≡ []
-IsAnswerable (Skip key) heard store = Unit {0}
-IsAnswerable (Rollback key) heard store = Unit {0}
-IsAnswerable (Launch key) heard store = Unit {0}
-IsAnswerable (Read lease name from count) heard store = Unit {0}
-IsAnswerable (Local lease name from count) heard store = Unit {0}
-IsAnswerable (Put lease name bytes) heard store = Unit {0}
-IsAnswerable (Remove lease name) heard store = Unit {0}
 IsAnswerable (Group lease group) heard store = Sound store
-IsAnswerable (Finish lease) heard store = Unit {0}
-IsAnswerable Clean heard store = Unit {0}
-IsAnswerable asks.List heard store = Unit {0}
-IsAnswerable (Show key) heard store = Unit {0}
+IsAnswerable _ heard store = Unit {0}
 
 -- Each command has one, in each valid store, at each moment and whatever it may hear; an install
 -- and a check at least where they hear nothing, and a group in each sound store.

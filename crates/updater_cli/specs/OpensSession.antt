@@ -93,11 +93,7 @@ abbrev pub IsOpeningEnd : Status → Type 0
 IsOpeningEnd Memory = Unit {0}
 IsOpeningEnd NotAStore = Unit {0}
 IsOpeningEnd DiskFault = Unit {0}
-IsOpeningEnd Done = ⊥
-IsOpeningEnd Words = ⊥
-IsOpeningEnd SourceFault = ⊥
-IsOpeningEnd SinkFault = ⊥
-IsOpeningEnd TooMuchInput = ⊥
+IsOpeningEnd _ = ⊥
 
 -- where the disk failed in it, the boot event was begun
 abbrev pub begun_by : ℕ → Status → Option Event

@@ -29,11 +29,7 @@ abbrev pub IsLineEnd : Status → Option Event → Type 0
 IsLineEnd Memory begun = begun ≡ None
 IsLineEnd SinkFault begun = begun ≡ None
 IsLineEnd DiskFault begun = IsBegun begun
-IsLineEnd Done begun = ⊥
-IsLineEnd Words begun = ⊥
-IsLineEnd SourceFault begun = ⊥
-IsLineEnd NotAStore begun = ⊥
-IsLineEnd TooMuchInput begun = ⊥
+IsLineEnd _ begun = ⊥
 
 -- how a session that was opened may end
 abbrev pub IsSessionEnd : Status → Option Event → Type 0
