@@ -49,5 +49,5 @@ pub use parts::{
 pub use readable::Readable;
 pub use record_parts::{
     read_application, read_deployment, read_digest, read_digests, read_entries, read_entry,
-    read_list, read_text_option, read_texts, read_version_option,
+    read_list, read_option, read_text_option, read_texts, read_version_option,
 };

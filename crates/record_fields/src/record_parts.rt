@@ -24,7 +24,7 @@ use crate::application_readers::application_here;
 use crate::deployment_readers::deployment_here;
 use crate::digest_readers::digests_here;
 use crate::item_values::{DigestField, EntryField, TextField};
-use crate::option_readers::{text_option_here, version_option_here};
+use crate::option_readers::{option_here, text_option_here, version_option_here};
 use crate::readable::{Readable, list_here};
 use digest_list::{Digest, DigestList};
 use identity::Version;
@@ -72,6 +72,26 @@ pub fn read_text_option(
     ensures fault { IfErr result (IsFaultWithin (length bytes.now)) }
 {
     text_option_here(alloc, bytes, place, limit)
+}
+
+/// The value at the place, behind a byte that says whether there is one, and the place behind it.
+/// The fault is at the place, where another byte or none is there, or that of the value.
+pub fn read_option<T: Readable>(
+    alloc: Global,
+    bytes: &[u8],
+    place: usize,
+) -> Result<(Option<T::Value>, usize), CodecFault>
+    requires { place ≤ length bytes.now }
+    ensures found { IfOk result (λ x. Stands bytes.now place (option_field T.field x.0) x.1
+        × IfSome x.0 T.fits) }
+    ensures only { (x : Option T.Value) (next : ℕ) → IfSome x T.fits
+        → Stands bytes.now place (option_field T.field x) next → Gives result (Ok (x, next)) }
+    ensures exact { Gives result (option_at T.at bytes.now place) }
+    ensures next { IfOk result (λ x. x.1 ≤ length bytes.now) }
+    ensures fault { IfErr result (IsFaultWithin (length bytes.now)) }
+{
+    T::reads_as_spelled();
+    option_here::<T>(alloc, bytes, place)
 }
 
 /// The list at the place, behind the number of its items, at most the limit, and the place behind

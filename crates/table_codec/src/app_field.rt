@@ -6,12 +6,12 @@ ghost use Rattle.table_codec.specs.Readers.{rest_at, whole_app};
 ghost use Rattle.table_codec.specs.Spelled.{app_field, rest_field};
 ghost use Rattle.table_codec.specs.Values.{IsEncodableApp};
 
-use crate::option_fields::{NumberField, TargetField, option_here};
+use crate::option_fields::{NumberField, TargetField};
 use identity::{Key, Version};
 use machine::AppState;
 use record_fields::{
-    CodecFault, Item, Readable, VersionField, key_length, option_length, read_key, read_truth,
-    read_version_option, write_key, write_option, write_truth,
+    CodecFault, Item, Readable, VersionField, key_length, option_length, read_key, read_option,
+    read_truth, read_version_option, write_key, write_option, write_truth,
 };
 use small_types::Target;
 use std::alloc::Global;
@@ -108,13 +108,13 @@ fn rest_here(alloc: Global, bytes: &[u8], place: usize) -> Result<(AppRest, usiz
     ensures next { IfOk result (λ x. x.1 ≤ length bytes.now) }
     ensures fault { IfErr result (IsFaultWithin (length bytes.now)) }
 {
-    let (current, next) = option_here::<NumberField>(alloc, bytes, place)?;
-    let (previous, next) = option_here::<NumberField>(alloc, bytes, next)?;
+    let (current, next) = read_option::<NumberField>(alloc, bytes, place)?;
+    let (previous, next) = read_option::<NumberField>(alloc, bytes, next)?;
     let (minimum, next) = read_version_option(bytes, next)?;
     let (offer, next) = read_version_option(bytes, next)?;
     let (skipped, next) = read_version_option(bytes, next)?;
     let (excluded, next) = read_version_option(bytes, next)?;
-    let (last_check, next) = option_here::<NumberField>(alloc, bytes, next)?;
+    let (last_check, next) = read_option::<NumberField>(alloc, bytes, next)?;
     let (checked, next) = read_truth(bytes, next)?;
     let rest = AppRest {
         current,
@@ -165,7 +165,7 @@ impl Readable for AppField {
         place: usize,
     ) -> Result<(AppState, usize), CodecFault> {
         let (key, next) = read_key(alloc, bytes, place)?;
-        let (provider, next) = match option_here::<TargetField>(alloc, bytes, next) {
+        let (provider, next) = match read_option::<TargetField>(alloc, bytes, next) {
             Ok(found) => found,
             Err(fault) => {
                 drop(key);

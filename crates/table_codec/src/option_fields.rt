@@ -1,11 +1,6 @@
 // Numbers and addresses that may be there or not.
-ghost use Rattle.std.specs.Prelude.{◌≤◌, length, true, IfOk, IfErr};
-ghost use Rattle.record_fields.specs.Readers.{Gives, IsFaultWithin};
-ghost use Rattle.record_fields.specs.Parts.{option_at, option_of};
-
 use record_fields::{
-    CodecFault, Item, Readable, read_target, read_truth, read_u64, target_length, write_target,
-    write_u64,
+    CodecFault, Item, Readable, read_target, read_u64, target_length, write_target, write_u64,
 };
 use small_types::Target;
 use std::alloc::Global;
@@ -91,38 +86,4 @@ impl Readable for TargetField {
     }
 
     fn reads_as_spelled() {}
-}
-
-// The value at the place, which is there.
-fn some_here<T: Readable>(
-    alloc: Global,
-    bytes: &[u8],
-    place: usize,
-) -> Result<(Option<T::Value>, usize), CodecFault>
-    requires { place ≤ length bytes.now }
-    ensures exact { Gives result (option_of T.at true bytes.now place) }
-    ensures next { IfOk result (λ x. x.1 ≤ length bytes.now) }
-    ensures fault { IfErr result (IsFaultWithin (length bytes.now)) }
-{
-    let (value, next) = T::read_here(alloc, bytes, place)?;
-    Ok((Some(value), next))
-}
-
-// The value at the place, behind the byte that says whether there is one, and the place behind it.
-#[tactic(auto, unfolding(record_fields::specs::Parts::option_at))]
-pub(crate) fn option_here<T: Readable>(
-    alloc: Global,
-    bytes: &[u8],
-    place: usize,
-) -> Result<(Option<T::Value>, usize), CodecFault>
-    requires { place ≤ length bytes.now }
-    ensures exact { Gives result (option_at T.at bytes.now place) }
-    ensures next { IfOk result (λ x. x.1 ≤ length bytes.now) }
-    ensures fault { IfErr result (IsFaultWithin (length bytes.now)) }
-{
-    let (is_there, next) = read_truth(bytes, place)?;
-    match is_there {
-        false => Ok((None, next)),
-        true => some_here::<T>(alloc, bytes, next),
-    }
 }
