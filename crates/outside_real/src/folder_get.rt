@@ -43,7 +43,8 @@ fn read_over(mut file: File, size: u64, limit: u64, into: &mut Vec<u8>) -> io::R
     into.truncate(known);
     into.reserve(known.saturating_add(1).saturating_sub(into.len()))?;
     file.read_exact(into.as_mut_slice())?;
-    let mut rest = file.take(limit.saturating_sub(size).saturating_add(1));
+    let read = into.len() as u64;
+    let mut rest = file.take(limit.saturating_sub(read).saturating_add(1));
     rest.read_to_end(into)?;
     let length = into.len() as u64;
     if length > limit {
