@@ -1,9 +1,11 @@
 -- What holds of every link over HTTP.
 use Rattle.std.specs.Prelude.{◌≡◌, ◌<◌, ◌^◌, ℕ, List, length, Some, Result, Ok}
+use Rattle.small_types.specs.declared.limits.TheConstants.{DIGIT_LIMIT}
 use Rattle.small_types.specs.declared.target.Target.{Target}
 use Rattle.connections.specs.Wire.{Made}
 use Rattle.folders.specs.declared.folder.Held.{Held}
 use Rattle.http_plain.specs.declared.fault.ExchangeFault.{ExchangeFault}
+use Rattle.http_plain.specs.declared.status.TheConstants.{STATUS_OK}
 use Rattle.http_plain.specs.Exchange.{Gives}
 use Rattle.http_plain.specs.HostsAreFolders.{IsPlain}
 use Rattle.http_plain.specs.Served.{Serves}
@@ -27,12 +29,12 @@ pub record GivesFile (files : List Held) (target : Target) (rest : List ℕ)
     (result : Result ℕ LinkFault) : Type 0 where
   pub bytes : List ℕ
   pub there : served files target ≡ Some bytes
-  pub gives : length bytes < 10 ^ 19 → GivesBytes rest result bytes
+  pub gives : length bytes < 10 ^ DIGIT_LIMIT → GivesBytes rest result bytes
 
 -- where a host of these files answers 200 to the request on the connection, the link that heard it
 -- gives the file
 abbrev pub HttpIsFolder : Type 0
 HttpIsFolder = (files : List Held) (target : Target) (rest : List ℕ) (result : Result ℕ LinkFault)
     (made : Made) → IsPlain target → IsHeard target rest result made
-    → Serves files made.sent (record { code = Some 200; bytes = made.answer })
+    → Serves files made.sent (record { code = Some STATUS_OK; bytes = made.answer })
     → GivesFile files target rest result
