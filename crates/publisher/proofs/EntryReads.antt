@@ -1,12 +1,16 @@
 -- What is known of the entries while the files are read one after another.
-use Rattle.std.proofs.Common.{◌≡◌, ℕ, Bool, true, false, zero, suc, ◌+◌, ◌<◌, ◌≤◌, List, [], ◌∷◌, ◌++◌, length, get_or, drop, map, drop-cons, add-one, append_assoc, Ok, Err, refl, sym, ap, subst, ◌∙◌, arith}
-use Rattle.std.specs.Prelude.{nat_lt, if◌then◌else◌}
+use Rattle.std.proofs.Common.{◌≡◌, ℕ, Option, Bool, true, false, zero, suc, ◌+◌, ◌<◌, ◌≤◌, List, [], ◌∷◌, ◌++◌, length, get_or, drop, map, drop-cons, add-one, append_assoc, Ok, Err, refl, sym, ap, subst, ◌∙◌, arith}
+use Rattle.std.specs.Prelude.{nat_lt, if◌then◌else◌, unwrap_or}
 use Rattle.std.proofs.lemmas.Grind.{common_steps}
 use Rattle.std.proofs.lemmas.List.{append-nil, get_or-map}
 use Rattle.std.proofs.lemmas.Bool.Decides.{nat_tests}
 use Rattle.small_types.specs.declared.limits.TheConstants.{FILE_SIZE_LIMIT}
 use Rattle.small_types.specs.Outcome.{◌>>=◌}
+use Rattle.folders.specs.declared.folder.Found.{Found}
+use Rattle.folders.specs.declared.folder.Found.TheVariants.{TooLong}
 use Rattle.folders.specs.declared.folder.Held.{Held}
+use Rattle.folders.specs.Files.{file_in}
+use Rattle.folders.specs.Found.{Finds, HasLength, IsWithin}
 use Rattle.manifests.specs.declared.facts.FileEntry.{FileEntry}
 use Rattle.manifests.specs.Applications.{size_limit}
 use Rattle.publish_plan.specs.declared.options.PlannedFile.{PlannedFile}
@@ -148,3 +152,17 @@ pub read_short : (held : List Held) (file : PlannedFile) (bytes : List ℕ) → 
 read_short held file bytes is short =
     read_pick held file ∙ ap (λ (bs : List ℕ). pick (nat_lt (size_limit file.local) (length bs)) (FileTooLong file.file (length bs)) (entry_of file bs)) (sym is)
     ∙ ap (λ (b : Bool). pick b (FileTooLong file.file (length bytes)) (entry_of file bytes)) (not_over (size_limit file.local) (length bytes) short)
+
+long_told : (held : List Held) (file : PlannedFile) (n limit : ℕ) (name : List ℕ) → HasLength (file_in file.source held) n → limit ≡ size_limit file.local → limit < n → name ≡ file.file → read_entry held file ≡ Err (FileTooLong name n)
+long_told held file n limit name has is long named =
+    let bytes : has.bytes ≡ bytes_in held file = sym (ap (λ (given : Option (List ℕ)). unwrap_or given []) has.is) in
+    let over : size_limit file.local < length has.bytes = subst (λ (m : ℕ). size_limit file.local < m) has.sized (subst (λ (m : ℕ). m < n) is long) in
+    read_long held file has.bytes bytes over
+    ∙ ap (λ (m : ℕ). Err (FileTooLong file.file m)) (sym has.sized)
+    ∙ ap (λ (other : List ℕ). Err (FileTooLong other n)) (sym named)
+
+-- a file that was found too long is refused with the length that was told
+pub found_long : (held : List Held) (file : PlannedFile) (found : Found) (n limit : ℕ) (into name : List ℕ) → found ≡ TooLong n → limit ≡ size_limit file.local
+    → Finds (file_in file.source held) into found → IsWithin limit into found → name ≡ file.file → read_entry held file ≡ Err (FileTooLong name n)
+found_long held file found n limit into name is same finds within named =
+    long_told held file n limit name (subst (Finds (file_in file.source held) into) is finds) same (subst (IsWithin limit into) is within) named

@@ -1,19 +1,19 @@
 // The first reading of the input files.
-ghost use Rattle.std.specs.Prelude.{◌≡◌, [], All, IfOk, IfErr, OnErr, unwrap_or, Err};
+ghost use Rattle.std.specs.Prelude.{◌≡◌, ◌≤◌, [], All, IfOk, IfErr, OnErr, length, unwrap_or, Err};
 ghost use Rattle.folders.specs.Files.{file_in};
 ghost use Rattle.digest_list.specs.Digest.{IsSized};
 ghost use Rattle.manifests.specs.Applications.{size_limit};
 ghost use Rattle.publisher.specs.declared.fault.PublishFault.TheVariants.{Memory};
 ghost use Rattle.publisher.specs.Entries.{AreEntries, IsEntry};
 ghost use Rattle.publisher.specs.Faults.{FaultsCounted, IsReading};
-ghost use Rattle.publisher.specs.Outcome.{Gives};
+ghost use Rattle.publisher.specs.Outcome.{Fails, Gives};
 ghost use Rattle.publisher.specs.Publication.{bytes_in, digests_of as digests_in, entry_of as entry_with, read_entries as read_all, read_entry as read_one};
 ghost use Rattle.publisher.specs.Readings.{IsFirstReading, ReadsEach, ReadsEntry, ReadsFile};
 
 use crate::PublishFault;
 use crate::fault::fault_of_reading;
 use digest_list::{Algorithm, Digest, DigestList};
-use folders::Folder;
+use folders::{Folder, Found};
 use manifests::FileEntry;
 use publish_plan::PlannedFile;
 use sha2::{Digest as Hash, Sha256};
@@ -84,6 +84,35 @@ fn limit_of(file: &PlannedFile) -> u64
     }
 }
 
+// The bytes of the file, which are within its limit. A file that is gone reads as empty, and one that is longer is not read.
+fn read_within<F: Folder>(
+    alloc: Global,
+    file: &PlannedFile,
+    folder: &mut F,
+) -> Result<Bytes, PublishFault>
+    ensures bytes { F.tells
+        → IfOk result (λ bytes. bytes ≡ bytes_in (F.held folder.old) file.now) }
+    ensures within { IfOk result (λ bytes. length bytes ≤ size_limit file.now.local) }
+    ensures refused { F.tells
+        → IfErr result (λ e. Fails e (read_one (F.held folder.old) file.now)) }
+    ensures kept { F.tells → F.held folder.new ≡ F.held folder.old }
+    ensures noted { F.records → IfOk result (λ bytes.
+        ReadsFile file.now.source bytes (F.answers folder.old) (F.answers folder.new)) }
+    ensures fault { IfErr result IsFirstReading }
+    ensures counted { FaultsCounted (F.count folder.old) (F.count folder.new) result }
+{
+    let mut bytes = Bytes::from_vec(Vec::new(alloc));
+    match folder.get_within(alloc, &file.source, limit_of(file), &mut bytes) {
+        Ok(Found::Whole) => Ok(bytes),
+        Ok(Found::Nothing) => Ok(bytes),
+        Ok(Found::TooLong { length }) => Err(PublishFault::FileTooLong {
+            file: file.file.copy(alloc)?,
+            length,
+        }),
+        Err(fault) => Err(fault_of_reading(fault)),
+    }
+}
+
 // What the application manifest says of the file, once it is read.
 fn read_entry<F: Folder>(
     alloc: Global,
@@ -98,15 +127,7 @@ fn read_entry<F: Folder>(
     ensures fault { IfErr result IsFirstReading }
     ensures counted { FaultsCounted (F.count folder.old) (F.count folder.new) result }
 {
-    let bytes = read_file(alloc, &file.source, folder)?;
-    let length = bytes.as_slice().len() as u64;
-    let limit = limit_of(file);
-    if length > limit {
-        return Err(PublishFault::FileTooLong {
-            file: file.file.copy(alloc)?,
-            length,
-        });
-    }
+    let bytes = read_within(alloc, file, folder)?;
     entry_of(alloc, file, bytes.as_slice())
 }
 
