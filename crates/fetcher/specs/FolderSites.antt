@@ -12,7 +12,7 @@ use Rattle.outside.specs.Streams.{total}
 abbrev pub folder_rest : {F : Type 0} → FolderLink F → List ℕ
 folder_rest link = drop link.at link.body
 
--- how many targets were missing
+-- how many targets were missing, or had a file that is too long
 abbrev pub folder_unread : {F : Type 0} → FolderLink F → ℕ
 folder_unread link = link.unread
 

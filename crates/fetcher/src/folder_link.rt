@@ -1,47 +1,55 @@
 // A folder as a link.
-ghost use Rattle.std.specs.Prelude.{◌≡◌, ◌≢◌, ◌<◌, [], ◌∷◌, ◌++◌, length, drop, IfOk, IsOk, Err};
+ghost use Rattle.std.specs.Prelude.{◌≡◌, ◌≢◌, ◌<◌, ◌≤◌, ◌⊎◌, [], ◌∷◌, ◌++◌, length, drop, IfOk, IsOk, Err};
 ghost use Rattle.links.specs.declared.history.LinkCall.TheVariants.{Asked};
 ghost use Rattle.links.specs.declared.link.LinkFault.TheVariants.{Missing, Down};
-ghost use Rattle.outside.specs.Streams.{Rose, total};
+ghost use Rattle.outside.specs.Streams.{total};
 ghost use Rattle.folders.specs.Folder.{FailsCounted};
+ghost use Rattle.folders.specs.Found.{Finds, IsWithin};
 ghost use Rattle.http_plain.specs.Path.{name_in_path as name_at};
 ghost use Rattle.http_plain.specs.Sites.{file_named};
+ghost use Rattle.fetcher.specs.LongFiles.{FileTooLong, FolderFailed, IsLong, MeasuresLong, TellsLong};
 
-use folders::{Folder, FolderFault};
+use folders::{Folder, FolderFault, Found};
 use http_plain::name_in_path;
 use links::{History, Link, LinkFault};
 use outside::copy_from;
+use small_types::limits::FILE_SIZE_LIMIT;
 use small_types::{Bytes, Target};
 use std::alloc::Global;
 
 /// The files of a folder as a site, by the names that a host of them goes by: the path without its first `/` and
-/// without a query, with each escape read. The host and the port are not looked at. Its count of faults is the folder's
-/// and the number of targets that were missing.
+/// without a query, with each escape read. The host and the port are not looked at. A file that is longer than any that
+/// is published is not read, and the link is down for it. Its count of faults is the folder's and the number of targets
+/// that were missing or so long.
 #[derive(Drop, Debug)]
 pub struct FolderLink<F: Folder> {
     pub folder: F,
     // The body that was asked for last, and how much of it was given.
     body: Bytes,
     at: usize,
-    // How many targets were missing.
+    // How many targets were missing, or had a file that is too long.
     unread: u64,
     history: History,
 }
 
-// The file that the path names, if it names one that is there.
+// Puts the bytes of the file that the path names into the buffer, if it names one that is there and not too long.
 fn find_file<F: Folder>(
     alloc: Global,
     folder: &mut F,
     path: &[u8],
-) -> Result<Option<Bytes>, FolderFault>
+    into: &mut Bytes,
+) -> Result<Found, FolderFault>
     ensures found { F.tells
-        → IfOk result (λ bytes. bytes ≡ file_named (F.held folder.old) (name_at path.now)) }
+        → IfOk result (Finds (file_named (F.held folder.old) (name_at path.now)) into.new) }
+    ensures within { IfOk result (IsWithin FILE_SIZE_LIMIT into.new) }
+    ensures measured { F.records
+        → IfOk result (MeasuresLong path.now (F.answers folder.old) (F.answers folder.new)) }
     ensures kept { F.tells → F.held folder.new ≡ F.held folder.old }
     ensures cause { FailsCounted (F.count folder.old) (F.count folder.new) result }
 {
     match name_in_path(alloc, path)? {
-        Some(name) => folder.get(alloc, &name),
-        None => Ok(None),
+        Some(name) => folder.get_within(alloc, &name, FILE_SIZE_LIMIT, into),
+        None => Ok(Found::Nothing),
     }
 }
 
@@ -89,8 +97,8 @@ impl<F: Folder> FolderLink<F> {
         fault
     }
 
-    // Counts a target that is missing.
-    fn miss(&mut self)
+    // Counts a target that is missing, or whose file is too long.
+    fn pass_over(&mut self)
         ensures unread { folder_unread self.new ≡ total (folder_unread self.old) 1 }
         ensures folder { self.new.folder ≡ self.old.folder }
         ensures rest { folder_rest self.new ≡ folder_rest self.old }
@@ -126,24 +134,38 @@ impl<F: Folder + Drop> Link for FolderLink<F> {
             (folder_state F.tells (F.held self.new.folder) (F.count self.new.folder) self.new)
             result }
 
-        // Each target that is missing is counted once. It fails only where the folder does.
+        // Each target that is missing, or whose file is too long, is counted once. It fails only where the folder does,
+        // or where the file is too long. No file that is too long is given.
         ensures missed { result ≡ Err Missing
             → folder_unread self.new ≡ total (folder_unread self.old) 1 }
-        ensures read { result ≢ Err Missing → folder_unread self.new ≡ folder_unread self.old }
+        ensures read { result ≢ Err Missing → result ≢ Err Down
+            → folder_unread self.new ≡ folder_unread self.old }
         ensures down { result ≡ Err Down
-            → Rose (F.count self.old.folder) (F.count self.new.folder) }
+            → FolderFailed (F.count self.old.folder) (F.count self.new.folder)
+            (folder_unread self.old) (folder_unread self.new)
+            ⊎ FileTooLong (F.tells → IsLong (served (F.held self.old.folder) target.now))
+            (F.records → TellsLong target.now.path (F.answers self.old.folder)
+            (F.answers self.new.folder))
+            (F.count self.old.folder) (F.count self.new.folder)
+            (folder_unread self.old) (folder_unread self.new) }
+        ensures within { IfOk result (λ n. n ≤ FILE_SIZE_LIMIT) }
         ensures kept { F.tells → F.held self.new.folder ≡ F.held self.old.folder }
     {
-        match find_file(alloc, &mut self.folder, target.path.as_bytes()) {
-            Ok(Some(bytes)) => {
+        let mut bytes = Bytes::from_vec(Vec::new(alloc));
+        match find_file(alloc, &mut self.folder, target.path.as_bytes(), &mut bytes) {
+            Ok(Found::Whole) => {
                 let length = bytes.as_slice().len() as u64;
                 self.open(bytes);
                 self.history.ask(target, Ok(length));
                 Ok(length)
             }
-            Ok(None) => {
-                self.miss();
+            Ok(Found::Nothing) => {
+                self.pass_over();
                 Err(self.close(alloc, target, LinkFault::Missing))
+            }
+            Ok(Found::TooLong { .. }) => {
+                self.pass_over();
+                Err(self.close(alloc, target, LinkFault::Down))
             }
             Err(FolderFault::Failed) => Err(self.close(alloc, target, LinkFault::Down)),
             Err(FolderFault::Memory) => {
