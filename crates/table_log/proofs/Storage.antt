@@ -11,11 +11,12 @@ use Rattle.disks.proofs.OutsideLemmas.{agrees_same, agrees_then}
 use Rattle.journal.specs.declared.log.Log.{Log}
 use Rattle.small_types.specs.Blocks.{blocks_start}
 use Rattle.journal.specs.Log.{IsEither, IsOpen, half_of}
+use Rattle.record_codec.specs.Codec.{change_text}
 use Rattle.store_state.specs.declared.change.Change.{Change}
 use Rattle.store_state.specs.Change.{Fits, effect}
 use Rattle.store_state.specs.Tables.{Tables}
 use Rattle.table_log.specs.declared.fault.StepFault.{StepFault}
-use Rattle.table_log.specs.MakesDurable.{AgreesBehind, IsOldBehind, Stores}
+use Rattle.table_log.specs.MakesDurable.{AddsOrFails, AgreesBehind, IsOldBehind, Stores}
 use Rattle.table_log.specs.ReadsAs.{IsOpenAs, ReadsAs, ReadsAsEither}
 use Rattle.table_log.specs.Texts.{Encodes, LeadTo, Spells}
 use Rattle.table_log.proofs.Images.{reads_each, reads_so}
@@ -44,6 +45,7 @@ pub record Appended {D : Type 0} (on : Ghosts D) (entry : List ℕ) (log_old : L
   pub outside : LeavesOnly on disk_old disk_new (IsOldOutside place n (on.left_at disk_old (on.moment disk_old)))
   pub reads : AgreesOutside place n (on.seen disk_old) (on.seen disk_new)
   pub half : half_of log_new ≡ half_of log_old
+  pub calls : on.moment disk_new ≤ on.moment disk_old + 4
 
 module _ {D : Type 0} (on : Ghosts D) (change : Change) (tables : Tables) (entry : List ℕ) (encodes : Encodes change entry) (fits : Fits tables change) (log_old log_new : Log) (disk_old disk_new : D) (call : Appended on entry log_old disk_old log_new disk_new) where
   append_stop : (room : Room) → IsOpenAs on log_old room tables disk_old → LeavesOnly on disk_old disk_new (ReadsAsEither room tables (effect change tables))
@@ -63,11 +65,26 @@ module _ {D : Type 0} (on : Ghosts D) (change : Change) (tables : Tables) (entry
     lead = lead_more change tables entry is.text is.changes encodes fits is.lead;
   }
 
+  -- the change is added to the log as it was
+  append_adds : {T : Type 0} (result : Result T StepFault) → ((blocks : ℕ) (text : List ℕ) (changes : List (List ℕ)) → IsOpen on log_old blocks text changes disk_old → OnOk result (IsOpen on log_new blocks text (changes ++ entry ∷ []) disk_new))
+      → (room : Room) → IsOpenAs on log_old room tables disk_old → AddsOrFails on room change tables disk_old result log_new disk_new
+  append_adds result opens room is = inl (record {
+    log = log_old;
+    disk = disk_old;
+    same = started on disk_old _ (λ image left. reads_each on log_old room tables disk_old is image left);
+    opened = is;
+    stop = subst (λ (h : ℕ). LeavesOnly on disk_old disk_new (IsEither room.blocks h is.text is.changes is.text (is.changes ++ change_text change ∷ []))) is.half
+        (subst (λ (t : List ℕ). LeavesOnly on disk_old disk_new (IsEither room.blocks (half_of log_old) is.text is.changes is.text (is.changes ++ t ∷ []))) encodes.is (call.any room.blocks is.text is.changes is.opened));
+    added = subst (λ (t : List ℕ). OnOk result (IsOpen on log_new room.blocks is.text (is.changes ++ t ∷ []) disk_new)) encodes.is (opens room.blocks is.text is.changes is.opened);
+    within = call.calls;
+  })
+
   pub append_done : {T : Type 0} (done : T) → ((blocks : ℕ) (text : List ℕ) (changes : List (List ℕ)) → IsOpen on log_old blocks text changes disk_old → IsOpen on log_new blocks text (changes ++ entry ∷ []) disk_new)
       → Only (on.seen disk_new) (on.left_at disk_new (on.moment disk_new)) → on.moment disk_new ≡ on.moment disk_old + 4 → Stores {T = T} on change tables log_old disk_old (Ok done) log_new disk_new
   append_done done opens durable tick = record {
     opened = append_opened opens;
     stop = append_stop;
+    adds = append_adds (Ok done) opens;
     durable = durable;
     behind = old_behind on call.place call.n (half_of log_old) disk_old disk_new call.within call.outside;
     reads_behind = agrees_behind call.place call.n (half_of log_old) (on.seen disk_old) (on.seen disk_new) call.within call.reads;
@@ -79,6 +96,7 @@ module _ {D : Type 0} (on : Ghosts D) (change : Change) (tables : Tables) (entry
   append_failed fault = record {
     opened = λ room is. tt;
     stop = append_stop;
+    adds = append_adds (Err fault) (λ blocks text changes is. tt);
     durable = tt;
     behind = old_behind on call.place call.n (half_of log_old) disk_old disk_new call.within call.outside;
     reads_behind = agrees_behind call.place call.n (half_of log_old) (on.seen disk_old) (on.seen disk_new) call.within call.reads;
@@ -101,8 +119,9 @@ later : {T : Type 0} (result : Result T StepFault) (old mid new : ℕ) → old �
 later (Ok done) old mid new before after = omega (arith, before, after)
 later (Err fault) old mid new before after = tt
 
-module _ {D : Type 0} (on : Ghosts D) (change : Change) (tables : Tables) (text : List ℕ) (spells : Spells tables text) (log_old log_mid : Log) (disk_old disk_mid : D) (call : Turned on text log_old disk_old log_mid disk_mid) where
-  -- inside a checkpoint of the old tables each image reads as them
+-- a checkpoint of the old tables
+module _ {D : Type 0} (on : Ghosts D) (tables : Tables) (text : List ℕ) (spells : Spells tables text) (log_old log_mid : Log) (disk_old disk_mid : D) (call : Turned on text log_old disk_old log_mid disk_mid) where
+  -- inside it each image reads as them
   pub turn_stop : (room : Room) → IsOpenAs on log_old room tables disk_old → LeavesOnly on disk_old disk_mid (λ image. ReadsAs room image tables)
   turn_stop room is = weaker on disk_old disk_mid _ _ same (call.any room.blocks is.text is.changes is.opened)
     where
@@ -110,17 +129,8 @@ module _ {D : Type 0} (on : Ghosts D) (change : Change) (tables : Tables) (text 
       same image (inl journal) = reads_so log_old room tables image is.text is.changes is.half is.lead journal
       same image (inr journal) = reads_so log_old room tables image text [] is.half (lead_base tables text spells) journal
 
-  turn_either : (room : Room) → IsOpenAs on log_old room tables disk_old → LeavesOnly on disk_old disk_mid (ReadsAsEither room tables (effect change tables))
-  turn_either room is = weaker on disk_old disk_mid _ _ (λ image reads. inl reads) (turn_stop room is)
-
-  turn_behind : LeavesOnly on disk_old disk_mid (IsOldBehind (half_of log_old) (on.left_at disk_old (on.moment disk_old)))
-  turn_behind = old_behind on call.place call.n (half_of log_old) disk_old disk_mid call.within call.outside
-
-  turn_reads : AgreesBehind (half_of log_old) (on.seen disk_old) (on.seen disk_mid)
-  turn_reads = agrees_behind call.place call.n (half_of log_old) (on.seen disk_old) (on.seen disk_mid) call.within call.reads
-
   -- and after it the log is open as them
-  turn_opened : ((blocks : ℕ) (base : List ℕ) (changes : List (List ℕ)) → IsOpen on log_old blocks base changes disk_old → IsOpen on log_mid blocks text [] disk_mid)
+  pub turn_opened : ((blocks : ℕ) (base : List ℕ) (changes : List (List ℕ)) → IsOpen on log_old blocks base changes disk_old → IsOpen on log_mid blocks text [] disk_mid)
       → (room : Room) → IsOpenAs on log_old room tables disk_old → IsOpenAs on log_mid room tables disk_mid
   turn_opened opens room is = record {
     text = text;
@@ -130,27 +140,62 @@ module _ {D : Type 0} (on : Ghosts D) (change : Change) (tables : Tables) (text 
     lead = lead_base tables text spells;
   }
 
+-- behind the halves it leaves all as it was
+module _ {D : Type 0} (on : Ghosts D) (text : List ℕ) (log_old log_mid : Log) (disk_old disk_mid : D) (call : Turned on text log_old disk_old log_mid disk_mid) where
+  pub turn_behind : LeavesOnly on disk_old disk_mid (IsOldBehind (half_of log_old) (on.left_at disk_old (on.moment disk_old)))
+  turn_behind = old_behind on call.place call.n (half_of log_old) disk_old disk_mid call.within call.outside
+
+  pub turn_reads : AgreesBehind (half_of log_old) (on.seen disk_old) (on.seen disk_mid)
+  turn_reads = agrees_behind call.place call.n (half_of log_old) (on.seen disk_old) (on.seen disk_mid) call.within call.reads
+
+-- what beginning the other half with the tables promises, whatever comes of it
+pub record Begun {D : Type 0} (on : Ghosts D) (tables : Tables) (log_old : Log) (disk_old : D) (log_mid : Log) (disk_mid : D) : Type 0 where
+  pub same : (room : Room) → IsOpenAs on log_old room tables disk_old → LeavesOnly on disk_old disk_mid (λ image. ReadsAs room image tables)
+  pub behind : LeavesOnly on disk_old disk_mid (IsOldBehind (half_of log_old) (on.left_at disk_old (on.moment disk_old)))
+  pub reads_behind : AgreesBehind (half_of log_old) (on.seen disk_old) (on.seen disk_mid)
+  pub half : half_of log_mid ≡ half_of log_old
+
+module _ {D : Type 0} (on : Ghosts D) (change : Change) (tables : Tables) (log_old log_mid : Log) (disk_old disk_mid : D) (begun : Begun on tables log_old disk_old log_mid disk_mid) where
+  turn_either : (room : Room) → IsOpenAs on log_old room tables disk_old → LeavesOnly on disk_old disk_mid (ReadsAsEither room tables (effect change tables))
+  turn_either room is = weaker on disk_old disk_mid _ _ (λ image reads. inl reads) (begun.same room is)
+
   pub turn_failed : {T : Type 0} (fault : StepFault) → Stores {T = T} on change tables log_old disk_old (Err fault) log_mid disk_mid
   turn_failed fault = record {
     opened = λ room is. tt;
     stop = turn_either;
+    adds = λ room is. inr (refl, begun.same room is);
     durable = tt;
-    behind = turn_behind;
-    reads_behind = turn_reads;
-    half = call.half;
+    behind = begun.behind;
+    reads_behind = begun.reads_behind;
+    half = begun.half;
     marked = tt;
   }
 
-  pub turn_stored : {T : Type 0} (result : Result T StepFault) (log_new : Log) (disk_new : D) → ((blocks : ℕ) (base : List ℕ) (changes : List (List ℕ)) → IsOpen on log_old blocks base changes disk_old → IsOpen on log_mid blocks text [] disk_mid)
+  -- what comes behind it comes behind both
+  turn_adds : {T : Type 0} (result : Result T StepFault) (log_new : Log) (disk_new : D) (room : Room) → IsOpenAs on log_old room tables disk_old
+      → AddsOrFails on room change tables disk_mid result log_new disk_new → AddsOrFails on room change tables disk_old result log_new disk_new
+  turn_adds result log_new disk_new room is (inl adds) = inl (record {
+    log = adds.log;
+    disk = adds.disk;
+    same = then_on on disk_old disk_mid adds.disk _ (begun.same room is) adds.same;
+    opened = adds.opened;
+    stop = adds.stop;
+    added = adds.added;
+    within = adds.within;
+  })
+  turn_adds result log_new disk_new room is (inr fails) = inr (fails.0, then_on on disk_old disk_mid disk_new _ (begun.same room is) fails.1)
+
+  pub turn_stored : {T : Type 0} (result : Result T StepFault) (log_new : Log) (disk_new : D) → ((room : Room) → IsOpenAs on log_old room tables disk_old → IsOpenAs on log_mid room tables disk_mid)
       → Stores on change tables log_mid disk_mid result log_new disk_new → Stores on change tables log_old disk_old result log_new disk_new
   turn_stored result log_new disk_new opens stores = record {
-    opened = λ room is. stores.opened room (turn_opened opens room is);
-    stop = λ room is. then_on on disk_old disk_mid disk_new _ (turn_either room is) (stores.stop room (turn_opened opens room is));
+    opened = λ room is. stores.opened room (opens room is);
+    stop = λ room is. then_on on disk_old disk_mid disk_new _ (turn_either room is) (stores.stop room (opens room is));
+    adds = λ room is. turn_adds result log_new disk_new room is (stores.adds room (opens room is));
     durable = stores.durable;
-    behind = behind_then on (half_of log_old) disk_old disk_mid disk_new turn_behind (subst (λ (h : ℕ). LeavesOnly on disk_mid disk_new (IsOldBehind h (on.left_at disk_mid (on.moment disk_mid)))) call.half stores.behind);
-    reads_behind = agrees_then 0 (blocks_start (half_of log_old)) (on.seen disk_old) (on.seen disk_mid) (on.seen disk_new) turn_reads (subst (λ (h : ℕ). AgreesBehind h (on.seen disk_mid) (on.seen disk_new)) call.half stores.reads_behind);
-    half = stores.half ∙ call.half;
-    marked = later result (on.moment disk_old) (on.moment disk_mid) (on.moment disk_new) call.outside.later stores.marked;
+    behind = behind_then on (half_of log_old) disk_old disk_mid disk_new begun.behind (subst (λ (h : ℕ). LeavesOnly on disk_mid disk_new (IsOldBehind h (on.left_at disk_mid (on.moment disk_mid)))) begun.half stores.behind);
+    reads_behind = agrees_then 0 (blocks_start (half_of log_old)) (on.seen disk_old) (on.seen disk_mid) (on.seen disk_new) begun.reads_behind (subst (λ (h : ℕ). AgreesBehind h (on.seen disk_mid) (on.seen disk_new)) begun.half stores.reads_behind);
+    half = stores.half ∙ begun.half;
+    marked = later result (on.moment disk_old) (on.moment disk_mid) (on.moment disk_new) begun.behind.later stores.marked;
   }
 
 -- nothing was done
@@ -158,6 +203,7 @@ pub stores_nothing : {D T : Type 0} (on : Ghosts D) (change : Change) (tables : 
 stores_nothing on change tables log disk fault = record {
   opened = λ room is. tt;
   stop = λ room is. started on disk _ (λ image left. inl (reads_each on log room tables disk is image left));
+  adds = λ room is. inr (refl, started on disk _ (λ image left. reads_each on log room tables disk is image left));
   durable = tt;
   behind = behind_start on (half_of log) disk;
   reads_behind = agrees_same 0 (blocks_start (half_of log)) (on.seen disk);

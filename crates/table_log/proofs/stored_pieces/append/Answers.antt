@@ -16,6 +16,7 @@ returns-in-Ok-clause-stores g c = λ change tables encodes fits.
       outside = c.append.ensures.outside;
       reads = c.append.ensures.reads_outside;
       half = c.append.ensures.half;
+      calls = c.append.ensures.spends.within;
     })
     _ c.in-Ok.ensures.ok c.in-Ok.ensures.durable c.in-Ok.ensures.tick
 
@@ -30,5 +31,6 @@ returns-in-Err-DiskFault-clause-stores g c = λ change tables encodes fits.
       outside = c.append.ensures.outside;
       reads = c.append.ensures.reads_outside;
       half = c.append.ensures.half;
+      calls = c.append.ensures.spends.within;
     })
     DiskFault
